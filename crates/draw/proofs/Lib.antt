@@ -1,0 +1,4 @@
+mod AllRequests
+mod FirstWords
+mod RangeText
+mod WorkedRows

@@ -1,0 +1,81 @@
+-- What is drawn, and the text that is written of it.
+use Rattle.std.specs.Prelude.{ℕ, if◌then◌else◌, List, [], ◌∷◌, ◌++◌, codes, decimal, Result, Ok, Err}
+use Rattle.std.specs.Fmt.{signed_decimal}
+use Rattle.std.specs.List.{flat_map, range_with_len}
+use Rattle.nanorand.specs.declared.replay.Answer.{Answer}
+use Rattle.nanorand.specs.declared.replay.Answer.TheVariants.{Unsigned, Signed, Truth, Empty, Exhausted, Shuffled}
+use Rattle.nanorand.specs.declared.replay.Call.{Call}
+use Rattle.nanorand.specs.Blocks.{taken, plain_after}
+use Rattle.nanorand.specs.Buffered.{buffer_of, buffered_block, buffered_step, buffered_after}
+use Rattle.nanorand.specs.Values.{number_of}
+use Rattle.nanorand.specs.ChaCha.{chacha_block, next_state, seeded_state}
+use Rattle.nanorand.specs.Pcg64.{next, pcg64_block}
+use Rattle.nanorand.specs.WyRand.{next_seed, wyrand_block}
+use Rattle.nanorand.specs.Replay.{replayed}
+use Rattle.draw.specs.declared.order.Mode.{Mode}
+use Rattle.draw.specs.declared.order.Mode.TheVariants.{Plain, Buffered}
+use Rattle.draw.specs.declared.order.Source.{Source}
+use Rattle.draw.specs.declared.order.Source.TheVariants.{WyRand, Pcg64, ChaCha8, ChaCha12, ChaCha20}
+use Rattle.draw.specs.declared.error.DrawError.{DrawError}
+use Rattle.draw.specs.declared.error.DrawError.TheVariants.{BadWord, Memory, Write}
+use Rattle.draw.specs.Words.{Asked}
+
+-- What is drawn: the answers to the calls, and the items that they leave.
+pub record Drawn : Type 0 where
+  pub answers : List Answer
+  pub items : List ℕ
+
+-- The calls on a generator of blocks of `output` bytes. In plain mode it is the generator itself that answers, and in
+-- buffered mode a buffer around it, with nothing kept at first.
+abbrev pub in_mode : {G : Type 0} → (G → List ℕ) → (G → G) → ℕ → (G → ℕ → G) → G → Mode → List Call → List ℕ → Drawn
+in_mode block step output after g Plain calls items =
+    let all = replayed (taken block step) after g items calls in
+    record { answers = all.answers; items = all.items }
+in_mode block step output after g Buffered calls items =
+    let all = replayed (taken (buffered_block block step output) (buffered_step block step output)) (buffered_after block step output) (buffer_of [] g) items calls in
+    record { answers = all.answers; items = all.items }
+
+-- The calls on the generator that the bytes of a seed give. All of them are plain. Pcg64 starts with `state` and `inc` 0.
+abbrev pub from_source : Source → Mode → List Call → List ℕ → Drawn
+from_source (WyRand seed) mode calls items = in_mode wyrand_block next_seed 8 (plain_after next_seed 8) (number_of seed) mode calls items
+from_source (Pcg64 seed) mode calls items = in_mode pcg64_block next 8 (plain_after next 8) (record { seed = number_of seed; state = 0; inc = 0 }) mode calls items
+from_source (ChaCha8 seed) mode calls items = in_mode (chacha_block 8) next_state 64 (plain_after next_state 64) (seeded_state seed) mode calls items
+from_source (ChaCha12 seed) mode calls items = in_mode (chacha_block 12) next_state 64 (plain_after next_state 64) (seeded_state seed) mode calls items
+from_source (ChaCha20 seed) mode calls items = in_mode (chacha_block 20) next_state 64 (plain_after next_state 64) (seeded_state seed) mode calls items
+
+-- An answer as it is written.
+abbrev pub answer_text : Answer → List ℕ
+answer_text (Unsigned number) = decimal number
+answer_text (Signed number) = signed_decimal number
+answer_text (Truth truth) = if truth then codes "true" else codes "false"
+answer_text Empty = codes "empty"
+answer_text Exhausted = codes "exhausted"
+answer_text Shuffled = codes "shuffled"
+
+-- An answer on a line of its own.
+abbrev pub line_of : Answer → List ℕ
+line_of answer = answer_text answer ++ 10 ∷ []
+
+-- An item after a space.
+abbrev pub item_text : ℕ → List ℕ
+item_text item = 32 ∷ decimal item
+
+-- The last line, which stands only if there are items.
+abbrev pub items_line : List ℕ → List ℕ
+items_line [] = []
+items_line (item ∷ items) = codes "items:" ++ flat_map item_text (item ∷ items) ++ 10 ∷ []
+
+-- A line for each answer, and the line of the items.
+abbrev pub text_of : Drawn → List ℕ
+text_of drawn = flat_map line_of drawn.answers ++ items_line drawn.items
+
+-- The text of what the words ask for. The items are the numbers below the count.
+abbrev pub text_asked : Asked → List ℕ
+text_asked asked = text_of (from_source asked.source asked.mode asked.calls (range_with_len 0 asked.count))
+
+-- The status that the program ends with.
+abbrev pub status_of : Result Unit DrawError → ℕ
+status_of (Ok tt) = 0
+status_of (Err (BadWord k)) = 2
+status_of (Err Memory) = 3
+status_of (Err Write) = 4

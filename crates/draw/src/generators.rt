@@ -1,0 +1,113 @@
+//! From a seed and a mode to the generator that answers the calls.
+
+ghost use Rattle.std.specs.Prelude.{◌≡◌, ◌%◌, length};
+ghost use Rattle.nanorand.specs.Blocks.{taken};
+ghost use Rattle.nanorand.specs.ChaCha.{seeded_state};
+ghost use Rattle.nanorand.specs.Replay.{replayed};
+ghost use Rattle.nanorand.specs.Values.{number_of};
+ghost use Rattle.draw.specs.Text.{from_source};
+ghost use Rattle.draw.specs.declared.order.Mode.TheVariants.{Plain, Buffered};
+
+use crate::order::{Mode, Source};
+use nanorand::replay::{Answer, Call, replay};
+use nanorand::{BufferedRng, ChaCha, Pcg64, Rng, SeedableRng, WyRand};
+
+/// Makes the calls on the generator of that seed, or on a buffer around it.
+pub fn replay_source(
+    source: Source,
+    mode: Mode,
+    calls: &[Call],
+    items: &mut [u64],
+    answers: &mut [Answer],
+)
+    requires { length answers.old ≡ length calls.now }
+    ensures answers { answers.new ≡ (from_source source mode calls.now items.old).answers }
+    ensures items { items.new ≡ (from_source source mode calls.now items.old).items }
+{
+    match mode {
+        Mode::Plain => replay_plain(source, calls, items, answers),
+        Mode::Buffered => replay_buffered(source, calls, items, answers),
+    }
+}
+
+fn replay_plain(source: Source, calls: &[Call], items: &mut [u64], answers: &mut [Answer])
+    requires { length answers.old ≡ length calls.now }
+    ensures answers { answers.new ≡ (from_source source Plain calls.now items.old).answers }
+    ensures items { items.new ≡ (from_source source Plain calls.now items.old).items }
+{
+    match source {
+        Source::WyRand(seed) => replay_with(wyrand(seed), calls, items, answers),
+        Source::Pcg64(seed) => replay_with(pcg64(seed), calls, items, answers),
+        Source::ChaCha8(seed) => replay_with(chacha::<8>(seed), calls, items, answers),
+        Source::ChaCha12(seed) => replay_with(chacha::<12>(seed), calls, items, answers),
+        Source::ChaCha20(seed) => replay_with(chacha::<20>(seed), calls, items, answers),
+    }
+}
+
+fn replay_buffered(source: Source, calls: &[Call], items: &mut [u64], answers: &mut [Answer])
+    requires { length answers.old ≡ length calls.now }
+    ensures answers { answers.new ≡ (from_source source Buffered calls.now items.old).answers }
+    ensures items { items.new ≡ (from_source source Buffered calls.now items.old).items }
+{
+    match source {
+        Source::WyRand(seed) => replay_with(BufferedRng::new(wyrand(seed)), calls, items, answers),
+        Source::Pcg64(seed) => replay_with(BufferedRng::new(pcg64(seed)), calls, items, answers),
+        Source::ChaCha8(seed) => replay_with(
+            BufferedRng::new(chacha::<8>(seed)),
+            calls,
+            items,
+            answers,
+        ),
+        Source::ChaCha12(seed) => replay_with(
+            BufferedRng::new(chacha::<12>(seed)),
+            calls,
+            items,
+            answers,
+        ),
+        Source::ChaCha20(seed) => replay_with(
+            BufferedRng::new(chacha::<20>(seed)),
+            calls,
+            items,
+            answers,
+        ),
+    }
+}
+
+/// Makes the calls on this generator, and drops it.
+fn replay_with<G: Rng<OUTPUT> + Drop, const OUTPUT: usize>(
+    mut rng: G,
+    calls: &[Call],
+    items: &mut [u64],
+    answers: &mut [Answer],
+)
+    requires { length answers.old ≡ length calls.now }
+    ensures answers { answers.new ≡ (replayed (taken G.block G.step) G.after rng items.old calls.now).answers }
+    ensures items { items.new ≡ (replayed (taken G.block G.step) G.after rng items.old calls.now).items }
+{
+    replay(&mut rng, calls, items, answers);
+}
+
+fn wyrand(seed: [u8; 8]) -> WyRand
+    ensures { result ≡ number_of seed }
+{
+    let mut rng = WyRand::new_seed(0);
+    rng.reseed(seed);
+    rng
+}
+
+fn pcg64(seed: [u8; 16]) -> Pcg64
+    ensures { result ≡ record { seed = number_of seed; state = 0; inc = 0 } }
+{
+    let mut rng = Pcg64::new_seed(0);
+    rng.reseed(seed);
+    rng
+}
+
+fn chacha<const ROUNDS: u8>(seed: [u8; 40]) -> ChaCha<ROUNDS>
+    requires { ROUNDS % 2 ≡ 0 }
+    ensures { result ≡ seeded_state seed }
+{
+    let mut rng = ChaCha::new_key([0; 32], [0; 8]);
+    rng.reseed(seed);
+    rng
+}

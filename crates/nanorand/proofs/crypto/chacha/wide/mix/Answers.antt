@@ -1,0 +1,14 @@
+use Rattle.std.proofs.Common.{◌≡◌, ◌/◌, arith, ap, ◌∙◌}
+use Rattle.nanorand.specs.ChaChaRounds.{quarter_round, on_diagonals, rounds}
+use Rattle.nanorand.proofs.MatrixLemmas.{iterate_more}
+use Rattle.nanorand.proofs.crypto.chacha.wide.mix.Goals as goal
+
+pub pairs-preserved : goal.pairs-preserved
+pairs-preserved g c j h =
+    rw (iterate_more, ← c.pairs.invariant j h) (c.mix_diagonals-mixed.ensures j h ∙ ap (on_diagonals quarter_round) (c.mix_columns.ensures j h))
+
+pub returns : goal.returns
+unfolding rounds
+returns g c j h =
+    let all : c.pairs._pair ≡ g.row.ROUNDS / 2 = omega arith in
+    rw (← all) (c.pairs.invariant j h)

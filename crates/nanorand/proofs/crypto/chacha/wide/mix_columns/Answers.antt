@@ -1,0 +1,12 @@
+use Rattle.nanorand.specs.ChaChaRounds.{on_columns}
+use Rattle.nanorand.proofs.crypto.chacha.wide.mix_columns.Goals as goal
+
+pub returns : goal.returns
+unfolding on_columns
+returns c j h =
+    rw (
+      ← c.quarter_round.ensures j h,
+      ← c.quarter_round-2.ensures j h,
+      ← c.quarter_round-3.ensures j h,
+      ← c.quarter_round-4.ensures j h,
+    )

@@ -1,0 +1,27 @@
+use Rattle.std.proofs.Common.{◌≡◌, ℕ, ◌+◌, ◌-◌, ◌≤◌, List, ◌++◌, length, rules, take, drop, ap, sym, subst, ◌∙◌, le_refl, drop_at, length-take-le}
+use Rattle.std.proofs.lemmas.Slice.{take-put_mid_below}
+use Rattle.std.proofs.KnownBytes.{Consumes-trans}
+use Rattle.std.specs.Io.KnownBytes.{Consumes}
+use borrow.Rule.Slice.PartMut.{put_mid, post_of}
+use lib.Seq.{take-add, take-append-le}
+use Rattle.nanorand.proofs.entropy.system.Goals as goal
+
+-- after n bytes are put at a, the first a + n are what stood before a and those n
+take-put_mid_within : (a n k : ℕ) (xs ys : List ℕ) → a ≤ length xs → n ≤ length ys → take (a + n) (put_mid a k xs ys) ≡ take a xs ++ take n ys
+take-put_mid_within a n k xs ys within fits =
+    let after = post_of a k xs in
+    let new = put_mid a k xs ys in
+    take-add a n new
+    ∙ ap (λ front. front ++ take n (drop a new)) (take-put_mid_below a k xs ys a (le_refl a) within)
+    ∙ ap (λ rest. take a xs ++ take n rest) (drop_at (take a xs) (ys ++ after) a (length-take-le a xs within))
+    ∙ ap (λ part. take a xs ++ part) (take-append-le n ys after fits)
+
+pub loop-filled-preserved : goal.loop-filled-preserved
+loop-filled-preserved g c =
+    let loop = c.loop-filled in
+    let part = take-put_mid_within loop.filled c.in-Ok.count (length loop.out - loop.filled) loop.out c.read.new.buf loop.invariant.in_slice c.in-Ok.ensures.bound.0 in
+    record {
+      in_slice = search rules;
+      so_far = subst (Consumes _ _) (sym part) (Consumes-trans _ _ _ _ _ loop.invariant.so_far c.in-Ok.ensures.bytes.0);
+      at_first = search rules;
+    }

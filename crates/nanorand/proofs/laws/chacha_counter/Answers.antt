@@ -1,0 +1,16 @@
+use Rattle.nanorand.specs.ChaChaLaws.{chacha_steps, chacha_more, chacha_adds, chacha_closed, chacha_matrix, chacha_counts, chacha_keeps, chacha_blocks, chacha_agree, chacha_periods}
+use Rattle.nanorand.proofs.laws.chacha_counter.Goals as goal
+
+pub returns : goal.returns
+returns c = record {
+  steps = chacha_steps;
+  more = chacha_more;
+  adds = chacha_adds;
+  closed = chacha_closed;
+  matrices = chacha_matrix;
+  counts = chacha_counts;
+  keeps = chacha_keeps;
+  blocks = chacha_blocks;
+  agree = chacha_agree;
+  periods = chacha_periods;
+}

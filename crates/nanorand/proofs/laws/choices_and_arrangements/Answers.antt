@@ -1,0 +1,5 @@
+use Rattle.nanorand.proofs.CorrespondenceLemmas.{corresponds}
+use Rattle.nanorand.proofs.laws.choices_and_arrangements.Goals as goal
+
+pub returns : goal.returns
+returns c = corresponds

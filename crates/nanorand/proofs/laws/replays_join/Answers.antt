@@ -1,0 +1,6 @@
+use Rattle.nanorand.specs.Blocks.{taken}
+use Rattle.nanorand.proofs.ReplayLemmas.{joined}
+use Rattle.nanorand.proofs.laws.replays_join.Goals as goal
+
+pub returns : goal.returns
+returns g c = joined (taken g.G.Blocks.block g.G.Blocks.step) g.G.Rng.after

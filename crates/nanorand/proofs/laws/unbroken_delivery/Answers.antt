@@ -1,0 +1,25 @@
+use Rattle.std.proofs.Common.{sym, ◌+◌}
+use Rattle.nanorand.specs.BlockLaws.{taken_nothing}
+use Rattle.nanorand.specs.Buffered.{buffered_after}
+use Rattle.nanorand.specs.BufferedLaws.{after_nothing, after_add, taken_add, taken_unbroken, rest_below}
+use Rattle.nanorand.proofs.UnbrokenLemmas.{unbroken}
+use Rattle.nanorand.proofs.laws.unbroken_delivery.Goals as goal
+
+pub returns-clause-unbroken : goal.returns-clause-unbroken
+returns-clause-unbroken g c =
+    let block = g.G.Blocks.block in
+    let step = g.G.Blocks.step in
+    let positive = g.met.G.Blocks.positive in
+    let size = g.met.G.Blocks.block_length in
+    let same = taken_unbroken block step g.row.OUTPUT positive size in
+    unbroken _ (buffered_after block step g.row.OUTPUT)
+    (after_nothing block step g.row.OUTPUT positive size)
+    (λ b. taken_nothing _ _ b)
+    (after_add block step g.row.OUTPUT positive size)
+    (λ b m n. rw (same b m, same (buffered_after block step g.row.OUTPUT b m) n, same b (m + n)) (sym (taken_add block step g.row.OUTPUT positive size b m n)))
+
+pub returns-clause-row : goal.returns-clause-row
+returns-clause-row g c = taken_unbroken g.G.Blocks.block g.G.Blocks.step g.row.OUTPUT g.met.G.Blocks.positive g.met.G.Blocks.block_length
+
+pub returns-clause-below : goal.returns-clause-below
+returns-clause-below g c = rest_below g.G.Blocks.block g.G.Blocks.step g.row.OUTPUT g.met.G.Blocks.positive g.met.G.Blocks.block_length

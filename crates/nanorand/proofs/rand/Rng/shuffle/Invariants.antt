@@ -1,0 +1,8 @@
+use Rattle.nanorand.specs.Blocks.{taken}
+use Rattle.nanorand.specs.Shuffles.{from_itself}
+use Rattle.nanorand.proofs.ShuffleLemmas.{Shuffling}
+use Rattle.nanorand.proofs.rand.Rng.shuffle.Given as goal
+
+abbrev pub invariant-loop-place : goal.invariant-loop-place
+invariant-loop-place g l =
+    Shuffling (taken g.Self.Blocks.block g.Self.Blocks.step) g.Self.Rng.after from_itself l.fn.target l.fn.self l.place l.self l.target

@@ -1,0 +1,8 @@
+use Rattle.nanorand.specs.Blocks.{taken}
+use Rattle.nanorand.specs.Shuffles.{from_all}
+use Rattle.nanorand.proofs.ShuffleLemmas.{Shuffling}
+use Rattle.nanorand.proofs.shuffles.shuffle_full.Given as goal
+
+abbrev pub invariant-loop-place : goal.invariant-loop-place
+invariant-loop-place g l =
+    Shuffling (taken g.G.Blocks.block g.G.Blocks.step) g.G.Rng.after from_all l.fn.target l.fn.rng l.place l.rng l.target

@@ -1,0 +1,9 @@
+use Rattle.nanorand.specs.Blocks.{taken}
+use Rattle.nanorand.specs.Draws.{next_word, after_word, word_limit}
+use Rattle.nanorand.proofs.DrawLemmas.{Searching}
+use Rattle.nanorand.proofs.values.word.draw_below.Given as goal
+
+-- each word so far was rejected
+abbrev pub invariant-others : goal.invariant-others
+invariant-others g l =
+    Searching (next_word (taken g.G.Blocks.block g.G.Blocks.step) l.bits) (after_word g.G.Rng.after l.bits) word_limit l.bits l.size l.fn.rng l.counter l.rng

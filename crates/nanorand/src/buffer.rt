@@ -1,0 +1,256 @@
+//! A generator whose unused bytes are kept: it delivers one unbroken row of bytes.
+ghost use Rattle.std.specs.Prelude.{◌≡◌, ℕ, ◌++◌, ◌<◌, ◌≤◌, [], length, refl, take, drop, min, IfOk, OnOk, OnErr, IsOk, IsErr, Ok, None};
+ghost use Rattle.std.specs.Io.{ReadsAtMost};
+ghost use Rattle.std.specs.Io.KnownBytes.{ReadConsumes};
+ghost use Rattle.nanorand.specs.Buffered.{buffered_block, buffered_step, buffered_after, buffered_taken, buffer_of};
+ghost use Rattle.nanorand.specs.BufferedLaws.{length-buffered_taken, after_nothing, same_buffer};
+
+use crate::rand::{Blocks, Rng, SeedableRng, fill_by_blocks};
+use std::alloc::{AllocError, Allocator};
+use std::io::{self, Read};
+use std::marker::Model;
+use thiserror::Error;
+
+/// A generator that delivers the blocks of another one byte after byte, and keeps what is left over.
+///
+/// A request of n bytes draws the least number of inner blocks that covers it, by the inner `rand`.
+/// What it does not deliver is buffered, always less than a block, and comes first at the next
+/// request. It may wrap any generator, another `BufferedRng` too.
+#[derive(Drop)]
+pub struct BufferedRng<G: Rng<OUTPUT>, const OUTPUT: usize> {
+    inner: G,
+    block: [u8; OUTPUT],
+    cursor: usize,
+}
+
+// A buffer is the pair of the bytes that are kept and the inner generator. The kept bytes are those
+// of the block from the cursor on, and the bytes before it mean nothing.
+impl<G: Rng<OUTPUT>, const OUTPUT: usize> Model for BufferedRng<G, OUTPUT> {
+    ghost use Rattle.std.specs.Prelude.{◌≡◌, ◌<◌, ◌≤◌, length, drop};
+    ghost use Rattle.nanorand.specs.Buffered.{Buffered, buffered_code};
+
+    ghost Value = { Buffered G };
+
+    ghost coded = { buffered_code G.code };
+
+    ghost view = { λ b. record { rest = drop b.cursor b.block; inner = b.inner } };
+
+    ghost invariant = { λ b. (0 < b.cursor) × (b.cursor ≤ OUTPUT) × (length b.block ≡ OUTPUT) };
+}
+
+/// A generator has no end and no text, so it cannot be read into a string.
+#[derive(Clone, Copy, Debug, PartialEq, Eq, Error)]
+#[error("a generator cannot be read into a string")]
+pub struct TextRefused;
+
+impl<G: Rng<OUTPUT>, const OUTPUT: usize> BufferedRng<G, OUTPUT> {
+    /// Wraps a generator. Nothing is buffered, and nothing is drawn.
+    #[inline]
+    pub fn new(rng: G) -> Self
+        ensures rest { result.rest ≡ [] }
+        ensures inner { result.inner ≡ rng }
+    {
+        BufferedRng {
+            inner: rng,
+            block: [0; OUTPUT],
+            cursor: OUTPUT,
+        }
+    }
+
+    /// The generator that is wrapped. The buffered bytes are dropped.
+    #[inline]
+    pub fn into_inner(self) -> G
+        ensures { result ≡ self.inner }
+    {
+        self.inner
+    }
+
+    /// How many bytes are buffered: always less than a block.
+    #[inline]
+    pub fn buffered(&self) -> usize
+        ensures value { result ≡ length self.now.rest }
+        ensures below { result < OUTPUT }
+    {
+        OUTPUT - self.cursor
+    }
+
+    /// Appends the buffered bytes alone, empties the buffer, and answers how many they were.
+    ///
+    /// Nothing is drawn. Where the vector's growth is refused, vector and buffer are as before. An
+    /// empty buffer takes no memory and answers 0.
+    pub fn read_to_end<A: Allocator>(&mut self, out: &mut Vec<u8, A>) -> Result<usize, AllocError>
+        ensures count { IfOk result (λ count. count ≡ length self.old.rest) }
+        ensures appended { OnOk result (out.new.items ≡ out.old.items ++ self.old.rest) }
+        ensures rest { OnOk result (self.new ≡ buffer_of [] self.old.inner) }
+        ensures vector_stays { OnErr result (out.new.items ≡ out.old.items) }
+        ensures buffer_stays { OnErr result (self.new ≡ self.old) }
+        ensures empty { self.old.rest ≡ [] → IsOk result }
+    {
+        let count = OUTPUT - self.cursor;
+        if count > 0 {
+            let bytes = &self.block[..];
+            out.extend_from_slice(&bytes[self.cursor..])?;
+            self.cursor = OUTPUT;
+        }
+        Ok(count)
+    }
+
+    /// Always `TextRefused`. Nothing changes.
+    pub fn read_to_string<A: Allocator>(
+        &mut self,
+        out: &mut String<A>,
+    ) -> Result<usize, TextRefused>
+        ensures refused { IsErr result }
+        ensures text_stays { out.new ≡ out.old }
+        ensures buffer_stays { self.new ≡ self.old }
+    {
+        let _ = out;
+        Err(TextRefused)
+    }
+}
+
+/// Equal buffered bytes, and the inner generator that the inner clone answers. It is refused only
+/// where the inner clone is.
+impl<G: Rng<OUTPUT>, const OUTPUT: usize> Clone for BufferedRng<G, OUTPUT> {
+    ghost is_clone = { λ b c. (c.rest ≡ b.rest) × G.is_clone b.inner c.inner };
+
+    ghost is_infallible = { λ b. G.is_infallible b.inner };
+
+    fn clone(&self) -> Result<Self, AllocError> {
+        Ok(BufferedRng {
+            inner: self.inner.clone()?,
+            block: self.block,
+            cursor: self.cursor,
+        })
+    }
+}
+
+impl<G: Rng<OUTPUT>, const OUTPUT: usize> Blocks<OUTPUT> for BufferedRng<G, OUTPUT> {
+    ghost block = { buffered_block G.block G.step OUTPUT };
+
+    ghost step = { buffered_step G.block G.step OUTPUT };
+
+    fn rand(&mut self) -> [u8; OUTPUT] {
+        let mut block = [0; OUTPUT];
+        deliver(
+            &mut self.inner,
+            &mut self.block,
+            &mut self.cursor,
+            &mut block,
+        );
+        block
+    }
+
+    ghost positive = { G.positive };
+
+    ghost in_memory = { G.in_memory };
+
+    ghost block_length = { λ b. length-buffered_taken G.block G.step OUTPUT G.positive G.block_length b OUTPUT };
+}
+
+impl<G: Rng<OUTPUT>, const OUTPUT: usize> Rng<OUTPUT> for BufferedRng<G, OUTPUT> {
+    ghost after = { buffered_after G.block G.step OUTPUT };
+
+    #[inline(always)]
+    fn fill_bytes(&mut self, buffer: &mut [u8]) {
+        deliver(&mut self.inner, &mut self.block, &mut self.cursor, buffer);
+    }
+
+    ghost after_nothing = { after_nothing G.block G.step OUTPUT G.positive G.block_length };
+
+    ghost after_block = { λ _. refl };
+
+    ghost clones = { λ b c same. same_buffer same.0 (G.clones b.inner c.inner same.1) };
+}
+
+impl<G, const SEED_SIZE: usize, const OUTPUT: usize> SeedableRng<SEED_SIZE, OUTPUT>
+    for BufferedRng<G, OUTPUT>
+where
+    G: SeedableRng<SEED_SIZE, OUTPUT>,
+{
+    ghost seeded = { λ b seed. buffer_of b.rest (G.seeded b.inner seed) };
+
+    /// The inner generator is seeded anew. The buffered bytes stay, and come first.
+    fn reseed(&mut self, seed: [u8; SEED_SIZE])
+        ensures { self.new ≡ buffer_of self.old.rest (G.seeded self.old.inner seed.entry) }
+    {
+        self.inner.reseed(seed);
+    }
+}
+
+/// `new` of the default generator.
+impl<G: Rng<OUTPUT> + Default, const OUTPUT: usize> Default for BufferedRng<G, OUTPUT> {
+    ghost is_default = { λ b. (b.rest ≡ []) × G.is_default b.inner };
+
+    fn default() -> Self {
+        BufferedRng::new(G::default())
+    }
+}
+
+/// Fills the whole slice as `fill_bytes` does, and answers its length. The row of bytes has no end.
+impl<G: Rng<OUTPUT>, const OUTPUT: usize> Read for BufferedRng<G, OUTPUT> {
+    fn read(&mut self, buf: &mut [u8]) -> io::Result<usize>
+        ensures bound { ReadsAtMost result buf.new }
+        ensures bytes { ReadConsumes None None result buf.new }
+        ensures value { result ≡ Ok (length buf.old) }
+        ensures filled { buf.new ≡ buffered_taken G.block G.step OUTPUT self.old (length buf.old) }
+        ensures state { self.new ≡ buffered_after G.block G.step OUTPUT self.old (length buf.old) }
+    {
+        deliver(&mut self.inner, &mut self.block, &mut self.cursor, buf);
+        Ok(buf.len())
+    }
+}
+
+// Fills the slice with the bytes that are kept and those of further blocks, and keeps what is left over.
+#[inline(always)]
+fn deliver<G: Rng<OUTPUT>, const OUTPUT: usize>(
+    inner: &mut G,
+    block: &mut [u8; OUTPUT],
+    cursor: &mut usize,
+    out: &mut [u8],
+)
+    requires above { 0 < cursor.old }
+    requires within { cursor.old ≤ OUTPUT }
+    ensures bytes { out.new ≡ buffered_taken G.block G.step OUTPUT (buffer_of (drop cursor.old block.old) inner.old) (length out.old) }
+    ensures state { buffer_of (drop cursor.new block.new) inner.new ≡ buffered_after G.block G.step OUTPUT (buffer_of (drop cursor.old block.old) inner.old) (length out.old) }
+    ensures above { 0 < cursor.new }
+    ensures within { cursor.new ≤ OUTPUT }
+    ensures long { length block.new ≡ OUTPUT }
+{
+    let kept = OUTPUT - *cursor;
+    let bytes = &block[..];
+    if out.len() <= kept {
+        let end = *cursor + out.len();
+        out.copy_from_slice(&bytes[*cursor..end]);
+        *cursor = end;
+    } else {
+        out[..kept].copy_from_slice(&bytes[*cursor..]);
+        deliver_blocks(inner, block, cursor, &mut out[kept..]);
+    }
+}
+
+// Fills the slice with whole blocks and the front of one more, whose other bytes are kept.
+fn deliver_blocks<G: Rng<OUTPUT>, const OUTPUT: usize>(
+    inner: &mut G,
+    block: &mut [u8; OUTPUT],
+    cursor: &mut usize,
+    out: &mut [u8],
+)
+    ensures bytes { out.new ≡ buffered_taken G.block G.step OUTPUT (buffer_of [] inner.old) (length out.old) }
+    ensures state { buffer_of (drop cursor.new block.new) inner.new ≡ buffered_after G.block G.step OUTPUT (buffer_of [] inner.old) (length out.old) }
+    ensures above { 0 < cursor.new }
+    ensures within { cursor.new ≤ OUTPUT }
+    ensures long { length block.new ≡ OUTPUT }
+{
+    let last = out.len() % OUTPUT;
+    let whole = out.len() - last;
+    fill_by_blocks(inner, &mut out[..whole]);
+    if last > 0 {
+        *block = inner.rand();
+        let bytes = &block[..];
+        out[whole..].copy_from_slice(&bytes[..last]);
+        *cursor = last;
+    } else {
+        *cursor = OUTPUT;
+    }
+}

@@ -1,0 +1,76 @@
+//! The state: its start and its counter.
+ghost use Rattle.std.specs.Prelude.{◌≡◌, ◌+◌, ◌^◌, ◌<◌, ◌≤◌, ◌↔◌, length, drop, IsTrue};
+ghost use Rattle.std.specs.Bool.{OnTrue, OnFalse};
+ghost use Rattle.std.specs.Int.{w32, from_le_bytes};
+ghost use Rattle.nanorand.specs.ChaCha.{initial_state, counter, with_counter};
+
+/// The state of a key and a nonce, at the counter 0.
+///
+/// Words 0 to 3 are the bytes of `expand 32-byte k`, 4 to 11 the key, 12 and 13 the counter, 14 and
+/// 15 the nonce, each least byte first.
+pub fn chacha_init(key: [u8; 32], nonce: [u8; 8]) -> [u32; 16]
+    ensures { result ≡ initial_state key nonce }
+{
+    [
+        0x6170_7865,
+        0x3320_646e,
+        0x7962_2d32,
+        0x6b20_6574,
+        word_at(&key, 0),
+        word_at(&key, 4),
+        word_at(&key, 8),
+        word_at(&key, 12),
+        word_at(&key, 16),
+        word_at(&key, 20),
+        word_at(&key, 24),
+        word_at(&key, 28),
+        0,
+        0,
+        word_at(&nonce, 0),
+        word_at(&nonce, 4),
+    ]
+}
+
+// The word of four bytes, least first.
+#[inline]
+fn word_at(bytes: &[u8], at: usize) -> u32
+    requires { at + 4 ≤ length bytes.now }
+    ensures { result ≡ from_le_bytes w32 (drop at bytes.now) }
+{
+    u32::from_le_bytes([bytes[at], bytes[at + 1], bytes[at + 2], bytes[at + 3]])
+}
+
+/// Adds 1 to the counter, whose low half is word 12 and high half word 13, and answers true.
+///
+/// At the greatest counter, 2^64 - 1, it answers false and changes nothing.
+#[inline]
+pub fn chacha_increment_counter(state: &mut [u32; 16]) -> bool
+    ensures more { IsTrue result ↔ (counter state.old + 1 < 2 ^ 64) }
+    ensures next { OnTrue result (state.new ≡ with_counter state.old (counter state.old + 1)) }
+    ensures last { OnFalse result (state.new ≡ state.old) }
+{
+    match counter(state).checked_add(1) {
+        Some(next) => {
+            set_counter(state, next);
+            true
+        }
+        None => false,
+    }
+}
+
+// The counter of a state.
+#[inline]
+pub(crate) fn counter(state: &[u32; 16]) -> u64
+    ensures { result ≡ counter state.now }
+{
+    u64::from(state[12]) | u64::from(state[13]) << 32
+}
+
+// Writes the counter into a state.
+#[inline]
+pub(crate) fn set_counter(state: &mut [u32; 16], counter: u64)
+    ensures { state.new ≡ with_counter state.old counter }
+{
+    state[12] = (counter & 0xffff_ffff) as u32;
+    state[13] = (counter >> 32) as u32;
+}

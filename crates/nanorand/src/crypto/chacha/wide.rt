@@ -1,0 +1,267 @@
+//! Four blocks side by side: sixteen vectors, one for each word, with a lane for each block.
+ghost use Rattle.std.specs.Prelude.{◌≡◌, ℕ, ◌%◌, ◌^◌, ◌<◌, ◌/◌, map, slice_index};
+ghost use Rattle.std.specs.Fn.{iterate};
+ghost use Rattle.std.specs.List.{range_with_len};
+ghost use Rattle.nanorand.specs.ChaChaRounds.{add, quarter_round, on_columns, on_diagonals, rounds, block};
+ghost use Rattle.nanorand.specs.ChaCha.{next_state, chacha_after};
+ghost use Rattle.nanorand.specs.ChaChaRows.{lane};
+
+use super::lanes::{add, quarter_round};
+use super::state::counter;
+use std::simd::u32x4;
+
+// The words of four matrices.
+type Lanes = [u32x4; 16];
+
+// The low half of a counter.
+#[inline(always)]
+fn low(n: u64) -> u32
+    ensures { result ≡ n % 2 ^ 32 }
+{
+    (n & 0xffff_ffff) as u32
+}
+
+// The high half of a counter.
+#[inline(always)]
+fn high(n: u64) -> u32
+    ensures { result ≡ n / 2 ^ 32 }
+{
+    (n >> 32) as u32
+}
+
+// A state and the three after it. The counter may go past the greatest inside the group.
+#[inline(always)]
+fn four_states(x: &[u32; 16]) -> Lanes
+    ensures { (j : ℕ) → j < 4 → lane j result ≡ chacha_after j x.now }
+{
+    let first = counter(x);
+    let second = first.wrapping_add(1);
+    let third = first.wrapping_add(2);
+    let fourth = first.wrapping_add(3);
+    [
+        u32x4::splat(x[0]),
+        u32x4::splat(x[1]),
+        u32x4::splat(x[2]),
+        u32x4::splat(x[3]),
+        u32x4::splat(x[4]),
+        u32x4::splat(x[5]),
+        u32x4::splat(x[6]),
+        u32x4::splat(x[7]),
+        u32x4::splat(x[8]),
+        u32x4::splat(x[9]),
+        u32x4::splat(x[10]),
+        u32x4::splat(x[11]),
+        u32x4::from_array([low(first), low(second), low(third), low(fourth)]),
+        u32x4::from_array([high(first), high(second), high(third), high(fourth)]),
+        u32x4::splat(x[14]),
+        u32x4::splat(x[15]),
+    ]
+}
+
+// The quarter round of each column.
+#[inline(always)]
+fn mix_columns(x: Lanes) -> Lanes
+    ensures { (j : ℕ) → j < 4 → lane j result ≡ on_columns quarter_round (lane j x) }
+{
+    let [
+        x0,
+        x1,
+        x2,
+        x3,
+        x4,
+        x5,
+        x6,
+        x7,
+        x8,
+        x9,
+        x10,
+        x11,
+        x12,
+        x13,
+        x14,
+        x15,
+    ] = x;
+    let (x0, x4, x8, x12) = quarter_round(x0, x4, x8, x12);
+    let (x1, x5, x9, x13) = quarter_round(x1, x5, x9, x13);
+    let (x2, x6, x10, x14) = quarter_round(x2, x6, x10, x14);
+    let (x3, x7, x11, x15) = quarter_round(x3, x7, x11, x15);
+    [
+        x0, x1, x2, x3, x4, x5, x6, x7, x8, x9, x10, x11, x12, x13, x14, x15,
+    ]
+}
+
+// The quarter round of each diagonal.
+#[inline(always)]
+fn mix_diagonals(x: Lanes) -> Lanes
+    ensures { (j : ℕ) → j < 4 → lane j result ≡ on_diagonals quarter_round (lane j x) }
+{
+    let [
+        x0,
+        x1,
+        x2,
+        x3,
+        x4,
+        x5,
+        x6,
+        x7,
+        x8,
+        x9,
+        x10,
+        x11,
+        x12,
+        x13,
+        x14,
+        x15,
+    ] = x;
+    let (x0, x5, x10, x15) = quarter_round(x0, x5, x10, x15);
+    let (x1, x6, x11, x12) = quarter_round(x1, x6, x11, x12);
+    let (x2, x7, x8, x13) = quarter_round(x2, x7, x8, x13);
+    let (x3, x4, x9, x14) = quarter_round(x3, x4, x9, x14);
+    [
+        x0, x1, x2, x3, x4, x5, x6, x7, x8, x9, x10, x11, x12, x13, x14, x15,
+    ]
+}
+
+// The rounds of each matrix.
+#[inline(always)]
+fn mix<const ROUNDS: u8>(x: Lanes) -> Lanes
+    requires { ROUNDS % 2 ≡ 0 }
+    ensures { (j : ℕ) → j < 4 → lane j result ≡ rounds ROUNDS (lane j x) }
+{
+    let mut mixed = x;
+    'pairs: for _pair in 0..ROUNDS / 2 {
+        mixed = mix_diagonals(mix_columns(mixed));
+    }
+    mixed
+}
+
+// The matrix of each lane.
+#[inline(always)]
+fn matrices(x: Lanes) -> ([u32; 16], [u32; 16], [u32; 16], [u32; 16])
+    ensures { (result.0 ≡ lane 0 x) × (result.1 ≡ lane 1 x) × (result.2 ≡ lane 2 x) × (result.3 ≡ lane 3 x) }
+{
+    let [
+        x0,
+        x1,
+        x2,
+        x3,
+        x4,
+        x5,
+        x6,
+        x7,
+        x8,
+        x9,
+        x10,
+        x11,
+        x12,
+        x13,
+        x14,
+        x15,
+    ] = x;
+    let [a0, b0, c0, d0] = x0.to_array();
+    let [a1, b1, c1, d1] = x1.to_array();
+    let [a2, b2, c2, d2] = x2.to_array();
+    let [a3, b3, c3, d3] = x3.to_array();
+    let [a4, b4, c4, d4] = x4.to_array();
+    let [a5, b5, c5, d5] = x5.to_array();
+    let [a6, b6, c6, d6] = x6.to_array();
+    let [a7, b7, c7, d7] = x7.to_array();
+    let [a8, b8, c8, d8] = x8.to_array();
+    let [a9, b9, c9, d9] = x9.to_array();
+    let [a10, b10, c10, d10] = x10.to_array();
+    let [a11, b11, c11, d11] = x11.to_array();
+    let [a12, b12, c12, d12] = x12.to_array();
+    let [a13, b13, c13, d13] = x13.to_array();
+    let [a14, b14, c14, d14] = x14.to_array();
+    let [a15, b15, c15, d15] = x15.to_array();
+    (
+        [
+            a0, a1, a2, a3, a4, a5, a6, a7, a8, a9, a10, a11, a12, a13, a14, a15,
+        ],
+        [
+            b0, b1, b2, b3, b4, b5, b6, b7, b8, b9, b10, b11, b12, b13, b14, b15,
+        ],
+        [
+            c0, c1, c2, c3, c4, c5, c6, c7, c8, c9, c10, c11, c12, c13, c14, c15,
+        ],
+        [
+            d0, d1, d2, d3, d4, d5, d6, d7, d8, d9, d10, d11, d12, d13, d14, d15,
+        ],
+    )
+}
+
+// The words of two matrices, added.
+#[inline(always)]
+fn sums(x: Lanes, y: Lanes) -> Lanes
+    ensures { (j : ℕ) → j < 4 → lane j result ≡ map (λ k. add (slice_index (lane j x) k) (slice_index (lane j y) k)) (range_with_len 0 16) }
+{
+    let [
+        x0,
+        x1,
+        x2,
+        x3,
+        x4,
+        x5,
+        x6,
+        x7,
+        x8,
+        x9,
+        x10,
+        x11,
+        x12,
+        x13,
+        x14,
+        x15,
+    ] = x;
+    let [
+        y0,
+        y1,
+        y2,
+        y3,
+        y4,
+        y5,
+        y6,
+        y7,
+        y8,
+        y9,
+        y10,
+        y11,
+        y12,
+        y13,
+        y14,
+        y15,
+    ] = y;
+    [
+        add(x0, y0),
+        add(x1, y1),
+        add(x2, y2),
+        add(x3, y3),
+        add(x4, y4),
+        add(x5, y5),
+        add(x6, y6),
+        add(x7, y7),
+        add(x8, y8),
+        add(x9, y9),
+        add(x10, y10),
+        add(x11, y11),
+        add(x12, y12),
+        add(x13, y13),
+        add(x14, y14),
+        add(x15, y15),
+    ]
+}
+
+// The blocks of a state and of the three after it.
+#[inline(always)]
+pub(crate) fn four_blocks<const ROUNDS: u8>(
+    x: &[u32; 16],
+) -> ([u32; 16], [u32; 16], [u32; 16], [u32; 16])
+    requires { ROUNDS % 2 ≡ 0 }
+    ensures first { result.0 ≡ block ROUNDS (iterate next_state 0 x.now) }
+    ensures second { result.1 ≡ block ROUNDS (iterate next_state 1 x.now) }
+    ensures third { result.2 ≡ block ROUNDS (iterate next_state 2 x.now) }
+    ensures fourth { result.3 ≡ block ROUNDS (iterate next_state 3 x.now) }
+{
+    let first = four_states(x);
+    matrices(sums(mix::<ROUNDS>(first), first))
+}

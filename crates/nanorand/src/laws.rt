@@ -1,0 +1,161 @@
+//! Laws of the definitions. The functions do nothing: each contract is a law.
+ghost use Rattle.std.specs.Prelude.{◌≡◌, ◌<◌, length, ℕ, ℤ, nat_le, nat_lt, int_le, int_lt, ◌+◌, ◌^◌, bit_xor, ◌≢◌, ◌%◌, ◌↔◌, List, slice_index};
+ghost use Rattle.std.specs.declared.ops.Bound.{Bound};
+ghost use Rattle.std.specs.Fn.{iterate};
+ghost use Rattle.std.specs.Int.{w64, to_le_bytes, ◌∣◌};
+ghost use Rattle.nanorand.specs.Blocks.{taken};
+ghost use Rattle.nanorand.specs.Buffered.{Buffered, buffered_after, buffered_taken};
+ghost use Rattle.nanorand.specs.Arrangements.{CorrespondsOneToOne};
+ghost use Rattle.nanorand.specs.Replay.{ReplaysJoin};
+ghost use Rattle.nanorand.specs.Unbroken.{IsUnbroken};
+ghost use Rattle.nanorand.specs.Range.{unsigned_number, signed_number};
+ghost use Rattle.nanorand.specs.RangeLimits.{KeepsLimits};
+ghost use Rattle.nanorand.specs.Draws.{after_word, unsigned_outcome, signed_outcome};
+ghost use Rattle.nanorand.specs.Fairness.{RunsAreFair, NoNumberIsPreferred, EventsAreFair};
+ghost use Rattle.nanorand.specs.Cycles.{AgreeModulo, DrawsAdd, DrawsLeave, OneMoreDraw, PeriodsAreMultiplesOf, IsPeriod, Reaches, ReachesOnceBelow};
+ghost use Rattle.nanorand.specs.Halves.{folded};
+ghost use Rattle.nanorand.specs.ChaCha.{counter, advanced, next_state, chacha_after, chacha_block};
+ghost use Rattle.nanorand.specs.ChaChaRounds.{IsMatrix, RoundsAreInjective};
+ghost use Rattle.nanorand.specs.Pcg64 as pcg64;
+ghost use Rattle.nanorand.specs.WyRand as wyrand;
+
+use crate::buffer::BufferedRng;
+use crate::rand::{Blocks, Rng};
+
+/// A bounded draw prefers no number, for words of 8, 16, 32 and 64 bits and every size up to all
+/// words.
+///
+/// Each number of a range has a run of equally many words, and fewer than half of all words name
+/// nothing. To exchange the runs of two numbers, word by word, leads from one list of words to
+/// another and back: it keeps the deciding place, exchanges the two numbers in what the list
+/// decides, and changes nothing else. An event answers to equally many words for each of its
+/// numbers.
+pub fn fairness()
+    ensures runs { RunsAreFair }
+    ensures swaps { NoNumberIsPreferred }
+    ensures events { EventsAreFair }
+{}
+
+/// The limits that every ranged draw of the whole-number types keeps, over every generator.
+///
+/// A number lies within both bounds, and at most 128 words are drawn. `Empty` comes only where the
+/// range has no number, and then nothing was drawn; `Exhausted` comes after exactly 128 words. What
+/// `generate_range` answers and leaves is the outcome that this law speaks of.
+pub fn range_limits<G: Rng<OUTPUT>, const OUTPUT: usize>()
+    ensures unsigned { (bits : ℕ) (g : G) (low high : Bound ℕ) →
+        KeepsLimits nat_le nat_lt bits unsigned_number (after_word G.after bits) low high g
+        (unsigned_outcome (taken G.block G.step) G.after bits g low high) }
+    ensures signed { (bits : ℕ) (g : G) (low high : Bound ℤ) →
+        KeepsLimits int_le int_lt bits (signed_number bits) (after_word G.after bits) low high g
+        (signed_outcome (taken G.block G.step) G.after bits g low high) }
+{}
+
+/// Two lists of calls, one after the other, are one list, over every generator: a replay that is
+/// stopped, stored and taken up again gives what the whole replay gives.
+pub fn replays_join<G: Rng<OUTPUT>, const OUTPUT: usize>()
+    ensures { ReplaysJoin (taken G.block G.step) G.after }
+{}
+
+/// For every n, valid lists of n choices and arrangements of 0, 1, .., n - 1 correspond one to one: a
+/// valid list makes an arrangement, no other valid list makes it, and each arrangement is made.
+pub fn choices_and_arrangements()
+    ensures { (n : ℕ) → CorrespondsOneToOne n }
+{}
+
+/// A `BufferedRng` over any generator delivers without a break, whatever is asked of it.
+///
+/// Two requests in a row take and leave what one of both sizes does; so does any list of requests;
+/// and a replay leaves what one request of all the bytes that its calls ask for would leave. Less
+/// than a block stays buffered after each.
+pub fn unbroken_delivery<G: Rng<OUTPUT>, const OUTPUT: usize>()
+    ensures unbroken { IsUnbroken
+        (taken ⟦<BufferedRng<G, OUTPUT> as Blocks<OUTPUT>>⟧.block ⟦<BufferedRng<G, OUTPUT> as Blocks<OUTPUT>>⟧.step)
+        ⟦<BufferedRng<G, OUTPUT> as Rng<OUTPUT>>⟧.after }
+    ensures row { (b : Buffered G) (n : ℕ) →
+        taken ⟦<BufferedRng<G, OUTPUT> as Blocks<OUTPUT>>⟧.block ⟦<BufferedRng<G, OUTPUT> as Blocks<OUTPUT>>⟧.step b n
+        ≡ buffered_taken G.block G.step OUTPUT b n }
+    ensures below { (b : Buffered G) (n : ℕ) → length b.rest < OUTPUT
+        → length (buffered_after G.block G.step OUTPUT b n).rest < OUTPUT }
+{}
+
+/// ChaCha's rounds make no two matrices the same, for every even number of rounds.
+pub fn rounds_are_injective()
+    ensures { RoundsAreInjective }
+{}
+
+/// The seeds of `WyRand` are one cycle of 2^64, and its blocks have that period.
+///
+/// `steps`, `more`, `adds`: `wyrand_after` is the state after n draws, one by one, at every number.
+/// `closed`, `seeds`, `fits`: at a seed, and after a draw, it is the one sum `seed_after`, a seed.
+/// `words`: block n, counted from 0, is the word of the seed after n + 1 draws. `agree`: the draws i
+/// and j lead to one seed exactly if they agree modulo 2^64. `periods`: d is a period exactly if 2^64
+/// divides it.
+pub fn wyrand_cycle()
+    ensures steps { DrawsLeave wyrand.next_seed wyrand.wyrand_after }
+    ensures more { OneMoreDraw wyrand.next_seed wyrand.wyrand_after }
+    ensures adds { DrawsAdd wyrand.wyrand_after }
+    ensures closed { (n seed : ℕ) → seed < 2 ^ 64 → wyrand.wyrand_after n seed ≡ wyrand.seed_after n seed }
+    ensures seeds { (n seed : ℕ) → wyrand.wyrand_after (n + 1) seed ≡ wyrand.seed_after (n + 1) seed }
+    ensures fits { (n seed : ℕ) → seed < 2 ^ 64 → wyrand.wyrand_after n seed < 2 ^ 64 }
+    ensures words { (n seed : ℕ) → wyrand.wyrand_block (iterate wyrand.next_seed n seed)
+        ≡ to_le_bytes w64 (wyrand.word (wyrand.seed_after (n + 1) seed)) }
+    ensures agree { (seed : ℕ) → seed < 2 ^ 64 → AgreeModulo (2 ^ 64) wyrand.seed_after seed }
+    ensures periods { (seed : ℕ) → seed < 2 ^ 64 → PeriodsAreMultiplesOf (2 ^ 64) wyrand.next_seed wyrand.wyrand_block seed }
+{}
+
+/// The seeds of `Pcg64` are four cycles of 2^126 each, and its blocks have that period.
+///
+/// `steps`, `more`, `adds`: `pcg64_after` is the generator after n draws, one by one. `closed`,
+/// `seeds`, `fits`: at a seed, and after a draw, its seed is the one sum `seed_after`, a seed.
+/// `words`: block n, counted from 0, is the word of the seed after n + 1 draws. `blocks`: blocks read
+/// the seed alone. `agree`: the draws i and j lead to one seed exactly if they agree modulo 2^126.
+/// `top_bit`: after 2^125 further draws a word differs in the top bit and in no other. `periods`: d
+/// is a period exactly if 2^126 divides it.
+pub fn pcg64_cycles()
+    ensures steps { DrawsLeave pcg64.next pcg64.pcg64_after }
+    ensures more { OneMoreDraw pcg64.next pcg64.pcg64_after }
+    ensures adds { DrawsAdd pcg64.pcg64_after }
+    ensures closed { (n : ℕ) (g : pcg64.Generator) → g.seed < 2 ^ 128 → (pcg64.pcg64_after n g).seed ≡ pcg64.seed_after n g.seed }
+    ensures seeds { (n : ℕ) (g : pcg64.Generator) → (pcg64.pcg64_after (n + 1) g).seed ≡ pcg64.seed_after (n + 1) g.seed }
+    ensures fits { (n : ℕ) (g : pcg64.Generator) → g.seed < 2 ^ 128 → (pcg64.pcg64_after n g).seed < 2 ^ 128 }
+    ensures words { (n : ℕ) (g : pcg64.Generator) → pcg64.pcg64_block (iterate pcg64.next n g)
+        ≡ to_le_bytes w64 (folded (pcg64.seed_after (n + 1) g.seed)) }
+    ensures blocks { (n : ℕ) (g h : pcg64.Generator) → g.seed ≡ h.seed
+        → pcg64.pcg64_block (iterate pcg64.next n g) ≡ pcg64.pcg64_block (iterate pcg64.next n h) }
+    ensures agree { (seed : ℕ) → seed < 2 ^ 128 → AgreeModulo (2 ^ 126) pcg64.seed_after seed }
+    ensures top_bit { (n seed : ℕ) → seed < 2 ^ 128
+        → folded (pcg64.seed_after (n + 2 ^ 125) seed) ≡ bit_xor (folded (pcg64.seed_after n seed)) (2 ^ 63) }
+    ensures periods { (g : pcg64.Generator) → g.seed < 2 ^ 128 → PeriodsAreMultiplesOf (2 ^ 126) pcg64.next pcg64.pcg64_block g }
+{}
+
+/// The states of `ChaCha` are cycles of 2^64, and its counter tells how far a state is.
+///
+/// `steps`, `more`, `adds`: `chacha_after` is the state after n draws, one by one, at every list.
+/// `closed`, `matrices`: at sixteen words it is the state whose counter is n more, modulo 2^64, sixteen
+/// words again. `counts`, `keeps`: n draws add n to the counter, modulo 2^64, and change no other word.
+/// `blocks`: block n, counted from 0, is the block of the counter n more. `agree`: i and j draws leave
+/// one state exactly if i and j agree modulo 2^64. `periods`: every multiple of 2^64 is a period of the
+/// blocks.
+pub fn chacha_counter()
+    ensures steps { DrawsLeave next_state chacha_after }
+    ensures more { OneMoreDraw next_state chacha_after }
+    ensures adds { DrawsAdd chacha_after }
+    ensures closed { (n : ℕ) (x : List ℕ) → IsMatrix x → chacha_after n x ≡ advanced n x }
+    ensures matrices { (n : ℕ) (x : List ℕ) → IsMatrix x → IsMatrix (chacha_after n x) }
+    ensures counts { (n : ℕ) (x : List ℕ) → IsMatrix x → counter (chacha_after n x) ≡ (counter x + n) % 2 ^ 64 }
+    ensures keeps { (n k : ℕ) (x : List ℕ) → k ≢ 12 → k ≢ 13 → slice_index (chacha_after n x) k ≡ slice_index x k }
+    ensures blocks { (R n : ℕ) (x : List ℕ) → IsMatrix x
+        → chacha_block R (iterate next_state n x) ≡ chacha_block R (advanced n x) }
+    ensures agree { (i j : ℕ) (x : List ℕ) → IsMatrix x
+        → (chacha_after i x ≡ chacha_after j x) ↔ (i % 2 ^ 64 ≡ j % 2 ^ 64) }
+    ensures periods { (R d : ℕ) (x : List ℕ) → IsMatrix x → 2 ^ 64 ∣ d → IsPeriod next_state (chacha_block R) x d }
+{}
+
+/// Which seeds of `Pcg64` lead to which.
+///
+/// `reached`: draws lead from s to t exactly if both are in one of the four cycles. `once`: then
+/// exactly one number of draws below 2^126 does.
+pub fn pcg64_reach()
+    ensures reached { (s t : ℕ) → s < 2 ^ 128 → t < 2 ^ 128 → Reaches pcg64.seed_after s t ↔ pcg64.SameCycle s t }
+    ensures once { (s t : ℕ) → s < 2 ^ 128 → t < 2 ^ 128 → pcg64.SameCycle s t → ReachesOnceBelow (2 ^ 126) pcg64.seed_after s t }
+{}

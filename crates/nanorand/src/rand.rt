@@ -1,0 +1,147 @@
+//! The traits that every generator keeps, and the body that the plain generators share.
+ghost use Rattle.std.specs.Prelude.{◌≡◌, ℕ, ◌^◌, ◌<◌, List, length, OnOk, IsPermutation};
+ghost use Rattle.std.specs.Fn.{iterate};
+ghost use Rattle.nanorand.specs.Arrangements.{IsValid};
+ghost use Rattle.nanorand.specs.Blocks.{taken, plain_after};
+ghost use Rattle.nanorand.specs.Shuffles.{arranged, from_itself, shuffle_answer, shuffle_choices, shuffle_state};
+ghost use Rattle.nanorand.specs.Values.{values_from};
+
+pub mod chacha;
+mod halves;
+pub mod pcg64;
+pub mod wyrand;
+
+use crate::values::{RandomGen, RandomRange, RangeError};
+pub use chacha::{ChaCha, ChaCha8, ChaCha12, ChaCha20};
+pub use pcg64::Pcg64;
+use std::ops::Bound;
+pub use wyrand::WyRand;
+
+/// A source of blocks of `OUTPUT` bytes.
+///
+/// `OUTPUT` is at least 1: each implementation proves it.
+pub trait Blocks<const OUTPUT: usize> {
+    // The next block of a state.
+    ghost block: { Self → List ℕ };
+
+    // The state after that block.
+    ghost step: { Self → Self };
+
+    /// Draws the next block.
+    fn rand(&mut self) -> [u8; OUTPUT]
+        ensures bytes { result ≡ block self.old }
+        ensures state { self.new ≡ step self.old };
+
+    ghost positive: { 0 < OUTPUT };
+
+    // A block fits in memory, as every array does.
+    ghost in_memory: { OUTPUT < 2 ^ 63 };
+
+    ghost block_length: { (g : Self) → length (block g) ≡ OUTPUT };
+}
+
+/// A generator of random values.
+///
+/// A user's generator writes `rand` and `fill_bytes`, and names its next block, the state after
+/// it, and the state that a request of n bytes leaves. Everything else follows from these.
+pub trait Rng<const OUTPUT: usize>: Clone + Blocks<OUTPUT> {
+    // The state after a request of so many bytes.
+    ghost after: { Self → ℕ → Self };
+
+    /// Fills the slice with the next bytes, by one request. An empty slice draws nothing.
+    fn fill_bytes(&mut self, buffer: &mut [u8])
+        ensures bytes { buffer.new ≡ taken Self.block Self.step self.old (length buffer.old) }
+        ensures state { self.new ≡ after self.old (length buffer.old) };
+
+    /// Draws a value.
+    #[inline]
+    fn generate<T: RandomGen<Self, OUTPUT>>(&mut self) -> T
+        ensures value { result ≡ T.value self.old }
+        ensures state { self.new ≡ T.state_after self.old }
+    {
+        T::random(self)
+    }
+
+    /// Fills the slice with values, one after another: one value an item, in order.
+    fn fill<T: RandomGen<Self, OUTPUT> + Drop>(&mut self, target: &mut [T])
+        ensures values { target.new ≡ values_from T.value T.state_after (length target.old) self.old }
+        ensures state { self.new ≡ iterate T.state_after (length target.old) self.old }
+    {
+        for item in target.iter_mut() {
+            *item = self.generate();
+        }
+    }
+
+    /// Draws a value between two bounds, the low one first.
+    #[inline]
+    fn generate_range<T: RandomRange<Self, OUTPUT>>(
+        &mut self,
+        low: Bound<T>,
+        high: Bound<T>,
+    ) -> Result<T, RangeError>
+        ensures value { result ≡ (T.outcome self.old low high).0 }
+        ensures state { self.new ≡ (T.outcome self.old low high).1 }
+    {
+        T::random_range(self, low, high)
+    }
+
+    /// Shuffles the slice: each place, from the first on, is swapped with a partner that is drawn
+    /// from that place and those after it.
+    ///
+    /// What it leaves is an arrangement of the items: each of them equally often. Every arrangement
+    /// answers to exactly one list of choices. `Exhausted` comes where 128 words in a row were
+    /// rejected for one partner; what was swapped before it stays so. An empty slice draws nothing.
+    final fn shuffle<T>(&mut self, target: &mut [T]) -> Result<(), RangeError>
+        ensures answer { result ≡ shuffle_answer (taken Self.block Self.step) after from_itself (length target.old) self.old }
+        ensures items { target.new ≡ arranged (shuffle_choices (taken Self.block Self.step) after from_itself (length target.old) self.old) target.old }
+        ensures state { self.new ≡ shuffle_state (taken Self.block Self.step) after from_itself (length target.old) self.old }
+        ensures arrangement { IsPermutation target.old target.new }
+        ensures whole { OnOk result (length (shuffle_choices (taken Self.block Self.step) after from_itself (length target.old) self.old) ≡ length target.old) }
+        ensures valid { OnOk result (IsValid (shuffle_choices (taken Self.block Self.step) after from_itself (length target.old) self.old)) }
+    {
+        let count = target.len();
+        for place in 0..count {
+            let partner = self.generate_range(Bound::Included(place), Bound::Excluded(count))?;
+            target.swap(place, partner);
+        }
+        Ok(())
+    }
+
+    ghost after_nothing: { (g : Self) → after g 0 ≡ g };
+
+    ghost after_block: { (g : Self) → after g OUTPUT ≡ Self.step g };
+
+    // A clone is an equal generator.
+    ghost clones: { (g c : Self) → Self.is_clone g c → c ≡ g };
+}
+
+/// A generator that can be seeded anew.
+pub trait SeedableRng<const SEED_SIZE: usize, const OUTPUT: usize>: Rng<OUTPUT> {
+    // The state that the bytes of a seed leave.
+    ghost seeded: { Self → List ℕ → Self };
+
+    /// Seeds the generator anew.
+    fn reseed(&mut self, seed: [u8; SEED_SIZE])
+        ensures { self.new ≡ seeded self.old seed.entry };
+}
+
+/// Fills the slice block by block through `rand`, and drops the rest of the last block.
+///
+/// It is the body of `fill_bytes` of `WyRand` and `Pcg64`, and of what is left over in `ChaCha`, and
+/// may serve a user's: a plain generator begins a new block at each request.
+pub fn fill_by_blocks<G: Blocks<OUTPUT>, const OUTPUT: usize>(rng: &mut G, buffer: &mut [u8])
+    ensures bytes { buffer.new ≡ taken G.block G.step rng.old (length buffer.old) }
+    ensures state { rng.new ≡ plain_after G.step OUTPUT rng.old (length buffer.old) }
+{
+    let mut filled = 0;
+    while OUTPUT <= buffer.len() - filled {
+        let block = rng.rand();
+        buffer[filled..filled + OUTPUT].copy_from_slice(&block);
+        filled += OUTPUT;
+    }
+    let left = buffer.len() - filled;
+    if left > 0 {
+        let block = rng.rand();
+        buffer[filled..].copy_from_slice(&block[..left]);
+    }
+}

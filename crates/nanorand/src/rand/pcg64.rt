@@ -1,0 +1,256 @@
+//! Pcg64: 128 bits of seed, and a word of 64 bits a draw.
+ghost use Rattle.std.specs.Prelude.{◌≡◌, length, ◌⊎◌, ⊤, refl, Some, IfOk, IfErr, codes, ℕ, ◌<◌, ◌^◌, ◌↔◌, IsTrue, IsSome, IfSome};
+ghost use Rattle.std.proofs.Common.{rules};
+ghost use Rattle.nanorand.specs.Blocks.{plain_after, taken};
+ghost use Rattle.nanorand.specs.Entropy.{HasFewer, IsMadeOf};
+ghost use Rattle.nanorand.specs.Pcg64.{next, pcg64_after, pcg64_block, reseeded, seed_after, SameCycle};
+ghost use Rattle.nanorand.specs.Values.{number_of};
+ghost use Rattle.nanorand.specs.declared.entropy.EntropyError.TheVariants.{Short, Fault};
+
+use crate::entropy::{EntropyError, system};
+use crate::rand::halves::folded;
+use crate::rand::{Blocks, Rng, SeedableRng, fill_by_blocks};
+use std::alloc::AllocError;
+use std::fmt;
+use std::io::Read;
+use std::marker::Model;
+
+const MULTIPLIER: u128 = 47026247687942121848144207491837523525;
+
+const SQUARE: u128 = u128::wrapping_mul(MULTIPLIER, MULTIPLIER);
+
+// What one draw multiplies the seed by: three squares, two multipliers and 2.
+const FACTOR: u128 = u128::wrapping_add(
+    u128::wrapping_mul(3, SQUARE),
+    u128::wrapping_add(u128::wrapping_mul(2, MULTIPLIER), 2),
+);
+
+// What one draw then adds: a square, a multiplier and 1.
+const TERM: u128 = u128::wrapping_add(u128::wrapping_add(SQUARE, MULTIPLIER), 1);
+
+/// The generator Pcg64 of the Rust crate, after Melissa O'Neill's PCG family.
+///
+/// A draw multiplies the seed by a constant and adds another, modulo 2^128; the word is the high
+/// half of the new seed xored with its low half. The block is the word's eight bytes, least first.
+/// It is a plain generator: each request begins a new block.
+///
+/// `state` and `inc` tell of the last draw: after it `state` is the new seed, and `inc` is twice
+/// the old seed and one more, modulo 2^128. No draw reads them. As in the Rust crate, each draw
+/// starts anew from the seed and rotates nothing, so other programs of the family differ.
+#[derive(Drop)]
+pub struct Pcg64 {
+    seed: u128,
+    state: u128,
+    inc: u128,
+}
+
+// A generator is its three numbers.
+impl Model for Pcg64 {
+    ghost use Rattle.nanorand.specs.Pcg64.{Generator};
+
+    ghost Value = { Generator };
+
+    ghost view = { λ g. record { seed = g.seed; state = g.state; inc = g.inc } };
+}
+
+impl Pcg64 {
+    /// A generator with this seed, before its first draw: `state` and `inc` are 0.
+    #[inline]
+    pub fn new_seed(seed: u128) -> Self
+        ensures { result ≡ record { seed = seed; state = 0; inc = 0 } }
+    {
+        Pcg64 {
+            seed,
+            state: 0,
+            inc: 0,
+        }
+    }
+
+    /// A generator whose seed is the number of the reader's next 16 bytes, least byte first; `state`
+    /// and `inc` are 0. After an error there is no generator, and the place of the reader is open.
+    pub fn new<R: Read>(source: &mut R) -> Result<Self, EntropyError>
+        ensures made { IfOk result (IsMadeOf 16 (λ bytes. record { seed = number_of bytes; state = 0; inc = 0 })
+            (R.remaining source.old) (R.remaining source.new)) }
+        ensures error { IfErr result (λ e. (e ≡ Short) ⊎ (e ≡ Fault)) }
+        ensures short { result ≡ Err Short → HasFewer (R.remaining source.old) 16 }
+    {
+        let mut seed = [0; 16];
+        system(source, &mut seed)?;
+        Ok(Pcg64::new_seed(u128::from_le_bytes(seed)))
+    }
+
+    /// The seed, which alone decides the blocks that come.
+    #[inline]
+    pub fn seed(&self) -> u128
+        ensures { result ≡ self.now.seed }
+    {
+        self.seed
+    }
+
+    /// Leaves exactly what n draws leave, `state` and `inc` too, in at most 128 turns: a seed comes
+    /// again after 2^126 draws and no sooner. `jump(0)` changes nothing.
+    pub fn jump(&mut self, n: u128)
+        ensures { self.new ≡ pcg64_after n self.old }
+    {
+        if n > 0 {
+            self.seed = seed_after(self.seed, n - 1);
+            let _ = self.rand();
+        }
+    }
+
+    /// How many draws, below 2^126, lead from this seed to the other's. None exactly where none do:
+    /// the seeds are in one cycle if they are equal modulo 8, or their sum is 7 modulo 8.
+    ///
+    /// It takes no memory and at most 126 turns. `state` and `inc` play no part.
+    pub fn distance(&self, other: &Pcg64) -> Option<u128>
+        ensures reached { IsSome result ↔ SameCycle self.now.seed other.now.seed }
+        ensures below { IfSome result (λ n. n < 2 ^ 126) }
+        ensures leads { IfSome result (λ n. seed_after n self.now.seed ≡ other.now.seed) }
+        ensures only { (n : ℕ) → n < 2 ^ 126 → seed_after n self.now.seed ≡ other.now.seed → result ≡ Some n }
+    {
+        if in_one_cycle(self.seed, other.seed) {
+            Some(draws_between(self.seed, other.seed))
+        } else {
+            None
+        }
+    }
+}
+
+/// An equal generator. It takes no memory, so it is never refused.
+impl Clone for Pcg64 {
+    ghost is_clone = { λ g c. c ≡ g };
+
+    ghost is_infallible = { λ _. ⊤ };
+
+    #[inline]
+    fn clone(&self) -> Result<Self, AllocError> {
+        Ok(Pcg64 {
+            seed: self.seed,
+            state: self.state,
+            inc: self.inc,
+        })
+    }
+}
+
+impl fmt::Debug for Pcg64 {
+    fn fmt<W: fmt::Write>(&self, f: &mut fmt::Formatter<W>) -> fmt::Result {
+        write!(
+            f,
+            "Pcg64 {{ seed: {:#x}, state: {:#x}, inc: {:#x} }}",
+            self.seed, self.state, self.inc
+        )
+    }
+}
+
+impl fmt::Display for Pcg64 {
+    ghost output = { λ _. Some (codes "Pcg64") };
+
+    fn fmt<W: fmt::Write>(&self, f: &mut fmt::Formatter<W>) -> fmt::Result {
+        f.write_str("Pcg64")
+    }
+}
+
+impl Blocks<8> for Pcg64 {
+    ghost block = { pcg64_block };
+
+    ghost step = { next };
+
+    #[inline]
+    fn rand(&mut self) -> [u8; 8]
+        ensures bytes { result ≡ pcg64_block self.old }
+        ensures state { self.new ≡ next self.old }
+    {
+        self.inc = self.seed.wrapping_mul(2).wrapping_add(1);
+        self.seed = self.seed.wrapping_mul(FACTOR).wrapping_add(TERM);
+        self.state = self.seed;
+        folded(self.seed).to_le_bytes()
+    }
+
+    ghost positive = { Prim.search rules };
+
+    ghost in_memory = { Prim.search rules };
+
+    ghost block_length = { λ _. refl };
+}
+
+impl Rng<8> for Pcg64 {
+    ghost after = { plain_after next 8 };
+
+    #[inline]
+    fn fill_bytes(&mut self, buffer: &mut [u8])
+        ensures bytes { buffer.new ≡ taken pcg64_block next self.old (length buffer.old) }
+        ensures state { self.new ≡ plain_after next 8 self.old (length buffer.old) }
+    {
+        fill_by_blocks(self, buffer)
+    }
+
+    ghost after_nothing = { λ _. refl };
+
+    ghost after_block = { λ _. refl };
+
+    ghost clones = { λ _ _ same. same };
+}
+
+impl SeedableRng<16, 8> for Pcg64 {
+    ghost seeded = { reseeded };
+
+    /// The seed is the number of the bytes, least byte first. `state` and `inc` keep their values
+    /// until the next draw.
+    #[inline]
+    fn reseed(&mut self, seed: [u8; 16])
+        ensures { self.new ≡ reseeded self.old seed }
+    {
+        self.seed = u128::from_le_bytes(seed);
+    }
+}
+
+// The seed after so many draws. `factor` and `term` make 1, 2, 4, .. draws at once, and a turn takes
+// the lowest bit of the draws that are left.
+fn seed_after(start: u128, draws: u128) -> u128
+    ensures { result ≡ seed_after draws start }
+{
+    let mut seed = start;
+    let mut left = draws;
+    let mut factor = FACTOR;
+    let mut term = TERM;
+    'bits: while left > 0 {
+        if left % 2 == 1 {
+            seed = factor.wrapping_mul(seed).wrapping_add(term);
+        }
+        term = factor.wrapping_add(1).wrapping_mul(term);
+        factor = factor.wrapping_mul(factor);
+        left /= 2;
+    }
+    seed
+}
+
+// Whether draws lead from one seed to the other.
+#[inline]
+fn in_one_cycle(start: u128, end: u128) -> bool
+    ensures { IsTrue result ↔ SameCycle start end }
+{
+    start % 8 == end % 8 || start % 8 + end % 8 == 7
+}
+
+// How many draws lead from the start to the end, bit by bit from the lowest. Where the bits below
+// `bit` are decided, the end is a multiple of 2^(bit + 2) from the seed (for bit 0, it is 0 or an odd
+// number modulo 8), and the next bit is set exactly if it is an odd multiple.
+fn draws_between(start: u128, end: u128) -> u128
+    requires { SameCycle start end }
+    ensures below { result < 2 ^ 126 }
+    ensures leads { seed_after result start ≡ end }
+{
+    let mut seed = start;
+    let mut draws: u128 = 0;
+    let mut factor = FACTOR;
+    let mut term = TERM;
+    for bit in 0..126u32 {
+        if (end.wrapping_sub(seed) >> bit) % 8 != 0 {
+            seed = factor.wrapping_mul(seed).wrapping_add(term);
+            draws += 1 << bit;
+        }
+        term = factor.wrapping_add(1).wrapping_mul(term);
+        factor = factor.wrapping_mul(factor);
+    }
+    draws
+}

@@ -1,0 +1,178 @@
+//! Wyrand: 64 bits of seed, and a word of 64 bits a draw.
+ghost use Rattle.std.specs.Prelude.{◌≡◌, length, ◌⊎◌, ⊤, refl, Some, IfOk, IfErr, codes, ℕ, ◌<◌, ◌^◌};
+ghost use Rattle.std.proofs.Common.{rules};
+ghost use Rattle.nanorand.specs.Blocks.{plain_after, taken};
+ghost use Rattle.nanorand.specs.Entropy.{HasFewer, IsMadeOf};
+ghost use Rattle.nanorand.specs.Values.{number_of};
+ghost use Rattle.nanorand.specs.WyRand.{next_seed, wyrand_block, word, seed_after, wyrand_after};
+ghost use Rattle.nanorand.specs.declared.entropy.EntropyError.TheVariants.{Short, Fault};
+
+use crate::entropy::{EntropyError, system};
+use crate::rand::halves::folded;
+use crate::rand::{Blocks, Rng, SeedableRng, fill_by_blocks};
+use std::alloc::AllocError;
+use std::fmt;
+use std::io::Read;
+use std::marker::Model;
+
+// What one draw adds to the seed.
+const INCREMENT: u64 = 0xa076_1d64_78bd_642f;
+
+// Its inverse: their product is 1 modulo 2^64.
+const INVERSE: u64 = 0x939c_72e4_af1e_62cf;
+
+// What the seed is xored with before the product.
+const MASK: u64 = 0xe703_7ed1_a0b4_28db;
+
+/// The generator wyrand, after Wang Yi's `wyrand`.
+///
+/// A draw adds a constant to the seed, modulo 2^64, and mixes the new seed into a word by one
+/// product of 128 bits. The block is the word's eight bytes, least first. It is a plain generator:
+/// each request begins a new block.
+#[derive(Drop)]
+pub struct WyRand {
+    seed: u64,
+}
+
+// A generator is its seed.
+impl Model for WyRand {
+    ghost use Rattle.std.specs.Prelude.{ℕ};
+
+    ghost Value = { ℕ };
+
+    ghost view = { λ generator. generator.seed };
+}
+
+impl WyRand {
+    /// A generator with this seed.
+    #[inline]
+    pub fn new_seed(seed: u64) -> Self
+        ensures { result ≡ seed }
+    {
+        WyRand { seed }
+    }
+
+    /// A generator whose seed is the number of the reader's next 8 bytes, least byte first. After an
+    /// error there is no generator, and the place of the reader is open.
+    pub fn new<R: Read>(source: &mut R) -> Result<Self, EntropyError>
+        ensures made { IfOk result (IsMadeOf 8 number_of (R.remaining source.old) (R.remaining source.new)) }
+        ensures error { IfErr result (λ e. (e ≡ Short) ⊎ (e ≡ Fault)) }
+        ensures short { result ≡ Err Short → HasFewer (R.remaining source.old) 8 }
+    {
+        let mut seed = [0; 8];
+        system(source, &mut seed)?;
+        Ok(WyRand::new_seed(u64::from_le_bytes(seed)))
+    }
+
+    /// The seed.
+    #[inline]
+    pub fn seed(&self) -> u64
+        ensures { result ≡ self.now }
+    {
+        self.seed
+    }
+
+    /// Leaves what n draws leave, by one product: a seed comes again after 2^64 draws and no sooner.
+    #[inline]
+    pub fn jump(&mut self, n: u64)
+        ensures state { self.new ≡ wyrand_after n self.old }
+        ensures seed { self.new ≡ seed_after n self.old }
+    {
+        self.seed = self.seed.wrapping_add(n.wrapping_mul(INCREMENT));
+    }
+
+    /// How many draws, below 2^64, lead from this seed to the other's: one number does.
+    #[inline]
+    pub fn distance(&self, other: &WyRand) -> u64
+        ensures leads { seed_after result self.now ≡ other.now }
+        ensures only { (n : ℕ) → n < 2 ^ 64 → seed_after n self.now ≡ other.now → n ≡ result }
+    {
+        other.seed.wrapping_sub(self.seed).wrapping_mul(INVERSE)
+    }
+}
+
+/// An equal generator. It takes no memory, so it is never refused.
+impl Clone for WyRand {
+    ghost is_clone = { λ g c. c ≡ g };
+
+    ghost is_infallible = { λ _. ⊤ };
+
+    #[inline]
+    fn clone(&self) -> Result<Self, AllocError> {
+        Ok(WyRand { seed: self.seed })
+    }
+}
+
+impl fmt::Debug for WyRand {
+    fn fmt<W: fmt::Write>(&self, f: &mut fmt::Formatter<W>) -> fmt::Result {
+        write!(f, "WyRand {{ seed: {:#x} }}", self.seed)
+    }
+}
+
+impl fmt::Display for WyRand {
+    ghost output = { λ _. Some (codes "WyRand") };
+
+    fn fmt<W: fmt::Write>(&self, f: &mut fmt::Formatter<W>) -> fmt::Result {
+        f.write_str("WyRand")
+    }
+}
+
+impl Blocks<8> for WyRand {
+    ghost block = { wyrand_block };
+
+    ghost step = { next_seed };
+
+    #[inline]
+    fn rand(&mut self) -> [u8; 8]
+        ensures bytes { result ≡ wyrand_block self.old }
+        ensures state { self.new ≡ next_seed self.old }
+    {
+        self.seed = self.seed.wrapping_add(INCREMENT);
+        word(self.seed).to_le_bytes()
+    }
+
+    ghost positive = { Prim.search rules };
+
+    ghost in_memory = { Prim.search rules };
+
+    ghost block_length = { λ _. refl };
+}
+
+impl Rng<8> for WyRand {
+    ghost after = { plain_after next_seed 8 };
+
+    #[inline]
+    fn fill_bytes(&mut self, buffer: &mut [u8])
+        ensures bytes { buffer.new ≡ taken wyrand_block next_seed self.old (length buffer.old) }
+        ensures state { self.new ≡ plain_after next_seed 8 self.old (length buffer.old) }
+    {
+        fill_by_blocks(self, buffer)
+    }
+
+    ghost after_nothing = { λ _. refl };
+
+    ghost after_block = { λ _. refl };
+
+    ghost clones = { λ _ _ same. same };
+}
+
+impl SeedableRng<8, 8> for WyRand {
+    ghost seeded = { λ _ bytes. number_of bytes };
+
+    /// The seed is the number of the bytes, least byte first.
+    #[inline]
+    fn reseed(&mut self, seed: [u8; 8])
+        ensures { self.new ≡ number_of seed }
+    {
+        self.seed = u64::from_le_bytes(seed);
+    }
+}
+
+// The word of a new seed: both halves of a product of 128 bits, xored.
+#[inline]
+fn word(seed: u64) -> u64
+    ensures { result ≡ word seed }
+{
+    let product = u128::from(seed) * u128::from(seed ^ MASK);
+    folded(product)
+}

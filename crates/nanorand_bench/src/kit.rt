@@ -1,0 +1,147 @@
+//! The same work by the kit's `rand`, `rand_pcg` and `rand_chacha`. Ranges and shuffles draw from
+//! its Pcg64.
+
+use crate::words::mixed;
+use rand::seq::SliceRandom;
+use rand::{Rng, RngExt, SeedableRng};
+use rand_chacha::{ChaCha8Rng, ChaCha12Rng, ChaCha20Rng};
+use rand_pcg::Pcg64;
+
+#[unsafe(no_mangle)]
+pub extern "C" fn kit_pcg64_u64(seed: u64, count: u64) -> u64 {
+    let mut rng = Pcg64::new(u128::from(seed), 1);
+    let mut all = 0u64;
+    for _ in 0..count {
+        all = all.rotate_left(1) ^ rng.next_u64();
+    }
+    all
+}
+
+#[unsafe(no_mangle)]
+pub extern "C" fn kit_pcg64_u8(seed: u64, count: u64) -> u64 {
+    let mut rng = Pcg64::new(u128::from(seed), 1);
+    let mut all = 0u64;
+    for _ in 0..count {
+        all = all.rotate_left(1) ^ u64::from(rng.random::<u8>());
+    }
+    all
+}
+
+#[unsafe(no_mangle)]
+pub extern "C" fn kit_chacha20_u8(seed: u8, count: u64) -> u64 {
+    let mut rng = ChaCha20Rng::from_seed([seed; 32]);
+    let mut all = 0u64;
+    for _ in 0..count {
+        all = all.rotate_left(1) ^ u64::from(rng.random::<u8>());
+    }
+    all
+}
+
+#[unsafe(no_mangle)]
+pub extern "C" fn kit_chacha8_blocks(seed: u8, count: u64) -> u64 {
+    let mut rng = ChaCha8Rng::from_seed([seed; 32]);
+    let mut all = 0u64;
+    let mut block = [0; 64];
+    for _ in 0..count {
+        rng.fill_bytes(&mut block);
+        all = all.rotate_left(1) ^ mixed(&block);
+    }
+    all
+}
+
+#[unsafe(no_mangle)]
+pub extern "C" fn kit_chacha12_blocks(seed: u8, count: u64) -> u64 {
+    let mut rng = ChaCha12Rng::from_seed([seed; 32]);
+    let mut all = 0u64;
+    let mut block = [0; 64];
+    for _ in 0..count {
+        rng.fill_bytes(&mut block);
+        all = all.rotate_left(1) ^ mixed(&block);
+    }
+    all
+}
+
+#[unsafe(no_mangle)]
+pub extern "C" fn kit_chacha20_blocks(seed: u8, count: u64) -> u64 {
+    let mut rng = ChaCha20Rng::from_seed([seed; 32]);
+    let mut all = 0u64;
+    let mut block = [0; 64];
+    for _ in 0..count {
+        rng.fill_bytes(&mut block);
+        all = all.rotate_left(1) ^ mixed(&block);
+    }
+    all
+}
+
+#[unsafe(no_mangle)]
+pub extern "C" fn kit_pcg64_fill(seed: u64, out: &mut [u8], times: u32) {
+    let mut rng = Pcg64::new(u128::from(seed), 1);
+    for _ in 0..times {
+        rng.fill_bytes(out);
+    }
+}
+
+#[unsafe(no_mangle)]
+pub extern "C" fn kit_chacha20_fill(seed: u8, out: &mut [u8], times: u32) {
+    let mut rng = ChaCha20Rng::from_seed([seed; 32]);
+    for _ in 0..times {
+        rng.fill_bytes(out);
+    }
+}
+
+#[unsafe(no_mangle)]
+pub extern "C" fn kit_range_u8(seed: u64, size: u8, count: u64) -> u64 {
+    let mut rng = Pcg64::new(u128::from(seed), 1);
+    let mut all = 0u64;
+    for _ in 0..count {
+        if size > 0 {
+            all = all.rotate_left(1) ^ u64::from(rng.random_range(0..size));
+        }
+    }
+    all
+}
+
+#[unsafe(no_mangle)]
+pub extern "C" fn kit_range_u32(seed: u64, size: u32, count: u64) -> u64 {
+    let mut rng = Pcg64::new(u128::from(seed), 1);
+    let mut all = 0u64;
+    for _ in 0..count {
+        if size > 0 {
+            all = all.rotate_left(1) ^ u64::from(rng.random_range(0..size));
+        }
+    }
+    all
+}
+
+#[unsafe(no_mangle)]
+pub extern "C" fn kit_range_u64(seed: u64, size: u64, count: u64) -> u64 {
+    let mut rng = Pcg64::new(u128::from(seed), 1);
+    let mut all = 0u64;
+    for _ in 0..count {
+        if size > 0 {
+            all = all.rotate_left(1) ^ rng.random_range(0..size);
+        }
+    }
+    all
+}
+
+#[unsafe(no_mangle)]
+pub extern "C" fn kit_shuffle(seed: u64, items: &mut [u64], times: u32) {
+    let mut rng = Pcg64::new(u128::from(seed), 1);
+    for _ in 0..times {
+        items.shuffle(&mut rng);
+    }
+}
+
+#[unsafe(no_mangle)]
+pub extern "C" fn kit_pcg64_jump(seed: u64, count: u64) -> u64 {
+    let mut rng = Pcg64::new(u128::from(seed), 1);
+    let mut all = 0u64;
+    for _ in 0..count {
+        let high = u128::from(rng.next_u64()) << 64;
+        let places = high + u128::from(rng.next_u64());
+        rng.advance(places);
+        all = all.rotate_left(1) ^ rng.next_u64();
+    }
+    all
+}

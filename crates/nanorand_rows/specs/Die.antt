@@ -1,0 +1,25 @@
+-- A die: a number of 1 to 6.
+use Rattle.std.specs.Prelude.{ℕ, List, Result, Ok, Err}
+use Rattle.std.specs.declared.ops.Bound.{Bound}
+use Rattle.std.specs.declared.ops.Bound.TheVariants.{Included, Excluded, Unbounded}
+use Rattle.nanorand.specs.Draws.{unsigned_outcome}
+use Rattle.nanorand.specs.declared.values.range.RangeError.{RangeError}
+
+-- The number that was drawn, and 1 where none was.
+abbrev pub pips_or_one : Result ℕ RangeError → ℕ
+pips_or_one (Ok pips) = pips
+pips_or_one (Err refusal) = 1
+
+module _ {G : Type 0} (bytes : G → ℕ → List ℕ) (after : G → ℕ → G) where
+  -- A throw is the byte range 1..=6.
+  abbrev pub die_value : G → ℕ
+  die_value g = pips_or_one (unsigned_outcome bytes after 8 g (Included 1) (Included 6)).0
+
+  abbrev pub die_after : G → G
+  die_after g = (unsigned_outcome bytes after 8 g (Included 1) (Included 6)).1
+
+-- A bound in numbers, where an unbounded one is the end of a die.
+abbrev pub die_bound : ℕ → Bound ℕ → Bound ℕ
+die_bound last (Included pips) = Included pips
+die_bound last (Excluded pips) = Excluded pips
+die_bound last Unbounded = Included last

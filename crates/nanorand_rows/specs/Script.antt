@@ -1,0 +1,10 @@
+-- A generator of the bytes of a list, a block each. Its state is the list and the number of its blocks so far.
+use Rattle.std.specs.Prelude.{ℕ, List, replicate, slice_index_or}
+use Rattle.nanorand_rows.specs.Steps.{next_count}
+
+-- Block n is number n of the list, eight times, and zeros after the list.
+abbrev pub script_block : List ℕ × ℕ → List ℕ
+script_block g = replicate 8 (slice_index_or g.0 g.1 0)
+
+abbrev pub script_step : List ℕ × ℕ → List ℕ × ℕ
+script_step g = (g.0, next_count g.1)

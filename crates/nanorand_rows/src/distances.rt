@@ -1,0 +1,101 @@
+//! Rows of distances. A body that tries every number of draws would not end on most of them.
+
+use nanorand::{Pcg64, WyRand};
+
+const FIRST: u128 = 0x3b1dd060ff2fd1e09624b94fc0ada4df;
+
+#[test]
+fn of_wyrand(rt: HostRuntime) {
+    for (start, end, draws) in [
+        (0, 0xa0761d6478bd642f, 1),
+        (0xa0761d6478bd642f, 0, u64::MAX),
+        (0, 1 << 63, 1 << 63),
+        (0, 0, 0),
+        (42, 42, 0),
+        (u64::MAX, u64::MAX, 0),
+    ] {
+        let mut wyrand = WyRand::new_seed(start);
+        let other = WyRand::new_seed(end);
+        assert_eq!(rt; wyrand.distance(&other), draws, "from {start} to {end}");
+        wyrand.jump(draws);
+        assert_eq!(rt; wyrand.seed(), end);
+    }
+}
+
+#[test]
+fn of_pcg64(rt: HostRuntime) {
+    for (start, end, draws) in [
+        (5, (1 << 127) + 5, Some(1 << 125)),
+        (0, 1, None),
+        (0, 0, Some(0)),
+        (0, FIRST, Some(1)),
+        (FIRST, 0, Some((1 << 126) - 1)),
+        (5, 3, None),
+    ] {
+        let distance = Pcg64::new_seed(start).distance(&Pcg64::new_seed(end));
+        assert_eq!(rt; distance, draws, "from {start} to {end}");
+    }
+}
+
+#[test]
+fn of_pcg64_by_parity(rt: HostRuntime) {
+    for (start, end, parity) in [(0, 7, 1), (5, 2, 1), (5, 13, 0)] {
+        let distance = Pcg64::new_seed(start).distance(&Pcg64::new_seed(end));
+        assert_eq!(rt;
+            distance.map(|draws| draws % 2),
+            Some(parity),
+            "from {start} to {end}"
+        );
+    }
+}
+
+// `state` and `inc` play no part.
+#[test]
+fn of_pcg64_after_draws(rt: HostRuntime) {
+    let mut drawn = Pcg64::new_seed(5);
+    drawn.jump(1000);
+    assert_eq!(rt; Pcg64::new_seed(5).distance(&drawn), Some(1000));
+    assert_eq!(rt;
+        drawn.distance(&Pcg64::new_seed(5)),
+        Some((1 << 126) - 1000)
+    );
+}
+
+// A jump of the distance leads to the second seed.
+#[test]
+fn jumps_of_distances(rt: HostRuntime) {
+    for (start, end) in [
+        (5, (1 << 127) + 5),
+        (0, 0),
+        (0, 7),
+        (0, FIRST),
+        (FIRST, 0),
+        (5, 2),
+        (5, 13),
+    ] {
+        let mut pcg64 = Pcg64::new_seed(start);
+        let draws = pcg64
+            .distance(&Pcg64::new_seed(end))
+            .expect(&rt, "one cycle");
+        pcg64.jump(draws);
+        assert_eq!(rt; pcg64.seed(), end, "from {start}");
+    }
+}
+
+// Of the seeds below 8 draws lead from each to itself and to what it lacks of 7.
+#[test]
+fn four_cycles(rt: HostRuntime) {
+    for start in [0, 1, 2, 3, 4, 5, 6, 7] {
+        for end in [0, 1, 2, 3, 4, 5, 6, 7] {
+            let mut pcg64 = Pcg64::new_seed(start);
+            match pcg64.distance(&Pcg64::new_seed(end)) {
+                Some(draws) => {
+                    assert!(rt; start == end || start + end == 7, "{start} and {end}");
+                    pcg64.jump(draws);
+                    assert_eq!(rt; pcg64.seed(), end);
+                }
+                None => assert!(rt; start != end && start + end != 7, "{start} and {end}"),
+            }
+        }
+    }
+}

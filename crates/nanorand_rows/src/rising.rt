@@ -1,0 +1,162 @@
+//! The bytes 0, 1, 2, .. in blocks of one byte and of 64.
+ghost use Rattle.std.specs.Prelude.{◌≡◌, ◌^◌, ◌<◌, ⊤, refl};
+ghost use Rattle.std.proofs.Common.{rules};
+ghost use Rattle.nanorand.specs.Blocks.{plain_after};
+ghost use Rattle.nanorand_rows.specs.Rising.{rising_block};
+ghost use Rattle.nanorand_rows.specs.RisingLaws.{length-rising_block};
+ghost use Rattle.nanorand_rows.specs.Steps.{next_count};
+
+use nanorand::rand::fill_by_blocks;
+use nanorand::{Blocks, Rng};
+use std::alloc::AllocError;
+use std::marker::Model;
+
+/// Gives the bytes 0, 1, 2, .. modulo 256, each as a block of its own.
+#[derive(Drop)]
+pub struct Bytes1 {
+    drawn: u64,
+}
+
+/// Gives the bytes 0, 1, 2, .. modulo 256, in blocks of 64.
+#[derive(Drop)]
+pub struct Bytes64 {
+    drawn: u64,
+}
+
+impl Model for Bytes1 {
+    ghost use Rattle.std.specs.Prelude.{ℕ};
+
+    ghost Value = { ℕ };
+
+    ghost view = { λ generator. generator.drawn };
+}
+
+impl Model for Bytes64 {
+    ghost use Rattle.std.specs.Prelude.{ℕ};
+
+    ghost Value = { ℕ };
+
+    ghost view = { λ generator. generator.drawn };
+}
+
+impl Bytes1 {
+    /// A fresh generator.
+    pub fn new() -> Self
+        ensures { result ≡ 0 }
+    {
+        Bytes1 { drawn: 0 }
+    }
+}
+
+impl Bytes64 {
+    /// A fresh generator.
+    pub fn new() -> Self
+        ensures { result ≡ 0 }
+    {
+        Bytes64 { drawn: 0 }
+    }
+
+    /// How many blocks were drawn, modulo 2^64.
+    pub fn drawn(&self) -> u64
+        ensures { result ≡ self.now }
+    {
+        self.drawn
+    }
+}
+
+impl Clone for Bytes1 {
+    ghost is_clone = { λ g c. c ≡ g };
+
+    ghost is_infallible = { λ _. ⊤ };
+
+    fn clone(&self) -> Result<Self, AllocError> {
+        Ok(Bytes1 { drawn: self.drawn })
+    }
+}
+
+impl Clone for Bytes64 {
+    ghost is_clone = { λ g c. c ≡ g };
+
+    ghost is_infallible = { λ _. ⊤ };
+
+    fn clone(&self) -> Result<Self, AllocError> {
+        Ok(Bytes64 { drawn: self.drawn })
+    }
+}
+
+impl Blocks<1> for Bytes1 {
+    ghost block = { rising_block 1 };
+
+    ghost step = { next_count };
+
+    fn rand(&mut self) -> [u8; 1] {
+        let block = rising(self.drawn);
+        self.drawn = self.drawn.wrapping_add(1);
+        block
+    }
+
+    ghost positive = { Prim.search rules };
+
+    ghost in_memory = { Prim.search rules };
+
+    ghost block_length = { length-rising_block 1 };
+}
+
+impl Blocks<64> for Bytes64 {
+    ghost block = { rising_block 64 };
+
+    ghost step = { next_count };
+
+    fn rand(&mut self) -> [u8; 64] {
+        let block = rising(self.drawn);
+        self.drawn = self.drawn.wrapping_add(1);
+        block
+    }
+
+    ghost positive = { Prim.search rules };
+
+    ghost in_memory = { Prim.search rules };
+
+    ghost block_length = { length-rising_block 64 };
+}
+
+impl Rng<1> for Bytes1 {
+    ghost after = { plain_after next_count 1 };
+
+    fn fill_bytes(&mut self, buffer: &mut [u8]) {
+        fill_by_blocks(self, buffer)
+    }
+
+    ghost after_nothing = { λ _. refl };
+
+    ghost after_block = { λ _. refl };
+
+    ghost clones = { λ _ _ same. same };
+}
+
+impl Rng<64> for Bytes64 {
+    ghost after = { plain_after next_count 64 };
+
+    fn fill_bytes(&mut self, buffer: &mut [u8]) {
+        fill_by_blocks(self, buffer)
+    }
+
+    ghost after_nothing = { λ _. refl };
+
+    ghost after_block = { λ _. refl };
+
+    ghost clones = { λ _ _ same. same };
+}
+
+// Block number `drawn` of so many bytes.
+fn rising<const SIZE: usize>(drawn: u64) -> [u8; SIZE]
+    requires { SIZE < 2 ^ 63 }
+    ensures { result ≡ rising_block SIZE drawn }
+{
+    let first = SIZE as u128 * u128::from(drawn);
+    let mut block = [0; SIZE];
+    for i in 0..SIZE {
+        block[i] = ((first + i as u128) % 256) as u8;
+    }
+    block
+}
