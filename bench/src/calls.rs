@@ -46,6 +46,7 @@ unsafe extern "C" {
     fn kit_pcg64_fill(seed: u64, out: NonNull<u8>, length: usize, times: u32);
     fn kit_chacha20_fill(seed: u8, out: NonNull<u8>, length: usize, times: u32);
     fn nanorand_shuffle(seed: u64, items: NonNull<u64>, length: usize, times: u32);
+    fn nanorand_shuffle_full(seed: u64, items: NonNull<u64>, length: usize, times: u32);
     fn kit_shuffle(seed: u64, items: NonNull<u64>, length: usize, times: u32);
 }
 
@@ -66,5 +67,6 @@ slices! {
     pcg64_fill_of_the_kit = kit_pcg64_fill(u64, [u8], times: u32);
     chacha20_fill_of_the_kit = kit_chacha20_fill(u8, [u8], times: u32);
     shuffle = nanorand_shuffle(u64, [u64], times: u32);
+    shuffle_full = nanorand_shuffle_full(u64, [u64], times: u32);
     shuffle_of_the_kit = kit_shuffle(u64, [u64], times: u32);
 }

@@ -168,19 +168,28 @@ fn shuffled(shuffle: impl Fn(&mut [u64])) -> impl FnMut() -> u64 {
     }
 }
 
-fn others(rows: &mut Vec<Row>) {
+fn shuffles(rows: &mut Vec<Row>) {
     let items = ITEMS * u64::from(SHUFFLES);
-    rows.push(
-        Row::new(
-            "shuffle of 1000, an item",
-            items,
-            shuffled(|items| shuffle(42, items, SHUFFLES)),
-        )
-        .original(old!(shuffled(|items| original::shuffle(
-            42, items, SHUFFLES
-        ))))
-        .kit(shuffled(|items| shuffle_of_the_kit(42, items, SHUFFLES))),
-    );
+    let calls: [(_, fn(u64, &mut [u64], u32)); 2] = [
+        ("shuffle of 1000, an item", shuffle),
+        ("shuffle of 1000 from all places, an item", shuffle_full),
+    ];
+    for (name, call) in calls {
+        rows.push(
+            Row::new(
+                name,
+                items,
+                shuffled(move |items| call(42, items, SHUFFLES)),
+            )
+            .original(old!(shuffled(|items| original::shuffle(
+                42, items, SHUFFLES
+            ))))
+            .kit(shuffled(|items| shuffle_of_the_kit(42, items, SHUFFLES))),
+        );
+    }
+}
+
+fn others(rows: &mut Vec<Row>) {
     rows.push(
         Row::new("buffered WyRand, a u8", WORDS, || {
             nanorand_buffered_wyrand(42, WORDS)
@@ -199,7 +208,7 @@ fn others(rows: &mut Vec<Row>) {
         Row::new("Pcg64, a jump", JUMPS, || nanorand_pcg64_jump(42, JUMPS))
             .kit(|| kit_pcg64_jump(42, JUMPS)),
     );
-    rows.push(Row::new("Pcg64, a jump and a distance", JUMPS, || {
+    rows.push(Row::new("Pcg64, a distance", JUMPS, || {
         nanorand_pcg64_distance(42, JUMPS)
     }));
 }
@@ -209,6 +218,7 @@ fn main() {
     words(&mut rows);
     fills(&mut rows);
     ranges(&mut rows);
+    shuffles(&mut rows);
     others(&mut rows);
     table::print(&mut rows);
 }

@@ -1,8 +1,9 @@
 -- The draws of a shuffle so far, and what they lead to. `first` tells from which place on a partner is drawn.
-use Rattle.std.proofs.Common.{◌≡◌, ℕ, zero, suc, ◌+◌, ◌-◌, ◌^◌, ◌<◌, ◌≤◌, List, Result, ◌∷◌, Ok, Err, length, get_or, take, drop, min, swap, nat_le, nat_lt, true, refl, sym, ◌∙◌, ap, arith, add-zero, add-one, IsPermutation}
+use Rattle.std.proofs.Common.{◌≡◌, ℕ, zero, suc, ◌+◌, ◌-◌, ◌^◌, ◌<◌, ◌≤◌, List, [], Result, ◌∷◌, Ok, Err, length, get_or, take, drop, min, max, swap, inl, inr, nat_le, nat_lt, true, refl, sym, ◌∙◌, ap, arith, add-zero, add-one, IsPermutation}
 use Rattle.std.specs.declared.ops.Bound.TheVariants.{Included, Excluded}
-use Rattle.std.proofs.lemmas.Bool.{ne_eqb, eq-eqb, le-leb, lt-ltb, leb-true, ltb-true}
-use Rattle.std.proofs.lemmas.List.{length-drop, get_or-drop, drop-drop, take_all}
+use Rattle.std.proofs.lemmas.Bool.{cases_lt, ne_eqb, eq-eqb, le-leb, lt-ltb, leb-true, ltb-true}
+use Rattle.std.proofs.Math.Nat.{min-eq_left, min-eq_right, max-eq_left, max-eq_right}
+use Rattle.std.proofs.lemmas.List.{length-drop, get_or-drop, drop-drop, take_all, set_comm}
 use Rattle.std.proofs.lemmas.List.Sorted.{IsPermutation-refl, IsPermutation-swap, IsPermutation-trans, length_permutation}
 use Rattle.nanorand.specs.Range.{unsigned_number}
 use Rattle.nanorand.specs.Draws.{next_word, after_word}
@@ -156,3 +157,16 @@ module _ {G T : Type 0} (bytes : G → ℕ → List ℕ) (after : G → ℕ → 
       done-state =
           let draws : min (length items) (length (shuffle_choices bytes after first (length items) g) + 1) ≡ i = omega (arith, count-done) in
           rw draws m.reached
+
+-- an exchange is the same from either place
+swap-other : {T : Type 0} (xs : List T) (i j : ℕ) → ((i ≡ j) → ⊥) → swap xs j i ≡ swap xs i j
+swap-other [] i j differ = refl
+swap-other (x ∷ xs) i j differ = set_comm (x ∷ xs) j i _ _ (λ same. differ (sym same))
+
+pub swap-ordered : {T : Type 0} (xs : List T) (i j : ℕ) → swap xs (min i j) (max i j) ≡ swap xs i j
+swap-ordered xs i j = elim (cases_lt j i) [
+  | inl above ↦
+      let high : j ≤ i = omega (arith, above) in
+      rw (min-eq_right high, max-eq_left high) (swap-other xs i j (λ same. omega (arith, same, above)))
+  | inr low ↦ rw (min-eq_left low, max-eq_right low) refl
+]

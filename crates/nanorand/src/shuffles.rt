@@ -98,7 +98,8 @@ pub fn shuffle_full<G: Rng<OUTPUT>, T, const OUTPUT: usize>(
     let count = target.len();
     for place in 0..count {
         let partner = rng.generate_range(Bound::Included(0), Bound::Excluded(count))?;
-        target.swap(place, partner);
+        // `swap` branches on which place is the smaller one: that is random here.
+        target.swap(place.min(partner), place.max(partner));
     }
     Ok(())
 }

@@ -16,18 +16,17 @@ pub extern "C" fn nanorand_pcg64_jump(seed: u64, count: u64) -> u64 {
     all
 }
 
-// Distances to seeds of the same cycle, each drawn after the last one.
+// Distances to one far place of the cycle, each from a draw nearer.
 #[unsafe(no_mangle)]
 pub extern "C" fn nanorand_pcg64_distance(seed: u64, count: u64) -> u64 {
     let mut rng = Pcg64::new_seed(u128::from(seed));
+    let mut far = Pcg64::new_seed(u128::from(seed));
+    far.jump(u128::MAX / 5);
     let mut all = 0u64;
     for _ in 0..count {
-        let high = u128::from(rng.generate::<u64>()) << 64;
-        let place = high + u128::from(rng.generate::<u64>());
-        let mut other = Pcg64::new_seed(place);
-        other.jump(place);
-        let found = rng.distance(&other).unwrap_or(place);
-        all = all.rotate_left(1) ^ (found % (1 << 64)) as u64;
+        let draws = rng.distance(&far).unwrap_or(0);
+        all = all.rotate_left(1) ^ (draws % (1 << 64)) as u64;
+        rng.generate::<u64>();
     }
     all
 }

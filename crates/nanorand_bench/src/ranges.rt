@@ -1,6 +1,6 @@
 //! Ranges and shuffles.
 
-use nanorand::{Rng, WyRand};
+use nanorand::{Rng, WyRand, shuffles};
 use std::ops::Bound::{Excluded, Included};
 
 #[unsafe(no_mangle)]
@@ -44,5 +44,13 @@ pub extern "C" fn nanorand_shuffle(seed: u64, items: &mut [u64], times: u32) {
     let mut rng = WyRand::new_seed(seed);
     for _ in 0..times {
         let _ = rng.shuffle(items);
+    }
+}
+
+#[unsafe(no_mangle)]
+pub extern "C" fn nanorand_shuffle_full(seed: u64, items: &mut [u64], times: u32) {
+    let mut rng = WyRand::new_seed(seed);
+    for _ in 0..times {
+        let _ = shuffles::shuffle_full(&mut rng, items);
     }
 }

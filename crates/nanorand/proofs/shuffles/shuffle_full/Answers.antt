@@ -3,7 +3,7 @@ use Rattle.std.proofs.lemmas.Bool.{ltb-true}
 use Rattle.std.proofs.lemmas.Result.{err_from_is_err_and}
 use Rattle.nanorand.specs.Blocks.{taken}
 use Rattle.nanorand.specs.Shuffles.{from_all, partner_drawn}
-use Rattle.nanorand.proofs.ShuffleLemmas.{partner-within, partner-refused, shuffling-start, shuffling-step, refused-answer, refused-items, refused-state, done-answer, done-items, done-state}
+use Rattle.nanorand.proofs.ShuffleLemmas.{partner-within, partner-refused, shuffling-start, shuffling-step, swap-ordered, refused-answer, refused-items, refused-state, done-answer, done-items, done-state}
 use Rattle.nanorand.proofs.shuffles.shuffle_full.Goals as goal
 
 pub loop-place-init : goal.loop-place-init
@@ -45,7 +45,7 @@ unfolding partner_drawn
 loop-place-preserved g c =
     let below = ltb-true _ _ (partner-within (taken g.G.Blocks.block g.G.Blocks.step) g.G.Rng.after from_all (length c.args.target.now)
     c.loop-place.place c.loop-place.rng c.in_ok-partner.partner (sym c.in_ok-partner.ensures.value)).1 in
-    rw (c.in_ok-partner.ensures.state, c.swap.ensures.after)
+    rw (c.in_ok-partner.ensures.state, c.swap.ensures.after, c.min.ensures, c.max.ensures, swap-ordered c.loop-place.target c.loop-place.place c.in_ok-partner.partner)
     (shuffling-step (taken g.G.Blocks.block g.G.Blocks.step) g.G.Rng.after from_all c.args.target.now c.args.rng.now
     c.loop-place.place c.loop-place.rng c.loop-place.target c.loop-place.invariant c.in_ok-partner.partner c.loop-place-test.true
     below c.in_ok-partner.ensures.value)
