@@ -10,11 +10,11 @@ use table::{Row, Work};
 
 // The work of the old crate, where it is there.
 macro_rules! old {
-    ($work:expr) => {{
+    ($kind:ty: $work:expr) => {{
         #[cfg(feature = "original")]
-        let work: Option<Work> = Some(Box::new($work));
+        let work: Option<$kind> = Some($work);
         #[cfg(not(feature = "original"))]
-        let work: Option<Work> = None;
+        let work: Option<$kind> = None;
         work
     }};
 }
@@ -29,38 +29,40 @@ const SHUFFLES: u32 = 100;
 fn words(rows: &mut Vec<Row>) {
     rows.push(
         Row::new("WyRand, a word", WORDS, || nanorand_wyrand_u64(42, WORDS))
-            .original(old!(|| original::wyrand_u64(42, WORDS))),
+            .original(old!(Work: Box::new(|| original::wyrand_u64(42, WORDS)))),
     );
     rows.push(
         Row::new("Pcg64, a word", WORDS, || nanorand_pcg64_u64(42, WORDS))
-            .original(old!(|| original::pcg64_u64(42, WORDS)))
+            .original(old!(Work: Box::new(|| original::pcg64_u64(42, WORDS))))
             .kit(|| kit_pcg64_u64(42, WORDS)),
     );
     rows.push(
         Row::new("ChaCha8, a block", BLOCKS, || {
             nanorand_chacha8_blocks(7, BLOCKS)
         })
-        .original(old!(|| original::chacha_blocks::<8>(7, BLOCKS)))
+        .original(old!(Work: Box::new(|| original::chacha_blocks::<8>(7, BLOCKS))))
         .kit(|| kit_chacha8_blocks(7, BLOCKS)),
     );
     rows.push(
         Row::new("ChaCha12, a block", BLOCKS, || {
             nanorand_chacha12_blocks(7, BLOCKS)
         })
-        .original(old!(|| original::chacha_blocks::<12>(7, BLOCKS)))
+        .original(old!(Work: Box::new(|| original::chacha_blocks::<12>(7, BLOCKS))))
         .kit(|| kit_chacha12_blocks(7, BLOCKS)),
     );
     rows.push(
         Row::new("ChaCha20, a block", BLOCKS, || {
             nanorand_chacha20_blocks(7, BLOCKS)
         })
-        .original(old!(|| original::chacha_blocks::<20>(7, BLOCKS)))
+        .original(old!(Work: Box::new(|| original::chacha_blocks::<20>(7, BLOCKS))))
         .kit(|| kit_chacha20_blocks(7, BLOCKS)),
     );
 }
 
+type Fill = fn(&mut [u8], u32);
+
 // Fills of a slice, and a number of the last one.
-fn filled(length: u64, fill: impl Fn(&mut [u8], u32)) -> impl FnMut() -> u64 {
+fn filled(length: u64, fill: Fill) -> impl FnMut() -> u64 {
     let mut bytes = vec![0; length as usize];
     let times = (BYTES / length) as u32;
     move || {
@@ -69,80 +71,59 @@ fn filled(length: u64, fill: impl Fn(&mut [u8], u32)) -> impl FnMut() -> u64 {
     }
 }
 
+// A row of fills of one length.
+fn fill_row(name: &'static str, length: u64, fill: Fill, original: Option<Fill>) -> Row {
+    let original = original.map(|fill| Box::new(filled(length, fill)) as Work);
+    Row::new(name, BYTES, filled(length, fill)).original(original)
+}
+
 fn fills(rows: &mut Vec<Row>) {
     const MIB: u64 = 1 << 20;
+    let wyrand = old!(Fill: |out, times| original::wyrand_fill(42, out, times));
+    let pcg64 = old!(Fill: |out, times| original::pcg64_fill(42, out, times));
+    let chacha20 = old!(Fill: |out, times| original::chacha20_fill(7, out, times));
+    let buffered = old!(Fill: |out, times| original::buffered_chacha20_fill(7, out, times));
+    let pcg64_of_the_kit: Fill = |out, times| pcg64_fill_of_the_kit(42, out, times);
+    let chacha20_of_the_kit: Fill = |out, times| chacha20_fill_of_the_kit(7, out, times);
+
+    rows.push(fill_row(
+        "WyRand, a byte of 1 MiB",
+        MIB,
+        |out, times| wyrand_fill(42, out, times),
+        wyrand,
+    ));
     rows.push(
-        Row::new(
-            "WyRand, a byte of 1 MiB",
-            BYTES,
-            filled(MIB, |out, times| wyrand_fill(42, out, times)),
-        )
-        .original(old!(filled(MIB, |out, times| original::wyrand_fill(
-            42, out, times
-        )))),
-    );
-    rows.push(
-        Row::new(
+        fill_row(
             "Pcg64, a byte of 1 MiB",
-            BYTES,
-            filled(MIB, |out, times| pcg64_fill(42, out, times)),
+            MIB,
+            |out, times| pcg64_fill(42, out, times),
+            pcg64,
         )
-        .original(old!(filled(MIB, |out, times| original::pcg64_fill(
-            42, out, times
-        ))))
-        .kit(filled(MIB, |out, times| {
-            pcg64_fill_of_the_kit(42, out, times)
-        })),
+        .kit(filled(MIB, pcg64_of_the_kit)),
     );
-    for (name, length) in [
-        ("ChaCha20, a byte of 256", 256),
-        ("ChaCha20, a byte of 4 KiB", 4096),
-        ("ChaCha20, a byte of 1 MiB", MIB),
+    let plain: (Fill, _) = (|out, times| chacha20_fill(7, out, times), chacha20);
+    let kept: (Fill, _) = (|out, times| buffered_chacha20_fill(7, out, times), buffered);
+    for (name, length, (fill, original)) in [
+        ("ChaCha20, a byte of 256", 256, plain),
+        ("ChaCha20, a byte of 4 KiB", 4096, plain),
+        ("ChaCha20, a byte of 1 MiB", MIB, plain),
+        ("buffered ChaCha20, a byte of 4 KiB", 4096, kept),
+        ("buffered ChaCha20, a byte of 1 MiB", MIB, kept),
     ] {
-        rows.push(
-            Row::new(
-                name,
-                BYTES,
-                filled(length, |out, times| chacha20_fill(7, out, times)),
-            )
-            .original(old!(filled(length, |out, times| original::chacha20_fill(
-                7, out, times
-            ))))
-            .kit(filled(length, |out, times| {
-                chacha20_fill_of_the_kit(7, out, times)
-            })),
-        );
-    }
-    for (name, length) in [
-        ("buffered ChaCha20, a byte of 4 KiB", 4096),
-        ("buffered ChaCha20, a byte of 1 MiB", MIB),
-    ] {
-        rows.push(
-            Row::new(
-                name,
-                BYTES,
-                filled(length, |out, times| buffered_chacha20_fill(7, out, times)),
-            )
-            .original(old!(filled(length, |out, times| {
-                original::buffered_chacha20_fill(7, out, times)
-            })))
-            .kit(filled(length, |out, times| {
-                chacha20_fill_of_the_kit(7, out, times)
-            })),
-        );
+        rows.push(fill_row(name, length, fill, original).kit(filled(length, chacha20_of_the_kit)));
     }
 }
 
 fn ranges(rows: &mut Vec<Row>) {
     rows.push(
         Row::new("u8 below 6", WORDS, || nanorand_range_u8(42, 6, WORDS))
-            .original(old!(|| original::range_u8(42, 6, WORDS)))
+            .original(old!(Work: Box::new(|| original::range_u8(42, 6, WORDS))))
             .kit(|| kit_range_u8(42, 6, WORDS)),
     );
     for (name, size) in [("u32 below 6", 6), ("u32 below 1000", 1000)] {
         rows.push(
             Row::new(name, WORDS, move || nanorand_range_u32(42, size, WORDS))
-                .original(old!(move || original::range_u32(42, size, WORDS)))
+                .original(old!(Work: Box::new(move || original::range_u32(42, size, WORDS))))
                 .kit(move || kit_range_u32(42, size, WORDS)),
         );
     }
@@ -153,7 +134,7 @@ fn ranges(rows: &mut Vec<Row>) {
     ] {
         rows.push(
             Row::new(name, WORDS, move || nanorand_range_u64(42, size, WORDS))
-                .original(old!(move || original::range_u64(42, size, WORDS)))
+                .original(old!(Work: Box::new(move || original::range_u64(42, size, WORDS))))
                 .kit(move || kit_range_u64(42, size, WORDS)),
         );
     }
@@ -181,9 +162,9 @@ fn shuffles(rows: &mut Vec<Row>) {
                 items,
                 shuffled(move |items| call(42, items, SHUFFLES)),
             )
-            .original(old!(shuffled(|items| original::shuffle(
-                42, items, SHUFFLES
-            ))))
+            .original(old!(Work: Box::new(shuffled(|items| {
+                original::shuffle(42, items, SHUFFLES)
+            }))))
             .kit(shuffled(|items| shuffle_of_the_kit(42, items, SHUFFLES))),
         );
     }
@@ -194,14 +175,14 @@ fn others(rows: &mut Vec<Row>) {
         Row::new("buffered WyRand, a u8", WORDS, || {
             nanorand_buffered_wyrand(42, WORDS)
         })
-        .original(old!(|| original::buffered_wyrand(42, WORDS)))
+        .original(old!(Work: Box::new(|| original::buffered_wyrand(42, WORDS))))
         .kit(|| kit_pcg64_u8(42, WORDS)),
     );
     rows.push(
         Row::new("buffered ChaCha20, a u8", WORDS, || {
             nanorand_buffered_chacha20(7, WORDS)
         })
-        .original(old!(|| original::buffered_chacha20(7, WORDS)))
+        .original(old!(Work: Box::new(|| original::buffered_chacha20(7, WORDS))))
         .kit(|| kit_chacha20_u8(7, WORDS)),
     );
     rows.push(
