@@ -13,8 +13,12 @@ pub type ChaCha20 = ChaCha<20>;
 
 /// The generator `ChaCha`: blocks of 64 bytes from a key, a nonce of 64 bits and a counter of 64 bits.
 ///
-/// `ROUNDS` is 8, 12 or 20, which is tested when a program is compiled. It draws no ranges: draw a
-/// seed from it, and ranges from that.
+/// It draws no ranges: draw a seed from it, and ranges from that. `ROUNDS` is 8, 12 or 20, and other
+/// generators do not compile:
+///
+/// ```compile_fail
+/// let rng = nanorand_proved::ChaCha::<7>::new_key([0; 32], [0; 8]);
+/// ```
 #[derive(Clone, PartialEq, Eq)]
 pub struct ChaCha<const ROUNDS: u8> {
     key: [u8; 32],

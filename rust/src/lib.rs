@@ -1,9 +1,10 @@
 //! The seeded random generators of `nanorand`, proved in Rattle, for Rust programs.
 //!
 //! The proved functions are linked as the static library `nanorand_c`, and this crate is safe Rust
-//! over them, with the names of the Rust crate `nanorand` 0.7.0. A generator is a plain Rust value:
-//! its state is lent for each call, so it can be cloned, compared, moved, sent to a thread and
-//! dropped as any other. Equal seeds give equal numbers, on every machine and for ever.
+//! over them, with the names of the Rust crate `nanorand` 0.7.0. `rust/test` builds the library, for
+//! Linux on x86-64 from x86-64-v2 on. A generator is a plain Rust value: its state is lent for each
+//! call, so it can be cloned, compared, moved, sent to a thread and dropped as any other. Equal
+//! seeds give equal numbers.
 //!
 //! A number:
 //!
@@ -16,7 +17,7 @@
 //! # let _ = coin;
 //! ```
 //!
-//! A number of a range, each of them equally often among the words that can be drawn. An empty range
+//! A number of a range: each of them has equally many of the words that can be drawn. An empty range
 //! is an error, and draws nothing:
 //!
 //! ```
