@@ -30,6 +30,7 @@ const MASK: u64 = 0xe703_7ed1_a0b4_28db;
 /// product of 128 bits. The block is the word's eight bytes, least first. It is a plain generator:
 /// each request begins a new block.
 #[derive(Drop)]
+#[repr(C)]
 pub struct WyRand {
     seed: u64,
 }
@@ -41,6 +42,8 @@ impl Model for WyRand {
     ghost Value = { ℕ };
 
     ghost view = { λ generator. generator.seed };
+
+    ghost inverse = { λ seed. record { seed = seed } };
 }
 
 impl WyRand {

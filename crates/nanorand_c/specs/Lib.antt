@@ -1,0 +1,4 @@
+pub mod Status
+pub mod Draws
+pub mod Place
+pub mod Wide

@@ -1,0 +1,14 @@
+-- How an outcome crosses: as a status, and a number beside it.
+use Rattle.std.specs.Prelude.{ℕ, Result, Ok, Err}
+use Rattle.nanorand.specs.declared.values.range.RangeError.{RangeError}
+use Rattle.nanorand.specs.declared.values.range.RangeError.TheVariants.{Empty, Exhausted}
+
+abbrev pub status : {T : Type 0} → Result T RangeError → ℕ
+status (Ok value) = 0
+status (Err Empty) = 1
+status (Err Exhausted) = 2
+
+-- What was drawn, or what was there before.
+abbrev pub drawn_or : {T : Type 0} → T → Result T RangeError → T
+drawn_or before (Ok drawn) = drawn
+drawn_or before (Err refusal) = before

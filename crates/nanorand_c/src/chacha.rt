@@ -1,0 +1,145 @@
+//! ChaCha, by seed and place: the key, the nonce and the counter are the caller's memory.
+ghost use Rattle.std.specs.Prelude.{◌≡◌, ℕ, ◌+◌, ◌%◌, ◌^◌, length};
+ghost use Rattle.std.specs.Fn.{iterate};
+ghost use Rattle.std.specs.Int.{div_ceil};
+ghost use Rattle.nanorand.specs.Blocks.{plain_after, taken};
+ghost use Rattle.nanorand.specs.ChaCha.{chacha_block, next_state};
+ghost use Rattle.nanorand_c.specs.Place.{state_at};
+
+use nanorand::laws::chacha_counter;
+use nanorand::{Blocks, ChaCha, Rng};
+
+/// Draws the block of the counter, with 8 rounds, and adds 1 to the counter. After the greatest
+/// counter comes 0.
+#[unsafe(no_mangle)]
+pub extern "C" fn nanorand_chacha8_block(
+    key: &[u8; 32],
+    nonce: &[u8; 8],
+    counter: &mut u64,
+    out: &mut [u8; 64],
+)
+    ensures block { out.new ≡ chacha_block 8 (state_at key.now nonce.now counter.old) }
+    ensures counter { counter.new ≡ (counter.old + 1) % 2 ^ 64 }
+    ensures place { state_at key.now nonce.now counter.new ≡ next_state (state_at key.now nonce.now counter.old) }
+{
+    block::<8>(key, nonce, counter, out);
+}
+
+/// Fills the slice from the counter on, with 8 rounds, by one request. The counter goes on by the
+/// blocks that it took.
+#[unsafe(no_mangle)]
+pub extern "C" fn nanorand_chacha8_fill_bytes(
+    key: &[u8; 32],
+    nonce: &[u8; 8],
+    counter: &mut u64,
+    buffer: &mut [u8],
+)
+    ensures bytes { buffer.new ≡ taken (chacha_block 8) next_state (state_at key.now nonce.now counter.old) (length buffer.old) }
+    ensures counter { counter.new ≡ (counter.old + div_ceil (length buffer.old) 64) % 2 ^ 64 }
+    ensures place { state_at key.now nonce.now counter.new ≡ plain_after next_state 64 (state_at key.now nonce.now counter.old) (length buffer.old) }
+{
+    fill_bytes::<8>(key, nonce, counter, buffer);
+}
+
+/// Draws the block of the counter, with 12 rounds, and adds 1 to the counter. After the greatest
+/// counter comes 0.
+#[unsafe(no_mangle)]
+pub extern "C" fn nanorand_chacha12_block(
+    key: &[u8; 32],
+    nonce: &[u8; 8],
+    counter: &mut u64,
+    out: &mut [u8; 64],
+)
+    ensures block { out.new ≡ chacha_block 12 (state_at key.now nonce.now counter.old) }
+    ensures counter { counter.new ≡ (counter.old + 1) % 2 ^ 64 }
+    ensures place { state_at key.now nonce.now counter.new ≡ next_state (state_at key.now nonce.now counter.old) }
+{
+    block::<12>(key, nonce, counter, out);
+}
+
+/// Fills the slice from the counter on, with 12 rounds, by one request. The counter goes on by the
+/// blocks that it took.
+#[unsafe(no_mangle)]
+pub extern "C" fn nanorand_chacha12_fill_bytes(
+    key: &[u8; 32],
+    nonce: &[u8; 8],
+    counter: &mut u64,
+    buffer: &mut [u8],
+)
+    ensures bytes { buffer.new ≡ taken (chacha_block 12) next_state (state_at key.now nonce.now counter.old) (length buffer.old) }
+    ensures counter { counter.new ≡ (counter.old + div_ceil (length buffer.old) 64) % 2 ^ 64 }
+    ensures place { state_at key.now nonce.now counter.new ≡ plain_after next_state 64 (state_at key.now nonce.now counter.old) (length buffer.old) }
+{
+    fill_bytes::<12>(key, nonce, counter, buffer);
+}
+
+/// Draws the block of the counter, with 20 rounds, and adds 1 to the counter. After the greatest
+/// counter comes 0.
+#[unsafe(no_mangle)]
+pub extern "C" fn nanorand_chacha20_block(
+    key: &[u8; 32],
+    nonce: &[u8; 8],
+    counter: &mut u64,
+    out: &mut [u8; 64],
+)
+    ensures block { out.new ≡ chacha_block 20 (state_at key.now nonce.now counter.old) }
+    ensures counter { counter.new ≡ (counter.old + 1) % 2 ^ 64 }
+    ensures place { state_at key.now nonce.now counter.new ≡ next_state (state_at key.now nonce.now counter.old) }
+{
+    block::<20>(key, nonce, counter, out);
+}
+
+/// Fills the slice from the counter on, with 20 rounds, by one request. The counter goes on by the
+/// blocks that it took.
+#[unsafe(no_mangle)]
+pub extern "C" fn nanorand_chacha20_fill_bytes(
+    key: &[u8; 32],
+    nonce: &[u8; 8],
+    counter: &mut u64,
+    buffer: &mut [u8],
+)
+    ensures bytes { buffer.new ≡ taken (chacha_block 20) next_state (state_at key.now nonce.now counter.old) (length buffer.old) }
+    ensures counter { counter.new ≡ (counter.old + div_ceil (length buffer.old) 64) % 2 ^ 64 }
+    ensures place { state_at key.now nonce.now counter.new ≡ plain_after next_state 64 (state_at key.now nonce.now counter.old) (length buffer.old) }
+{
+    fill_bytes::<20>(key, nonce, counter, buffer);
+}
+
+// The generator of a key and a nonce at a counter. So many draws on is the place so much further.
+fn at<const ROUNDS: u8>(key: &[u8; 32], nonce: &[u8; 8], counter: u64) -> ChaCha<ROUNDS>
+    requires { ROUNDS % 2 ≡ 0 }
+    ensures state { result ≡ state_at key.now nonce.now counter }
+    ensures places { (n : ℕ) → state_at key.now nonce.now ((counter + n) % 2 ^ 64) ≡ iterate next_state n result }
+{
+    chacha_counter();
+    let mut rng = ChaCha::new_key(*key, *nonce);
+    rng.jump(counter);
+    rng
+}
+
+fn block<const ROUNDS: u8>(key: &[u8; 32], nonce: &[u8; 8], counter: &mut u64, out: &mut [u8; 64])
+    requires { ROUNDS % 2 ≡ 0 }
+    ensures block { out.new ≡ chacha_block ROUNDS (state_at key.now nonce.now counter.old) }
+    ensures counter { counter.new ≡ (counter.old + 1) % 2 ^ 64 }
+    ensures place { state_at key.now nonce.now counter.new ≡ next_state (state_at key.now nonce.now counter.old) }
+{
+    let mut rng = at::<ROUNDS>(key, nonce, *counter);
+    *out = rng.rand();
+    *counter = counter.wrapping_add(1);
+}
+
+fn fill_bytes<const ROUNDS: u8>(
+    key: &[u8; 32],
+    nonce: &[u8; 8],
+    counter: &mut u64,
+    buffer: &mut [u8],
+)
+    requires { ROUNDS % 2 ≡ 0 }
+    ensures bytes { buffer.new ≡ taken (chacha_block ROUNDS) next_state (state_at key.now nonce.now counter.old) (length buffer.old) }
+    ensures counter { counter.new ≡ (counter.old + div_ceil (length buffer.old) 64) % 2 ^ 64 }
+    ensures place { state_at key.now nonce.now counter.new ≡ plain_after next_state 64 (state_at key.now nonce.now counter.old) (length buffer.old) }
+{
+    let mut rng = at::<ROUNDS>(key, nonce, *counter);
+    rng.fill_bytes(buffer);
+    *counter = counter.wrapping_add(buffer.len().div_ceil(64) as u64);
+}

@@ -1,0 +1,27 @@
+//! How an outcome crosses: as a status, and a number beside it.
+ghost use Rattle.std.specs.Prelude.{◌≡◌};
+ghost use Rattle.nanorand_c.specs.Status.{drawn_or, status};
+
+use nanorand::RangeError;
+
+// 0 where nothing was refused, 1 where the range is empty, 2 where 128 words in a row were rejected.
+pub(crate) fn status<T>(outcome: &Result<T, RangeError>) -> u8
+    ensures { result ≡ status outcome.now }
+{
+    match outcome {
+        Ok(_) => 0,
+        Err(RangeError::Empty) => 1,
+        Err(RangeError::Exhausted) => 2,
+    }
+}
+
+// Writes the number that was drawn, if one was, and answers the status.
+pub(crate) fn hand_over<T: Copy>(outcome: &Result<T, RangeError>, number: &mut T) -> u8
+    ensures status { result ≡ status outcome.now }
+    ensures number { number.new ≡ drawn_or number.old outcome.now }
+{
+    if let Ok(drawn) = outcome {
+        *number = *drawn;
+    }
+    status(outcome)
+}

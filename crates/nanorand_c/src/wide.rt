@@ -1,0 +1,28 @@
+//! Numbers of 128 bits, which do not cross as they are.
+ghost use Rattle.std.specs.Prelude.{◌≡◌};
+ghost use Rattle.nanorand_c.specs.Wide.{wide_number};
+
+/// A number of 128 bits, as two words of 64.
+#[derive(Clone, Copy)]
+#[repr(C)]
+pub struct Wide {
+    pub low: u64,
+    pub high: u64,
+}
+
+// The number of the two words.
+pub(crate) fn joined(wide: &Wide) -> u128
+    ensures { result ≡ wide_number wide.now }
+{
+    u128::from(wide.low) | u128::from(wide.high) << 64
+}
+
+// The two words of a number.
+pub(crate) fn split(wide: u128) -> Wide
+    ensures { wide_number result ≡ wide }
+{
+    Wide {
+        low: (wide % (1 << 64)) as u64,
+        high: (wide >> 64) as u64,
+    }
+}

@@ -1,0 +1,105 @@
+//! Wyrand. The generator itself is the caller's memory.
+ghost use Rattle.std.specs.Prelude.{◌≡◌, length, IsPermutation};
+ghost use Rattle.nanorand.specs.Blocks.{plain_after, taken};
+ghost use Rattle.nanorand.specs.Shuffles.{arranged, from_all, from_itself, shuffle_answer, shuffle_choices, shuffle_state};
+ghost use Rattle.nanorand.specs.Values.{number_of};
+ghost use Rattle.nanorand.specs.WyRand.{next_seed, seed_after, wyrand_block};
+ghost use Rattle.nanorand_c.specs.Status.{drawn_or, status};
+ghost use Rattle.nanorand_c.specs.Draws.{between};
+
+use crate::status::{hand_over, status};
+use nanorand::shuffles::shuffle_full;
+use nanorand::{Rng, WyRand};
+use std::ops::Bound;
+
+/// The generator of a seed.
+#[unsafe(no_mangle)]
+pub extern "C" fn nanorand_wyrand_new_seed(seed: u64) -> WyRand
+    ensures { result ≡ seed }
+{
+    WyRand::new_seed(seed)
+}
+
+/// Draws a number.
+#[unsafe(no_mangle)]
+pub extern "C" fn nanorand_wyrand_u64(rng: &mut WyRand) -> u64
+    ensures value { result ≡ number_of (taken wyrand_block next_seed rng.old 8) }
+    ensures state { rng.new ≡ plain_after next_seed 8 rng.old 8 }
+{
+    rng.generate()
+}
+
+/// Fills the slice with the next bytes, by one request.
+#[unsafe(no_mangle)]
+pub extern "C" fn nanorand_wyrand_fill_bytes(rng: &mut WyRand, buffer: &mut [u8])
+    ensures bytes { buffer.new ≡ taken wyrand_block next_seed rng.old (length buffer.old) }
+    ensures state { rng.new ≡ plain_after next_seed 8 rng.old (length buffer.old) }
+{
+    rng.fill_bytes(buffer);
+}
+
+/// Leaves what n draws leave.
+#[unsafe(no_mangle)]
+pub extern "C" fn nanorand_wyrand_jump(rng: &mut WyRand, n: u64)
+    ensures { rng.new ≡ seed_after n rng.old }
+{
+    rng.jump(n);
+}
+
+/// Draws a number from the first to the last, both of them drawn too, and answers a status: 0 where
+/// `number` was written, 1 where there is no number, 2 where 128 words in a row were rejected.
+#[unsafe(no_mangle)]
+pub extern "C" fn nanorand_wyrand_range_u64(
+    rng: &mut WyRand,
+    first: u64,
+    last: u64,
+    number: &mut u64,
+) -> u8
+    ensures status { result ≡ status (between (taken wyrand_block next_seed) (plain_after next_seed 8) first last rng.old).0 }
+    ensures number { number.new ≡ drawn_or number.old (between (taken wyrand_block next_seed) (plain_after next_seed 8) first last rng.old).0 }
+    ensures state { rng.new ≡ (between (taken wyrand_block next_seed) (plain_after next_seed 8) first last rng.old).1 }
+{
+    let outcome = rng.generate_range(Bound::Included(first), Bound::Included(last));
+    hand_over(&outcome, number)
+}
+
+/// The same for places and lengths.
+#[unsafe(no_mangle)]
+pub extern "C" fn nanorand_wyrand_range_usize(
+    rng: &mut WyRand,
+    first: usize,
+    last: usize,
+    number: &mut usize,
+) -> u8
+    ensures status { result ≡ status (between (taken wyrand_block next_seed) (plain_after next_seed 8) first last rng.old).0 }
+    ensures number { number.new ≡ drawn_or number.old (between (taken wyrand_block next_seed) (plain_after next_seed 8) first last rng.old).0 }
+    ensures state { rng.new ≡ (between (taken wyrand_block next_seed) (plain_after next_seed 8) first last rng.old).1 }
+{
+    let outcome = rng.generate_range(Bound::Included(first), Bound::Included(last));
+    hand_over(&outcome, number)
+}
+
+/// Shuffles numbers, each partner drawn from its place on, and answers a status. After 2 they are
+/// arranged by the choices that were made before.
+#[unsafe(no_mangle)]
+pub extern "C" fn nanorand_wyrand_shuffle(rng: &mut WyRand, items: &mut [usize]) -> u8
+    ensures status { result ≡ status (shuffle_answer (taken wyrand_block next_seed) (plain_after next_seed 8) from_itself (length items.old) rng.old) }
+    ensures items { items.new ≡ arranged (shuffle_choices (taken wyrand_block next_seed) (plain_after next_seed 8) from_itself (length items.old) rng.old) items.old }
+    ensures state { rng.new ≡ shuffle_state (taken wyrand_block next_seed) (plain_after next_seed 8) from_itself (length items.old) rng.old }
+    ensures arrangement { IsPermutation items.old items.new }
+{
+    let outcome = rng.shuffle(items);
+    status(&outcome)
+}
+
+/// The same with partners from all places, as the Rust crate draws them.
+#[unsafe(no_mangle)]
+pub extern "C" fn nanorand_wyrand_shuffle_full(rng: &mut WyRand, items: &mut [usize]) -> u8
+    ensures status { result ≡ status (shuffle_answer (taken wyrand_block next_seed) (plain_after next_seed 8) from_all (length items.old) rng.old) }
+    ensures items { items.new ≡ arranged (shuffle_choices (taken wyrand_block next_seed) (plain_after next_seed 8) from_all (length items.old) rng.old) items.old }
+    ensures state { rng.new ≡ shuffle_state (taken wyrand_block next_seed) (plain_after next_seed 8) from_all (length items.old) rng.old }
+    ensures arrangement { IsPermutation items.old items.new }
+{
+    let outcome = shuffle_full(rng, items);
+    status(&outcome)
+}
