@@ -34,6 +34,8 @@ pub fn shuffle_deck<G: Rng<OUTPUT>, const OUTPUT: usize>(
     ensures drawn { let count = length deck.old in
         deck.new ≡ arranged (shuffle_choices (taken G.block G.step) G.after from_itself count rng.old) (rising count) }
     ensures state { rng.new ≡ shuffle_state (taken G.block G.step) G.after from_itself (length deck.old) rng.old }
+    ensures whole { OnOk result (length (shuffle_choices (taken G.block G.step) G.after from_itself (length deck.old) rng.old) ≡ length deck.old) }
+    ensures valid { OnOk result (IsValid (shuffle_choices (taken G.block G.step) G.after from_itself (length deck.old) rng.old)) }
     ensures arrangement { IsArrangement deck.new }
     ensures each_once { HoldsEachOnce (length deck.old) deck.new }
     ensures none_twice { HoldsNoneTwice deck.new }

@@ -70,8 +70,8 @@ pub fn worker<G: Skip<OUTPUT>, const OUTPUT: usize>(stream: G, index: u64, share
 
 /// The part of one worker: as many words as the slice has, behind as many for each worker before it.
 pub fn part<G: Skip<OUTPUT> + Drop, const OUTPUT: usize>(stream: G, index: u64, words: &mut [u64])
-    ensures { (j : ℕ) → j < length words.new
-        → slice_index words.new j ≡ word_at G.block G.step stream (index * length words.new + j) }
+    ensures { (j : ℕ) → j < length words.old
+        → slice_index words.new j ≡ word_at G.block G.step stream (index * length words.old + j) }
 {
     let mut own = worker(stream, index, words.len() as u64);
     own.fill(words);
