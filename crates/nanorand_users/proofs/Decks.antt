@@ -1,5 +1,5 @@
 -- A full deck, and its arrangements.
-use Rattle.std.proofs.Common.{◌≡◌, ℕ, zero, suc, ◌+◌, ◌<◌, ◌≤◌, ◌==◌, List, length, get_or, IsPermutation, Bool, true, false, refl, sym, ◌∙◌, ap, arith, inl, inr, cond, eqb}
+use Rattle.std.proofs.Common.{◌≡◌, ℕ, zero, suc, ◌+◌, ◌<◌, ◌≤◌, ◌==◌, List, IsPermutation, Bool, true, false, refl, sym, ◌∙◌, ap, arith, inl, inr, cond, eqb}
 use Rattle.std.specs.List.{range_with_len, IsDistinct}
 use Rattle.std.proofs.lemmas.Bool.{cases_lt, ne_eqb, eq-eqb, eqb-false}
 use Rattle.std.proofs.lemmas.Bool.Decides.{nat_tests}

@@ -1,5 +1,5 @@
 -- Draws one after another, and the words that they give.
-use Rattle.std.proofs.Common.{◌≡◌, ℕ, zero, suc, ◌+◌, ◌<◌, List, get_or, refl, sym, ◌∙◌, ap, arith}
+use Rattle.std.proofs.Common.{◌≡◌, ℕ, zero, suc, ◌+◌, ◌<◌, List, get_or, refl, ◌∙◌, ap, arith}
 use Rattle.std.specs.Fn.{iterate}
 use Rattle.nanorand.specs.Values.{values_from}
 use Rattle.nanorand_users.specs.Streams.{after_draws}

@@ -8,7 +8,5 @@ pub mod cases;
 pub mod deals;
 pub mod simulation;
 pub mod streams;
-
-
 #[cfg(test)]
 mod tests;
