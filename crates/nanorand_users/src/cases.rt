@@ -71,7 +71,7 @@ pub fn failing_value<P: Property<T>, T: RandomGen<WyRand, 8> + Drop>(
 ) -> Option<(u64, T)>
     ensures { MatchOption result
         ((number : ℕ) → number < cases → P.holds property.now (T.value (case_seed seed number)) ≡ true)
-        (λ found. (found.1 ≡ T.value (case_seed seed found.0)) × (P.holds property.now found.1 ≡ false)
+        (λ found. (found.0 < cases) × (found.1 ≡ T.value (case_seed seed found.0)) × (P.holds property.now found.1 ≡ false)
         × ((number : ℕ) → number < found.0 → P.holds property.now (T.value (case_seed seed number)) ≡ true)) }
 {
     let number = first_failure::<P, T>(property, seed, cases)?;

@@ -1,7 +1,7 @@
 //! Parts of three streams: wyrand and Pcg64 from the seed 0, and ChaCha20 under zeros, whose blocks
 //! are known.
 
-use crate::streams::part;
+use crate::streams::{part, worker};
 use nanorand::{ChaCha20, Pcg64, WyRand};
 
 #[test]
@@ -42,5 +42,13 @@ fn parts_of_chacha(rt: HostRuntime) {
         let mut words = [0; 2];
         part(ChaCha20::new_key([0; 32], [0; 8]), index, &mut words);
         assert_eq!(rt; words, want, "part {index}");
+    }
+}
+
+#[test]
+fn a_worker_begins_behind_the_others(rt: HostRuntime) {
+    for (index, share, want) in [(0, 5, 0), (3, 5, 15), (1 << 63, 3, 1 << 63)] {
+        let own = worker(ChaCha20::new_key([0; 32], [0; 8]), index, share);
+        assert_eq!(rt; own.counter(), want, "worker {index}");
     }
 }
