@@ -4,7 +4,7 @@ ghost use Rattle.std.specs.Fmt.{decimal};
 ghost use Rattle.std.proofs.Common.{rules};
 ghost use Rattle.std.specs.Fn.{iterate};
 ghost use Rattle.nanorand.specs.Blocks.{taken, plain_after};
-ghost use Rattle.nanorand.specs.ChaCha.{initial_state, seeded_state, bytes, chacha_block, next_state, advanced, chacha_after};
+ghost use Rattle.nanorand.specs.ChaCha.{initial_state, seeded_state, bytes, counter, chacha_block, next_state, advanced, chacha_after};
 ghost use Rattle.nanorand.specs.ChaChaRounds.{IsMatrix};
 ghost use Rattle.nanorand.specs.ChaChaLaws.{length-chacha_block};
 ghost use Rattle.nanorand.specs.Entropy.{HasFewer, IsMadeOf};
@@ -77,6 +77,24 @@ impl<const ROUNDS: u8> ChaCha<ROUNDS> {
         system(source, &mut key)?;
         system(source, &mut nonce)?;
         Ok(ChaCha::new_key(key, nonce))
+    }
+
+    /// The counter: the number of the next block under this key and nonce. What is seen of a
+    /// generator is always sixteen words.
+    #[inline]
+    pub fn counter(&self) -> u64
+        ensures value { result ≡ counter self.now }
+        ensures matrix { IsMatrix self.now }
+    {
+        counter(&self.words())
+    }
+
+    // The sixteen words.
+    #[inline]
+    fn words(&self) -> [u32; 16]
+        ensures { result ≡ self.now }
+    {
+        self.state
     }
 
     /// Leaves what n draws leave, by one sum: a state comes again after 2^64 draws and no sooner.

@@ -1,0 +1,4 @@
+pub mod Decks
+pub mod Hands
+pub mod Draws
+pub mod Places

@@ -1,0 +1,11 @@
+use Rattle.std.proofs.Common.{◌≡◌, ◌<◌, ℕ, true}
+use Rattle.nanorand.specs.WyRand.{wyrand_after}
+use Rattle.nanorand_users.specs.Cases.{case_seed}
+use Rattle.nanorand_users.proofs.cases.first_failure.Given as goal
+
+-- the cases so far hold, and as many words were drawn
+abbrev pub invariant-loop-number : goal.invariant-loop-number
+invariant-loop-number g l = record {
+  held : (number : ℕ) → number < l.number → g.P.Property.holds l.property (g.T.RandomGen.value (case_seed l.seed number)) ≡ true;
+  drawn : l.stream ≡ wyrand_after l.number l.seed;
+}

@@ -1,0 +1,5 @@
+use Rattle.nanorand_users.proofs.Hands.{hands-rest}
+use Rattle.nanorand_users.proofs.deals.hands_and_rest_are_the_deck.Goals as goal
+
+pub returns : goal.returns
+returns c = hands-rest

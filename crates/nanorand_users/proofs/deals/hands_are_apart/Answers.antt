@@ -1,0 +1,5 @@
+use Rattle.nanorand_users.proofs.Hands.{hands-apart}
+use Rattle.nanorand_users.proofs.deals.hands_are_apart.Goals as goal
+
+pub returns : goal.returns
+returns c = hands-apart

@@ -1,0 +1,9 @@
+use Rattle.std.proofs.Common.{◌*◌, length}
+use Rattle.nanorand_users.proofs.Draws.{word-behind}
+use Rattle.nanorand_users.proofs.streams.part.Goals as goal
+
+pub returns : goal.returns
+returns g c j below =
+    let share = length c.args.words.now in
+    word-behind _ g.G.Blocks.step _ g.met.G.Skip.one_draw (c.args.index * share) share j c.args.stream c.worker-own.result
+    c.fill.new.target below c.worker-own.ensures c.fill.ensures.values

@@ -1,0 +1,110 @@
+//! A deck is shuffled and dealt: no card may be lost, doubled or held by two players, and a deal has
+//! to be dealt again from what was stored of it.
+//!
+//! The cards of a deck of n are the numbers 0, 1, .., n - 1.
+ghost use Rattle.std.specs.Prelude.{◌≡◌, ◌+◌, ◌*◌, ◌≤◌, ◌++◌, ℕ, List, length, drop, OnOk, IfErr};
+ghost use Rattle.nanorand.specs.Arrangements.{rising, IsValid, IsArrangement};
+ghost use Rattle.nanorand.specs.Blocks.{taken};
+ghost use Rattle.nanorand.specs.Shuffles.{arranged, from_itself, shuffle_answer, shuffle_choices, shuffle_state};
+ghost use Rattle.nanorand.specs.declared.values.range.RangeError.TheVariants.{Exhausted};
+ghost use Rattle.nanorand_users.specs.Deals.{HoldsEachOnce, HoldsNoneTwice, HandsAreApart, hand_of, hands};
+
+use nanorand::shuffles::{apply_choices, choices_of};
+use nanorand::{RangeError, Rng};
+
+/// Writes the full deck, in order.
+pub fn write_deck(deck: &mut [usize])
+    ensures { deck.new ≡ rising (length deck.old) }
+{
+    for (card, slot) in deck.iter_mut().enumerate() {
+        *slot = card;
+    }
+}
+
+/// Writes the full deck, and shuffles it.
+///
+/// `Exhausted` comes where 128 words in a row were rejected for one card; the deck is a whole one then
+/// too, shuffled up to that card.
+pub fn shuffle_deck<G: Rng<OUTPUT>, const OUTPUT: usize>(
+    rng: &mut G,
+    deck: &mut [usize],
+) -> Result<(), RangeError>
+    ensures answer { result ≡ shuffle_answer (taken G.block G.step) G.after from_itself (length deck.old) rng.old }
+    ensures refusal { IfErr result (λ e. e ≡ Exhausted) }
+    ensures drawn { let count = length deck.old in
+        deck.new ≡ arranged (shuffle_choices (taken G.block G.step) G.after from_itself count rng.old) (rising count) }
+    ensures state { rng.new ≡ shuffle_state (taken G.block G.step) G.after from_itself (length deck.old) rng.old }
+    ensures whole { OnOk result (length (shuffle_choices (taken G.block G.step) G.after from_itself (length deck.old) rng.old) ≡ length deck.old) }
+    ensures valid { OnOk result (IsValid (shuffle_choices (taken G.block G.step) G.after from_itself (length deck.old) rng.old)) }
+    ensures arrangement { IsArrangement deck.new }
+    ensures each_once { HoldsEachOnce (length deck.old) deck.new }
+    ensures none_twice { HoldsNoneTwice deck.new }
+{
+    write_deck(deck);
+    rng.shuffle(deck)
+}
+
+/// Shuffles a deck, and stores it as choices: those that were drawn, if none was refused.
+///
+/// After a refusal the stored choices make the deck as it is then. `scratch` serves for a while, and
+/// what it holds at the end is open.
+pub fn shuffle_and_store<G: Rng<OUTPUT>, const OUTPUT: usize>(
+    rng: &mut G,
+    deck: &mut [usize],
+    choices: &mut [usize],
+    scratch: &mut [usize],
+) -> Result<(), RangeError>
+    requires choices { length choices.old ≡ length deck.old }
+    requires scratch { length scratch.old ≡ length deck.old }
+    ensures answer { result ≡ shuffle_answer (taken G.block G.step) G.after from_itself (length deck.old) rng.old }
+    ensures deck { let count = length deck.old in
+        deck.new ≡ arranged (shuffle_choices (taken G.block G.step) G.after from_itself count rng.old) (rising count) }
+    ensures state { rng.new ≡ shuffle_state (taken G.block G.step) G.after from_itself (length deck.old) rng.old }
+    ensures valid { IsValid choices.new }
+    ensures stored { arranged choices.new (rising (length deck.old)) ≡ deck.new }
+    ensures drawn { OnOk result (choices.new ≡ shuffle_choices (taken G.block G.step) G.after from_itself (length deck.old) rng.old) }
+{
+    let shuffled = shuffle_deck(rng, deck);
+    // A deck is an arrangement, so this is never refused.
+    let _ = choices_of(deck, choices, scratch);
+    shuffled
+}
+
+/// Deals the deck that stored choices make.
+pub fn deal_again(choices: &[usize], deck: &mut [usize])
+    requires lengths { length choices.now ≡ length deck.old }
+    requires valid { IsValid choices.now }
+    ensures deck { deck.new ≡ arranged choices.now (rising (length deck.old)) }
+    ensures arrangement { IsArrangement deck.new }
+{
+    write_deck(deck);
+    apply_choices(choices, deck);
+}
+
+/// The hand of one player.
+pub fn hand(deck: &[usize], size: usize, player: usize) -> &[usize]
+    requires { (player + 1) * size ≤ length deck.now }
+    ensures cards { result.now ≡ hand_of size player deck.now }
+    ensures size { length result.now ≡ size }
+{
+    &deck[player * size..][..size]
+}
+
+/// What is left behind the hands of so many players.
+pub fn rest(deck: &[usize], size: usize, players: usize) -> &[usize]
+    requires { players * size ≤ length deck.now }
+    ensures { result.now ≡ drop (players * size) deck.now }
+{
+    &deck[players * size..]
+}
+
+/// The hands and the rest, one after another, are the deck.
+pub fn hands_and_rest_are_the_deck()
+    ensures { (size players : ℕ) (deck : List ℕ) → hands size players deck ++ drop (players * size) deck ≡ deck }
+{}
+
+/// No card is in two hands, nor twice in one, of a deck that holds none twice.
+pub fn hands_are_apart()
+    ensures { (size players : ℕ) (deck : List ℕ) → players * size ≤ length deck → HoldsNoneTwice deck
+        → HandsAreApart size players deck }
+{}

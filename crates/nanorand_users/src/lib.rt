@@ -1,0 +1,12 @@
+//! Programs of users, proved through nanorand's public contracts alone.
+//!
+//! No proof here cites a lemma of `nanorand`: only the clauses of its public functions, its laws and
+//! the definitions in its `specs/`.
+#![tactic(auto)]
+
+pub mod cases;
+pub mod deals;
+pub mod simulation;
+pub mod streams;
+#[cfg(test)]
+mod tests;

@@ -1,0 +1,126 @@
+//! A simulation has to be repeated exactly: from an equal generator, a copy or a seed, and also
+//! where it was stopped on the way and taken up again.
+//!
+//! A simulation is a list of calls of a generator, with items that its shuffles move.
+ghost use Rattle.std.specs.Prelude.{◌≡◌, ◌≤◌, length, OnOk, OnErr, IfOk};
+ghost use Rattle.nanorand.specs.Blocks.{plain_after, taken};
+ghost use Rattle.nanorand.specs.Replay.{replayed};
+ghost use Rattle.nanorand.specs.WyRand.{next_seed, wyrand_block};
+
+use nanorand::laws::replays_join;
+use nanorand::replay::{Answer, Call, replay};
+use nanorand::{Rng, WyRand};
+use std::alloc::AllocError;
+
+/// Runs the calls on two equal generators, with equal items: answers, items and generators are equal
+/// at the end too.
+pub fn replay_twice<G: Rng<OUTPUT>, const OUTPUT: usize>(
+    first: &mut G,
+    second: &mut G,
+    calls: &[Call],
+    first_items: &mut [u64],
+    second_items: &mut [u64],
+    first_answers: &mut [Answer],
+    second_answers: &mut [Answer],
+)
+    requires states { second.old ≡ first.old }
+    requires items { second_items.old ≡ first_items.old }
+    requires first_room { length first_answers.old ≡ length calls.now }
+    requires second_room { length second_answers.old ≡ length calls.now }
+    ensures answers { first_answers.new ≡ (replayed (taken G.block G.step) G.after first.old first_items.old calls.now).answers }
+    ensures items { first_items.new ≡ (replayed (taken G.block G.step) G.after first.old first_items.old calls.now).items }
+    ensures state { first.new ≡ (replayed (taken G.block G.step) G.after first.old first_items.old calls.now).state }
+    ensures same_answers { second_answers.new ≡ first_answers.new }
+    ensures same_items { second_items.new ≡ first_items.new }
+    ensures same_state { second.new ≡ first.new }
+{
+    replay(first, calls, first_items, first_answers);
+    replay(second, calls, second_items, second_answers);
+}
+
+/// Runs the calls on the generator and on a copy that was taken before, which is given back as the
+/// run left it.
+///
+/// A clone may be refused, as a generator of a user's own says; nothing was run then, and nothing has
+/// changed.
+pub fn replay_copy<G: Rng<OUTPUT> + Drop, const OUTPUT: usize>(
+    rng: &mut G,
+    calls: &[Call],
+    first_items: &mut [u64],
+    second_items: &mut [u64],
+    first_answers: &mut [Answer],
+    second_answers: &mut [Answer],
+) -> Result<G, AllocError>
+    requires items { second_items.old ≡ first_items.old }
+    requires first_room { length first_answers.old ≡ length calls.now }
+    requires second_room { length second_answers.old ≡ length calls.now }
+    ensures answers { OnOk result (first_answers.new ≡ (replayed (taken G.block G.step) G.after rng.old first_items.old calls.now).answers) }
+    ensures items { OnOk result (first_items.new ≡ (replayed (taken G.block G.step) G.after rng.old first_items.old calls.now).items) }
+    ensures state { OnOk result (rng.new ≡ (replayed (taken G.block G.step) G.after rng.old first_items.old calls.now).state) }
+    ensures same_answers { OnOk result (second_answers.new ≡ first_answers.new) }
+    ensures same_items { OnOk result (second_items.new ≡ first_items.new) }
+    ensures same_state { IfOk result (λ copy. copy ≡ rng.new) }
+    ensures unchanged { OnErr result ((first_answers.new ≡ first_answers.old) × (second_answers.new ≡ second_answers.old)
+        × (first_items.new ≡ first_items.old) × (second_items.new ≡ second_items.old) × (rng.new ≡ rng.old)) }
+{
+    let mut copy = rng.clone()?;
+    replay_twice(
+        rng,
+        &mut copy,
+        calls,
+        first_items,
+        second_items,
+        first_answers,
+        second_answers,
+    );
+    Ok(copy)
+}
+
+/// Runs the calls twice from one seed: what a seed gives once, it gives again.
+pub fn replay_seed(
+    seed: u64,
+    calls: &[Call],
+    first_items: &mut [u64],
+    second_items: &mut [u64],
+    first_answers: &mut [Answer],
+    second_answers: &mut [Answer],
+)
+    requires items { second_items.old ≡ first_items.old }
+    requires first_room { length first_answers.old ≡ length calls.now }
+    requires second_room { length second_answers.old ≡ length calls.now }
+    ensures answers { first_answers.new ≡ (replayed (taken wyrand_block next_seed) (plain_after next_seed 8) seed first_items.old calls.now).answers }
+    ensures items { first_items.new ≡ (replayed (taken wyrand_block next_seed) (plain_after next_seed 8) seed first_items.old calls.now).items }
+    ensures same_answers { second_answers.new ≡ first_answers.new }
+    ensures same_items { second_items.new ≡ first_items.new }
+{
+    replay_twice(
+        &mut WyRand::new_seed(seed),
+        &mut WyRand::new_seed(seed),
+        calls,
+        first_items,
+        second_items,
+        first_answers,
+        second_answers,
+    );
+}
+
+/// Runs the calls up to a place, stops, and takes up the rest from what was left. It gives what the
+/// whole run gives, wherever it stops.
+pub fn replay_in_two<G: Rng<OUTPUT>, const OUTPUT: usize>(
+    rng: &mut G,
+    calls: &[Call],
+    place: usize,
+    items: &mut [u64],
+    answers: &mut [Answer],
+)
+    requires place { place ≤ length calls.now }
+    requires room { length answers.old ≡ length calls.now }
+    ensures answers { answers.new ≡ (replayed (taken G.block G.step) G.after rng.old items.old calls.now).answers }
+    ensures items { items.new ≡ (replayed (taken G.block G.step) G.after rng.old items.old calls.now).items }
+    ensures state { rng.new ≡ (replayed (taken G.block G.step) G.after rng.old items.old calls.now).state }
+{
+    replays_join::<G, OUTPUT>();
+    let (done, left) = answers.split_at_mut(place);
+    replay(rng, &calls[..place], items, done);
+    replay(rng, &calls[place..], items, left);
+}

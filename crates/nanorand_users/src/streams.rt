@@ -1,0 +1,100 @@
+//! Workers draw from one stream at once: each has to get a part of its own, and no two of them the
+//! same draws.
+//!
+//! A stream is a generator, and its draws are numbered from 0. Worker number i takes `share` draws
+//! from number i * share on, and finds them by `skip`, without the draws of the others.
+ghost use Rattle.std.specs.Prelude.{◌≡◌, ◌+◌, ◌*◌, ◌^◌, ◌<◌, ℕ, List, length, slice_index, refl};
+ghost use Rattle.nanorand.specs.ChaCha.{next_state};
+ghost use Rattle.nanorand.specs.ChaChaRounds.{IsMatrix};
+ghost use Rattle.nanorand.specs.Pcg64.{Generator, next};
+ghost use Rattle.nanorand.specs.WyRand.{next_seed};
+ghost use Rattle.nanorand_users.specs.Streams.{after_draws, word_at, PartsAreApart};
+
+use nanorand::laws::{chacha_counter, pcg64_cycles, wyrand_cycle};
+use nanorand::{Blocks, ChaCha, Pcg64, Rng, WyRand};
+
+/// A generator that skips draws.
+pub trait Skip<const OUTPUT: usize>: Rng<OUTPUT> {
+    /// Leaves what so many draws leave.
+    fn skip(&mut self, draws: u128)
+        ensures { self.new ≡ after_draws Self.step draws self.old };
+
+    // A word of 64 bits is one draw.
+    ghost one_draw: { (g : Self) → Self.after g 8 ≡ Self.step g };
+}
+
+impl Skip<8> for WyRand {
+    fn skip(&mut self, draws: u128)
+        ensures { self.new ≡ after_draws next_seed draws self.old }
+    {
+        wyrand_cycle();
+        let _seed = self.seed();
+        self.jump((draws % (1 << 64)) as u64);
+    }
+
+    ghost one_draw = { λ _. refl };
+}
+
+impl Skip<8> for Pcg64 {
+    fn skip(&mut self, draws: u128)
+        ensures { self.new ≡ after_draws next draws self.old }
+    {
+        pcg64_cycles();
+        self.jump(draws);
+    }
+
+    ghost one_draw = { λ _. refl };
+}
+
+/// A word takes the first eight bytes of a block, and drops the others.
+impl<const ROUNDS: u8> Skip<64> for ChaCha<ROUNDS> {
+    fn skip(&mut self, draws: u128)
+        ensures { self.new ≡ after_draws next_state draws self.old }
+    {
+        chacha_counter();
+        let _counter = self.counter();
+        self.jump((draws % (1 << 64)) as u64);
+    }
+
+    ghost one_draw = { λ _. refl };
+}
+
+/// The generator of one worker: the stream behind the shares of the workers before it.
+pub fn worker<G: Skip<OUTPUT>, const OUTPUT: usize>(stream: G, index: u64, share: u64) -> G
+    ensures { result ≡ after_draws G.step (index * share) stream }
+{
+    let mut worker = stream;
+    worker.skip(u128::from(index) * u128::from(share));
+    worker
+}
+
+/// The part of one worker: as many words as the slice has, behind as many for each worker before it.
+pub fn part<G: Skip<OUTPUT> + Drop, const OUTPUT: usize>(stream: G, index: u64, words: &mut [u64])
+    ensures { (j : ℕ) → j < length words.old
+        → slice_index words.new j ≡ word_at G.block G.step stream (index * length words.old + j) }
+{
+    let mut own = worker(stream, index, words.len() as u64);
+    own.fill(words);
+}
+
+/// Parts of a `WyRand` within 2^64 draws do not overlap: no seed comes twice.
+pub fn wyrand_parts_are_apart()
+    ensures { (seed : ℕ) → seed < 2 ^ 64 → PartsAreApart (2 ^ 64) (λ n. after_draws next_seed n seed) }
+{
+    wyrand_cycle();
+}
+
+/// Parts of a `Pcg64` within 2^126 draws do not overlap: no seed comes twice, and the seed alone
+/// decides the blocks.
+pub fn pcg64_parts_are_apart()
+    ensures { (g : Generator) → g.seed < 2 ^ 128 → PartsAreApart (2 ^ 126) (λ n. (after_draws next n g).seed) }
+{
+    pcg64_cycles();
+}
+
+/// Parts of a `ChaCha` within 2^64 draws do not overlap: no state comes twice.
+pub fn chacha_parts_are_apart()
+    ensures { (x : List ℕ) → IsMatrix x → PartsAreApart (2 ^ 64) (λ n. after_draws next_state n x) }
+{
+    chacha_counter();
+}

@@ -1,0 +1,32 @@
+//! A deck of ten cards, shuffled by the words of wyrand and the multiplication that names a place.
+
+use crate::deals::{deal_again, hand, rest, shuffle_and_store, shuffle_deck};
+use nanorand::WyRand;
+
+const DECK: [usize; 10] = [6, 9, 8, 1, 0, 3, 4, 7, 5, 2];
+
+#[test]
+fn hands_of_a_shuffled_deck(rt: HostRuntime) {
+    let mut deck = [0; 10];
+    assert_eq!(rt; shuffle_deck(&mut WyRand::new_seed(42), &mut deck), Ok(()));
+    assert_eq!(rt; deck, DECK);
+    assert_eq!(rt; hand(&deck, 4, 0), [6, 9, 8, 1].as_slice());
+    assert_eq!(rt; hand(&deck, 4, 1), [0, 3, 4, 7].as_slice());
+    assert_eq!(rt; rest(&deck, 4, 2), [5, 2].as_slice());
+}
+
+#[test]
+fn a_deck_dealt_again(rt: HostRuntime) {
+    let mut deck = [0; 10];
+    let mut choices = [0; 10];
+    let mut scratch = [0; 10];
+    let mut rng = WyRand::new_seed(42);
+    let shuffled = shuffle_and_store(&mut rng, &mut deck, &mut choices, &mut scratch);
+    assert_eq!(rt; shuffled, Ok(()));
+    assert_eq!(rt; deck, DECK);
+    assert_eq!(rt; choices, [6, 9, 8, 9, 6, 9, 6, 7, 9, 9]);
+
+    let mut again = [0; 10];
+    deal_again(&choices, &mut again);
+    assert_eq!(rt; again, DECK);
+}
