@@ -1,5 +1,5 @@
 //! Pcg64. Its seed is the caller's memory, and moves on by each draw.
-ghost use Rattle.std.specs.Prelude.{◌≡◌, length, IsPermutation};
+ghost use Rattle.std.specs.Prelude.{◌≡◌, ◌≤◌, length, IsPermutation};
 ghost use Rattle.nanorand.specs.Blocks.{plain_after, taken};
 ghost use Rattle.nanorand.specs.Pcg64.{next, pcg64_block, seed_after};
 ghost use Rattle.nanorand.specs.Shuffles.{arranged, from_all, from_itself, shuffle_answer, shuffle_choices, shuffle_state};
@@ -12,6 +12,7 @@ use crate::status::{hand_over, status};
 use crate::wide::{Wide, joined, split};
 use nanorand::laws::pcg64_cycles;
 use nanorand::shuffles::shuffle_full;
+use nanorand::values::range::draw_number;
 use nanorand::{Pcg64, Rng};
 use std::ops::Bound;
 
@@ -60,10 +61,11 @@ pub extern "C" fn nanorand_pcg64_range_u64(
 ) -> u8
     ensures status { result ≡ status (between (taken pcg64_block next) (plain_after next 8) first last (at_seed seed.old)).0 }
     ensures number { number.new ≡ drawn_or number.old (between (taken pcg64_block next) (plain_after next 8) first last (at_seed seed.old)).0 }
+    ensures within { result ≡ 0 → (first ≤ number.new) × (number.new ≤ last) }
     ensures seed { wide_number seed.new ≡ (between (taken pcg64_block next) (plain_after next 8) first last (at_seed seed.old)).1.seed }
 {
     let mut rng = Pcg64::new_seed(joined(seed));
-    let outcome = rng.generate_range(Bound::Included(first), Bound::Included(last));
+    let outcome = draw_number(&mut rng, Bound::Included(first), Bound::Included(last));
     *seed = split(rng.seed());
     hand_over(&outcome, number)
 }
@@ -78,10 +80,11 @@ pub extern "C" fn nanorand_pcg64_range_usize(
 ) -> u8
     ensures status { result ≡ status (between (taken pcg64_block next) (plain_after next 8) first last (at_seed seed.old)).0 }
     ensures number { number.new ≡ drawn_or number.old (between (taken pcg64_block next) (plain_after next 8) first last (at_seed seed.old)).0 }
+    ensures within { result ≡ 0 → (first ≤ number.new) × (number.new ≤ last) }
     ensures seed { wide_number seed.new ≡ (between (taken pcg64_block next) (plain_after next 8) first last (at_seed seed.old)).1.seed }
 {
     let mut rng = Pcg64::new_seed(joined(seed));
-    let outcome = rng.generate_range(Bound::Included(first), Bound::Included(last));
+    let outcome = draw_number(&mut rng, Bound::Included(first), Bound::Included(last));
     *seed = split(rng.seed());
     hand_over(&outcome, number)
 }

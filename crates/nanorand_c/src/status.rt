@@ -1,5 +1,5 @@
 //! How an outcome crosses: as a status, and a number beside it.
-ghost use Rattle.std.specs.Prelude.{◌≡◌};
+ghost use Rattle.std.specs.Prelude.{◌≡◌, Ok};
 ghost use Rattle.nanorand_c.specs.Status.{drawn_or, status};
 
 use nanorand::RangeError;
@@ -19,6 +19,7 @@ pub(crate) fn status<T>(outcome: &Result<T, RangeError>) -> u8
 pub(crate) fn hand_over<T: Copy>(outcome: &Result<T, RangeError>, number: &mut T) -> u8
     ensures status { result ≡ status outcome.now }
     ensures number { number.new ≡ drawn_or number.old outcome.now }
+    ensures drawn { result ≡ 0 → outcome.now ≡ Ok number.new }
 {
     if let Ok(drawn) = outcome {
         *number = *drawn;

@@ -1,5 +1,5 @@
 //! Wyrand. The generator itself is the caller's memory.
-ghost use Rattle.std.specs.Prelude.{◌≡◌, length, IsPermutation};
+ghost use Rattle.std.specs.Prelude.{◌≡◌, ◌≤◌, length, IsPermutation};
 ghost use Rattle.nanorand.specs.Blocks.{plain_after, taken};
 ghost use Rattle.nanorand.specs.Shuffles.{arranged, from_all, from_itself, shuffle_answer, shuffle_choices, shuffle_state};
 ghost use Rattle.nanorand.specs.Values.{number_of};
@@ -9,6 +9,7 @@ ghost use Rattle.nanorand_c.specs.Draws.{between};
 
 use crate::status::{hand_over, status};
 use nanorand::shuffles::shuffle_full;
+use nanorand::values::range::draw_number;
 use nanorand::{Rng, WyRand};
 use std::ops::Bound;
 
@@ -57,9 +58,10 @@ pub extern "C" fn nanorand_wyrand_range_u64(
 ) -> u8
     ensures status { result ≡ status (between (taken wyrand_block next_seed) (plain_after next_seed 8) first last rng.old).0 }
     ensures number { number.new ≡ drawn_or number.old (between (taken wyrand_block next_seed) (plain_after next_seed 8) first last rng.old).0 }
+    ensures within { result ≡ 0 → (first ≤ number.new) × (number.new ≤ last) }
     ensures state { rng.new ≡ (between (taken wyrand_block next_seed) (plain_after next_seed 8) first last rng.old).1 }
 {
-    let outcome = rng.generate_range(Bound::Included(first), Bound::Included(last));
+    let outcome = draw_number(rng, Bound::Included(first), Bound::Included(last));
     hand_over(&outcome, number)
 }
 
@@ -73,9 +75,10 @@ pub extern "C" fn nanorand_wyrand_range_usize(
 ) -> u8
     ensures status { result ≡ status (between (taken wyrand_block next_seed) (plain_after next_seed 8) first last rng.old).0 }
     ensures number { number.new ≡ drawn_or number.old (between (taken wyrand_block next_seed) (plain_after next_seed 8) first last rng.old).0 }
+    ensures within { result ≡ 0 → (first ≤ number.new) × (number.new ≤ last) }
     ensures state { rng.new ≡ (between (taken wyrand_block next_seed) (plain_after next_seed 8) first last rng.old).1 }
 {
-    let outcome = rng.generate_range(Bound::Included(first), Bound::Included(last));
+    let outcome = draw_number(rng, Bound::Included(first), Bound::Included(last));
     hand_over(&outcome, number)
 }
 
