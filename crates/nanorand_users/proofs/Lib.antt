@@ -1,4 +1,4 @@
-pub mod Decks
-pub mod Hands
-pub mod Draws
-pub mod Places
+pub mod DeckLemmas
+pub mod HandLemmas
+pub mod PlaceLemmas
+pub mod StreamLemmas
