@@ -1,0 +1,4 @@
+pub mod ChoiceLemmas
+pub mod DrawLemmas
+pub mod RetryLemmas
+pub mod SampleLemmas

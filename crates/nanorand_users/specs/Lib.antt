@@ -1,0 +1,3 @@
+pub mod Choice
+pub mod Reservoir
+pub mod Retry

@@ -1,0 +1,5 @@
+//! Each program, run once.
+
+mod choice;
+mod reservoir;
+mod retry;
