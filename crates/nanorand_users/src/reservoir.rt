@@ -8,7 +8,7 @@ ghost use Rattle.nanorand.specs.Draws.{after_word};
 ghost use Rattle.nanorand.specs.declared.values.range.RangeError.TheVariants.{Exhausted};
 ghost use Rattle.nanorand_users.specs.Reservoir.{place_up_to, placed, sampled};
 
-use nanorand::values::range::draw_number;
+use nanorand::laws::range_limits;
 use nanorand::{RangeError, Rng};
 use std::ops::Bound;
 
@@ -73,5 +73,6 @@ fn draw_place<G: Rng<OUTPUT>, const OUTPUT: usize>(
     ensures refusal { IfErr result (λ refusal. refusal ≡ Exhausted) }
     ensures words { (n : ℕ) × (n ≤ 128) × (rng.new ≡ iterate (after_word G.after 64) n rng.old) }
 {
-    draw_number(rng, Bound::Included(0), Bound::Included(last))
+    range_limits::<G, OUTPUT>();
+    rng.generate_range(Bound::Included(0), Bound::Included(last))
 }

@@ -1,6 +1,6 @@
 //! A server that comes back after a failure is overrun if all its clients try again at one moment: each
 //! of them waits for a while, twice as long after each failure, and for a part that is drawn.
-ghost use Rattle.std.specs.Prelude.{◌≡◌, ℕ, ◌*◌, ◌/◌, ◌≤◌, EachIndex, length, slice_index, IfOk, IfErr};
+ghost use Rattle.std.specs.Prelude.{◌≡◌, ℕ, ◌*◌, ◌/◌, ◌≤◌, Err, EachIndex, length, slice_index, IfOk, IfErr};
 ghost use Rattle.std.specs.Fn.{iterate};
 ghost use Rattle.std.specs.Result.{result_unwrap_or};
 ghost use Rattle.nanorand.specs.Blocks.{taken};
@@ -24,6 +24,7 @@ pub fn try_delay<G: Rng<OUTPUT>, const OUTPUT: usize>(
     ensures ceiling { IfOk result (λ delay. delay ≤ ceiling) }
     ensures refusal { IfErr result (λ refusal. refusal ≡ Exhausted) }
     ensures words { (n : ℕ) × (n ≤ 128) × (rng.new ≡ iterate (after_word G.after 64) n rng.old) }
+    ensures exhausted { result ≡ Err Exhausted → rng.new ≡ iterate (after_word G.after 64) 128 rng.old }
 {
     draw_number(rng, Bound::Included(ceiling / 2), Bound::Included(ceiling))
 }
@@ -33,6 +34,7 @@ pub fn try_delay<G: Rng<OUTPUT>, const OUTPUT: usize>(
 pub fn delay<G: Rng<OUTPUT>, const OUTPUT: usize>(rng: &mut G, ceiling: u64) -> u64
     ensures value { result ≡ result_unwrap_or (delay_drawn (taken G.block G.step) G.after ceiling rng.old).0 ceiling }
     ensures state { rng.new ≡ (delay_drawn (taken G.block G.step) G.after ceiling rng.old).1 }
+    ensures fallback { (delay_drawn (taken G.block G.step) G.after ceiling rng.old).0 ≡ Err Exhausted → result ≡ ceiling }
     ensures half { ceiling / 2 ≤ result }
     ensures ceiling { result ≤ ceiling }
     ensures words { (n : ℕ) × (n ≤ 128) × (rng.new ≡ iterate (after_word G.after 64) n rng.old) }

@@ -1,5 +1,6 @@
-//! Each program, run once.
+//! Each program, run.
 
 mod choice;
 mod reservoir;
 mod retry;
+mod zeros;
