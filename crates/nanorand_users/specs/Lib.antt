@@ -1,3 +1,6 @@
 pub mod Cases
+pub mod Choice
 pub mod Deals
+pub mod Reservoir
+pub mod Retry
 pub mod Streams

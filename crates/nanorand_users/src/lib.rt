@@ -5,7 +5,10 @@
 #![tactic(auto)]
 
 pub mod cases;
+pub mod choice;
 pub mod deals;
+pub mod reservoir;
+pub mod retry;
 pub mod simulation;
 pub mod streams;
 #[cfg(test)]

@@ -1,6 +1,10 @@
-//! Each program once, on values from outside.
+//! Each program, run.
 
 mod cases;
+mod choice;
 mod deals;
+mod reservoir;
+mod retry;
 mod simulation;
 mod streams;
+mod zeros;

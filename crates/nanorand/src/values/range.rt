@@ -1,12 +1,12 @@
 //! Numbers between two bounds.
-ghost use Rattle.std.specs.Prelude.{◌≡◌, ℕ, ◌^◌, ◌<◌, ◌≤◌, true, Result, IfOk, IfErr, nat_le, nat_lt};
+ghost use Rattle.std.specs.Prelude.{◌≡◌, ℕ, ◌^◌, ◌<◌, ◌≤◌, true, Result, Err, IfOk, IfErr, nat_le, nat_lt};
 ghost use Rattle.std.specs.Fn.{iterate};
 ghost use Rattle.std.specs.declared.ops.Bound.{Bound};
 ghost use Rattle.nanorand.specs.Blocks.{taken};
 ghost use Rattle.nanorand.specs.Range.{is_above, is_below, range_within};
 ghost use Rattle.nanorand.specs.Draws.{word_limit, after_word, range_outcome};
 ghost use Rattle.nanorand.specs.declared.values.range.RangeError.{RangeError};
-ghost use Rattle.nanorand.specs.declared.values.range.RangeError.TheVariants.{Exhausted};
+ghost use Rattle.nanorand.specs.declared.values.range.RangeError.TheVariants.{Empty, Exhausted};
 
 mod signed;
 mod unsigned;
@@ -62,6 +62,8 @@ pub fn draw_number<T: Number, G: Rng<OUTPUT>, const OUTPUT: usize>(
     ensures words { (n : ℕ) × (n ≤ word_limit) × (rng.new ≡ iterate (after_word G.after T.BITS) n rng.old) }
     ensures some { (k : ℕ) → k < 2 ^ T.BITS → is_above T.le T.lt low (T.number k) ≡ true → is_below T.le T.lt high (T.number k) ≡ true
         → IfErr result (λ refusal. refusal ≡ Exhausted) }
+    ensures empty { result ≡ Err Empty → rng.new ≡ rng.old }
+    ensures exhausted { result ≡ Err Exhausted → rng.new ≡ iterate (after_word G.after T.BITS) word_limit rng.old }
 {
     let first = first_place(low);
     let end = end_place(high);

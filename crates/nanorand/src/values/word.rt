@@ -1,5 +1,5 @@
 //! Words, and the numbers that they name.
-ghost use Rattle.std.specs.Prelude.{◌≡◌, ℕ, ◌^◌, ◌<◌, ◌≤◌, MatchOption, IfSome};
+ghost use Rattle.std.specs.Prelude.{◌≡◌, ℕ, ◌^◌, ◌<◌, ◌≤◌, MatchOption, IfSome, IfNone};
 ghost use Rattle.std.specs.Fn.{iterate};
 ghost use Rattle.nanorand.specs.Blocks.{taken};
 ghost use Rattle.nanorand.specs.Runs.{IsWordWidth, Names, named, rejected};
@@ -83,6 +83,7 @@ pub fn draw_below<G: Rng<OUTPUT>, const OUTPUT: usize>(
     ensures number { result ≡ number_drawn (next_word (taken G.block G.step) bits) (after_word G.after bits) word_limit bits size rng.old }
     ensures state { rng.new ≡ left_after (next_word (taken G.block G.step) bits) (after_word G.after bits) word_limit bits size rng.old }
     ensures words { (n : ℕ) × (n ≤ word_limit) × (rng.new ≡ iterate (after_word G.after bits) n rng.old) }
+    ensures exhausted { IfNone result (rng.new ≡ iterate (after_word G.after bits) word_limit rng.old) }
 {
     let first = draw_word(rng, bits);
     if let Some(number) = pick_word(size, bits, first) {

@@ -62,3 +62,6 @@ returns-in-None-clause-state g c =
 
 pub returns-in-None-clause-words : goal.returns-in-None-clause-words
 returns-in-None-clause-words g c = rw c.BITS.ensures at c.draw_below.ensures.words
+
+pub returns-in-None-clause-exhausted : goal.returns-in-None-clause-exhausted
+returns-in-None-clause-exhausted g c refused = rw c.BITS.ensures at c.in-None.ensures.exhausted

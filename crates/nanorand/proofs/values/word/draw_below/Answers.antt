@@ -1,5 +1,7 @@
-use Rattle.std.proofs.Common.{sym, ◌∙◌, ap, arith}
+use Rattle.std.proofs.Common.{◌≡◌, ℕ, sym, ◌∙◌, ap, arith}
+use Rattle.std.specs.Fn.{iterate}
 use Rattle.nanorand.specs.Runs.{named}
+use Rattle.nanorand.specs.Draws.{word_limit, after_word}
 use Rattle.nanorand.proofs.RunLemmas.{Some-named}
 use Rattle.nanorand.proofs.DrawLemmas.{start, step, found_number, found_rest, missing_number, missing_rest, counted_words}
 use Rattle.nanorand.proofs.values.word.draw_below.Goals as goal
@@ -51,3 +53,8 @@ returns-in-Some-pick_word-clause-words g c = counted_words _ _ _ _ _ _ _ (return
 
 pub returns-clause-words : goal.returns-clause-words
 returns-clause-words g c = counted_words _ _ _ _ _ _ _ (returns-clause-state g c)
+
+pub returns-clause-exhausted : goal.returns-clause-exhausted
+returns-clause-exhausted g c =
+    let all : c.others.counter ≡ word_limit = omega arith in
+    c.others.invariant.reached ∙ ap (λ (n : ℕ). iterate (after_word g.G.Rng.after c.args.bits) n c.args.rng.now) all

@@ -1,0 +1,5 @@
+use Rattle.nanorand_users.proofs.ChoiceLemmas.{choices_are_fair}
+use Rattle.nanorand_users.proofs.choice.choice_is_fair.Goals as goal
+
+pub returns : goal.returns
+returns c = choices_are_fair c.fairness.ensures.events

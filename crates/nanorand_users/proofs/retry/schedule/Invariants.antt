@@ -1,0 +1,23 @@
+use Rattle.std.proofs.Common.{◌≡◌, ℕ, ◌*◌, ◌/◌, ◌-◌, ◌<◌, ◌≤◌, ◌++◌, length, take, slice_index}
+use Rattle.std.specs.Fn.{iterate}
+use Rattle.nanorand.specs.Blocks.{taken}
+use Rattle.nanorand.specs.Draws.{after_word}
+use Rattle.nanorand_users.specs.Retry.{ceiling_after, delays_after, state_after_delays}
+use Rattle.nanorand_users.proofs.retry.schedule.Given as goal
+
+abbrev pub invariant-loop-slot : goal.invariant-loop-slot
+invariant-loop-slot g l =
+    let bytes = taken g.G.Blocks.block g.G.Blocks.step in
+    let after = g.G.Rng.after in
+    let tries = length l.fn.delays in
+    let k = l.slot-index in
+    record {
+      ceiling : l.ceiling ≡ ceiling_after l.first l.cap k;
+      drawn : take k l.delays ++ delays_after bytes after l.first l.cap k (tries - k) l.rng
+          ≡ delays_after bytes after l.first l.cap 0 tries l.fn.rng;
+      state : state_after_delays bytes after l.first l.cap k (tries - k) l.rng
+          ≡ state_after_delays bytes after l.first l.cap 0 tries l.fn.rng;
+      half : (j : ℕ) → j < k → ceiling_after l.first l.cap j / 2 ≤ slice_index l.delays j;
+      below : (j : ℕ) → j < k → slice_index l.delays j ≤ ceiling_after l.first l.cap j;
+      words : (n : ℕ) × (n ≤ 128 * k) × (l.rng ≡ iterate (after_word after 64) n l.fn.rng);
+    }

@@ -1,0 +1,32 @@
+-- A sample of places that is kept while the places go by.
+use Rattle.std.specs.Prelude.{ℕ, zero, suc, ◌+◌, List, length, Result, Ok, Err, nat_lt, slice_set, if◌then◌else◌}
+use Rattle.std.specs.declared.ops.Bound.TheVariants.{Included}
+use Rattle.nanorand.specs.Draws.{unsigned_outcome}
+use Rattle.nanorand.specs.declared.values.range.RangeError.{RangeError}
+
+-- What a pass answers, the sample that it leaves, and the generator.
+pub record Sample (G : Type 0) : Type 0 where
+  pub answer : Result (Unit {0}) RangeError
+  pub chosen : List ℕ
+  pub state : G
+
+-- Place i goes where the draw says, if that is a place of the sample.
+abbrev pub placed : List ℕ → ℕ → ℕ → List ℕ
+placed chosen i drawn = if nat_lt drawn (length chosen) then slice_set chosen drawn i else chosen
+
+module _ {G : Type 0} (bytes : G → ℕ → List ℕ) (after : G → ℕ → G) where
+  -- A draw of the places from 0 to i, and the generator after it.
+  unfoldable pub place_up_to : ℕ → G → Result ℕ RangeError × G
+  place_up_to i g = unsigned_outcome bytes after 64 g (Included 0) (Included i)
+
+  -- The pass goes on from a draw, and a refusal ends it.
+  abbrev pub goes_on : Result ℕ RangeError → List ℕ → G → (ℕ → Sample G) → Sample G
+  goes_on (Ok drawn) chosen g pass = pass drawn
+  goes_on (Err refusal) chosen g pass = record { answer = Err refusal; chosen = chosen; state = g }
+
+  -- What a pass over `left` more places, from place i on, makes of a sample.
+  abbrev pub sampled : ℕ → ℕ → G → List ℕ → Sample G
+  sampled i zero g chosen = record { answer = Ok tt; chosen = chosen; state = g }
+  sampled i (suc left) g chosen =
+      goes_on (place_up_to i g).0 chosen (place_up_to i g).1
+      (λ drawn. sampled (i + 1) left (place_up_to i g).1 (placed chosen i drawn))

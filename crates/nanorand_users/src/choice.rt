@@ -1,0 +1,106 @@
+//! A load balancer sends each request to one of its servers, and a stronger server is to get more of
+//! them: an item is chosen by its weight, exactly and without floats.
+ghost use Rattle.std.specs.Prelude.{◌≡◌, ℕ, ◌^◌, ◌<◌, ◌≤◌, ◌↔◌, ◌⊎◌, length, slice_index, sum, Err, IfOk, IfSome};
+ghost use Rattle.std.specs.Fn.{iterate};
+ghost use Rattle.nanorand.specs.Blocks.{taken};
+ghost use Rattle.nanorand.specs.Draws.{after_word, word_limit};
+ghost use Rattle.nanorand_users.specs.declared.choice.ChoiceError.TheVariants.{NoWeight, TooHeavy, Exhausted};
+ghost use Rattle.nanorand_users.specs.Choice.{ChoicesAreFair, IsInShare, choice_answer, choice_state, item_at, number_for, total_of};
+
+use nanorand::values::word::draw_below;
+use nanorand::{Rng, laws};
+use std::error::Error;
+use std::fmt;
+
+/// Why no item was chosen.
+#[derive(Clone, Copy, Debug, PartialEq, Eq)]
+pub enum ChoiceError {
+    /// No item has a weight: there is none, or each weighs 0. Nothing was drawn.
+    NoWeight,
+    /// The weights add up to 2^64 or more. Nothing was drawn.
+    TooHeavy,
+    /// 128 words were drawn, and none named a number below the sum of the weights.
+    Exhausted,
+}
+
+impl fmt::Display for ChoiceError {
+    fn fmt<W: fmt::Write>(&self, f: &mut fmt::Formatter<W>) -> fmt::Result {
+        f.write_str(match self {
+            ChoiceError::NoWeight => "no item has a weight",
+            ChoiceError::TooHeavy => "the weights add up to 2^64 or more",
+            ChoiceError::Exhausted => "128 words in a row were rejected",
+        })
+    }
+}
+
+impl Error for ChoiceError {}
+
+/// Chooses an item by its weight, and answers its index.
+///
+/// A number below the sum of the weights is drawn by words of 64 bits, at most 128 of them. Each
+/// item in turn has as many of the numbers as its weight, so an item of weight 0 is never chosen.
+/// After `Exhausted` 128 words stay drawn; after the other refusals nothing was drawn.
+pub fn choose<G: Rng<OUTPUT>, const OUTPUT: usize>(
+    rng: &mut G,
+    weights: &[u64],
+) -> Result<usize, ChoiceError>
+    ensures answer { result ≡ choice_answer (taken G.block G.step) G.after weights.now rng.old }
+    ensures state { rng.new ≡ choice_state (taken G.block G.step) G.after weights.now rng.old }
+
+    // What is chosen.
+    ensures share { IfOk result (λ i. IfSome (number_for (taken G.block G.step) G.after weights.now rng.old) (λ k. IsInShare weights.now k i)) }
+    ensures within { IfOk result (λ i. i < length weights.now) }
+    ensures weight { IfOk result (λ i. 0 < slice_index weights.now i) }
+
+    // What is refused.
+    ensures no_weight { (result ≡ Err NoWeight) ↔ (sum weights.now ≡ 0) }
+    ensures too_heavy { (result ≡ Err TooHeavy) ↔ (2 ^ 64 ≤ sum weights.now) }
+    ensures undrawn { (result ≡ Err NoWeight) ⊎ (result ≡ Err TooHeavy) → rng.new ≡ rng.old }
+    ensures exhausted { result ≡ Err Exhausted → rng.new ≡ iterate (after_word G.after 64) word_limit rng.old }
+{
+    let total = total_weight(weights)?;
+    match draw_below(rng, u128::from(total), 64) {
+        Some(number) => Ok(item_at(weights, number)),
+        None => Err(ChoiceError::Exhausted),
+    }
+}
+
+// The sum of the weights, if a number can be drawn below it.
+fn total_weight(weights: &[u64]) -> Result<u64, ChoiceError>
+    ensures { result ≡ total_of weights.now }
+{
+    let mut total: u64 = 0;
+    for weight in weights {
+        total = total.checked_add(*weight).ok_or(ChoiceError::TooHeavy)?;
+    }
+    if total == 0 {
+        return Err(ChoiceError::NoWeight);
+    }
+    Ok(total)
+}
+
+// The item in whose share the number stands.
+fn item_at(weights: &[u64], number: u64) -> usize
+    requires { number < sum weights.now }
+    ensures item { result ≡ item_at weights.now number }
+    ensures share { IsInShare weights.now number result }
+    ensures within { result < length weights.now }
+{
+    let mut left = number;
+    for (i, weight) in weights.iter().enumerate() {
+        if left < *weight {
+            return i;
+        }
+        left -= *weight;
+    }
+    unreachable!()
+}
+
+/// Each item answers to exactly its weight's part of the words, whatever their width: of the words
+/// that name a number below the sum of the weights, its weight times as many name the item as one
+/// number has.
+pub fn choice_is_fair()
+    ensures { ChoicesAreFair }
+{
+    laws::fairness();
+}

@@ -1,0 +1,65 @@
+//! A server that comes back after a failure is overrun if all its clients try again at one moment: each
+//! of them waits for a while, twice as long after each failure, and for a part that is drawn.
+ghost use Rattle.std.specs.Prelude.{◌≡◌, ℕ, ◌*◌, ◌/◌, ◌≤◌, Err, EachIndex, length, slice_index, IfOk, IfErr};
+ghost use Rattle.std.specs.Fn.{iterate};
+ghost use Rattle.std.specs.Result.{result_unwrap_or};
+ghost use Rattle.nanorand.specs.Blocks.{taken};
+ghost use Rattle.nanorand.specs.Draws.{after_word};
+ghost use Rattle.nanorand.specs.declared.values.range.RangeError.TheVariants.{Exhausted};
+ghost use Rattle.nanorand_users.specs.Retry.{ceiling_after, delay_drawn, delays_after, state_after_delays};
+
+use nanorand::values::range::draw_number;
+use nanorand::{RangeError, Rng};
+use std::ops::Bound;
+
+/// A delay from half the ceiling to the ceiling. It can be refused as `Exhausted` alone, after 128
+/// words.
+pub fn try_delay<G: Rng<OUTPUT>, const OUTPUT: usize>(
+    rng: &mut G,
+    ceiling: u64,
+) -> Result<u64, RangeError>
+    ensures value { result ≡ (delay_drawn (taken G.block G.step) G.after ceiling rng.old).0 }
+    ensures state { rng.new ≡ (delay_drawn (taken G.block G.step) G.after ceiling rng.old).1 }
+    ensures half { IfOk result (λ delay. ceiling / 2 ≤ delay) }
+    ensures ceiling { IfOk result (λ delay. delay ≤ ceiling) }
+    ensures refusal { IfErr result (λ refusal. refusal ≡ Exhausted) }
+    ensures words { (n : ℕ) × (n ≤ 128) × (rng.new ≡ iterate (after_word G.after 64) n rng.old) }
+    ensures exhausted { result ≡ Err Exhausted → rng.new ≡ iterate (after_word G.after 64) 128 rng.old }
+{
+    draw_number(rng, Bound::Included(ceiling / 2), Bound::Included(ceiling))
+}
+
+/// A delay from half the ceiling to the ceiling, by at most 128 words. Where all of them are rejected
+/// it is the ceiling.
+pub fn delay<G: Rng<OUTPUT>, const OUTPUT: usize>(rng: &mut G, ceiling: u64) -> u64
+    ensures value { result ≡ result_unwrap_or (delay_drawn (taken G.block G.step) G.after ceiling rng.old).0 ceiling }
+    ensures state { rng.new ≡ (delay_drawn (taken G.block G.step) G.after ceiling rng.old).1 }
+    ensures fallback { (delay_drawn (taken G.block G.step) G.after ceiling rng.old).0 ≡ Err Exhausted → result ≡ ceiling }
+    ensures half { ceiling / 2 ≤ result }
+    ensures ceiling { result ≤ ceiling }
+    ensures words { (n : ℕ) × (n ≤ 128) × (rng.new ≡ iterate (after_word G.after 64) n rng.old) }
+{
+    try_delay(rng, ceiling).unwrap_or(ceiling)
+}
+
+/// A delay for each try, by at most 128 words each.
+///
+/// The first ceiling is `first`, each next one is twice the one before it, and none goes beyond `cap`.
+pub fn schedule<G: Rng<OUTPUT>, const OUTPUT: usize>(
+    rng: &mut G,
+    first: u64,
+    cap: u64,
+    delays: &mut [u64],
+)
+    ensures delays { delays.new ≡ delays_after (taken G.block G.step) G.after first cap 0 (length delays.old) rng.old }
+    ensures state { rng.new ≡ state_after_delays (taken G.block G.step) G.after first cap 0 (length delays.old) rng.old }
+    ensures half { EachIndex delays.new (λ k. ceiling_after first cap k / 2 ≤ slice_index delays.new k) }
+    ensures ceiling { EachIndex delays.new (λ k. slice_index delays.new k ≤ ceiling_after first cap k) }
+    ensures words { (n : ℕ) × (n ≤ 128 * length delays.old) × (rng.new ≡ iterate (after_word G.after 64) n rng.old) }
+{
+    let mut ceiling = first.min(cap);
+    for slot in delays.iter_mut() {
+        *slot = delay(rng, ceiling);
+        ceiling = ceiling.saturating_mul(2).min(cap);
+    }
+}

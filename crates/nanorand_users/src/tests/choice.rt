@@ -1,0 +1,33 @@
+//! Choices by weight, and their refusals.
+
+use super::zeros::Zeros;
+use crate::choice::{ChoiceError, choice_is_fair, choose};
+use nanorand::WyRand;
+
+#[test]
+fn chosen_by_weight(rt: HostRuntime) {
+    choice_is_fair();
+    let mut rng = WyRand::new_seed(42);
+    for item in [3, 3, 3, 3, 2, 3, 0, 0, 3, 3, 0, 3, 0, 3, 0, 3] {
+        assert_eq!(rt; choose(&mut rng, &[5, 0, 1, 10]), Ok(item));
+    }
+    assert_eq!(rt; rng.seed(), 531941833783526170);
+
+    let mut rng = WyRand::new_seed(42);
+    assert_eq!(rt; choose(&mut rng, &[u64::MAX - 2, 2]), Ok(0));
+    assert_eq!(rt; choose(&mut rng, &[1, u64::MAX - 1]), Ok(1));
+}
+
+#[test]
+fn refused(rt: HostRuntime) {
+    let mut rng = Zeros::new();
+    assert_eq!(rt; choose(&mut rng, &[]), Err(ChoiceError::NoWeight));
+    assert_eq!(rt; choose(&mut rng, &[0, 0]), Err(ChoiceError::NoWeight));
+    assert_eq!(rt;
+        choose(&mut rng, &[1, u64::MAX]),
+        Err(ChoiceError::TooHeavy)
+    );
+    assert_eq!(rt; rng.drawn(), 0);
+    assert_eq!(rt; choose(&mut rng, &[1, 2]), Err(ChoiceError::Exhausted));
+    assert_eq!(rt; rng.drawn(), 128);
+}
