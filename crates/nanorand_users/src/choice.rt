@@ -9,31 +9,23 @@ ghost use Rattle.nanorand_users.specs.Choice.{ChoicesAreFair, IsInShare, choice_
 
 use nanorand::values::word::draw_below;
 use nanorand::{Rng, laws};
-use std::error::Error;
-use std::fmt;
+use thiserror::Error;
 
 /// Why no item was chosen.
-#[derive(Clone, Copy, Debug, PartialEq, Eq)]
+#[derive(Clone, Copy, Debug, PartialEq, Eq, Error)]
 pub enum ChoiceError {
     /// No item has a weight: there is none, or each weighs 0. Nothing was drawn.
+    #[error("no item has a weight")]
     NoWeight,
+
     /// The weights add up to 2^64 or more. Nothing was drawn.
+    #[error("the weights add up to 2^64 or more")]
     TooHeavy,
+
     /// 128 words were drawn, and none named a number below the sum of the weights.
+    #[error("128 words in a row were rejected")]
     Exhausted,
 }
-
-impl fmt::Display for ChoiceError {
-    fn fmt<W: fmt::Write>(&self, f: &mut fmt::Formatter<W>) -> fmt::Result {
-        f.write_str(match self {
-            ChoiceError::NoWeight => "no item has a weight",
-            ChoiceError::TooHeavy => "the weights add up to 2^64 or more",
-            ChoiceError::Exhausted => "128 words in a row were rejected",
-        })
-    }
-}
-
-impl Error for ChoiceError {}
 
 /// Chooses an item by its weight, and answers its index.
 ///
