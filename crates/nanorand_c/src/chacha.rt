@@ -117,6 +117,7 @@ fn at<const ROUNDS: u8>(key: &[u8; 32], nonce: &[u8; 8], counter: u64) -> ChaCha
     rng
 }
 
+// The block of a place, and the next place.
 fn block<const ROUNDS: u8>(key: &[u8; 32], nonce: &[u8; 8], counter: &mut u64, out: &mut [u8; 64])
     requires { ROUNDS % 2 ≡ 0 }
     ensures block { out.new ≡ chacha_block ROUNDS (state_at key.now nonce.now counter.old) }
@@ -128,6 +129,7 @@ fn block<const ROUNDS: u8>(key: &[u8; 32], nonce: &[u8; 8], counter: &mut u64, o
     *counter = counter.wrapping_add(1);
 }
 
+// The bytes from a place on, and the place that is left.
 fn fill_bytes<const ROUNDS: u8>(
     key: &[u8; 32],
     nonce: &[u8; 8],
