@@ -63,28 +63,10 @@ fn four_states(x: &[u32; 16]) -> Lanes
 fn mix_columns(x: Lanes) -> Lanes
     ensures { (j : ℕ) → j < 4 → lane j result ≡ on_columns quarter_round (lane j x) }
 {
-    let [
-        x0,
-        x1,
-        x2,
-        x3,
-        x4,
-        x5,
-        x6,
-        x7,
-        x8,
-        x9,
-        x10,
-        x11,
-        x12,
-        x13,
-        x14,
-        x15,
-    ] = x;
-    let (x0, x4, x8, x12) = quarter_round(x0, x4, x8, x12);
-    let (x1, x5, x9, x13) = quarter_round(x1, x5, x9, x13);
-    let (x2, x6, x10, x14) = quarter_round(x2, x6, x10, x14);
-    let (x3, x7, x11, x15) = quarter_round(x3, x7, x11, x15);
+    let (x0, x4, x8, x12) = quarter_round(x[0], x[4], x[8], x[12]);
+    let (x1, x5, x9, x13) = quarter_round(x[1], x[5], x[9], x[13]);
+    let (x2, x6, x10, x14) = quarter_round(x[2], x[6], x[10], x[14]);
+    let (x3, x7, x11, x15) = quarter_round(x[3], x[7], x[11], x[15]);
     [
         x0, x1, x2, x3, x4, x5, x6, x7, x8, x9, x10, x11, x12, x13, x14, x15,
     ]
@@ -95,28 +77,10 @@ fn mix_columns(x: Lanes) -> Lanes
 fn mix_diagonals(x: Lanes) -> Lanes
     ensures { (j : ℕ) → j < 4 → lane j result ≡ on_diagonals quarter_round (lane j x) }
 {
-    let [
-        x0,
-        x1,
-        x2,
-        x3,
-        x4,
-        x5,
-        x6,
-        x7,
-        x8,
-        x9,
-        x10,
-        x11,
-        x12,
-        x13,
-        x14,
-        x15,
-    ] = x;
-    let (x0, x5, x10, x15) = quarter_round(x0, x5, x10, x15);
-    let (x1, x6, x11, x12) = quarter_round(x1, x6, x11, x12);
-    let (x2, x7, x8, x13) = quarter_round(x2, x7, x8, x13);
-    let (x3, x4, x9, x14) = quarter_round(x3, x4, x9, x14);
+    let (x0, x5, x10, x15) = quarter_round(x[0], x[5], x[10], x[15]);
+    let (x1, x6, x11, x12) = quarter_round(x[1], x[6], x[11], x[12]);
+    let (x2, x7, x8, x13) = quarter_round(x[2], x[7], x[8], x[13]);
+    let (x3, x4, x9, x14) = quarter_round(x[3], x[4], x[9], x[14]);
     [
         x0, x1, x2, x3, x4, x5, x6, x7, x8, x9, x10, x11, x12, x13, x14, x15,
     ]
@@ -140,40 +104,22 @@ fn mix<const ROUNDS: u8>(x: Lanes) -> Lanes
 fn matrices(x: Lanes) -> ([u32; 16], [u32; 16], [u32; 16], [u32; 16])
     ensures { (result.0 ≡ lane 0 x) × (result.1 ≡ lane 1 x) × (result.2 ≡ lane 2 x) × (result.3 ≡ lane 3 x) }
 {
-    let [
-        x0,
-        x1,
-        x2,
-        x3,
-        x4,
-        x5,
-        x6,
-        x7,
-        x8,
-        x9,
-        x10,
-        x11,
-        x12,
-        x13,
-        x14,
-        x15,
-    ] = x;
-    let [a0, b0, c0, d0] = x0.to_array();
-    let [a1, b1, c1, d1] = x1.to_array();
-    let [a2, b2, c2, d2] = x2.to_array();
-    let [a3, b3, c3, d3] = x3.to_array();
-    let [a4, b4, c4, d4] = x4.to_array();
-    let [a5, b5, c5, d5] = x5.to_array();
-    let [a6, b6, c6, d6] = x6.to_array();
-    let [a7, b7, c7, d7] = x7.to_array();
-    let [a8, b8, c8, d8] = x8.to_array();
-    let [a9, b9, c9, d9] = x9.to_array();
-    let [a10, b10, c10, d10] = x10.to_array();
-    let [a11, b11, c11, d11] = x11.to_array();
-    let [a12, b12, c12, d12] = x12.to_array();
-    let [a13, b13, c13, d13] = x13.to_array();
-    let [a14, b14, c14, d14] = x14.to_array();
-    let [a15, b15, c15, d15] = x15.to_array();
+    let [a0, b0, c0, d0] = x[0].to_array();
+    let [a1, b1, c1, d1] = x[1].to_array();
+    let [a2, b2, c2, d2] = x[2].to_array();
+    let [a3, b3, c3, d3] = x[3].to_array();
+    let [a4, b4, c4, d4] = x[4].to_array();
+    let [a5, b5, c5, d5] = x[5].to_array();
+    let [a6, b6, c6, d6] = x[6].to_array();
+    let [a7, b7, c7, d7] = x[7].to_array();
+    let [a8, b8, c8, d8] = x[8].to_array();
+    let [a9, b9, c9, d9] = x[9].to_array();
+    let [a10, b10, c10, d10] = x[10].to_array();
+    let [a11, b11, c11, d11] = x[11].to_array();
+    let [a12, b12, c12, d12] = x[12].to_array();
+    let [a13, b13, c13, d13] = x[13].to_array();
+    let [a14, b14, c14, d14] = x[14].to_array();
+    let [a15, b15, c15, d15] = x[15].to_array();
     (
         [
             a0, a1, a2, a3, a4, a5, a6, a7, a8, a9, a10, a11, a12, a13, a14, a15,
@@ -195,59 +141,23 @@ fn matrices(x: Lanes) -> ([u32; 16], [u32; 16], [u32; 16], [u32; 16])
 fn sums(x: Lanes, y: Lanes) -> Lanes
     ensures { (j : ℕ) → j < 4 → lane j result ≡ map (λ k. add (slice_index (lane j x) k) (slice_index (lane j y) k)) (range_with_len 0 16) }
 {
-    let [
-        x0,
-        x1,
-        x2,
-        x3,
-        x4,
-        x5,
-        x6,
-        x7,
-        x8,
-        x9,
-        x10,
-        x11,
-        x12,
-        x13,
-        x14,
-        x15,
-    ] = x;
-    let [
-        y0,
-        y1,
-        y2,
-        y3,
-        y4,
-        y5,
-        y6,
-        y7,
-        y8,
-        y9,
-        y10,
-        y11,
-        y12,
-        y13,
-        y14,
-        y15,
-    ] = y;
     [
-        add(x0, y0),
-        add(x1, y1),
-        add(x2, y2),
-        add(x3, y3),
-        add(x4, y4),
-        add(x5, y5),
-        add(x6, y6),
-        add(x7, y7),
-        add(x8, y8),
-        add(x9, y9),
-        add(x10, y10),
-        add(x11, y11),
-        add(x12, y12),
-        add(x13, y13),
-        add(x14, y14),
-        add(x15, y15),
+        add(x[0], y[0]),
+        add(x[1], y[1]),
+        add(x[2], y[2]),
+        add(x[3], y[3]),
+        add(x[4], y[4]),
+        add(x[5], y[5]),
+        add(x[6], y[6]),
+        add(x[7], y[7]),
+        add(x[8], y[8]),
+        add(x[9], y[9]),
+        add(x[10], y[10]),
+        add(x[11], y[11]),
+        add(x[12], y[12]),
+        add(x[13], y[13]),
+        add(x[14], y[14]),
+        add(x[15], y[15]),
     ]
 }
 
