@@ -78,16 +78,17 @@ pub fn failing_value<P: Property<T>, T: RandomGen<WyRand, 8> + Drop>(
     Some((number, value_of_case(seed, number)))
 }
 
-/// A case that is found failing fails again when it is checked alone, so this is always true.
-pub fn fails_again<P: Property<T>, T: RandomGen<WyRand, 8> + Drop>(
+/// Checks the first case that fails again, alone: it fails again. None if all of them hold.
+pub fn failure_again<P: Property<T>, T: RandomGen<WyRand, 8> + Drop>(
     property: &P,
     seed: u64,
     cases: u64,
-) -> bool
-    ensures { result ≡ true }
+) -> Option<bool>
+    ensures { MatchOption result
+        ((number : ℕ) → number < cases → P.holds property.now (T.value (case_seed seed number)) ≡ true)
+        (λ held. (held ≡ false)
+        × ((number : ℕ) × (number < cases) × (P.holds property.now (T.value (case_seed seed number)) ≡ false))) }
 {
-    match first_failure::<P, T>(property, seed, cases) {
-        Some(number) => !check_again::<P, T>(property, seed, number),
-        None => true,
-    }
+    let number = first_failure::<P, T>(property, seed, cases)?;
+    Some(check_again::<P, T>(property, seed, number))
 }

@@ -2,7 +2,7 @@
 ghost use Rattle.std.specs.Prelude.{nat_lt};
 
 use crate::cases::{
-    Property, check_again, failing_value, fails_again, first_failure, value_of_case,
+    Property, check_again, failing_value, failure_again, first_failure, value_of_case,
 };
 
 // A byte is below this.
@@ -32,5 +32,6 @@ fn found_again(rt: HostRuntime) {
     assert_eq!(rt; value_of_case::<u64>(1, 37), 0xa3c137fd95b922fc);
     assert!(rt; !check_again(&Below(250), 1, 37));
     assert!(rt; check_again(&Below(250), 1, 36));
-    assert!(rt; fails_again(&Below(250), 1, 1000));
+    assert_eq!(rt; failure_again(&Below(250), 1, 1000), Some(false));
+    assert_eq!(rt; failure_again(&Below(250), 1, 37), None);
 }
