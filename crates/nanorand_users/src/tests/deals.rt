@@ -1,7 +1,8 @@
 //! A deck of ten cards, shuffled by the words of wyrand and the multiplication that names a place.
 
+use super::zeros::Zeros;
 use crate::deals::{deal_again, hand, rest, shuffle_and_store, shuffle_deck};
-use nanorand::WyRand;
+use nanorand::{RangeError, WyRand};
 
 const DECK: [usize; 10] = [6, 9, 8, 1, 0, 3, 4, 7, 5, 2];
 
@@ -29,4 +30,14 @@ fn a_deck_dealt_again(rt: HostRuntime) {
     let mut again = [0; 10];
     deal_again(&choices, &mut again);
     assert_eq!(rt; again, DECK);
+}
+
+// The word 0 names no place of ten, so the first card is refused.
+#[test]
+fn a_refused_deck_is_whole(rt: HostRuntime) {
+    let mut deck = [7; 10];
+    let mut rng = Zeros::new();
+    assert_eq!(rt; shuffle_deck(&mut rng, &mut deck), Err(RangeError::Exhausted));
+    assert_eq!(rt; deck, [0, 1, 2, 3, 4, 5, 6, 7, 8, 9]);
+    assert_eq!(rt; rng.drawn(), 128);
 }
