@@ -1,5 +1,6 @@
 -- A sample of places that is kept while the places go by.
-use Rattle.std.specs.Prelude.{ℕ, zero, suc, ◌+◌, List, length, Result, Ok, Err, nat_lt, slice_set, if◌then◌else◌}
+use Rattle.std.specs.Prelude.{◌≡◌, ℕ, zero, suc, ◌+◌, ◌-◌, ◌*◌, ◌<◌, ◌≤◌, ◌==◌, Bool, true, List, length, Result, Ok, Err, nat_lt, slice_set, sum_by, if◌then◌else◌}
+use Rattle.std.specs.List.{list_any, range_with_len}
 use Rattle.std.specs.declared.ops.Bound.TheVariants.{Included}
 use Rattle.nanorand.specs.Draws.{unsigned_outcome}
 use Rattle.nanorand.specs.declared.values.range.RangeError.{RangeError}
@@ -30,3 +31,16 @@ module _ {G : Type 0} (bytes : G → ℕ → List ℕ) (after : G → ℕ → G)
   sampled i (suc left) g chosen =
       goes_on (place_up_to i g).0 chosen (place_up_to i g).1
       (λ drawn. sampled (i + 1) left (place_up_to i g).1 (placed chosen i drawn))
+
+-- Of all rows of draws, one for each of `left` places from place i on and each up to its place: how many lead from a
+-- sample to one that passes a test.
+abbrev pub rows_that : ℕ → ℕ → List ℕ → (List ℕ → Bool) → ℕ
+rows_that i zero chosen test = if test chosen then 1 else 0
+rows_that i (suc left) chosen test = sum_by (λ drawn. rows_that (i + 1) left (placed chosen i drawn) test) (range_with_len 0 (i + 1))
+
+-- Each place stands in the same part of all samples: size of count.
+abbrev pub SamplesAreFair : Type 0
+SamplesAreFair =
+    (size count place : ℕ) → size ≤ count → place < count
+    → rows_that size (count - size) (range_with_len 0 size) (list_any (λ other. other == place)) * count
+    ≡ size * rows_that size (count - size) (range_with_len 0 size) (λ chosen. true)

@@ -6,7 +6,7 @@ ghost use Rattle.std.specs.List.{AllPairs, range_with_len};
 ghost use Rattle.nanorand.specs.Blocks.{taken};
 ghost use Rattle.nanorand.specs.Draws.{after_word};
 ghost use Rattle.nanorand.specs.declared.values.range.RangeError.TheVariants.{Exhausted};
-ghost use Rattle.nanorand_users.specs.Reservoir.{place_up_to, placed, sampled};
+ghost use Rattle.nanorand_users.specs.Reservoir.{SamplesAreFair, place_up_to, placed, sampled};
 
 use nanorand::laws::range_limits;
 use nanorand::{RangeError, Rng};
@@ -76,3 +76,12 @@ fn draw_place<G: Rng<OUTPUT>, const OUTPUT: usize>(
     range_limits::<G, OUTPUT>();
     rng.generate_range(Bound::Included(0), Bound::Included(last))
 }
+
+/// Every place stands in the sample after the same part of all rows of draws: its size of the count.
+///
+/// A row has a draw for each place that goes by after the first ones, and each number up to the
+/// place is drawn once. `nanorand::laws::fairness` says that each number answers to equally many
+/// words.
+pub fn sample_is_fair()
+    ensures { SamplesAreFair }
+{}
