@@ -97,9 +97,8 @@ fn item_at(weights: &[u64], number: u64) -> usize
     unreachable!()
 }
 
-/// Each item answers to exactly its weight's part of the words, whatever their width: of the words
-/// that name a number below the sum of the weights, its weight times as many name the item as one
-/// number has.
+/// No item has more than its share: for words of 8, 16, 32 and 64 bits, as many words name an item as
+/// its weight times the words that one number has.
 pub fn choice_is_fair()
     ensures { ChoicesAreFair }
 {
