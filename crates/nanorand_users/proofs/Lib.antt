@@ -4,5 +4,6 @@ pub mod DrawLemmas
 pub mod HandLemmas
 pub mod PlaceLemmas
 pub mod RetryLemmas
+pub mod RowLemmas
 pub mod SampleLemmas
 pub mod StreamLemmas

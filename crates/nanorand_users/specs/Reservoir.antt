@@ -1,5 +1,6 @@
 -- A sample of places that is kept while the places go by.
-use Rattle.std.specs.Prelude.{ℕ, zero, suc, ◌+◌, List, length, Result, Ok, Err, nat_lt, slice_set, if◌then◌else◌}
+use Rattle.std.specs.Prelude.{◌≡◌, ℕ, zero, suc, ◌+◌, ◌-◌, ◌*◌, ◌<◌, ◌≤◌, ◌==◌, Bool, true, List, length, Result, Ok, Err, nat_lt, slice_set, sum_by, if◌then◌else◌}
+use Rattle.std.specs.List.{list_any, range_with_len}
 use Rattle.std.specs.declared.ops.Bound.TheVariants.{Included}
 use Rattle.nanorand.specs.Draws.{unsigned_outcome}
 use Rattle.nanorand.specs.declared.values.range.RangeError.{RangeError}
@@ -25,8 +26,28 @@ module _ {G : Type 0} (bytes : G → ℕ → List ℕ) (after : G → ℕ → G)
   goes_on (Err refusal) chosen g pass = record { answer = Err refusal; chosen = chosen; state = g }
 
   -- What a pass over `left` more places, from place i on, makes of a sample.
-  abbrev pub sampled : ℕ → ℕ → G → List ℕ → Sample G
-  sampled i zero g chosen = record { answer = Ok tt; chosen = chosen; state = g }
-  sampled i (suc left) g chosen =
+  abbrev pub passed : ℕ → ℕ → G → List ℕ → Sample G
+  passed i zero g chosen = record { answer = Ok tt; chosen = chosen; state = g }
+  passed i (suc left) g chosen =
       goes_on (place_up_to i g).0 chosen (place_up_to i g).1
-      (λ drawn. sampled (i + 1) left (place_up_to i g).1 (placed chosen i drawn))
+      (λ drawn. passed (i + 1) left (place_up_to i g).1 (placed chosen i drawn))
+
+  -- A sample of `size` of the places below `count`: it begins with the first ones, and the others pass.
+  abbrev pub sampled : ℕ → ℕ → G → Sample G
+  sampled size count g = passed size (count - size) g (range_with_len 0 size)
+
+-- Of all rows of draws, one for each of `left` places from place i on and each up to its place: how many lead from a
+-- sample to one that passes a test.
+abbrev pub rows_that : ℕ → ℕ → List ℕ → (List ℕ → Bool) → ℕ
+rows_that i zero chosen test = if test chosen then 1 else 0
+rows_that i (suc left) chosen test = sum_by (λ drawn. rows_that (i + 1) left (placed chosen i drawn) test) (range_with_len 0 (i + 1))
+
+-- The same for the rows of a whole sample.
+abbrev pub samples_that : ℕ → ℕ → (List ℕ → Bool) → ℕ
+samples_that size count test = rows_that size (count - size) (range_with_len 0 size) test
+
+-- Each place stands in the same part of all samples: `size` of `count`.
+abbrev pub SamplesAreFair : Type 0
+SamplesAreFair =
+    (size count place : ℕ) → size ≤ count → place < count
+    → samples_that size count (list_any (λ other. other == place)) * count ≡ size * samples_that size count (λ chosen. true)

@@ -3,7 +3,7 @@
 ghost use Rattle.std.specs.Prelude.{◌≡◌, ℕ, ◌^◌, ◌<◌, ◌≤◌, ◌↔◌, ◌⊎◌, length, slice_index, sum, Err, IfOk, IfSome};
 ghost use Rattle.std.specs.Fn.{iterate};
 ghost use Rattle.nanorand.specs.Blocks.{taken};
-ghost use Rattle.nanorand.specs.Draws.{after_word, word_limit};
+ghost use Rattle.nanorand.specs.Draws.{after_word};
 ghost use Rattle.nanorand_users.specs.declared.choice.ChoiceError.TheVariants.{NoWeight, TooHeavy, Exhausted};
 ghost use Rattle.nanorand_users.specs.Choice.{ChoicesAreFair, IsInShare, choice_answer, choice_state, item_at, number_for, total_of};
 
@@ -48,7 +48,8 @@ pub fn choose<G: Rng<OUTPUT>, const OUTPUT: usize>(
     ensures no_weight { (result ≡ Err NoWeight) ↔ (sum weights.now ≡ 0) }
     ensures too_heavy { (result ≡ Err TooHeavy) ↔ (2 ^ 64 ≤ sum weights.now) }
     ensures undrawn { (result ≡ Err NoWeight) ⊎ (result ≡ Err TooHeavy) → rng.new ≡ rng.old }
-    ensures exhausted { result ≡ Err Exhausted → rng.new ≡ iterate (after_word G.after 64) word_limit rng.old }
+    ensures exhausted { result ≡ Err Exhausted → rng.new ≡ iterate (after_word G.after 64) 128 rng.old }
+    ensures words { (n : ℕ) × (n ≤ 128) × (rng.new ≡ iterate (after_word G.after 64) n rng.old) }
 {
     let total = total_weight(weights)?;
     match draw_below(rng, u128::from(total), 64) {
@@ -88,9 +89,8 @@ fn item_at(weights: &[u64], number: u64) -> usize
     unreachable!()
 }
 
-/// Each item answers to exactly its weight's part of the words, whatever their width: of the words
-/// that name a number below the sum of the weights, its weight times as many name the item as one
-/// number has.
+/// No item has more than its share: for words of 8, 16, 32 and 64 bits, as many words name an item as
+/// its weight times the words that one number has.
 pub fn choice_is_fair()
     ensures { ChoicesAreFair }
 {

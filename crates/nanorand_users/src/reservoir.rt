@@ -6,7 +6,7 @@ ghost use Rattle.std.specs.List.{AllPairs, range_with_len};
 ghost use Rattle.nanorand.specs.Blocks.{taken};
 ghost use Rattle.nanorand.specs.Draws.{after_word};
 ghost use Rattle.nanorand.specs.declared.values.range.RangeError.TheVariants.{Exhausted};
-ghost use Rattle.nanorand_users.specs.Reservoir.{place_up_to, placed, sampled};
+ghost use Rattle.nanorand_users.specs.Reservoir.{SamplesAreFair, place_up_to, placed, sampled};
 
 use nanorand::laws::range_limits;
 use nanorand::{RangeError, Rng};
@@ -23,12 +23,9 @@ pub fn sample_places<G: Rng<OUTPUT>, const OUTPUT: usize>(
     chosen: &mut [usize],
 ) -> Result<(), RangeError>
     requires { length chosen.old ≤ count }
-    ensures answer { let size = length chosen.old in
-        result ≡ (sampled (taken G.block G.step) G.after size (count - size) rng.old (range_with_len 0 size)).answer }
-    ensures places { let size = length chosen.old in
-        chosen.new ≡ (sampled (taken G.block G.step) G.after size (count - size) rng.old (range_with_len 0 size)).chosen }
-    ensures state { let size = length chosen.old in
-        rng.new ≡ (sampled (taken G.block G.step) G.after size (count - size) rng.old (range_with_len 0 size)).state }
+    ensures answer { result ≡ (sampled (taken G.block G.step) G.after (length chosen.old) count rng.old).answer }
+    ensures places { chosen.new ≡ (sampled (taken G.block G.step) G.after (length chosen.old) count rng.old).chosen }
+    ensures state { rng.new ≡ (sampled (taken G.block G.step) G.after (length chosen.old) count rng.old).state }
 
     // What holds of the sample, after a refusal too.
     ensures below { All (λ place. place < count) chosen.new }
@@ -76,3 +73,12 @@ fn draw_place<G: Rng<OUTPUT>, const OUTPUT: usize>(
     range_limits::<G, OUTPUT>();
     rng.generate_range(Bound::Included(0), Bound::Included(last))
 }
+
+/// No place is preferred: of all rows of draws, each place stands in the sample after the same part,
+/// which is the sample's size of the count.
+///
+/// A row has a draw for each place after the first ones, and every number up to that place is drawn
+/// in as many rows. By `nanorand::laws::fairness` each of these numbers answers to equally many words.
+pub fn sample_is_fair()
+    ensures { SamplesAreFair }
+{}

@@ -3,6 +3,7 @@
 use super::zeros::Zeros;
 use crate::choice::{ChoiceError, choice_is_fair, choose};
 use nanorand::WyRand;
+use std::test::Fail;
 
 #[test]
 fn chosen_by_weight(rt: HostRuntime) {
@@ -30,4 +31,18 @@ fn refused(rt: HostRuntime) {
     assert_eq!(rt; rng.drawn(), 0);
     assert_eq!(rt; choose(&mut rng, &[1, 2]), Err(ChoiceError::Exhausted));
     assert_eq!(rt; rng.drawn(), 128);
+}
+
+#[test]
+fn told(rt: HostRuntime) -> Result<(), Fail> {
+    let refusals = [
+        (ChoiceError::NoWeight, "no item has a weight"),
+        (ChoiceError::TooHeavy, "the weights add up to 2^64 or more"),
+        (ChoiceError::Exhausted, "128 words in a row were rejected"),
+    ];
+    for (refusal, text) in refusals {
+        let told = format!(in rt.alloc(); "{refusal}")?;
+        assert_eq!(rt; told.as_str(), text);
+    }
+    Ok(())
 }

@@ -1,11 +1,12 @@
 //! A sample of places, and one that is cut short.
 
 use super::zeros::Zeros;
-use crate::reservoir::sample_places;
+use crate::reservoir::{sample_is_fair, sample_places};
 use nanorand::{RangeError, WyRand};
 
 #[test]
 fn sampled(rt: HostRuntime) {
+    sample_is_fair();
     let mut rng = WyRand::new_seed(7);
     let mut chosen = [0; 5];
     assert_eq!(rt; sample_places(&mut rng, 20, &mut chosen), Ok(()));

@@ -3,7 +3,7 @@ use Rattle.std.specs.Fn.{iterate}
 use Rattle.std.specs.List.{All, AllPairs, range_with_len}
 use Rattle.nanorand.specs.Blocks.{taken}
 use Rattle.nanorand.specs.Draws.{after_word}
-use Rattle.nanorand_users.specs.Reservoir.{sampled}
+use Rattle.nanorand_users.specs.Reservoir.{passed}
 use Rattle.nanorand_users.proofs.reservoir.sample_places.Given as goal
 
 abbrev pub invariant-loop-place : goal.invariant-loop-place
@@ -12,8 +12,8 @@ invariant-loop-place g l =
     let after = g.G.Rng.after in
     let size = length l.fn.chosen in
     record {
-      pass : sampled bytes after l.place (l.count - l.place) l.rng l.chosen
-          ≡ sampled bytes after size (l.count - size) l.fn.rng (range_with_len 0 size);
+      pass : passed bytes after l.place (l.count - l.place) l.rng l.chosen
+          ≡ passed bytes after size (l.count - size) l.fn.rng (range_with_len 0 size);
       below : All (λ place. place < l.place) l.chosen;
       apart : AllPairs (λ place other. place ≢ other) l.chosen;
       words : (n : ℕ) × (n ≤ 128 * (l.place - size)) × (l.rng ≡ iterate (after_word after 64) n l.fn.rng);
