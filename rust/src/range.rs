@@ -115,3 +115,15 @@ ranges!(
     u64, Pcg64, Pcg64::seed_mut, nanorand_pcg64_range_u64;
     usize, Pcg64, Pcg64::seed_mut, nanorand_pcg64_range_usize;
 );
+
+#[cfg(test)]
+mod tests {
+    use super::{RangeError, answer};
+
+    #[test]
+    fn statuses() {
+        assert_eq!(answer(0), Ok(()));
+        assert_eq!(answer(1), Err(RangeError::Empty));
+        assert_eq!(answer(2), Err(RangeError::Exhausted));
+    }
+}
