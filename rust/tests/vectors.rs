@@ -1,4 +1,4 @@
-//! Published vectors, and rows that are worked by hand from the rules of behaviour.
+//! Published vectors, and rows that are worked out from the rules of behaviour, apart from this crate.
 
 use nanorand_proved::{ChaCha, ChaCha8, ChaCha12, ChaCha20, Pcg64, RangeError, Rng, WyRand};
 
