@@ -68,3 +68,8 @@ jumped = refl
 
 all_round : chacha_after (2 ^ 64) (counting 7 9) ≡ counting 7 9
 all_round = refl
+
+-- no rounds give twice the input
+no_rounds : block 0 (counting 7 0x80000001) ≡ replicate 12 10 ++ 14 ∷ 2 ∷ 10 ∷ 10 ∷ []
+unfolding rounds block
+no_rounds = refl

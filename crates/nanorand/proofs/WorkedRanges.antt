@@ -83,6 +83,11 @@ nothing_drawn : unsigned_outcome steps_taken steps_after 8 0 (Included 5) (Exclu
 unfolding named range_within words_from value_drawn left_by left_after taken
 nothing_drawn = refl
 
+-- i8 -1..=1 by the word 1, which a generator of ones gives
+least_by_one : signed_outcome (taken (λ n. replicate 8 1) (λ n. n + 1)) (plain_after (λ n. n + 1) 8) 8 0 (Included (negsuc 0)) (Included (pos 1)) ≡ (Ok (negsuc 0), 1)
+unfolding named range_within words_from value_drawn left_by left_after taken
+least_by_one = refl
+
 -- i8 -1..=1 by the word 8, and the whole of i8 by the word 0
 signed_by_the_word : signed_outcome steps_taken steps_after 8 1 (Included (negsuc 0)) (Included (pos 1)) ≡ (Ok (negsuc 0), 2)
 unfolding named range_within words_from value_drawn left_by left_after taken

@@ -4,10 +4,12 @@ use Rattle.std.specs.Int.{w8}
 use Rattle.std.specs.Prelude.{negsuc, true, false}
 use Rattle.std.specs.List.{range_with_len}
 use Rattle.nanorand.specs.Blocks.{taken, plain_after}
+use Rattle.nanorand.specs.Buffered.{Buffered, buffer_of, buffered_block, buffered_step, buffered_taken, buffered_after}
 use Rattle.nanorand.specs.Values.{number_of, signed_number_of, truth_of}
 use Rattle.nanorand.specs.WyRand.{wyrand_block}
-use Rattle.nanorand.specs.Replay.{replayed}
+use Rattle.nanorand.specs.Replay.{Replay, replayed}
 use Rattle.nanorand.specs.declared.replay.Kind.TheVariants as kinds
+use Rattle.nanorand.specs.declared.replay.Call.{Call}
 use Rattle.nanorand.specs.declared.replay.Call.TheVariants.{Gen}
 use Rattle.nanorand.specs.declared.replay.Answer.TheVariants.{Unsigned}
 
@@ -62,6 +64,19 @@ blocks_of_nine_bytes = refl
 
 blocks_of_nothing : steps_after 0 0 ≡ 0
 blocks_of_nothing = refl
+
+-- a buffered generator goes on where the last request ended: u8, u8, u16, and four bytes are left of the one block
+abbrev buffered_replay : List Call → Replay (Buffered ℕ)
+buffered_replay calls =
+    replayed (taken (buffered_block steps_block steps_next 8) (buffered_step steps_block steps_next 8)) (buffered_after steps_block steps_next 8) (buffer_of [] 0) [] calls
+
+unbroken_bytes_and_a_word : (buffered_replay (Gen kinds.U8 ∷ Gen kinds.U8 ∷ Gen kinds.U16 ∷ [])).answers ≡ Unsigned 0 ∷ Unsigned 1 ∷ Unsigned 0x0302 ∷ []
+unfolding taken buffered_taken buffered_after
+unbroken_bytes_and_a_word = refl
+
+four_bytes_left : (buffered_replay (Gen kinds.U8 ∷ Gen kinds.U8 ∷ Gen kinds.U16 ∷ [])).state ≡ buffer_of (4 ∷ 5 ∷ 6 ∷ 7 ∷ []) 1
+unfolding taken buffered_taken buffered_after
+four_bytes_left = refl
 
 -- numbers of bytes
 signed_byte : signed_number_of w8 (218 ∷ []) ≡ negsuc 37
