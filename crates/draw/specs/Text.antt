@@ -35,7 +35,7 @@ in_mode block step output after g Buffered calls items =
     let all = replayed (taken (buffered_block block step output) (buffered_step block step output)) (buffered_after block step output) (buffer_of [] g) items calls in
     record { answers = all.answers; items = all.items }
 
--- The calls on the generator that the bytes of a seed give. All of them are plain. Pcg64 starts with `state` and `inc` 0.
+-- The calls on the generator that the bytes of a seed give. Each of the five is a plain generator. Pcg64 starts with `state` and `inc` 0.
 abbrev pub from_source : Source → Mode → List Call → List ℕ → Drawn
 from_source (WyRand seed) mode calls items = in_mode wyrand_block next_seed 8 (plain_after next_seed 8) (number_of seed) mode calls items
 from_source (Pcg64 seed) mode calls items = in_mode pcg64_block next 8 (plain_after next 8) (record { seed = number_of seed; state = 0; inc = 0 }) mode calls items

@@ -1,4 +1,4 @@
--- Arrangements of 0, 1, .., n - 1, and the lists of choices that make each of them once.
+-- Arrangements (permutations) of 0, 1, .., n - 1, and the lists of choices that make each of them once.
 use Rattle.std.specs.Prelude.{◌≡◌, ℕ, ◌<◌, ◌≤◌, List, length, slice_index, IsPermutation}
 use Rattle.std.specs.List.{range_with_len}
 use Rattle.nanorand.specs.Shuffles.{arranged}

@@ -1,4 +1,4 @@
--- How many bytes a list of calls asks for: the sizes of the requests that its values, ranges and shuffles make.
+-- How many bytes a list of calls asks for: the sum of the sizes of the requests that its values, ranges and shuffles make.
 use Rattle.std.specs.Prelude.{ℕ, zero, suc, ◌+◌, ◌*◌, ◌/◌, ◌==◌, List, [], ◌∷◌, length, min, if◌then◌else◌}
 use Rattle.std.specs.Option.{option_map_or}
 use Rattle.std.specs.declared.ops.Bound.TheVariants.{Included, Excluded}

@@ -8,7 +8,8 @@ abbrev pub blocks : {G : Type 0} → (G → List ℕ) → (G → G) → G → �
 blocks block step g zero = []
 blocks block step g (suc n) = block g ++ blocks block step (step g) n
 
--- The bytes that a request of n delivers: the first n of the blocks.
+-- The bytes that a request of n delivers: the first n bytes of the first n blocks, which are enough, as a block has at
+-- least one.
 unfoldable pub taken : {G : Type 0} → (G → List ℕ) → (G → G) → G → ℕ → List ℕ
 taken block step g n = take n (blocks block step g n)
 

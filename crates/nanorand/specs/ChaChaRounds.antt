@@ -58,7 +58,7 @@ on_columns f x = of_columns (line f x 0 4 8 12) (line f x 1 5 9 13) (line f x 2 
 unfoldable pub on_diagonals : (Words → Words) → List ℕ → List ℕ
 on_diagonals f x = of_diagonals (line f x 0 5 10 15) (line f x 1 6 11 12) (line f x 2 7 8 13) (line f x 3 4 9 14)
 
--- A pair of rounds: the columns, and then the diagonals.
+-- A pair of rounds, or double round: the columns, and then the diagonals.
 abbrev pub pair_of_rounds : List ℕ → List ℕ
 pair_of_rounds x = on_diagonals quarter_round (on_columns quarter_round x)
 

@@ -1,4 +1,5 @@
--- Pcg64. What moves on is its seed, a number below 2^128: a draw multiplies it and adds to it.
+-- Pcg64. What moves on is its seed, a number below 2^128, by a linear congruential step: a draw multiplies it by the
+-- factor and adds the term.
 use Rattle.std.specs.Prelude.{◌≡◌, ◌⊎◌, ℕ, zero, suc, ◌+◌, ◌*◌, ◌%◌, ◌^◌, List}
 use Rattle.std.specs.Int.{w64, to_le_bytes}
 use Rattle.nanorand.specs.Halves.{folded}
@@ -24,7 +25,7 @@ pub record Generator : Type 0 where
   pub state : ℕ
   pub inc : ℕ
 
--- The generator after one draw: `state` is the new seed, and `inc` twice the old one and one more.
+-- The generator after one draw: `state` is the new seed, and `inc` is twice the old seed and one more, modulo 2^128.
 abbrev pub next : Generator → Generator
 next g = record { seed = next_seed g.seed; state = next_seed g.seed; inc = (2 * g.seed + 1) % 2 ^ 128 }
 

@@ -1,5 +1,5 @@
 -- Runs: how the words of some bits are shared out among the numbers below a size, after Daniel Lemire. Each number has
--- one run of consecutive words, all runs are equally long, and the few words between the runs name nothing.
+-- one run of consecutive words, all runs are equally long, and the few words in no run name nothing.
 use Rattle.std.specs.Prelude.{◌≡◌, ℕ, ◌+◌, ◌*◌, ◌/◌, ◌%◌, ◌^◌, ◌<◌, ◌≤◌, ◌⊎◌, ◌&&◌, Bool, Option, nat_le, nat_lt, find, count_by}
 use Rattle.std.specs.Int.{div_ceil}
 use Rattle.std.specs.List.{range_with_len}

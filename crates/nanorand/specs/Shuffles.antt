@@ -1,4 +1,4 @@
--- Shuffles: choices first, one a place, and then the arrangement that they make.
+-- Shuffles after Fisher and Yates: choices first, one a place, and then the arrangement that they make.
 use Rattle.std.specs.Prelude.{ℕ, zero, suc, ◌+◌, ◌==◌, List, [], ◌∷◌, length, min, fold, swap, Result, Ok, Err, if◌then◌else◌}
 use Rattle.std.specs.List.{enumerate_from}
 use Rattle.std.specs.declared.ops.Bound.TheVariants.{Included, Excluded}
@@ -47,7 +47,7 @@ module _ {G : Type 0} (bytes : G → ℕ → List ℕ) (after : G → ℕ → G)
   abbrev pub shuffle_choices : G → List ℕ
   shuffle_choices g = choices_from 0 n g
 
-  -- Whether there are n of them.
+  -- Ok if there are n of them, and else Exhausted: no place's range is empty.
   abbrev pub shuffle_answer : G → Result (Unit {0}) RangeError
   shuffle_answer g = if length (shuffle_choices g) == n then Ok tt else Err Exhausted
 

@@ -16,7 +16,8 @@ module _ {G : Type 0} (bytes : G → ℕ → List ℕ) (after : G → ℕ → G)
   taken_all g [] = []
   taken_all g (n ∷ sizes) = bytes g n ++ taken_all (after g n) sizes
 
-  -- Two requests, any list of them, and a list of calls, are each as good as one request.
+  -- Two requests, and any list of them, take and leave what one of their sum does. A list of calls leaves what one request
+  -- of all the bytes that it asks for leaves.
   pub record IsUnbroken : Type 0 where
     pub two_states : (g : G) (m n : ℕ) → after (after g m) n ≡ after g (m + n)
     pub two_takes : (g : G) (m n : ℕ) → bytes g m ++ bytes (after g m) n ≡ bytes g (m + n)

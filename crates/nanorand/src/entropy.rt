@@ -14,7 +14,7 @@ pub enum EntropyError {
     #[error("the entropy reader ended early")]
     Short,
 
-    /// The reader answered an error, be it an interruption.
+    /// The reader answered an error, an interruption included.
     #[error("the entropy reader failed")]
     Fault,
 
@@ -23,8 +23,9 @@ pub enum EntropyError {
     Unavailable,
 }
 
-/// Fills the slice with the reader's next bytes, and takes exactly as many. The reader may give
-/// them in pieces of any size. An empty slice is `Ok`, and nothing is read.
+/// Fills the slice with the reader's next bytes, and takes exactly as many: a contract about every
+/// reader that tells its bytes. The reader may give them in pieces of any size. An empty slice is
+/// `Ok`, and nothing is read.
 ///
 /// `Short` where the reader gave no byte for a slice that was not full, `Fault` where it answered
 /// an error, an interruption included. After an error what the slice holds is open, and so is the

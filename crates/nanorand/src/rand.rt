@@ -88,7 +88,8 @@ pub trait Rng<const OUTPUT: usize>: Clone + Blocks<OUTPUT> {
     /// Shuffles the slice: each place, from the first on, is swapped with a partner that is drawn
     /// from that place and those after it.
     ///
-    /// What it leaves is an arrangement of the items: each of them equally often. Every arrangement
+    /// It is the shuffle of Fisher and Yates, from the first place on. What it leaves is an
+    /// arrangement of the items: each of them as often as before. Every arrangement
     /// answers to exactly one list of choices. `Exhausted` comes where 128 words in a row were
     /// rejected for one partner; what was swapped before it stays so. An empty slice draws nothing.
     final fn shuffle<T>(&mut self, target: &mut [T]) -> Result<(), RangeError>

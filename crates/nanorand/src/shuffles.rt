@@ -17,7 +17,7 @@ pub struct NotArrangement;
 /// Deals stored choices: swaps each place, from the first on, with its choice.
 ///
 /// There is a choice for each item, and it is that place or a later one. What is left is an
-/// arrangement of the items: each of them equally often. Dealt to the items from which a shuffle
+/// arrangement of the items: each of them as often as before. Dealt to the items from which a shuffle
 /// began, the choices that it drew leave what the shuffle left.
 pub fn apply_choices<T>(choices: &[usize], items: &mut [T])
     requires lengths { length choices.now ≡ length items.old }

@@ -17,7 +17,7 @@ abbrev pub item_at : List ℕ → ℕ → ℕ
 item_at [] k = 0
 item_at (weight ∷ weights) k = if nat_lt k weight then 0 else suc (item_at weights (k - weight))
 
--- The sum of the weights, if a number can be drawn below it.
+-- The sum of the weights, unless it is 0, or 2^64 or more.
 abbrev pub total_of : List ℕ → Result ℕ ChoiceError
 total_of weights =
     if sum weights == 0 then Err NoWeight

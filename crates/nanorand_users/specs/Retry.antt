@@ -1,4 +1,4 @@
--- Delays between tries, each of them drawn below a ceiling that doubles up to a cap.
+-- Delays between tries: each is drawn from half a ceiling to the ceiling, which doubles up to a cap.
 use Rattle.std.specs.Prelude.{ℕ, zero, suc, ◌+◌, ◌*◌, ◌/◌, ◌^◌, List, [], ◌∷◌, Result, min}
 use Rattle.std.specs.Result.{result_unwrap_or}
 use Rattle.std.specs.declared.ops.Bound.TheVariants.{Included}

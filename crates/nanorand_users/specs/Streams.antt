@@ -12,8 +12,8 @@ after_draws step draws g = iterate step draws g
 abbrev pub word_at : {G : Type 0} → (G → List ℕ) → (G → G) → G → ℕ → ℕ
 word_at block step g n = number_of (taken block step (after_draws step n g) 8)
 
--- Of workers with parts of `share` draws, one draw alone of all parts begins at what `seen` tells of it, as long as the
--- parts together stay within the period: two that begin at the same are the same draw of the same worker.
+-- Parts of `share` draws that together stay within the period do not meet: where `seen` tells the same of draw j of
+-- worker i and of draw l of worker k, worker and draw are the same.
 abbrev pub PartsAreApart : {S : Type 0} → ℕ → (ℕ → S) → Type 0
 PartsAreApart period seen =
     (workers share i j k l : ℕ) → workers * share ≤ period → i < workers → k < workers → j < share → l < share

@@ -58,7 +58,7 @@ pub fn choose<G: Rng<OUTPUT>, const OUTPUT: usize>(
     }
 }
 
-// The sum of the weights, if a number can be drawn below it.
+// The sum of the weights, unless it is 0, or 2^64 or more.
 fn total_weight(weights: &[u64]) -> Result<u64, ChoiceError>
     ensures { result ≡ total_of weights.now }
 {

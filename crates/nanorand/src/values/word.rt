@@ -14,7 +14,7 @@ const MAX_WORDS: usize = 128;
 ///
 /// `bits` is 8, 16, 32 or 64, `size` is from 1 to 2^bits, and `word` is below 2^bits. Each number
 /// has a run of 2^bits / size consecutive words, the numbers upwards; the 2^bits % size words
-/// between the runs name nothing.
+/// in no run name nothing.
 pub fn pick_word(size: u128, bits: u32, word: u64) -> Option<u64>
     requires width { IsWordWidth bits }
     requires some { 1 ≤ size }

@@ -37,7 +37,10 @@ fn a_deck_dealt_again(rt: HostRuntime) {
 fn a_refused_deck_is_whole(rt: HostRuntime) {
     let mut deck = [7; 10];
     let mut rng = Zeros::new();
-    assert_eq!(rt; shuffle_deck(&mut rng, &mut deck), Err(RangeError::Exhausted));
+    assert_eq!(rt;
+        shuffle_deck(&mut rng, &mut deck),
+        Err(RangeError::Exhausted)
+    );
     assert_eq!(rt; deck, [0, 1, 2, 3, 4, 5, 6, 7, 8, 9]);
     assert_eq!(rt; rng.drawn(), 128);
 }
