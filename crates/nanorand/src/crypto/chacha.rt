@@ -5,7 +5,6 @@
 //! key, two of counter, two of nonce. Words are spelled least byte first.
 
 mod block;
-mod in_place;
 mod inverse;
 mod lanes;
 mod state;

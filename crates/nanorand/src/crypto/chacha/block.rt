@@ -2,7 +2,7 @@
 ghost use Rattle.std.specs.Prelude.{◌≡◌, ◌%◌};
 ghost use Rattle.nanorand.specs.ChaChaRounds.{rounds, block};
 
-use super::in_place::mix;
+use super::lanes::{add, matrix_of, mix, rows_of};
 
 /// The rounds alone, without the final addition of the input.
 ///
@@ -11,7 +11,7 @@ pub fn chacha_rounds<const ROUNDS: u8>(input: [u32; 16]) -> [u32; 16]
     requires { ROUNDS % 2 ≡ 0 }
     ensures { result ≡ rounds ROUNDS input }
 {
-    mix::<ROUNDS>(input)
+    matrix_of(mix::<ROUNDS>(rows_of(&input)))
 }
 
 /// The block: the rounds, and then the input added word by word, modulo 2^32.
@@ -21,9 +21,8 @@ pub fn chacha_block<const ROUNDS: u8>(input: [u32; 16]) -> [u32; 16]
     requires { ROUNDS % 2 ≡ 0 }
     ensures { result ≡ block ROUNDS input }
 {
-    let mut x = mix::<ROUNDS>(input);
-    'words: for i in 0..16 {
-        x[i] = x[i].wrapping_add(input[i]);
-    }
-    x
+    let rows = rows_of(&input);
+    let [a, b, c, d] = rows;
+    let [p, q, r, s] = mix::<ROUNDS>(rows);
+    matrix_of([add(p, a), add(q, b), add(r, c), add(s, d)])
 }
