@@ -2,12 +2,10 @@
 ghost use Rattle.std.specs.Prelude.{◌≡◌, ℕ, ◌++◌, ◌<◌, ◌≤◌, [], length, refl, take, drop, min, IfOk, OnOk, OnErr, IsOk, IsErr, Ok, None};
 ghost use Rattle.std.specs.Io.{ReadsAtMost};
 ghost use Rattle.std.specs.Io.KnownBytes.{ReadConsumes};
-ghost use Rattle.arrayvec.specs.ArrayVec.{array_vec_len};
 ghost use Rattle.nanorand.specs.Buffered.{buffered_block, buffered_step, buffered_after, buffered_taken, buffer_of};
 ghost use Rattle.nanorand.specs.BufferedLaws.{length-buffered_taken, after_nothing, same_buffer};
 
-use crate::rand::{Blocks, Rng, SeedableRng};
-use arrayvec::ArrayVec;
+use crate::rand::{Blocks, Rng, SeedableRng, fill_by_blocks};
 use std::alloc::{AllocError, Allocator};
 use std::io::{self, Read};
 use std::marker::Model;
@@ -21,21 +19,23 @@ use thiserror::Error;
 #[derive(Drop)]
 pub struct BufferedRng<G: Rng<OUTPUT>, const OUTPUT: usize> {
     inner: G,
-    rest: ArrayVec<u8, OUTPUT>,
+    block: [u8; OUTPUT],
+    cursor: usize,
 }
 
-// A buffer is the pair of the bytes that are kept and the inner generator.
+// A buffer is the pair of the bytes that are kept and the inner generator. The kept bytes are those
+// of the block from the cursor on, and the bytes before it mean nothing.
 impl<G: Rng<OUTPUT>, const OUTPUT: usize> Model for BufferedRng<G, OUTPUT> {
-    ghost use Rattle.std.specs.Prelude.{◌<◌, length};
+    ghost use Rattle.std.specs.Prelude.{◌≡◌, ◌<◌, ◌≤◌, length, drop};
     ghost use Rattle.nanorand.specs.Buffered.{Buffered, buffered_code};
 
     ghost Value = { Buffered G };
 
     ghost coded = { buffered_code G.code };
 
-    ghost view = { λ b. record { rest = b.rest.items; inner = b.inner } };
+    ghost view = { λ b. record { rest = drop b.cursor b.block; inner = b.inner } };
 
-    ghost invariant = { λ b. length b.rest.items < OUTPUT };
+    ghost invariant = { λ b. (0 < b.cursor) × (b.cursor ≤ OUTPUT) × (length b.block ≡ OUTPUT) };
 }
 
 /// A generator has no end and no text, so it cannot be read into a string.
@@ -52,7 +52,8 @@ impl<G: Rng<OUTPUT>, const OUTPUT: usize> BufferedRng<G, OUTPUT> {
     {
         BufferedRng {
             inner: rng,
-            rest: ArrayVec::new(),
+            block: [0; OUTPUT],
+            cursor: OUTPUT,
         }
     }
 
@@ -70,7 +71,7 @@ impl<G: Rng<OUTPUT>, const OUTPUT: usize> BufferedRng<G, OUTPUT> {
         ensures value { result ≡ length self.now.rest }
         ensures below { result < OUTPUT }
     {
-        self.rest.len()
+        OUTPUT - self.cursor
     }
 
     /// Appends the buffered bytes alone, empties the buffer, and answers how many they were.
@@ -85,10 +86,11 @@ impl<G: Rng<OUTPUT>, const OUTPUT: usize> BufferedRng<G, OUTPUT> {
         ensures buffer_stays { OnErr result (self.new ≡ self.old) }
         ensures empty { self.old.rest ≡ [] → IsOk result }
     {
-        let count = self.rest.len();
+        let count = OUTPUT - self.cursor;
         if count > 0 {
-            out.extend_from_slice(self.rest.as_slice())?;
-            self.rest.clear();
+            let bytes = &self.block[..];
+            out.extend_from_slice(&bytes[self.cursor..])?;
+            self.cursor = OUTPUT;
         }
         Ok(count)
     }
@@ -117,7 +119,8 @@ impl<G: Rng<OUTPUT>, const OUTPUT: usize> Clone for BufferedRng<G, OUTPUT> {
     fn clone(&self) -> Result<Self, AllocError> {
         Ok(BufferedRng {
             inner: self.inner.clone()?,
-            rest: self.rest.clone()?,
+            block: self.block,
+            cursor: self.cursor,
         })
     }
 }
@@ -129,7 +132,12 @@ impl<G: Rng<OUTPUT>, const OUTPUT: usize> Blocks<OUTPUT> for BufferedRng<G, OUTP
 
     fn rand(&mut self) -> [u8; OUTPUT] {
         let mut block = [0; OUTPUT];
-        deliver(&mut self.inner, &mut self.rest, &mut block);
+        deliver(
+            &mut self.inner,
+            &mut self.block,
+            &mut self.cursor,
+            &mut block,
+        );
         block
     }
 
@@ -145,7 +153,7 @@ impl<G: Rng<OUTPUT>, const OUTPUT: usize> Rng<OUTPUT> for BufferedRng<G, OUTPUT>
 
     #[inline(always)]
     fn fill_bytes(&mut self, buffer: &mut [u8]) {
-        deliver(&mut self.inner, &mut self.rest, buffer);
+        deliver(&mut self.inner, &mut self.block, &mut self.cursor, buffer);
     }
 
     ghost after_nothing = { after_nothing G.block G.step OUTPUT G.positive G.block_length };
@@ -188,52 +196,61 @@ impl<G: Rng<OUTPUT>, const OUTPUT: usize> Read for BufferedRng<G, OUTPUT> {
         ensures filled { buf.new ≡ buffered_taken G.block G.step OUTPUT self.old (length buf.old) }
         ensures state { self.new ≡ buffered_after G.block G.step OUTPUT self.old (length buf.old) }
     {
-        deliver(&mut self.inner, &mut self.rest, buf);
+        deliver(&mut self.inner, &mut self.block, &mut self.cursor, buf);
         Ok(buf.len())
     }
 }
 
 // Fills the slice with the bytes that are kept and those of further blocks, and keeps what is left over.
+#[inline(always)]
 fn deliver<G: Rng<OUTPUT>, const OUTPUT: usize>(
     inner: &mut G,
-    rest: &mut ArrayVec<u8, OUTPUT>,
+    block: &mut [u8; OUTPUT],
+    cursor: &mut usize,
     out: &mut [u8],
 )
-    requires { array_vec_len rest.old < OUTPUT }
-    ensures bytes { out.new ≡ buffered_taken G.block G.step OUTPUT (buffer_of rest.old.items inner.old) (length out.old) }
-    ensures state { buffer_of rest.new.items inner.new ≡ buffered_after G.block G.step OUTPUT (buffer_of rest.old.items inner.old) (length out.old) }
-    ensures below { array_vec_len rest.new < OUTPUT }
+    requires above { 0 < cursor.old }
+    requires within { cursor.old ≤ OUTPUT }
+    ensures bytes { out.new ≡ buffered_taken G.block G.step OUTPUT (buffer_of (drop cursor.old block.old) inner.old) (length out.old) }
+    ensures state { buffer_of (drop cursor.new block.new) inner.new ≡ buffered_after G.block G.step OUTPUT (buffer_of (drop cursor.old block.old) inner.old) (length out.old) }
+    ensures above { 0 < cursor.new }
+    ensures within { cursor.new ≤ OUTPUT }
+    ensures long { length block.new ≡ OUTPUT }
 {
-    let mut filled = 0;
-    while filled < out.len() {
-        refill(inner, rest);
-        filled += take_front(rest, &mut out[filled..]);
+    let kept = OUTPUT - *cursor;
+    let bytes = &block[..];
+    if out.len() <= kept {
+        let end = *cursor + out.len();
+        out.copy_from_slice(&bytes[*cursor..end]);
+        *cursor = end;
+    } else {
+        out[..kept].copy_from_slice(&bytes[*cursor..]);
+        deliver_blocks(inner, block, cursor, &mut out[kept..]);
     }
 }
 
-// Keeps the next block where nothing is kept. What will be delivered stays the same.
-fn refill<G: Rng<OUTPUT>, const OUTPUT: usize>(inner: &mut G, rest: &mut ArrayVec<u8, OUTPUT>)
-    requires { array_vec_len rest.old ≤ OUTPUT }
-    ensures bytes { (n : ℕ) → 0 < n → buffered_taken G.block G.step OUTPUT (buffer_of rest.new.items inner.new) n
-        ≡ buffered_taken G.block G.step OUTPUT (buffer_of rest.old.items inner.old) n }
-    ensures state { (n : ℕ) → 0 < n → buffered_after G.block G.step OUTPUT (buffer_of rest.new.items inner.new) n
-        ≡ buffered_after G.block G.step OUTPUT (buffer_of rest.old.items inner.old) n }
-    ensures some { 0 < array_vec_len rest.new }
-    ensures within { array_vec_len rest.new ≤ OUTPUT }
+// Fills the slice with whole blocks and the front of one more, whose other bytes are kept.
+fn deliver_blocks<G: Rng<OUTPUT>, const OUTPUT: usize>(
+    inner: &mut G,
+    block: &mut [u8; OUTPUT],
+    cursor: &mut usize,
+    out: &mut [u8],
+)
+    ensures bytes { out.new ≡ buffered_taken G.block G.step OUTPUT (buffer_of [] inner.old) (length out.old) }
+    ensures state { buffer_of (drop cursor.new block.new) inner.new ≡ buffered_after G.block G.step OUTPUT (buffer_of [] inner.old) (length out.old) }
+    ensures above { 0 < cursor.new }
+    ensures within { cursor.new ≤ OUTPUT }
+    ensures long { length block.new ≡ OUTPUT }
 {
-    if rest.is_empty() {
-        *rest = ArrayVec::from(inner.rand());
+    let last = out.len() % OUTPUT;
+    let whole = out.len() - last;
+    fill_by_blocks(inner, &mut out[..whole]);
+    if last > 0 {
+        *block = inner.rand();
+        let bytes = &block[..];
+        out[whole..].copy_from_slice(&bytes[..last]);
+        *cursor = last;
+    } else {
+        *cursor = OUTPUT;
     }
-}
-
-// Moves the first bytes to the front of the slice, as many as there are and as fit.
-fn take_front<const CAPACITY: usize>(bytes: &mut ArrayVec<u8, CAPACITY>, out: &mut [u8]) -> usize
-    ensures count { result ≡ min (array_vec_len bytes.old) (length out.old) }
-    ensures moved { out.new ≡ take result bytes.old.items ++ drop result out.old }
-    ensures left { bytes.new.items ≡ drop result bytes.old.items }
-{
-    let count = bytes.len().min(out.len());
-    out[..count].copy_from_slice(&bytes.as_slice()[..count]);
-    drop(bytes.drain(..count));
-    count
 }

@@ -2,7 +2,7 @@
 ghost use Rattle.std.specs.Prelude.{◌≡◌, ℕ, ◌^◌, ◌<◌, ◌≤◌, MatchOption, IfSome, IfNone};
 ghost use Rattle.std.specs.Fn.{iterate};
 ghost use Rattle.nanorand.specs.Blocks.{taken};
-ghost use Rattle.nanorand.specs.Runs.{IsWordWidth, Names, named};
+ghost use Rattle.nanorand.specs.Runs.{IsWordWidth, Names, named, rejected};
 ghost use Rattle.nanorand.specs.Draws.{word_limit, next_word, after_word, number_drawn, left_after};
 
 use crate::rand::Rng;
@@ -23,12 +23,46 @@ pub fn pick_word(size: u128, bits: u32, word: u64) -> Option<u64>
     ensures value { result ≡ named bits size word }
     ensures names { MatchOption result ((k : ℕ) → ¬ Names bits size word k) (λ k. Names bits size word k) }
 {
-    let words = 1u128 << bits;
-    let product = u128::from(word) * size;
-    if product % words >= words % size {
-        Some((product / words) as u64)
+    if size > u128::from(u64::MAX) {
+        return Some(word);
+    }
+    pick_below(size as u64, bits, word)
+}
+
+// As `pick_word`, for a size of 64 bits. Fewer words than `size` are rejected, so that a low part
+// of `size` or more is kept without a remainder.
+fn pick_below(size: u64, bits: u32, word: u64) -> Option<u64>
+    requires width { IsWordWidth bits }
+    requires some { 1 ≤ size }
+    requires within { size ≤ 2 ^ bits }
+    requires fits { word < 2 ^ bits }
+    ensures { result ≡ named bits size word }
+{
+    let product = u128::from(word) * u128::from(size);
+    let low = (product % (1 << bits)) as u64;
+    if low >= size || low >= rejected(size, bits) {
+        Some((product >> bits) as u64)
     } else {
         None
+    }
+}
+
+// How many words name nothing. From half of the words on, no division is needed. Few words ask
+// for it, so it stands outside of the loops that draw.
+#[cold]
+#[inline(never)]
+fn rejected(size: u64, bits: u32) -> u64
+    requires width { IsWordWidth bits }
+    requires some { 1 ≤ size }
+    requires within { size ≤ 2 ^ bits }
+    ensures { result ≡ rejected bits size }
+{
+    let words = 1u128 << bits;
+    let others = (words - u128::from(size)) as u64;
+    if u128::from(size) * 2 > words {
+        others
+    } else {
+        others % size
     }
 }
 

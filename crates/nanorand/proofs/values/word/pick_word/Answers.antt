@@ -1,34 +1,17 @@
-use Rattle.std.proofs.Common.{◌<◌, sym, arith}
-use Rattle.std.proofs.lemmas.Nat.{one_shl}
-use Rattle.nanorand.proofs.RunLemmas.{picks, rejects, Some-named, None-named}
+use Rattle.std.proofs.Common.{◌≡◌, ◌^◌, sym}
+use Rattle.nanorand.proofs.RunLemmas.{Some-named, names-itself, size-is_whole, named-Names}
 use Rattle.nanorand.proofs.values.word.pick_word.Goals as goal
 
-pub returns-then-product-words-clause-value : goal.returns-then-product-words-clause-value
-returns-then-product-words-clause-value c =
-    let width : c.args.bits < 128 = omega (arith, c.requires.width) in
-    let words = one_shl c.args.bits 128 width in
-    let kept = rw (c.from.ensures, words) at c.if-product-words.true in
-    rw (c.from.ensures, words) (sym (picks c.args.bits c.args.size c.args.word c.requires.some c.requires.fits kept))
+pub returns-then-size-from-clause-value : goal.returns-then-size-from-clause-value
+returns-then-size-from-clause-value c =
+    let past = rw c.from.ensures at c.if-size-from.true in
+    let whole : c.args.size ≡ 2 ^ c.args.bits = size-is_whole c.args.bits c.args.size c.requires.width c.requires.within past in
+    rw whole (sym (names-itself c.args.bits c.args.word c.requires.fits))
 
-pub returns-then-product-words-clause-names : goal.returns-then-product-words-clause-names
-returns-then-product-words-clause-names c =
-    let width : c.args.bits < 128 = omega (arith, c.requires.width) in
-    let words = one_shl c.args.bits 128 width in
-    let kept = rw (c.from.ensures, words) at c.if-product-words.true in
-    rw (c.from.ensures, words)
-    (Some-named c.args.bits c.args.size c.args.word _ (picks c.args.bits c.args.size c.args.word c.requires.some c.requires.fits kept))
+pub returns-then-size-from-clause-names : goal.returns-then-size-from-clause-names
+returns-then-size-from-clause-names c =
+    Some-named c.args.bits c.args.size c.args.word c.args.word (sym (returns-then-size-from-clause-value c))
 
-pub returns-else-product-words-clause-value : goal.returns-else-product-words-clause-value
-returns-else-product-words-clause-value c =
-    let width : c.args.bits < 128 = omega (arith, c.requires.width) in
-    let words = one_shl c.args.bits 128 width in
-    let low = rw (c.from.ensures, words) at c.if-product-words.false in
-    sym (rejects c.args.bits c.args.size c.args.word c.requires.some low)
-
-pub returns-else-product-words-clause-names : goal.returns-else-product-words-clause-names
-returns-else-product-words-clause-names c =
-    let width : c.args.bits < 128 = omega (arith, c.requires.width) in
-    let words = one_shl c.args.bits 128 width in
-    let low = rw (c.from.ensures, words) at c.if-product-words.false in
-    None-named c.args.bits c.args.size c.args.word c.requires.some
-    (rejects c.args.bits c.args.size c.args.word c.requires.some low)
+pub returns-clause-names : goal.returns-clause-names
+returns-clause-names c =
+    rw c.pick_below.ensures (named-Names c.args.bits c.args.size c.args.word c.requires.some)
