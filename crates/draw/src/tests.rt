@@ -7,6 +7,7 @@ use crate::run::{report, run};
 use std::alloc::{AllocError, Global};
 use std::io;
 use std::io::{ErrorKind, Write};
+use std::process::Abort;
 use std::test::Fail;
 
 // The words of a line that spaces separate.
@@ -26,6 +27,26 @@ fn drawn(alloc: Global, line: &str) -> Result<(Result<(), DrawError>, Vec<u8>), 
     Ok((outcome, out))
 }
 
+// Each line is read whole, and its text is written.
+fn check_texts(rt: &impl Abort, alloc: Global, rows: &[(&str, &str)]) -> Result<(), Fail> {
+    for (line, text) in rows {
+        let (outcome, out) = drawn(alloc, line)?;
+        assert_eq!(rt; outcome, Ok(()), "{line}");
+        assert_eq!(rt; out.as_slice(), text.as_bytes(), "{line}");
+    }
+    Ok(())
+}
+
+// Of each line the word of that number is the first bad one, and nothing is written.
+fn check_bad_words(rt: &impl Abort, alloc: Global, rows: &[(&str, usize)]) -> Result<(), Fail> {
+    for (line, word) in rows {
+        let (outcome, out) = drawn(alloc, line)?;
+        assert_eq!(rt; outcome, Err(DrawError::BadWord(*word)), "{line}");
+        assert!(rt; out.is_empty(), "{line}");
+    }
+    Ok(())
+}
+
 #[test]
 fn texts(rt: HostRuntime) -> Result<(), Fail> {
     let rows = [
@@ -43,10 +64,6 @@ fn texts(rt: HostRuntime) -> Result<(), Fail> {
         ("wyrand d29b42879be2895f plain 0 u8", "218\n"),
         ("wyrand d29b42879be2895f plain 0 i8", "-38\n"),
         ("pcg64 00000000000000000000000000000000 plain 0 u8", "63\n"),
-        (
-            "wyrand d19b42879be2895f plain 1 u8:5..5 shuffle",
-            "empty\nshuffled\nitems: 0\n",
-        ),
         ("wyrand d29b42879be2895f plain 0 shuffle", "shuffled\n"),
         (
             "wyrand d29b42879be2895f buffered 0 u8 u8 u16",
@@ -54,6 +71,17 @@ fn texts(rt: HostRuntime) -> Result<(), Fail> {
         ),
         ("wyrand d29b42879be2895f plain 0", ""),
         ("wyrand d29b42879be2895f plain 0002", "items: 0 1\n"),
+    ];
+    check_texts(&rt, rt.alloc(), &rows)
+}
+
+#[test]
+fn texts_of_ranges(rt: HostRuntime) -> Result<(), Fail> {
+    let rows = [
+        (
+            "wyrand d19b42879be2895f plain 1 u8:5..5 shuffle",
+            "empty\nshuffled\nitems: 0\n",
+        ),
         ("wyrand d29b42879be2895f plain 0 u8:10..=12", "12\n"),
         ("wyrand d29b42879be2895f plain 0 u8:..", "218\n"),
         ("wyrand d29b42879be2895f plain 0 u8:200..", "247\n"),
@@ -65,6 +93,13 @@ fn texts(rt: HostRuntime) -> Result<(), Fail> {
             "7\n0\n9\n",
         ),
         ("wyrand d29b42879be2895f plain 0 u8:..=0", "0\n"),
+    ];
+    check_texts(&rt, rt.alloc(), &rows)
+}
+
+#[test]
+fn texts_of_signed_ranges(rt: HostRuntime) -> Result<(), Fail> {
+    let rows = [
         ("wyrand d29b42879be2895f plain 0 i8:-1..=1", "1\n"),
         ("wyrand d29b42879be2895f plain 0 i8:..", "90\n"),
         ("wyrand d29b42879be2895f plain 0 i16:-300..300", "-205\n"),
@@ -84,12 +119,7 @@ fn texts(rt: HostRuntime) -> Result<(), Fail> {
             "9223372036854775807\n",
         ),
     ];
-    for (line, text) in rows {
-        let (outcome, out) = drawn(rt.alloc(), line)?;
-        assert_eq!(rt; outcome, Ok(()), "{line}");
-        assert_eq!(rt; out.as_slice(), text.as_bytes(), "{line}");
-    }
-    Ok(())
+    check_texts(&rt, rt.alloc(), &rows)
 }
 
 // The key 00 01 .. 1f and the nonce 00 01 .. 07.
@@ -99,31 +129,27 @@ const COUNTED: &str =
 #[test]
 fn texts_of_chacha(rt: HostRuntime) -> Result<(), Fail> {
     let alloc = rt.alloc();
+    let bytes = format!(in alloc; "chacha20 {COUNTED} plain 0 u8 u8 u8 u8")?;
+    let items = format!(in alloc; "chacha20 {COUNTED} plain 3 shuffle")?;
+    let zeros = format!(in alloc; "chacha20 {:080} buffered", 0)?;
+    let buffered = format!(in alloc; "{zeros} 0 u8 u8:10..=12 u16 bool")?;
+    let buffered_items = format!(in alloc; "{zeros} 3 shuffle")?;
     let rows = [
-        ("chacha20", "plain 0 u8 u8 u8 u8", "247\n56\n157\n14\n"),
-        ("chacha20", "plain 3 shuffle", "shuffled\nitems: 1 2 0\n"),
+        (bytes.as_str(), "247\n56\n157\n14\n"),
+        (items.as_str(), "shuffled\nitems: 1 2 0\n"),
+        (buffered.as_str(), "118\n12\n44512\nfalse\n"),
+        (buffered_items.as_str(), "shuffled\nitems: 1 0 2\n"),
     ];
-    for (generator, requests, text) in rows {
-        let line = format!(in alloc; "{generator} {COUNTED} {requests}")?;
-        let (outcome, out) = drawn(alloc, line.as_str())?;
-        assert_eq!(rt; outcome, Ok(()), "{line}");
-        assert_eq!(rt; out.as_slice(), text.as_bytes(), "{line}");
-    }
-    let zeros = format!(in alloc; "{:080}", 0)?;
-    let rows = [
-        ("u8 u8:10..=12 u16 bool", "0", "118\n12\n44512\nfalse\n"),
-        ("shuffle", "3", "shuffled\nitems: 1 0 2\n"),
-    ];
-    for (requests, count, text) in rows {
-        let line = format!(in alloc; "chacha20 {zeros} buffered {count} {requests}")?;
-        let (outcome, out) = drawn(alloc, line.as_str())?;
-        assert_eq!(rt; outcome, Ok(()), "{line}");
-        assert_eq!(rt; out.as_slice(), text.as_bytes(), "{line}");
-    }
+    check_texts(&rt, alloc, &rows)
+}
+
+// A byte too many in the seed.
+#[test]
+fn long_seeds_of_chacha(rt: HostRuntime) -> Result<(), Fail> {
+    let alloc = rt.alloc();
     for generator in ["chacha8", "chacha12", "chacha20"] {
         let line = format!(in alloc; "{generator} {COUNTED}00 plain 0")?;
-        let (outcome, _) = drawn(alloc, line.as_str())?;
-        assert_eq!(rt; outcome, Err(DrawError::BadWord(2)), "{line}");
+        check_bad_words(&rt, alloc, &[(line.as_str(), 2)])?;
     }
     Ok(())
 }
@@ -147,10 +173,19 @@ fn bad_words(rt: HostRuntime) -> Result<(), Fail> {
         ("wyrand d29b42879be2895f plain 99999999999999999999999", 4),
         ("wyrand d29b42879be2895f plain 0 u8 u9", 6),
         ("wyrand d29b42879be2895f plain 0 u9 u9", 5),
+        ("wyrand d29b42879be2895f plain 0 Shuffle", 5),
+        ("wyrand d29b42879be2895f plain 0 shuffle:..", 5),
+        ("wyrand d29b42879be2895f plain 0 bool:..", 5),
+    ];
+    check_bad_words(&rt, rt.alloc(), &rows)
+}
+
+#[test]
+fn bad_ranges(rt: HostRuntime) -> Result<(), Fail> {
+    let rows = [
         ("wyrand d29b42879be2895f plain 0 u8:1..300", 5),
         ("wyrand d29b42879be2895f plain 0 u8:5..=", 5),
         ("wyrand d29b42879be2895f plain 0 u128:1..2", 5),
-        ("wyrand d29b42879be2895f plain 0 bool:..", 5),
         ("wyrand d29b42879be2895f plain 0 u8:", 5),
         ("wyrand d29b42879be2895f plain 0 u8:5", 5),
         ("wyrand d29b42879be2895f plain 0 u8:5..6..7", 5),
@@ -158,6 +193,16 @@ fn bad_words(rt: HostRuntime) -> Result<(), Fail> {
         ("wyrand d29b42879be2895f plain 0 u8:-5..6", 5),
         ("wyrand d29b42879be2895f plain 0 u8:5...6", 5),
         ("wyrand d29b42879be2895f plain 0 u8:0..256", 5),
+        ("wyrand d29b42879be2895f plain 0 u8:..=", 5),
+        ("wyrand d29b42879be2895f plain 0 u8:..=+1", 5),
+        ("wyrand d29b42879be2895f plain 0 u8:a..b", 5),
+    ];
+    check_bad_words(&rt, rt.alloc(), &rows)
+}
+
+#[test]
+fn bad_signed_ranges(rt: HostRuntime) -> Result<(), Fail> {
+    let rows = [
         ("wyrand d29b42879be2895f plain 0 i8:--1..2", 5),
         ("wyrand d29b42879be2895f plain 0 i8:-..2", 5),
         ("wyrand d29b42879be2895f plain 0 i8:+1..2", 5),
@@ -166,18 +211,8 @@ fn bad_words(rt: HostRuntime) -> Result<(), Fail> {
         ("wyrand d29b42879be2895f plain 0 i8:1..128", 5),
         ("wyrand d29b42879be2895f plain 0 i8:1..=", 5),
         ("wyrand d29b42879be2895f plain 0 i128:..", 5),
-        ("wyrand d29b42879be2895f plain 0 u8:..=", 5),
-        ("wyrand d29b42879be2895f plain 0 u8:..=+1", 5),
-        ("wyrand d29b42879be2895f plain 0 u8:a..b", 5),
-        ("wyrand d29b42879be2895f plain 0 shuffle:..", 5),
-        ("wyrand d29b42879be2895f plain 0 Shuffle", 5),
     ];
-    for (line, word) in rows {
-        let (outcome, out) = drawn(rt.alloc(), line)?;
-        assert_eq!(rt; outcome, Err(DrawError::BadWord(word)), "{line}");
-        assert!(rt; out.is_empty(), "{line}");
-    }
-    Ok(())
+    check_bad_words(&rt, rt.alloc(), &rows)
 }
 
 // Each of the thirteen types by its name.

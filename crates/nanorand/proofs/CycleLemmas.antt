@@ -1,6 +1,6 @@
 -- The cycles of the walks x ↦ a * x + c with a = 16 * u + 7 and c = 8 * v + 7, modulo 8 * 2 ^ i.
 use Rattle.std.proofs.Common.{◌≡◌, ℕ, zero, suc, ◌+◌, ◌*◌, ◌/◌, ◌%◌, ◌^◌, ◌<◌, ◌⊎◌, inl, inr, lit<, sym, ap, ◌∙◌, arith}
-use Rattle.std.proofs.Math.Nat.{pow-succ', two-pow-succ, mod-add-div', mul_comm, add-mul-mod_self_left, mul-pos, eq_of_mul-eq-mul_left, one-mul, dvd-mul_right, mod-mod_of_dvd, add-mod_right, add-div_right}
+use Rattle.std.proofs.Math.Nat.{pow-suc, two-pow-succ, mod-add-div', mul_comm, add-mul-mod_self_left, mul-pos, eq_of_mul-eq-mul_left, one-mul, dvd-mul_right, mod-mod_of_dvd, add-mod_right, add-div_right}
 use Rattle.std.proofs.Math.Arith.{mod-mul}
 use Rattle.std.proofs.Math.Pow.{pow_pos}
 use Rattle.nanorand.proofs.ModulusLemmas.{parity, mod_cancel_left, mul-mod-mul}
@@ -8,13 +8,16 @@ use Rattle.nanorand.specs.Pcg64Laws.{affine_after-add}
 use Rattle.nanorand.proofs.DoublingLemmas.{walk, walk-zero, walk-suc, moves_far, walk_mod_8}
 
 -- n steps are the steps of its remainder, and then the strides of its quotient
-pub by_strides : (u v i n s : ℕ) → (z : ℕ)
-    × (walk u v n s ≡ walk u v (n % 2 ^ suc i) s + n / 2 ^ suc i * (8 * 2 ^ i) + 16 * 2 ^ i * z)
+by_strides : (u v i n s : ℕ) → (z : ℕ)
+    × (walk u v n s ≡ walk u v (n % 2 ^ suc i) s + n / 2 ^ suc i * (8 * 2 ^ i) + 8 * 2 ^ i * 2 * z)
 by_strides u v i n s =
-    let far = moves_far u v i (n / 2 ^ suc i) (walk u v (n % 2 ^ suc i) s) in (
+    let e = n / 2 ^ suc i in
+    let t = walk u v (n % 2 ^ suc i) s in
+    let far = moves_far u v i e t in
+    let turned : t + e * (8 * 2 ^ i) + 16 * 2 ^ i * far.0 ≡ t + e * (8 * 2 ^ i) + 8 * 2 ^ i * 2 * far.0 = omega arith in (
       far.0,
       ap (λ (k : ℕ). walk u v k s) (sym (mod-add-div' n (2 ^ suc i)))
-          ∙ affine_after-add _ _ (n % 2 ^ suc i) (n / 2 ^ suc i * 2 ^ suc i) s ∙ far.1,
+          ∙ affine_after-add _ _ (n % 2 ^ suc i) (e * 2 ^ suc i) s ∙ far.1 ∙ turned,
     )
 
 -- steps that agree modulo 2 ^ suc i lead to the same number modulo 8 * 2 ^ i
@@ -26,7 +29,7 @@ walk-same u v i m n s same = to_remainder m ∙ ap (λ (k : ℕ). walk u v k s %
         let strides = by_strides u v i n s in
         let t = walk u v (n % 2 ^ suc i) s in
         let e = n / 2 ^ suc i in
-        let parts : t + e * (8 * 2 ^ i) + 16 * 2 ^ i * strides.0 ≡ t + 8 * 2 ^ i * (e + 2 * strides.0) = omega arith in
+        let parts : t + e * (8 * 2 ^ i) + 8 * 2 ^ i * 2 * strides.0 ≡ t + 8 * 2 ^ i * (e + 2 * strides.0) = omega arith in
         ap (λ (k : ℕ). k % (8 * 2 ^ i)) (strides.1 ∙ parts) ∙ add-mul-mod_self_left t (8 * 2 ^ i) (e + 2 * strides.0)
 
 -- two numbers of strides, from one place to one place modulo two strides, have one parity
@@ -53,18 +56,12 @@ coarser q a b same =
     let divides = dvd-mul_right q 2 in
     sym (mod-mod_of_dvd q a divides) ∙ ap (λ (n : ℕ). n % q) same ∙ mod-mod_of_dvd q b divides
 
--- a remainder with one bit more
-longer : (i n : ℕ) → n % 2 ^ suc (suc i) ≡ n / 2 ^ suc i % 2 * 2 ^ suc i + n % 2 ^ suc i
-longer i n = ap (λ (m : ℕ). n % m) (pow-succ' 2 (suc i)) ∙ mod-mul n (lit< tt) (pow_pos (suc i))
+-- a remainder by twice q, by its upper bit
+split_two : (q n : ℕ) → 0 < q → n % (q * 2) ≡ n / q % 2 * q + n % q
+split_two q n pos = ap (λ (m : ℕ). n % m) (mul_comm q 2) ∙ mod-mul n (lit< tt) pos
 
-strides : (u v i n s : ℕ) → (z : ℕ)
-    × (walk u v n s ≡ walk u v (n % 2 ^ suc i) s + n / 2 ^ suc i * (8 * 2 ^ i) + 8 * 2 ^ i * 2 * z)
-strides u v i n s =
-    let far = by_strides u v i n s in (
-      far.0,
-      far.1 ∙ (let e : walk u v (n % 2 ^ suc i) s + n / 2 ^ suc i * (8 * 2 ^ i) + 16 * 2 ^ i * far.0
-          ≡ walk u v (n % 2 ^ suc i) s + n / 2 ^ suc i * (8 * 2 ^ i) + 8 * 2 ^ i * 2 * far.0 = omega arith in e),
-    )
+longer : (i n : ℕ) → n % 2 ^ suc (suc i) ≡ n / 2 ^ suc i % 2 * 2 ^ suc i + n % 2 ^ suc i
+longer i n = ap (λ (m : ℕ). n % m) (pow-suc 2 (suc i)) ∙ split_two (2 ^ suc i) n (pow_pos (suc i))
 
 -- steps to the same number modulo 8 * 2 ^ i agree modulo 2 ^ suc i
 pub same-walk : (u v i m n s : ℕ) → walk u v m s % (8 * 2 ^ i) ≡ walk u v n s % (8 * 2 ^ i) → m % 2 ^ suc i ≡ n % 2 ^ suc i
@@ -85,8 +82,8 @@ same-walk u v (suc i) m n s same =
     let finer : walk u v m s % (q * 2) ≡ walk u v n s % (q * 2) =
     ap (λ (r : ℕ). walk u v m s % r) (sym (twice_wide i)) ∙ same ∙ ap (λ (r : ℕ). walk u v n s % r) (twice_wide i) in
     let low : m % 2 ^ suc i ≡ n % 2 ^ suc i = same-walk u v i m n s (coarser q (walk u v m s) (walk u v n s) finer) in
-    let by_m = strides u v i m s in
-    let by_n = strides u v i n s in
+    let by_m = by_strides u v i m s in
+    let by_n = by_strides u v i n s in
     let from_m : walk u v (m % 2 ^ suc i) s ≡ walk u v (n % 2 ^ suc i) s = ap (λ (k : ℕ). walk u v k s) low in
     let same_sums =
     ap (λ (t : ℕ). (t + m / 2 ^ suc i * q + q * 2 * by_m.0) % (q * 2)) (sym from_m) ∙ ap (λ (k : ℕ). k % (q * 2)) (sym by_m.1)
@@ -94,10 +91,6 @@ same-walk u v (suc i) m n s same =
     let high : m / 2 ^ suc i % 2 ≡ n / 2 ^ suc i % 2 =
     same_parity q (walk u v (n % 2 ^ suc i) s) (m / 2 ^ suc i) (n / 2 ^ suc i) by_m.0 by_n.0 pos same_sums in
     longer i m ∙ ap (λ (b : ℕ). b * 2 ^ suc i + m % 2 ^ suc i) high ∙ ap (λ (r : ℕ). n / 2 ^ suc i % 2 * 2 ^ suc i + r) low ∙ sym (longer i n)
-
--- a remainder by twice q, by its upper bit
-split_two : (q n : ℕ) → 0 < q → n % (q * 2) ≡ n / q % 2 * q + n % q
-split_two q n pos = ap (λ (m : ℕ). n % m) (mul_comm q 2) ∙ mod-mul n (lit< tt) pos
 
 -- one stride of 2 ^ suc i steps adds 8 * 2 ^ i, modulo twice that
 pub walk_stride : (u v i n s : ℕ)

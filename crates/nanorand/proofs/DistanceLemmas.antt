@@ -83,6 +83,13 @@ doubled_stride f t bit makes =
     let P : ℕ → Type 0 = λ n. Makes (f * f % 2 ^ 128) ((f + 1) % 2 ^ 128 * t % 2 ^ 128) n in
     subst P (sym (two-pow-succ bit) ∙ ap (λ (n : ℕ). 2 ^ n) (sym (add-one bit))) (Makes-twice f t (2 ^ bit) makes)
 
+-- a number of strides by its last bit and its half
+halved : (last k bit : ℕ) → k % 2 ≡ last → last * 2 ^ bit + k / 2 * 2 ^ (bit + 1) ≡ k * 2 ^ bit
+halved last k bit is =
+    let whole : k ≡ 2 * (k / 2) + last = omega (arith, is) in
+    ap (λ (n : ℕ). last * 2 ^ bit + k / 2 * n) (ap (λ (n : ℕ). 2 ^ n) (add-one bit) ∙ pow-succ' 2 bit)
+    ∙ (let e : last * 2 ^ bit + k / 2 * (2 * 2 ^ bit) ≡ (2 * (k / 2) + last) * 2 ^ bit = omega arith in e) ∙ ap (λ (n : ℕ). n * 2 ^ bit) (sym whole)
+
 -- a bit that is not set
 pub IsDecided-unset : (f t bit draws seed start end : ℕ) → bit < 126 → seed < 2 ^ 128
     → (end + (2 ^ 128 - seed)) % 2 ^ 128 / 2 ^ bit % 8 ≡ 0 → IsDecided f t bit draws seed start end
@@ -94,14 +101,8 @@ IsDecided-unset f t bit draws seed start end in_range fits none known =
       makes = doubled_stride f t bit known.makes;
       below = omega (arith, known.below, two-pow-succ bit, ap (λ (n : ℕ). 2 ^ n) (add-one bit));
       came = known.came;
-      rest = (k / 2, ap (λ (n : ℕ). seed_after n seed) (halved k bit even) ∙ known.rest.1);
+      rest = (k / 2, ap (λ (n : ℕ). seed_after n seed) (omega (arith, halved 0 k bit even)) ∙ known.rest.1);
     }
-  where
-    halved : (k bit : ℕ) → k % 2 ≡ 0 → k / 2 * 2 ^ (bit + 1) ≡ k * 2 ^ bit
-    halved k bit even =
-        let whole : k ≡ 2 * (k / 2) = omega arith in
-        ap (λ (n : ℕ). k / 2 * 2 ^ n) (add-one bit) ∙ ap (λ (n : ℕ). k / 2 * n) (pow-succ' 2 bit)
-        ∙ (let e : k / 2 * (2 * 2 ^ bit) ≡ 2 * (k / 2) * 2 ^ bit = omega arith in e) ∙ ap (λ (n : ℕ). n * 2 ^ bit) (sym whole)
 
 -- a bit that is set
 pub IsDecided-set : (f t bit draws seed start end : ℕ) → bit < 126 → seed < 2 ^ 128
@@ -119,15 +120,9 @@ IsDecided-set f t bit draws seed start end in_range fits some known =
       rest = (
         k / 2,
         ap (seed_after (k / 2 * 2 ^ (bit + 1))) stepped ∙ sym (seed_after-add (2 ^ bit) (k / 2 * 2 ^ (bit + 1)) seed)
-            ∙ ap (λ (n : ℕ). seed_after n seed) (halved k bit odd) ∙ known.rest.1,
+            ∙ ap (λ (n : ℕ). seed_after n seed) (omega (arith, halved 1 k bit odd)) ∙ known.rest.1,
       );
     }
-  where
-    halved : (k bit : ℕ) → k % 2 ≡ 1 → 2 ^ bit + k / 2 * 2 ^ (bit + 1) ≡ k * 2 ^ bit
-    halved k bit odd =
-        let whole : k ≡ 2 * (k / 2) + 1 = omega arith in
-        ap (λ (n : ℕ). 2 ^ bit + k / 2 * 2 ^ n) (add-one bit) ∙ ap (λ (n : ℕ). 2 ^ bit + k / 2 * n) (pow-succ' 2 bit)
-        ∙ (let e : 2 ^ bit + k / 2 * (2 * 2 ^ bit) ≡ (2 * (k / 2) + 1) * 2 ^ bit = omega arith in e) ∙ ap (λ (n : ℕ). n * 2 ^ bit) (sym whole)
 
 -- 126 bits decide
 pub IsDecided-end : (f t draws seed start end : ℕ) → seed < 2 ^ 128 → IsDecided f t 126 draws seed start end → seed_after draws start ≡ end

@@ -1,7 +1,10 @@
 -- Rows of four lanes.
-use Rattle.std.proofs.Common.{◌≡◌, ℕ, zero, suc, ◌<◌, ◌-◌, ◌*◌, ◌/◌, ◌%◌, ◌^◌, List, [], ◌∷◌, length, slice_index, slice_index_or, map, bit_or, bit_xor, arith, lit<, refl, ap, ◌∙◌}
+use Rattle.std.proofs.Common.{◌≡◌, ℕ, zero, suc, ◌<◌, ◌-◌, ◌*◌, ◌/◌, ◌%◌, ◌^◌, List, [], ◌∷◌, length, slice_index, slice_index_or, map, bit_or, bit_xor, arith, lit<, refl, sym, ap, ◌∙◌}
 use Rattle.std.specs.List.{range_with_len}
+use Rattle.std.specs.Fn.{iterate}
 use Rattle.std.specs.Simd.Lanes.{zip2}
+use Rattle.nanorand.specs.ChaCha.{next_state, chacha_after}
+use Rattle.nanorand.specs.ChaChaLaws.{chacha_steps}
 use Rattle.nanorand.specs.ChaChaRounds.{Words, add, xor_rotate, on_columns, on_diagonals, rounds, block}
 use Rattle.nanorand.specs.ChaChaRows.{matrix, lane}
 use Rattle.nanorand.proofs.MatrixLemmas.{four_more, no_more}
@@ -96,10 +99,11 @@ pub upright-columns : (f : Words → Words) (x m : List ℕ) → m ≡ on_column
 unfolding on_columns on_diagonals
 upright-columns f x m h = ap upright h
 
--- what the rounds of a lane and the lane itself sum to is its block
-pub lane_block : (R j : ℕ) (s m a : List (List ℕ))
+-- what the rounds of a lane and the lane itself sum to is its block, and lane j is the state after j draws
+pub lane_block : (R j : ℕ) (x : List ℕ) (s m a : List (List ℕ))
     → lane j s ≡ map (λ k. add (slice_index (lane j m) k) (slice_index (lane j a) k)) (range_with_len 0 16)
-    → lane j m ≡ rounds R (lane j a) → lane j s ≡ block R (lane j a)
+    → lane j m ≡ rounds R (lane j a) → lane j a ≡ chacha_after j x → lane j s ≡ block R (iterate next_state j x)
 unfolding block
-lane_block R j s m a sums mixed =
-    sums ∙ ap (λ x. map (λ k. add (slice_index x k) (slice_index (lane j a) k)) (range_with_len 0 16)) mixed
+lane_block R j x s m a sums mixed drawn =
+    sums ∙ ap (λ r. map (λ k. add (slice_index r k) (slice_index (lane j a) k)) (range_with_len 0 16)) mixed
+    ∙ ap (block R) (drawn ∙ sym (chacha_steps j x))

@@ -1,12 +1,12 @@
 //! Buffered generators.
 
+use crate::replays::calls;
 use crate::{Constant, Steps};
 use nanorand::buffer::TextRefused;
-use nanorand::replay::{Answer, Call, Kind, Span, replay};
+use nanorand::replay::{Answer, Call, Kind, replay};
 use nanorand::{BufferedRng, ChaCha8, Pcg64, Rng, SeedableRng, WyRand};
 use std::alloc::{AllocError, Global};
 use std::io::Read;
-use std::ops::Bound;
 use std::process::Abort;
 use std::test::Fail;
 
@@ -107,15 +107,9 @@ fn a_buffer_in_a_buffer(rt: HostRuntime) {
 #[test]
 fn a_replay_goes_on(rt: HostRuntime) {
     let mut rng = BufferedRng::new(Steps::new());
-    let calls = [
-        Call::Gen(Kind::U8),
-        Call::Range(Span::U8(Bound::Included(10), Bound::Included(12))),
-        Call::Shuffle,
-        Call::Gen(Kind::Bool),
-    ];
     let mut items = [7, 8, 9];
     let mut answers = [Answer::Empty; 4];
-    replay(&mut rng, &calls, &mut items, &mut answers);
+    replay(&mut rng, &calls(), &mut items, &mut answers);
     assert_eq!(rt;
         answers,
         [

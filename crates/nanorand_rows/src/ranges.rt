@@ -181,7 +181,10 @@ fn a_refusal_does_not_end_a_replay(rt: HostRuntime) {
         ]
     );
     assert_eq!(rt; steps.drawn(), 3);
+}
 
+#[test]
+fn unsigned_spans_are_replayed(rt: HostRuntime) {
     let mut zeros = Constant::new(0);
     let calls = [
         Call::Range(Span::U8(Included(10), Included(12))),
