@@ -28,6 +28,8 @@ mod ChaChaStateLemmas
 mod GroupLemmas
 mod NumberLemmas
 mod WorkedChaCha
+mod WorkedVectors
+mod WorkedCounters
 mod PlaceLemmas
 mod ChoiceLemmas
 mod CorrespondenceLemmas
