@@ -12,6 +12,8 @@ mod WorkedWyRand
 mod WyRandLemmas
 mod WorkedRows
 mod WorkedRanges
+mod WorkedWords
+mod WorkedBuffers
 mod CeilingLemmas
 mod RunLemmas
 mod DrawLemmas
