@@ -9,10 +9,12 @@ mod PeriodLemmas
 mod ReachLemmas
 mod WorkedPcg64
 mod WorkedWyRand
+mod WorkedDistances
 mod WyRandLemmas
 mod WorkedRows
 mod WorkedRanges
 mod WorkedWords
+mod WorkedTypes
 mod WorkedBuffers
 mod CeilingLemmas
 mod RunLemmas
@@ -37,6 +39,7 @@ mod ChoiceLemmas
 mod CorrespondenceLemmas
 mod ShuffleLemmas
 mod WorkedShuffles
+mod WorkedOrders
 mod ReplayLemmas
 mod UnbrokenLemmas
 mod RowLemmas
