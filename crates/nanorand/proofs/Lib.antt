@@ -39,6 +39,7 @@ mod ChoiceLemmas
 mod CorrespondenceLemmas
 mod ShuffleLemmas
 mod WorkedShuffles
+mod WorkedPartners
 mod WorkedOrders
 mod ReplayLemmas
 mod UnbrokenLemmas

@@ -41,7 +41,7 @@ abbrev script_after : ℕ → ℕ → ℕ
 script_after = plain_after (λ n. n + 1) 8
 
 -- The numbers from a to b - 1, without a walk through all numbers of 64 bits.
-numbers_between : (a b : ℕ) → a < b → b ≤ 2 ^ 64 → unsigned_range 64 (Included a) (Excluded b) ≡ map unsigned_number (range_with_len a (b - a))
+pub numbers_between : (a b : ℕ) → a < b → b ≤ 2 ^ 64 → unsigned_range 64 (Included a) (Excluded b) ≡ map unsigned_number (range_with_len a (b - a))
 numbers_between a b some within =
     range-places nat_le nat_lt 64 unsigned_number (Included a) (Excluded b) a b (λ k. refl) (λ k in_type. refl) within some
 
