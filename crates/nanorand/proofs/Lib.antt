@@ -40,6 +40,8 @@ mod CorrespondenceLemmas
 mod ShuffleLemmas
 mod WorkedShuffles
 mod WorkedPartners
+mod WorkedReplays
+mod WorkedRefusals
 mod WorkedOrders
 mod ReplayLemmas
 mod UnbrokenLemmas
