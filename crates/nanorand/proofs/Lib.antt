@@ -42,6 +42,7 @@ mod WorkedShuffles
 mod WorkedPartners
 mod WorkedReplays
 mod WorkedRefusals
+mod WorkedAsked
 mod WorkedOrders
 mod ReplayLemmas
 mod UnbrokenLemmas

@@ -37,14 +37,14 @@ module _ {G : Type 0} (bytes : G → ℕ → List ℕ) (after : G → ℕ → G)
   refused_shuffle g left choices x y z makes =
       λ i. record { answer = shuffle_call_answer (makes.answered i); items = arranged (makes.chosen i) (x ∷ y ∷ z ∷ []); state = makes.leaves i }
 
-abbrev four_calls : List Call
+abbrev pub four_calls : List Call
 four_calls = Gen kinds.U8 ∷ Range (spans.U8 (Included 10) (Included 12)) ∷ Shuffle ∷ Gen kinds.Bool ∷ []
 
-abbrev items_7_to_9 : List ℕ
+abbrev pub items_7_to_9 : List ℕ
 items_7_to_9 = 7 ∷ 8 ∷ 9 ∷ []
 
 -- a byte, a range, a shuffle and a truth of rising bytes: six blocks
-third_block_on : Makes steps_taken steps_after from_itself 3 2 (Ok tt) (0 ∷ 1 ∷ 2 ∷ []) 5
+pub third_block_on : Makes steps_taken steps_after from_itself 3 2 (Ok tt) (0 ∷ 1 ∷ 2 ∷ []) 5
 unfolding named words_from value_drawn left_by left_after taken
 third_block_on =
     three_partners steps_taken steps_after from_itself 2 3 4 5 0 1 2
