@@ -2,3 +2,5 @@ mod AllRequests
 mod FirstWords
 mod RangeText
 mod WorkedRows
+mod WorkedDraws
+mod WorkedTexts
