@@ -40,6 +40,7 @@ mod CorrespondenceLemmas
 mod ShuffleLemmas
 mod WorkedShuffles
 mod WorkedPartners
+mod WorkedKeys
 mod WorkedReplays
 mod WorkedRefusals
 mod WorkedAsked
