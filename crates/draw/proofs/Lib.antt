@@ -4,3 +4,4 @@ mod RangeText
 mod WorkedRows
 mod WorkedDraws
 mod WorkedTexts
+mod WorkedBadWords
