@@ -4,4 +4,5 @@ mod RangeText
 mod WorkedRows
 mod WorkedDraws
 mod WorkedTexts
+mod WorkedBadRequests
 mod WorkedBadWords
