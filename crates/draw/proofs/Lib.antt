@@ -4,5 +4,7 @@ mod RangeText
 mod WorkedRows
 mod WorkedDraws
 mod WorkedTexts
+mod WorkedRequests
+mod WorkedCommands
 mod WorkedBadRequests
 mod WorkedBadWords
