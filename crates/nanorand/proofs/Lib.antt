@@ -14,6 +14,8 @@ mod WyRandLemmas
 mod WorkedRows
 mod WorkedRanges
 mod WorkedWords
+mod WorkedBounds
+mod WorkedRuns
 mod WorkedTypes
 mod WorkedBuffers
 mod CeilingLemmas

@@ -41,6 +41,10 @@ three_kept : (seed : ℕ) → length (buffered_after wyrand_block next_seed 8 (b
 unfolding buffered_after
 three_kept seed = refl
 
+five_to_seven_kept : kept_after 8 (buffer_of [] 0) 5 ≡ buffer_of (5 ∷ 6 ∷ 7 ∷ []) 1
+unfolding buffered_after
+five_to_seven_kept = refl
+
 none_kept : kept_after 8 (buffer_of [] 0) 8 ≡ buffer_of [] 1
 unfolding buffered_after
 none_kept = refl

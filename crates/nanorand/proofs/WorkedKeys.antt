@@ -7,10 +7,16 @@ use Rattle.nanorand.specs.Buffered.{Buffered, buffer_of, buffered_block, buffere
 use Rattle.nanorand.specs.ChaChaRounds.{quarter_round, on_columns, on_diagonals, rounds, block}
 use Rattle.nanorand.specs.ChaCha.{chacha_block, chacha_after, next_state, initial_state}
 use Rattle.nanorand.specs.WyRand.{next_seed, wyrand_block}
+use Rattle.std.specs.declared.ops.Bound.TheVariants.{Included, Excluded}
 use Rattle.nanorand.specs.Runs.{named}
+use Rattle.nanorand.specs.Range.{range_within}
 use Rattle.nanorand.specs.Draws.{words_from, value_drawn, left_by, left_after}
 use Rattle.nanorand.specs.Shuffles.{arranged, from_all, from_itself, partner_drawn, choices_from, shuffle_choices, shuffle_answer, shuffle_state, state_after_places}
 use Rattle.nanorand.specs.Arrangements.{rising}
+use Rattle.nanorand.specs.Replay.{replayed, shuffle_call_answer}
+use Rattle.nanorand.specs.declared.replay.Span.TheVariants as spans
+use Rattle.nanorand.specs.declared.replay.Call.TheVariants.{Range, Shuffle}
+use Rattle.nanorand.specs.declared.replay.Answer.TheVariants.{Empty, Shuffled}
 use Rattle.nanorand.proofs.WorkedPartners.{Makes, partner_between, three_partners}
 
 abbrev chacha_taken : List ℕ → ℕ → List ℕ
@@ -100,5 +106,18 @@ one_choice = rw one_partner refl
 one_answered : shuffle_answer (taken wyrand_block next_seed) (plain_after next_seed 8) from_itself 1 seed_of_zero ≡ Ok tt
 one_answered = rw one_choice refl
 
-one_left : arranged (0 ∷ []) (rising 1) ≡ 0 ∷ []
-one_left = refl
+one_word_drawn : shuffle_state (taken wyrand_block next_seed) (plain_after next_seed 8) from_itself 1 seed_of_zero ≡ next_seed seed_of_zero
+unfolding state_after_places
+one_word_drawn =
+    ap (λ choices. state_after_places (taken wyrand_block next_seed) (plain_after next_seed 8) from_itself 1 0 (min 1 (length choices + 1)) seed_of_zero) one_choice
+    ∙ ap (λ drawn. drawn.1) one_partner
+
+-- an empty range and that shuffle
+empty_and_shuffle : replayed (taken wyrand_block next_seed) (plain_after next_seed 8) seed_of_zero (0 ∷ []) (Range (spans.U8 (Included 5) (Excluded 5)) ∷ Shuffle ∷ [])
+    ≡ record { answers = Empty ∷ Shuffled ∷ []; items = 0 ∷ []; state = next_seed seed_of_zero }
+unfolding range_within value_drawn left_by
+empty_and_shuffle = λ i. record {
+  answers = Empty ∷ shuffle_call_answer (one_answered i) ∷ [];
+  items = arranged (one_choice i) (0 ∷ []);
+  state = one_word_drawn i;
+}

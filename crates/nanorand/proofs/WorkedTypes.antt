@@ -9,8 +9,9 @@ use Rattle.std.proofs.lemmas.Nat.{pow_pos}
 use Rattle.nanorand.specs.Blocks.{taken, plain_after}
 use Rattle.nanorand.specs.Runs.{named}
 use Rattle.nanorand.specs.Range.{unsigned_number, signed_number, unsigned_range, signed_range, range_within}
+use Rattle.nanorand.specs.NumberLaws.{int_le-signed}
 use Rattle.nanorand.specs.Draws.{unsigned_outcome, range_outcome, words_from, value_drawn, left_by, left_after}
-use Rattle.nanorand.proofs.RangeLemmas.{range-places}
+use Rattle.nanorand.proofs.RangeLemmas.{range-empty, range-places}
 
 -- both types of so many bits have 2^bits numbers, in the order of their places
 all_unsigned : (bits : ℕ) → unsigned_range bits Unbounded Unbounded ≡ map unsigned_number (range_with_len 0 (2 ^ bits))
@@ -70,3 +71,16 @@ seven_by_zeros = ap (λ numbers. range_outcome (constant_taken 0) constant_after
 seven_by_ones : unsigned_outcome (constant_taken 255) constant_after 64 0 (Included 7) (Included 7) ≡ (Ok 7, 1)
 unfolding named words_from value_drawn left_by left_after taken
 seven_by_ones = ap (λ numbers. range_outcome (constant_taken 255) constant_after 64 numbers 0) just_seven ∙ refl
+
+-- i32 10..=5 has no number, in a type that is not walked through
+up_to_five : (k : ℕ) → nat_le k (2 ^ 31 + 5) ≡ nat_lt k (2 ^ 31 + 6)
+up_to_five k =
+    elim (cases_lt k (2 ^ 31 + 6)) [
+      | inl under ↦ le-leb k (2 ^ 31 + 5) (omega arith) ∙ sym (lt-ltb k (2 ^ 31 + 6) under)
+      | inr over ↦ lt-leb k (2 ^ 31 + 5) (omega arith) ∙ sym (le-ltb k (2 ^ 31 + 6) over)
+    ]
+
+reversed_bounds : signed_range 32 (Included (pos 10)) (Included (pos 5)) ≡ []
+reversed_bounds =
+    range-empty int_le int_lt 32 (signed_number 32) (Included (pos 10)) (Included (pos 5)) (2 ^ 31 + 10) (2 ^ 31 + 6)
+    (λ k. int_le-signed 32 (2 ^ 31 + 10) k) (λ k in_type. int_le-signed 32 k (2 ^ 31 + 5) ∙ up_to_five k) (omega arith) (omega arith)

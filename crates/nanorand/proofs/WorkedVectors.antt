@@ -75,6 +75,10 @@ no_rounds_at_all : (x : List ℕ) → rounds 0 x ≡ x
 unfolding rounds
 no_rounds_at_all x = refl
 
+no_rounds_of_ones : block 0 (replicate 16 1) ≡ replicate 16 2
+unfolding rounds block
+no_rounds_of_ones = refl
+
 eight_rounds_of_zeros : block 8 (replicate 16 0) ≡ replicate 16 0
 unfolding quarter_round on_columns on_diagonals rounds block
 eight_rounds_of_zeros = refl
