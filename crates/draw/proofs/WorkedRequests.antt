@@ -1,5 +1,5 @@
 -- Worked rows of requests for ranges, and of long seeds: what their texts say.
-use Rattle.std.specs.Prelude.{◌≡◌, ℕ, List, [], ◌∷◌, ◌++◌, codes, replicate, pos, negsuc, refl}
+use Rattle.std.specs.Prelude.{[], ◌++◌, codes, replicate, pos, negsuc, refl}
 use Rattle.std.proofs.Common.{arith}
 use Rattle.std.specs.List.{range_with_len}
 use Rattle.hex.specs.Hex.{decode_pairs}

@@ -1,9 +1,9 @@
 -- Worked rows of the words of the program and the whole texts that they ask for.
-use Rattle.std.specs.Prelude.{◌≡◌, ℕ, List, [], ◌∷◌, ◌++◌, codes, replicate, pos, negsuc, refl}
+use Rattle.std.specs.Prelude.{◌≡◌, ℕ, List, [], ◌∷◌, ◌++◌, codes, pos, negsuc, refl}
 use Rattle.std.specs.Fmt.{digits}
 use Rattle.std.proofs.Common.{arith}
 use Rattle.hex.specs.Hex.{decode_pairs}
-use Rattle.std.specs.declared.ops.Bound.TheVariants.{Included, Excluded}
+use Rattle.std.specs.declared.ops.Bound.TheVariants.{Included}
 use Rattle.nanorand.specs.Blocks.{taken}
 use Rattle.nanorand.specs.Buffered.{buffered_taken, buffered_after}
 use Rattle.nanorand.specs.Runs.{named}

@@ -40,10 +40,11 @@ mod PlaceLemmas
 mod ChoiceLemmas
 mod CorrespondenceLemmas
 mod ShuffleLemmas
+mod PartnerLemmas
 mod WorkedShuffles
 mod WorkedPartners
-mod WorkedKeys
 mod WorkedReplays
+mod WorkedKeys
 mod WorkedRefusals
 mod WorkedAsked
 mod WorkedOrders

@@ -1,6 +1,5 @@
 -- Worked rows of the bytes that lists of calls ask for.
-use Rattle.std.proofs.Common.{◌≡◌, ℕ, ◌+◌, ◌-◌, ◌*◌, ◌<◌, ◌≤◌, List, [], ◌∷◌, ◌++◌, Ok, length, map, min, refl, ap, ◌∙◌, arith}
-use Rattle.std.specs.Prelude.{replicate, slice_index_or}
+use Rattle.std.proofs.Common.{◌≡◌, ℕ, ◌+◌, ◌-◌, ◌<◌, [], ◌∷◌, Ok, length, map, min, refl, ap, ◌∙◌, arith}
 use Rattle.std.specs.List.{range_with_len}
 use Rattle.std.specs.declared.ops.Bound.TheVariants.{Included, Excluded}
 use Rattle.nanorand.specs.Blocks.{taken}
@@ -11,10 +10,10 @@ use Rattle.nanorand.specs.Asked.{asked, asked_by_range, asked_by_places, asked_b
 use Rattle.nanorand.specs.Shuffles.{from_itself, partner_drawn}
 use Rattle.nanorand.specs.declared.replay.Kind.TheVariants as kinds
 use Rattle.nanorand.specs.declared.replay.Span.TheVariants as spans
-use Rattle.nanorand.specs.declared.replay.Call.TheVariants.{Gen, Range, Shuffle}
+use Rattle.nanorand.specs.declared.replay.Call.TheVariants.{Gen, Range}
 use Rattle.nanorand.proofs.WorkedRows.{steps_taken, steps_after}
-use Rattle.nanorand.proofs.WorkedShuffles.{numbers_between}
-use Rattle.nanorand.proofs.WorkedPartners.{partner_between, script_taken, script_after}
+use Rattle.nanorand.proofs.PartnerLemmas.{numbers_between, partner_between}
+use Rattle.nanorand.proofs.WorkedPartners.{script_taken, script_after}
 use Rattle.nanorand.proofs.WorkedReplays.{four_calls, items_7_to_9, third_block_on}
 
 -- a value asks for its size, a range for its words up to the deciding one, or for all 128, and an empty one for none

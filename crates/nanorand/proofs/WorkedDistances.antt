@@ -1,5 +1,5 @@
 -- Worked rows of distances: how many draws lead from one seed to another, and where none do.
-use Rattle.std.specs.Prelude.{◌≡◌, ◌⊎◌, ℕ, ◌+◌, ◌-◌, ◌%◌, ◌^◌, ◌<◌, refl}
+use Rattle.std.specs.Prelude.{◌≡◌, ◌⊎◌, ◌↔◌, ℕ, ◌+◌, ◌-◌, ◌%◌, ◌^◌, ◌<◌, refl}
 use Rattle.std.proofs.Common.{ap, inl, inr, sym, ◌∙◌, arith}
 use Rattle.nanorand.specs.Cycles.{Reaches, ReachesOnceBelow}
 use Rattle.nanorand.specs.WyRand.{wyrand_after}
@@ -89,9 +89,14 @@ even_to_thirteen n leads =
     ]
 
 -- of the seeds below 8, each leads to itself and to the one that makes 7 with it, and to no other
-below_eight : (s t : ℕ) → s < 8 → t < 8 → Reaches seed_after s t → (s ≡ t) ⊎ (s + t ≡ 7)
-below_eight s t s_low t_low leads =
-    elim ((reached-class s t (omega arith)).0 leads) [
-      | inl same ↦ inl (omega (arith, same))
-      | inr opposite ↦ inr (omega (arith, opposite))
-    ]
+below_eight : (s t : ℕ) → s < 8 → t < 8 → Reaches seed_after s t ↔ ((s ≡ t) ⊎ (s + t ≡ 7))
+below_eight s t s_low t_low = (
+  λ leads. elim ((reached-class s t (omega arith)).0 leads) [
+    | inl same ↦ inl (omega (arith, same))
+    | inr opposite ↦ inr (omega (arith, opposite))
+  ],
+  λ pair. (reached-class s t (omega arith)).1 (elim pair [
+    | inl same ↦ inl (omega (arith, same))
+    | inr opposite ↦ inr (omega (arith, opposite))
+  ]),
+)

@@ -1,5 +1,5 @@
 -- Worked rows of shuffles by the blocks of keys: three items by ChaCha20, plain and buffered, and one item by wyrand.
-use Rattle.std.proofs.Common.{◌≡◌, ℕ, ◌+◌, ◌-◌, ◌<◌, ◌≤◌, List, [], ◌∷◌, ◌++◌, Ok, length, map, min, drop, refl, ap, ◌∙◌, arith}
+use Rattle.std.proofs.Common.{◌≡◌, ℕ, ◌+◌, List, [], ◌∷◌, Ok, length, min, drop, refl, ap, ◌∙◌, arith}
 use Rattle.std.specs.Prelude.{replicate}
 use Rattle.std.specs.List.{range_with_len}
 use Rattle.nanorand.specs.Blocks.{taken, plain_after}
@@ -17,7 +17,8 @@ use Rattle.nanorand.specs.Replay.{replayed, shuffle_call_answer}
 use Rattle.nanorand.specs.declared.replay.Span.TheVariants as spans
 use Rattle.nanorand.specs.declared.replay.Call.TheVariants.{Range, Shuffle}
 use Rattle.nanorand.specs.declared.replay.Answer.TheVariants.{Empty, Shuffled}
-use Rattle.nanorand.proofs.WorkedPartners.{Makes, partner_between, three_partners}
+use Rattle.nanorand.proofs.PartnerLemmas.{Makes, partner_between, three_partners}
+use Rattle.nanorand.proofs.WorkedReplays.{goes_on, whole_shuffle}
 
 abbrev chacha_taken : List ℕ → ℕ → List ℕ
 chacha_taken = taken (chacha_block 20) next_state
@@ -90,6 +91,15 @@ zero_key_items = refl
 
 zero_key_items_in_full : arranged (1 ∷ 0 ∷ 0 ∷ []) (rising 3) ≡ 2 ∷ 1 ∷ 0 ∷ []
 zero_key_items_in_full = refl
+
+-- the two shuffles as calls
+replay_of_ordered_key : replayed chacha_taken after_requests (in_order 0) (rising 3) (Shuffle ∷ []) ≡ record { answers = Shuffled ∷ []; items = 1 ∷ 2 ∷ 0 ∷ []; state = in_order 3 }
+replay_of_ordered_key =
+    ap (goes_on chacha_taken after_requests [] []) (whole_shuffle chacha_taken after_requests (in_order 0) (in_order 3) (1 ∷ 2 ∷ 2 ∷ []) 0 1 2 ordered_key)
+
+replay_of_zero_key : replayed kept_taken kept_after (buffer_of [] of_zeros) (rising 3) (Shuffle ∷ []) ≡ record { answers = Shuffled ∷ []; items = 1 ∷ 0 ∷ 2 ∷ []; state = zeros_from 24 }
+replay_of_zero_key =
+    ap (goes_on kept_taken kept_after [] []) (whole_shuffle kept_taken kept_after (buffer_of [] of_zeros) (zeros_from 24) (1 ∷ 1 ∷ 2 ∷ []) 0 1 2 zero_key)
 
 -- one item stays, by one word
 abbrev seed_of_zero : ℕ

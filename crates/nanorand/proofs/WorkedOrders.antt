@@ -1,6 +1,6 @@
 -- Worked rows of choices and orders of three: which lists are valid choices, and which are no arrangements.
-use Rattle.std.specs.Prelude.{◌≡◌, ℕ, zero, suc, ◌<◌, ◌≤◌, List, [], ◌∷◌, length, slice_index, sum_by, IsPermutation, refl}
-use Rattle.std.proofs.Common.{arith, ◌∙◌, sym}
+use Rattle.std.specs.Prelude.{◌≡◌, ℕ, zero, suc, ◌<◌, ◌≤◌, [], ◌∷◌, refl}
+use Rattle.std.proofs.Common.{arith}
 use Rattle.std.proofs.lemmas.List.Sorted.{IsPermutation-refl, sum_by-IsPermutation}
 use Rattle.nanorand.specs.Shuffles.{arranged}
 use Rattle.nanorand.specs.Arrangements.{IsValid, IsArrangement, rising}

@@ -1,6 +1,6 @@
 -- Worked rows of replays that go on behind a refusal: 128 zeros are drawn, plain and from a buffer.
-use Rattle.std.proofs.Common.{◌≡◌, ℕ, ◌+◌, ◌-◌, ◌<◌, ◌≤◌, List, [], ◌∷◌, ◌++◌, Ok, Err, map, refl, ap, ◌∙◌, arith}
-use Rattle.std.specs.Prelude.{true, false, replicate, slice_index_or}
+use Rattle.std.proofs.Common.{◌≡◌, ℕ, ◌+◌, List, [], ◌∷◌, ◌++◌, Err, refl, ap, ◌∙◌, arith}
+use Rattle.std.specs.Prelude.{true, replicate, slice_index_or}
 use Rattle.std.specs.declared.ops.Bound.TheVariants.{Included}
 use Rattle.nanorand.specs.Blocks.{taken}
 use Rattle.nanorand.specs.Buffered.{Buffered, buffer_of, buffered_block, buffered_step, buffered_taken, buffered_after}
@@ -15,7 +15,8 @@ use Rattle.nanorand.specs.declared.replay.Span.TheVariants as spans
 use Rattle.nanorand.specs.declared.replay.Call.{Call}
 use Rattle.nanorand.specs.declared.replay.Call.TheVariants.{Gen, Range, Shuffle}
 use Rattle.nanorand.specs.declared.replay.Answer.TheVariants.{Unsigned, Truth, Exhausted}
-use Rattle.nanorand.proofs.WorkedPartners.{Makes, partner_between, first_refused, script_taken, script_after}
+use Rattle.nanorand.proofs.PartnerLemmas.{Makes, partner_between, first_refused}
+use Rattle.nanorand.proofs.WorkedPartners.{script_taken, script_after}
 use Rattle.nanorand.proofs.WorkedReplays.{goes_on, refused_shuffle}
 
 -- the bytes of a list, a block of eight each, and zeros after it

@@ -1,12 +1,12 @@
 -- Worked rows of whole replays, plain and buffered, also after refusals.
-use Rattle.std.proofs.Common.{◌≡◌, ℕ, ◌+◌, ◌-◌, ◌<◌, ◌≤◌, List, [], ◌∷◌, ◌++◌, Ok, Err, refl, ap, ◌∙◌, arith}
-use Rattle.std.specs.Prelude.{true, false, replicate, slice_index_or}
+use Rattle.std.proofs.Common.{◌≡◌, ℕ, ◌+◌, List, [], ◌∷◌, ◌++◌, Ok, Err, refl, ap, ◌∙◌, arith}
+use Rattle.std.specs.Prelude.{true}
 use Rattle.std.specs.List.{range_with_len}
 use Rattle.std.specs.declared.ops.Bound.TheVariants.{Included}
 use Rattle.nanorand.specs.Blocks.{taken}
 use Rattle.nanorand.specs.Buffered.{Buffered, buffer_of, buffered_block, buffered_step, buffered_taken, buffered_after}
 use Rattle.nanorand.specs.Runs.{named}
-use Rattle.nanorand.specs.Range.{unsigned_number, range_within}
+use Rattle.nanorand.specs.Range.{range_within}
 use Rattle.nanorand.specs.Draws.{words_from, value_drawn, left_by, left_after}
 use Rattle.nanorand.specs.Shuffles.{arranged, from_all, from_itself}
 use Rattle.nanorand.specs.Replay.{Outcome, Replay, outcome, replayed, shuffle_call_answer}
@@ -18,7 +18,7 @@ use Rattle.nanorand.specs.declared.replay.Call.TheVariants.{Gen, Range, Shuffle}
 use Rattle.nanorand.specs.declared.replay.Answer.{Answer}
 use Rattle.nanorand.specs.declared.replay.Answer.TheVariants.{Unsigned, Truth, Exhausted, Shuffled}
 use Rattle.nanorand.proofs.WorkedRows.{steps_taken, steps_after}
-use Rattle.nanorand.proofs.WorkedPartners.{Makes, partner_between, three_partners, first_refused, script_taken, script_after}
+use Rattle.nanorand.proofs.PartnerLemmas.{Makes, partner_between, three_partners}
 
 -- what a replay goes on with behind a shuffle that is known
 module _ {G : Type 0} (bytes : G → ℕ → List ℕ) (after : G → ℕ → G) where
@@ -42,6 +42,10 @@ four_calls = Gen kinds.U8 ∷ Range (spans.U8 (Included 10) (Included 12)) ∷ S
 
 abbrev pub items_7_to_9 : List ℕ
 items_7_to_9 = 7 ∷ 8 ∷ 9 ∷ []
+
+-- no calls leave everything as it is
+no_calls : replayed steps_taken steps_after 5 items_7_to_9 [] ≡ record { answers = []; items = items_7_to_9; state = 5 }
+no_calls = refl
 
 -- a byte, a range, a shuffle and a truth of rising bytes: six blocks
 pub third_block_on : Makes steps_taken steps_after from_itself 3 2 (Ok tt) (0 ∷ 1 ∷ 2 ∷ []) 5

@@ -1,5 +1,5 @@
 -- Worked rows of runs: where they begin, and how many words are in them.
-use Rattle.std.specs.Prelude.{◌≡◌, ℕ, ◌%◌, ◌==◌, [], ◌∷◌, Option, is_some, is_none, map, refl}
+use Rattle.std.specs.Prelude.{◌≡◌, ◌%◌, ◌==◌, [], ◌∷◌, is_none, map, refl}
 use Rattle.std.specs.List.{range_with_len}
 use Rattle.nanorand.specs.Runs.{named, quota, rejected, first_word, words_that}
 use Rattle.nanorand.specs.Fairness.{passes}

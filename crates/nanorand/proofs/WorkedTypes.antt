@@ -1,15 +1,15 @@
 -- Worked rows of whole types as ranges: how many numbers they have, the least and the greatest.
-use Rattle.std.proofs.Common.{◌≡◌, ℕ, ◌+◌, ◌-◌, ◌^◌, ◌<◌, ◌≤◌, List, [], ◌∷◌, Ok, length, map, nat_le, nat_lt, refl, ap, ◌∙◌, inl, inr, arith, sym}
+use Rattle.std.proofs.Common.{◌≡◌, ℕ, ◌+◌, ◌-◌, ◌^◌, List, [], ◌∷◌, Ok, length, map, nat_le, nat_lt, refl, ap, ◌∙◌, inl, inr, arith, sym}
 use Rattle.std.specs.Prelude.{pos, negsuc, int_le, int_lt, replicate}
 use Rattle.std.specs.List.{range_with_len}
-use Rattle.std.specs.declared.ops.Bound.TheVariants.{Included, Unbounded}
+use Rattle.std.specs.declared.ops.Bound.TheVariants.{Included, Excluded, Unbounded}
 use Rattle.std.proofs.lemmas.Bool.{cases_lt, le-leb, lt-leb, lt-ltb, le-ltb}
 use Rattle.std.proofs.lemmas.List.FromFn.{length-map-range_with_len}
 use Rattle.std.proofs.lemmas.Nat.{pow_pos}
 use Rattle.nanorand.specs.Blocks.{taken, plain_after}
 use Rattle.nanorand.specs.Runs.{named}
-use Rattle.nanorand.specs.Range.{unsigned_number, signed_number, unsigned_range, signed_range, range_within}
-use Rattle.nanorand.specs.NumberLaws.{int_le-signed}
+use Rattle.nanorand.specs.Range.{unsigned_number, signed_number, unsigned_range, signed_range}
+use Rattle.nanorand.specs.NumberLaws.{int_le-signed, int_lt-signed}
 use Rattle.nanorand.specs.Draws.{unsigned_outcome, range_outcome, words_from, value_drawn, left_by, left_after}
 use Rattle.nanorand.proofs.RangeLemmas.{range-empty, range-places}
 
@@ -33,6 +33,33 @@ count_of_unsigned bits = ap length (all_unsigned bits) ∙ length-map-range_with
 
 count_of_signed : (bits : ℕ) → length (signed_range bits Unbounded Unbounded) ≡ 2 ^ bits
 count_of_signed bits = ap length (all_signed bits) ∙ length-map-range_with_len (signed_number bits) 0 (2 ^ bits)
+
+-- a range from the greatest number, and one up to the least, has that number alone
+module _ (bits : ℕ) where
+  last : 2 ^ bits - (2 ^ bits - 1) ≡ 1
+  last = omega (arith, pow_pos bits)
+
+  greatest_unsigned : unsigned_range bits (Included (2 ^ bits - 1)) Unbounded ≡ (2 ^ bits - 1) ∷ []
+  greatest_unsigned =
+      range-places nat_le nat_lt bits unsigned_number (Included (2 ^ bits - 1)) Unbounded (2 ^ bits - 1) (2 ^ bits)
+      (λ k. refl) (λ k in_type. sym (lt-ltb k (2 ^ bits) in_type)) (omega arith) (omega (arith, pow_pos bits))
+      ∙ ap (λ (n : ℕ). map unsigned_number (range_with_len (2 ^ bits - 1) n)) last
+
+  greatest_signed : signed_range bits (Included (signed_number bits (2 ^ bits - 1))) Unbounded ≡ signed_number bits (2 ^ bits - 1) ∷ []
+  greatest_signed =
+      range-places int_le int_lt bits (signed_number bits) (Included (signed_number bits (2 ^ bits - 1))) Unbounded (2 ^ bits - 1) (2 ^ bits)
+      (λ k. int_le-signed bits (2 ^ bits - 1) k) (λ k in_type. sym (lt-ltb k (2 ^ bits) in_type)) (omega arith) (omega (arith, pow_pos bits))
+      ∙ ap (λ (n : ℕ). map (signed_number bits) (range_with_len (2 ^ bits - 1) n)) last
+
+  least_unsigned : unsigned_range bits Unbounded (Excluded 1) ≡ 0 ∷ []
+  least_unsigned =
+      range-places nat_le nat_lt bits unsigned_number Unbounded (Excluded 1) 0 1
+      (λ k. sym (le-leb 0 k (omega arith))) (λ k in_type. refl) (pow_pos bits) (omega arith)
+
+  least_signed : signed_range bits Unbounded (Excluded (signed_number bits 1)) ≡ signed_number bits 0 ∷ []
+  least_signed =
+      range-places int_le int_lt bits (signed_number bits) Unbounded (Excluded (signed_number bits 1)) 0 1
+      (λ k. sym (le-leb 0 k (omega arith))) (λ k in_type. int_lt-signed bits k 1) (pow_pos bits) (omega arith)
 
 -- the numbers of the first and the last place
 least_and_greatest_of_8 : map (signed_number 8) (0 ∷ (2 ^ 8 - 1) ∷ []) ≡ negsuc 127 ∷ pos 127 ∷ []

@@ -2,9 +2,10 @@
 use Rattle.std.specs.Prelude.{◌≡◌, ℕ, ◌++◌, List, [], ◌∷◌, codes, replicate, take, refl}
 use Rattle.std.specs.Fn.{iterate}
 use Rattle.std.specs.List.{range_with_len}
+use Rattle.nanorand.specs.Blocks.{taken, plain_after}
 use Rattle.nanorand.specs.ChaChaRounds.{quarter_round, on_columns, on_diagonals, rounds, block}
 use Rattle.nanorand.specs.ChaChaInverse.{unquarter_round}
-use Rattle.nanorand.specs.ChaCha.{words, chacha_block, chacha_after, initial_state, seeded_state}
+use Rattle.nanorand.specs.ChaCha.{words, chacha_block, chacha_after, next_state, initial_state, seeded_state}
 
 -- the four words of the constant
 constant_words : words (codes "expand 32-byte k") ≡ 0x61707865 ∷ 0x3320646e ∷ 0x79622d32 ∷ 0x6b206574 ∷ []
@@ -64,6 +65,16 @@ vector_5_fourth : chacha_block 20 (chacha_after 3 in_order)
     ∷ 0x87 ∷ 0x46 ∷ 0xd4 ∷ 0x52 ∷ 0x4d ∷ 0x38 ∷ 0x40 ∷ 0x7a ∷ 0x6d ∷ 0xeb ∷ 0x3a ∷ 0xb7 ∷ 0x8f ∷ 0xab ∷ 0x78 ∷ 0xc9 ∷ []
 unfolding quarter_round on_columns on_diagonals rounds block initial_state
 vector_5_fourth = refl
+
+-- a request of 256 bytes gives the four blocks and leaves the state after them
+four_blocks_taken : taken (chacha_block 20) next_state in_order 256
+    ≡ chacha_block 20 (chacha_after 0 in_order) ++ chacha_block 20 (chacha_after 1 in_order) ++ chacha_block 20 (chacha_after 2 in_order) ++ chacha_block 20 (chacha_after 3 in_order)
+unfolding block initial_state taken
+four_blocks_taken = refl
+
+state_after_four : plain_after next_state 64 in_order 256 ≡ chacha_after 4 in_order
+unfolding initial_state
+state_after_four = refl
 
 -- the seed of 40 bytes is the key and then the nonce
 seeded_in_order : seeded_state (range_with_len 0 32 ++ range_with_len 0 8) ≡ in_order
