@@ -6,5 +6,6 @@ mod WorkedDraws
 mod WorkedTexts
 mod WorkedRequests
 mod WorkedCommands
+mod WorkedShuffles
 mod WorkedBadRequests
 mod WorkedBadWords

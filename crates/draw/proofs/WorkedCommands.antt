@@ -12,14 +12,13 @@ use Rattle.nanorand.specs.ChaCha.{initial_state}
 use Rattle.nanorand.specs.Runs.{named}
 use Rattle.nanorand.specs.Range.{range_within}
 use Rattle.nanorand.specs.Draws.{words_from, value_drawn, left_by, left_after}
-use Rattle.nanorand.specs.declared.replay.Answer.TheVariants.{Empty, Shuffled}
 use Rattle.nanorand.specs.declared.replay.Kind.TheVariants as kinds
 use Rattle.nanorand.specs.declared.replay.Span.TheVariants as spans
 use Rattle.nanorand.specs.declared.replay.Call.TheVariants.{Gen, Range, Shuffle}
 use Rattle.draw.specs.declared.order.Mode.TheVariants.{Plain, Buffered}
 use Rattle.draw.specs.declared.order.Source.TheVariants.{WyRand, Pcg64, ChaCha20}
 use Rattle.draw.specs.Words.{Asked, Says, IsCount}
-use Rattle.draw.specs.Text.{text_of, text_asked}
+use Rattle.draw.specs.Text.{text_asked}
 use Rattle.draw.proofs.WorkedRequests.{u8_10_to_12, u8_empty, seed_of_pcg64, seed_of_zeros, seed_in_order}
 
 no_items : IsCount (codes "0") 0
@@ -62,7 +61,7 @@ unfolding quarter_round on_columns on_diagonals rounds block initial_state named
 text_of_zeros = refl
 
 -- `chacha20`, the key and the nonce in order, `plain 0 u8 u8 u8 u8`
-abbrev in_order : List ℕ
+abbrev pub in_order : List ℕ
 in_order = range_with_len 0 32 ++ range_with_len 0 8
 
 abbrev digits_in_order : List ℕ
@@ -78,29 +77,23 @@ text_in_order : text_asked four_in_order ≡ codes "247" ++ 10 ∷ codes "56" ++
 unfolding quarter_round on_columns on_diagonals rounds block initial_state taken digits
 text_in_order = refl
 
--- `wyrand d19b42879be2895f plain 1 u8:5..5 shuffle`, and the text of an empty range and a shuffle of one item
-abbrev empty_and_shuffle : Asked
+-- `wyrand d19b42879be2895f plain 1 u8:5..5 shuffle`
+abbrev pub empty_and_shuffle : Asked
 empty_and_shuffle = record { source = WyRand (0xd1 ∷ 0x9b ∷ 0x42 ∷ 0x87 ∷ 0x9b ∷ 0xe2 ∷ 0x89 ∷ 0x5f ∷ []); mode = Plain; count = 1; calls = Range (spans.U8 (Included 5) (Excluded 5)) ∷ Shuffle ∷ [] }
 
 says_empty_and_shuffle : Says (codes "wyrand" ∷ codes "d19b42879be2895f" ∷ codes "plain" ∷ codes "1" ∷ codes "u8:5..5" ∷ codes "shuffle" ∷ []) empty_and_shuffle
 unfolding decode_pairs
 says_empty_and_shuffle = record { generator = refl; seed = refl; mode = refl; count = one_item; requests = (u8_empty, (refl, tt)) }
 
-text_of_empty_and_shuffle : text_of (record { answers = Empty ∷ Shuffled ∷ []; items = 0 ∷ [] }) ≡ codes "empty" ++ 10 ∷ codes "shuffled" ++ 10 ∷ codes "items: 0" ++ 10 ∷ []
-unfolding digits
-text_of_empty_and_shuffle = refl
+-- a shuffle of three items, plain and buffered
+abbrev pub shuffle_in_order : Asked
+shuffle_in_order = record { source = ChaCha20 in_order; mode = Plain; count = 3; calls = Shuffle ∷ [] }
 
--- a shuffle of three items, plain and buffered, and the texts of the orders that come of it
-says_shuffle_in_order : Says (codes "chacha20" ∷ digits_in_order ∷ codes "plain" ∷ codes "3" ∷ codes "shuffle" ∷ []) (record { source = ChaCha20 in_order; mode = Plain; count = 3; calls = Shuffle ∷ [] })
+says_shuffle_in_order : Says (codes "chacha20" ∷ digits_in_order ∷ codes "plain" ∷ codes "3" ∷ codes "shuffle" ∷ []) shuffle_in_order
 says_shuffle_in_order = record { generator = refl; seed = seed_in_order; mode = refl; count = three_items; requests = (refl, tt) }
 
-text_of_shuffle_in_order : text_of (record { answers = Shuffled ∷ []; items = 1 ∷ 2 ∷ 0 ∷ [] }) ≡ codes "shuffled" ++ 10 ∷ codes "items: 1 2 0" ++ 10 ∷ []
-unfolding digits
-text_of_shuffle_in_order = refl
+abbrev pub shuffle_of_zeros : Asked
+shuffle_of_zeros = record { source = ChaCha20 (replicate 40 0); mode = Buffered; count = 3; calls = Shuffle ∷ [] }
 
-says_shuffle_of_zeros : Says (codes "chacha20" ∷ replicate 80 48 ∷ codes "buffered" ∷ codes "3" ∷ codes "shuffle" ∷ []) (record { source = ChaCha20 (replicate 40 0); mode = Buffered; count = 3; calls = Shuffle ∷ [] })
+says_shuffle_of_zeros : Says (codes "chacha20" ∷ replicate 80 48 ∷ codes "buffered" ∷ codes "3" ∷ codes "shuffle" ∷ []) shuffle_of_zeros
 says_shuffle_of_zeros = record { generator = refl; seed = seed_of_zeros; mode = refl; count = three_items; requests = (refl, tt) }
-
-text_of_shuffle_of_zeros : text_of (record { answers = Shuffled ∷ []; items = 1 ∷ 0 ∷ 2 ∷ [] }) ≡ codes "shuffled" ++ 10 ∷ codes "items: 1 0 2" ++ 10 ∷ []
-unfolding digits
-text_of_shuffle_of_zeros = refl
