@@ -2,3 +2,10 @@ mod AllRequests
 mod FirstWords
 mod RangeText
 mod WorkedRows
+mod WorkedDraws
+mod WorkedTexts
+mod WorkedRequests
+mod WorkedCommands
+mod WorkedShuffles
+mod WorkedBadRequests
+mod WorkedBadWords

@@ -1,7 +1,9 @@
 -- Worked rows of Pcg64, computed from the definitions alone.
-use Rattle.std.specs.Prelude.{◌≡◌, ℕ, ◌+◌, ◌*◌, ◌%◌, ◌^◌, [], ◌∷◌, refl}
+use Rattle.std.specs.Prelude.{◌≡◌, ℕ, ◌+◌, ◌*◌, ◌%◌, ◌^◌, [], ◌∷◌, map, refl}
+use Rattle.std.specs.Fn.{iterate}
+use Rattle.std.specs.List.{range_with_len}
 use Rattle.std.proofs.Common.{◌∙◌, arith}
-use Rattle.nanorand.specs.Pcg64.{multiplier, factor, term, next_seed, Generator, next, pcg64_block, reseeded, seed_after, pcg64_after}
+use Rattle.nanorand.specs.Pcg64.{multiplier, factor, term, next_seed, Generator, next, pcg64_block, reseeded, geometric_sum, affine_after, seed_after, pcg64_after}
 use Rattle.nanorand.specs.Pcg64Laws.{seed_after-zero}
 use Rattle.nanorand.proofs.Pcg64Lemmas.{seed_after-half, seed_after-agree}
 
@@ -40,3 +42,23 @@ whole_way_round = (seed_after-agree 5 (2 ^ 126) 0).1 refl ∙ seed_after-zero 5
 
 no_jump : (g : Generator) → pcg64_after 0 g ≡ g
 no_jump g = refl
+
+-- the constants in digits, and what they are modulo powers of 2
+multiplier_in_digits : multiplier ≡ 0x2360ed051fc65da44385df649fccf645
+multiplier_in_digits = refl
+
+term_is_odd : term % 2 ≡ 1
+term_is_odd = refl
+
+-- modulo 8 a draw takes s to 7 - s
+draws_modulo_8 : map (λ s. next_seed s % 8) (range_with_len 0 8) ≡ 7 ∷ 6 ∷ 5 ∷ 4 ∷ 3 ∷ 2 ∷ 1 ∷ 0 ∷ []
+draws_modulo_8 = refl
+
+-- a hundred draws, one by one and in one sum
+hundred_draws : (iterate next 100 from_zero).seed ≡ seed_after 100 0
+unfolding affine_after geometric_sum
+hundred_draws = refl
+
+hundred_at_once : iterate next 100 from_zero ≡ pcg64_after 100 from_zero
+unfolding affine_after geometric_sum
+hundred_at_once = refl

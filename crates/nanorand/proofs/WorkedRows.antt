@@ -85,6 +85,12 @@ signed_byte = refl
 low_byte_first : number_of (0x10 ∷ 0x11 ∷ []) ≡ 0x1110
 low_byte_first = refl
 
+seed_of_8_bytes : number_of (0x2a ∷ 0 ∷ 0 ∷ 0 ∷ 0 ∷ 0 ∷ 0 ∷ 0 ∷ []) ≡ 42
+seed_of_8_bytes = refl
+
+seed_of_16_bytes : number_of (1 ∷ 0 ∷ 0 ∷ 0 ∷ 0 ∷ 0 ∷ 0 ∷ 0 ∷ 0 ∷ 0 ∷ 0 ∷ 0 ∷ 0 ∷ 0 ∷ 0 ∷ 0 ∷ []) ≡ 1
+seed_of_16_bytes = refl
+
 truth_below_half : truth_of (127 ∷ []) ≡ true
 truth_below_half = refl
 

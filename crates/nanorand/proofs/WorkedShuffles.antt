@@ -1,15 +1,14 @@
 -- Worked rows of shuffles: what choices make of three items, and the choices that three words make.
-use Rattle.std.proofs.Common.{◌≡◌, ℕ, ◌+◌, ◌-◌, ◌^◌, ◌<◌, ◌≤◌, List, [], ◌∷◌, Ok, length, map, min, nat_le, nat_lt, refl, ap, ◌∙◌, arith}
+use Rattle.std.proofs.Common.{◌≡◌, ℕ, ◌+◌, ◌-◌, ◌<◌, List, [], ◌∷◌, Ok, length, map, min, refl, ap, ◌∙◌, arith}
 use Rattle.std.specs.Prelude.{codes, replicate, slice_index_or}
 use Rattle.std.specs.List.{range_with_len}
-use Rattle.std.specs.declared.ops.Bound.TheVariants.{Included, Excluded}
 use Rattle.nanorand.specs.Blocks.{taken, plain_after}
 use Rattle.nanorand.specs.Runs.{named}
-use Rattle.nanorand.specs.Range.{unsigned_number, unsigned_range}
+use Rattle.nanorand.specs.Range.{unsigned_number}
 use Rattle.nanorand.specs.Draws.{range_outcome, words_from, value_drawn, left_by, left_after}
 use Rattle.nanorand.specs.Shuffles.{arranged, from_all, from_itself, partner_drawn, choices_from, shuffle_choices, shuffle_answer, shuffle_state, state_after_places}
 use Rattle.nanorand.specs.Arrangements.{rising}
-use Rattle.nanorand.proofs.RangeLemmas.{range-places}
+use Rattle.nanorand.proofs.PartnerLemmas.{numbers_between}
 
 -- the six valid lists of three choices, and the arrangements that they make
 nothing_moved : arranged (0 ∷ 1 ∷ 2 ∷ []) (rising 3) ≡ 0 ∷ 1 ∷ 2 ∷ []
@@ -39,11 +38,6 @@ script_taken = taken script_block (λ n. n + 1)
 
 abbrev script_after : ℕ → ℕ → ℕ
 script_after = plain_after (λ n. n + 1) 8
-
--- The numbers from a to b - 1, without a walk through all numbers of 64 bits.
-numbers_between : (a b : ℕ) → a < b → b ≤ 2 ^ 64 → unsigned_range 64 (Included a) (Excluded b) ≡ map unsigned_number (range_with_len a (b - a))
-numbers_between a b some within =
-    range-places nat_le nat_lt 64 unsigned_number (Included a) (Excluded b) a b (λ k. refl) (λ k in_type. refl) within some
 
 partner_between : (first : ℕ → ℕ) (i g : ℕ) → first i < 3
     → partner_drawn script_taken script_after first 3 i g
