@@ -1,6 +1,8 @@
 //! An allocator for tests: it counts the requests for memory, and refuses those that it is told to.
 #![tactic(auto)]
 
+ghost use Rattle.std.specs.Prelude.{◌≡◌};
+
 use std::alloc::{AllocError, Allocator};
 use std::cell::Cell;
 
@@ -41,7 +43,9 @@ pub struct Refusing<B: Allocator> {
 
 impl<B: Allocator> Refusing<B> {
     /// Refuses the request of that number alone, counted from 1. At 0 it refuses none.
-    pub fn nth(inner: B, number: u64) -> Refusing<B> {
+    pub fn nth(inner: B, number: u64) -> Refusing<B>
+        ensures inner { result.inner ≡ inner }
+    {
         Refusing {
             inner,
             turns: Turns::refusing(number, number),
@@ -49,7 +53,9 @@ impl<B: Allocator> Refusing<B> {
     }
 
     /// Refuses the request of that number, counted from 1, and each later one.
-    pub fn from_nth(inner: B, number: u64) -> Refusing<B> {
+    pub fn from_nth(inner: B, number: u64) -> Refusing<B>
+        ensures inner { result.inner ≡ inner }
+    {
         Refusing {
             inner,
             turns: Turns::refusing(number, u64::MAX),
