@@ -1,9 +1,12 @@
 //! Proved callers, one for each use. The page `CALLING.md` of the library quotes them.
-ghost use Rattle.std.specs.Prelude.{◌≡◌, ◌≤◌, ◌+◌, ◌++◌, [], length, IsPermutation};
+ghost use Rattle.std.specs.Prelude.{◌≡◌, ◌≤◌, ◌+◌, ◌++◌, [], length, MatchResult, IsPermutation};
+ghost use Rattle.std.specs.declared.ops.Bound.TheVariants.{Included};
 ghost use Rattle.nanorand.specs.Blocks.{plain_after, taken};
 ghost use Rattle.nanorand.specs.Buffered.{buffered_taken};
+ghost use Rattle.nanorand.specs.Draws.{unsigned_outcome};
 ghost use Rattle.nanorand.specs.Pcg64.{pcg64_after};
 ghost use Rattle.nanorand.specs.Replay.{replayed};
+ghost use Rattle.nanorand.specs.Shuffles.{from_itself, shuffle_answer};
 ghost use Rattle.nanorand.specs.Values.{number_of};
 ghost use Rattle.nanorand.specs.WyRand.{next_seed, wyrand_block};
 
@@ -24,6 +27,7 @@ pub fn ticket(seed: u64) -> u64
 /// A throw of a die, from any generator. It is 1 where 128 words in a row were rejected.
 pub fn throw<G: Rng<OUTPUT>, const OUTPUT: usize>(rng: &mut G) -> u8
     ensures face { (1 ≤ result) × (result ≤ 6) }
+    ensures thrown { MatchResult (unsigned_outcome (taken G.block G.step) G.after 8 rng.old (Included 1) (Included 6)).0 (λ pips. result ≡ pips) (λ _. result ≡ 1) }
 {
     match draw_number::<u8, G, OUTPUT>(rng, Bound::Included(1), Bound::Included(6)) {
         Ok(pips) => pips,
@@ -34,6 +38,7 @@ pub fn throw<G: Rng<OUTPUT>, const OUTPUT: usize>(rng: &mut G) -> u8
 /// Shuffles a pack of cards. None is lost and none is made, also where the shuffle is refused.
 pub fn shuffle_cards(seed: u64, cards: &mut [u8]) -> Result<(), RangeError>
     ensures pack { IsPermutation cards.old cards.new }
+    ensures answer { result ≡ shuffle_answer (taken wyrand_block next_seed) (plain_after next_seed 8) from_itself (length cards.old) seed }
 {
     let mut rng = WyRand::new_seed(seed);
     rng.shuffle(cards)

@@ -1,5 +1,5 @@
 //! A proved caller of a buffer in a buffer: it has the contract of a buffer over any generator.
-ghost use Rattle.std.specs.Prelude.{◌≡◌, length};
+ghost use Rattle.std.specs.Prelude.{◌≡◌, length, Ok};
 ghost use Rattle.nanorand.specs.Buffered.{buffered_after, buffered_block, buffered_step, buffered_taken};
 ghost use Rattle.nanorand_rows.specs.Steps.{next_count, steps_block};
 
@@ -14,6 +14,7 @@ pub fn read_nested(
 ) -> io::Result<usize>
     ensures bytes { out.new ≡ buffered_taken (buffered_block steps_block next_count 8) (buffered_step steps_block next_count 8) 8 rng.old (length out.old) }
     ensures state { rng.new ≡ buffered_after (buffered_block steps_block next_count 8) (buffered_step steps_block next_count 8) 8 rng.old (length out.old) }
+    ensures value { result ≡ Ok (length out.old) }
 {
     rng.read(out)
 }

@@ -1,7 +1,7 @@
 //! An allocator for tests: it counts the requests for memory, and refuses those that it is told to.
 #![tactic(auto)]
 
-ghost use Rattle.std.specs.Prelude.{◌≡◌};
+ghost use Rattle.std.specs.Prelude.{◌≡◌, ◌-◌, ◌^◌};
 
 use std::alloc::{AllocError, Allocator};
 use std::cell::Cell;
@@ -15,7 +15,9 @@ struct Turns {
 }
 
 impl Turns {
-    fn refusing(first: u64, last: u64) -> Turns {
+    fn refusing(first: u64, last: u64) -> Turns
+        ensures { (result.first ≡ first) × (result.last ≡ last) }
+    {
         Turns {
             counted: Cell::new(0),
             first,
@@ -45,6 +47,7 @@ impl<B: Allocator> Refusing<B> {
     /// Refuses the request of that number alone, counted from 1. At 0 it refuses none.
     pub fn nth(inner: B, number: u64) -> Refusing<B>
         ensures inner { result.inner ≡ inner }
+        ensures turns { (result.turns.first ≡ number) × (result.turns.last ≡ number) }
     {
         Refusing {
             inner,
@@ -55,6 +58,7 @@ impl<B: Allocator> Refusing<B> {
     /// Refuses the request of that number, counted from 1, and each later one.
     pub fn from_nth(inner: B, number: u64) -> Refusing<B>
         ensures inner { result.inner ≡ inner }
+        ensures turns { (result.turns.first ≡ number) × (result.turns.last ≡ 2 ^ 64 - 1) }
     {
         Refusing {
             inner,
