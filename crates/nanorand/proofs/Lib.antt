@@ -11,6 +11,7 @@ mod WorkedPcg64
 mod WorkedWyRand
 mod WorkedDistances
 mod WyRandLemmas
+mod WorkedGenerators
 mod WorkedRows
 mod WorkedRanges
 mod WorkedWords

@@ -11,9 +11,8 @@ use Rattle.nanorand.specs.Shuffles.{from_itself, partner_drawn}
 use Rattle.nanorand.specs.declared.replay.Kind.TheVariants as kinds
 use Rattle.nanorand.specs.declared.replay.Span.TheVariants as spans
 use Rattle.nanorand.specs.declared.replay.Call.TheVariants.{Gen, Range}
-use Rattle.nanorand.proofs.WorkedRows.{steps_taken, steps_after}
+use Rattle.nanorand.proofs.WorkedGenerators.{steps_taken, steps_after, script_taken, script_after}
 use Rattle.nanorand.proofs.PartnerLemmas.{numbers_between, partner_between}
-use Rattle.nanorand.proofs.WorkedPartners.{script_taken, script_after}
 use Rattle.nanorand.proofs.WorkedReplays.{four_calls, items_7_to_9, third_block_on}
 
 -- a value asks for its size, a range for its words up to the deciding one, or for all 128, and an empty one for none

@@ -1,18 +1,11 @@
 -- Worked rows of requests and of what is kept of them, computed from the definitions alone.
-use Rattle.std.specs.Prelude.{◌≡◌, ℕ, ◌+◌, ◌*◌, ◌%◌, List, [], ◌∷◌, length, map, refl}
+use Rattle.std.specs.Prelude.{◌≡◌, ℕ, List, [], ◌∷◌, length, refl}
 use Rattle.std.specs.List.{range_with_len}
 use Rattle.nanorand.specs.Blocks.{taken, plain_after}
 use Rattle.nanorand.specs.Buffered.{Buffered, buffer_of, buffered_block, buffered_step, buffered_taken, buffered_after}
 use Rattle.nanorand.specs.Values.{number_of, values_from}
 use Rattle.nanorand.specs.WyRand.{next_seed, wyrand_block}
-use Rattle.nanorand.proofs.WorkedRows.{steps_taken, steps_after}
-
--- bytes 0, 1, 2, .. in blocks of so many, by the number of the blocks
-abbrev rising_block : ℕ → ℕ → List ℕ
-rising_block size n = map (λ i. (size * n + i) % 256) (range_with_len 0 size)
-
-abbrev next_count : ℕ → ℕ
-next_count n = n + 1
+use Rattle.nanorand.proofs.WorkedGenerators.{next_count, rising_block, steps_taken, steps_after}
 
 abbrev kept_taken : ℕ → Buffered ℕ → ℕ → List ℕ
 kept_taken size = buffered_taken (rising_block size) next_count size

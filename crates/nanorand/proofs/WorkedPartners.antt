@@ -1,20 +1,13 @@
 -- Worked rows of shuffles by their partners: of three items from several generators, in both versions, and of four.
-use Rattle.std.proofs.Common.{◌≡◌, ℕ, ◌+◌, List, [], ◌∷◌, Ok, Err, refl, ◌∙◌, arith}
-use Rattle.std.specs.Prelude.{codes, replicate, slice_index_or}
-use Rattle.nanorand.specs.Blocks.{taken, plain_after}
+use Rattle.std.proofs.Common.{◌≡◌, ℕ, ◌+◌, [], ◌∷◌, Ok, Err, refl, ◌∙◌, arith}
+use Rattle.std.specs.Prelude.{codes, replicate}
+use Rattle.nanorand.specs.Blocks.{taken}
 use Rattle.nanorand.specs.Runs.{named}
 use Rattle.nanorand.specs.Draws.{words_from, value_drawn, left_by, left_after}
 use Rattle.nanorand.specs.Shuffles.{arranged, from_all, from_itself, partner_drawn, choices_from, shuffle_choices}
 use Rattle.nanorand.specs.declared.values.range.RangeError.TheVariants.{Exhausted}
 use Rattle.nanorand.proofs.PartnerLemmas.{Makes, partner_between, none_to_shuffle, three_partners, first_refused, second_refused}
-use Rattle.nanorand.proofs.WorkedRows.{steps_taken, steps_after}
-
--- the bytes of a list, a block of eight each, and zeros after it
-abbrev pub script_taken : List ℕ → ℕ → ℕ → List ℕ
-script_taken bytes = taken (λ n. replicate 8 (slice_index_or bytes n 0)) (λ n. n + 1)
-
-abbrev pub script_after : ℕ → ℕ → ℕ
-script_after = plain_after (λ n. n + 1) 8
+use Rattle.nanorand.proofs.WorkedGenerators.{steps_taken, steps_after, script_taken, script_after}
 
 -- no items draw nothing
 none_shuffled : Makes steps_taken steps_after from_itself 0 7 (Ok tt) [] 7

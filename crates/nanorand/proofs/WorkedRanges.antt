@@ -11,7 +11,7 @@ use Rattle.nanorand.specs.declared.replay.Kind.TheVariants as kinds
 use Rattle.nanorand.specs.declared.replay.Span.TheVariants as spans
 use Rattle.nanorand.specs.declared.replay.Call.TheVariants.{Gen, Range}
 use Rattle.nanorand.specs.declared.replay.Answer.TheVariants as answers
-use Rattle.nanorand.proofs.WorkedRows.{steps_taken, steps_after}
+use Rattle.nanorand.proofs.WorkedGenerators.{steps_taken, steps_after}
 
 -- what words of 8 bits name below 3, below 171 and below 256
 thirds_of_a_byte : map (named 8 3) (0 ∷ 1 ∷ 85 ∷ 86 ∷ 170 ∷ 171 ∷ 255 ∷ []) ≡ None ∷ Some 0 ∷ Some 0 ∷ Some 1 ∷ Some 1 ∷ Some 2 ∷ Some 2 ∷ []

@@ -1,9 +1,9 @@
 -- Worked rows of replays that go on behind a refusal: 128 zeros are drawn, plain and from a buffer.
-use Rattle.std.proofs.Common.{◌≡◌, ℕ, ◌+◌, List, [], ◌∷◌, ◌++◌, Err, refl, ap, ◌∙◌, arith}
-use Rattle.std.specs.Prelude.{true, replicate, slice_index_or}
+use Rattle.std.proofs.Common.{◌≡◌, ℕ, List, [], ◌∷◌, ◌++◌, Err, refl, ap, ◌∙◌, arith}
+use Rattle.std.specs.Prelude.{true, replicate}
 use Rattle.std.specs.declared.ops.Bound.TheVariants.{Included}
 use Rattle.nanorand.specs.Blocks.{taken}
-use Rattle.nanorand.specs.Buffered.{Buffered, buffer_of, buffered_block, buffered_step, buffered_taken, buffered_after}
+use Rattle.nanorand.specs.Buffered.{buffer_of, buffered_taken, buffered_after}
 use Rattle.nanorand.specs.Runs.{named}
 use Rattle.nanorand.specs.Range.{range_within}
 use Rattle.nanorand.specs.Draws.{words_from, value_drawn, left_by, left_after}
@@ -16,21 +16,8 @@ use Rattle.nanorand.specs.declared.replay.Call.{Call}
 use Rattle.nanorand.specs.declared.replay.Call.TheVariants.{Gen, Range, Shuffle}
 use Rattle.nanorand.specs.declared.replay.Answer.TheVariants.{Unsigned, Truth, Exhausted}
 use Rattle.nanorand.proofs.PartnerLemmas.{Makes, partner_between, first_refused}
-use Rattle.nanorand.proofs.WorkedPartners.{script_taken, script_after}
+use Rattle.nanorand.proofs.WorkedGenerators.{script_taken, script_after, script_kept_taken, script_kept_after}
 use Rattle.nanorand.proofs.WorkedReplays.{goes_on, refused_shuffle}
-
--- the bytes of a list, a block of eight each, and zeros after it
-abbrev script : List ℕ → ℕ → List ℕ
-script bytes n = replicate 8 (slice_index_or bytes n 0)
-
-abbrev next_count : ℕ → ℕ
-next_count n = n + 1
-
-abbrev kept_taken : List ℕ → Buffered ℕ → ℕ → List ℕ
-kept_taken bytes = taken (buffered_block (script bytes) next_count 8) (buffered_step (script bytes) next_count 8)
-
-abbrev kept_after : List ℕ → Buffered ℕ → ℕ → Buffered ℕ
-kept_after bytes = buffered_after (script bytes) next_count 8
 
 abbrev range_and_byte : List Call
 range_and_byte = Range (spans.U8 (Included 10) (Included 12)) ∷ Gen kinds.U8 ∷ []
@@ -43,7 +30,7 @@ byte_of_block_129 : replayed (script_taken late_one) script_after 0 [] range_and
 unfolding named range_within words_from value_drawn left_by left_after taken
 byte_of_block_129 = refl
 
-byte_of_block_17 : replayed (kept_taken late_one) (kept_after late_one) (buffer_of [] 0) [] range_and_byte
+byte_of_block_17 : replayed (script_kept_taken late_one) (script_kept_after late_one) (buffer_of [] 0) [] range_and_byte
     ≡ record { answers = Exhausted ∷ Unsigned 0 ∷ []; items = []; state = buffer_of (replicate 7 0) 17 }
 unfolding named range_within words_from value_drawn left_by left_after taken buffered_taken buffered_after
 byte_of_block_17 = refl
@@ -65,15 +52,15 @@ truth_of_block_129 =
     ap (goes_on (script_taken []) script_after [] (Gen kinds.Bool ∷ []))
     (refused_shuffle (script_taken []) script_after 0 128 [] 7 8 9 zeros_refuse) ∙ refl
 
-kept_zeros_refuse : Makes (kept_taken []) (kept_after []) from_itself 3 (buffer_of [] 0) (Err refusals.Exhausted) [] (buffer_of [] 128)
+kept_zeros_refuse : Makes (script_kept_taken []) (script_kept_after []) from_itself 3 (buffer_of [] 0) (Err refusals.Exhausted) [] (buffer_of [] 128)
 unfolding named words_from value_drawn left_by left_after taken buffered_taken buffered_after
 kept_zeros_refuse =
-    first_refused (kept_taken []) (kept_after []) from_itself (buffer_of [] 0) (buffer_of [] 128)
-    (partner_between (kept_taken []) (kept_after []) from_itself 3 0 (buffer_of [] 0) (omega arith) (omega arith) ∙ refl)
+    first_refused (script_kept_taken []) (script_kept_after []) from_itself (buffer_of [] 0) (buffer_of [] 128)
+    (partner_between (script_kept_taken []) (script_kept_after []) from_itself 3 0 (buffer_of [] 0) (omega arith) (omega arith) ∙ refl)
 
-kept_truth_of_block_129 : replayed (kept_taken []) (kept_after []) (buffer_of [] 0) (7 ∷ 8 ∷ 9 ∷ []) shuffle_and_truth
+kept_truth_of_block_129 : replayed (script_kept_taken []) (script_kept_after []) (buffer_of [] 0) (7 ∷ 8 ∷ 9 ∷ []) shuffle_and_truth
     ≡ record { answers = Exhausted ∷ Truth true ∷ []; items = 7 ∷ 8 ∷ 9 ∷ []; state = buffer_of (replicate 7 0) 129 }
 unfolding taken buffered_taken buffered_after
 kept_truth_of_block_129 =
-    ap (goes_on (kept_taken []) (kept_after []) [] (Gen kinds.Bool ∷ []))
-    (refused_shuffle (kept_taken []) (kept_after []) (buffer_of [] 0) (buffer_of [] 128) [] 7 8 9 kept_zeros_refuse) ∙ refl
+    ap (goes_on (script_kept_taken []) (script_kept_after []) [] (Gen kinds.Bool ∷ []))
+    (refused_shuffle (script_kept_taken []) (script_kept_after []) (buffer_of [] 0) (buffer_of [] 128) [] 7 8 9 kept_zeros_refuse) ∙ refl

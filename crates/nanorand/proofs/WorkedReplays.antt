@@ -1,10 +1,10 @@
 -- Worked rows of whole replays, plain and buffered, also after refusals.
-use Rattle.std.proofs.Common.{◌≡◌, ℕ, ◌+◌, List, [], ◌∷◌, ◌++◌, Ok, Err, refl, ap, ◌∙◌, arith}
+use Rattle.std.proofs.Common.{◌≡◌, ℕ, List, [], ◌∷◌, ◌++◌, Ok, Err, refl, ap, ◌∙◌, arith}
 use Rattle.std.specs.Prelude.{true}
 use Rattle.std.specs.List.{range_with_len}
 use Rattle.std.specs.declared.ops.Bound.TheVariants.{Included}
 use Rattle.nanorand.specs.Blocks.{taken}
-use Rattle.nanorand.specs.Buffered.{Buffered, buffer_of, buffered_block, buffered_step, buffered_taken, buffered_after}
+use Rattle.nanorand.specs.Buffered.{buffer_of, buffered_taken, buffered_after}
 use Rattle.nanorand.specs.Runs.{named}
 use Rattle.nanorand.specs.Range.{range_within}
 use Rattle.nanorand.specs.Draws.{words_from, value_drawn, left_by, left_after}
@@ -17,7 +17,7 @@ use Rattle.nanorand.specs.declared.replay.Call.{Call}
 use Rattle.nanorand.specs.declared.replay.Call.TheVariants.{Gen, Range, Shuffle}
 use Rattle.nanorand.specs.declared.replay.Answer.{Answer}
 use Rattle.nanorand.specs.declared.replay.Answer.TheVariants.{Unsigned, Truth, Exhausted, Shuffled}
-use Rattle.nanorand.proofs.WorkedRows.{steps_taken, steps_after}
+use Rattle.nanorand.proofs.WorkedGenerators.{steps_taken, steps_after, steps_kept_taken, steps_kept_after}
 use Rattle.nanorand.proofs.PartnerLemmas.{Makes, partner_between, three_partners}
 
 -- what a replay goes on with behind a shuffle that is known
@@ -63,37 +63,24 @@ replay_of_rising_bytes =
     ap (goes_on steps_taken steps_after (Unsigned 0 ∷ Unsigned 10 ∷ []) (Gen kinds.Bool ∷ []))
     (whole_shuffle steps_taken steps_after 2 5 (0 ∷ 1 ∷ 2 ∷ []) 7 8 9 third_block_on) ∙ refl
 
--- the same through a buffer: 27 bytes of four blocks, and five are kept
-abbrev steps_block : ℕ → List ℕ
-steps_block n = steps_taken n 8
-
-abbrev next_count : ℕ → ℕ
-next_count n = n + 1
-
-abbrev kept_taken : Buffered ℕ → ℕ → List ℕ
-kept_taken = taken (buffered_block steps_block next_count 8) (buffered_step steps_block next_count 8)
-
-abbrev kept_after : Buffered ℕ → ℕ → Buffered ℕ
-kept_after = buffered_after steps_block next_count 8
-
-two_bytes_on : Makes kept_taken kept_after from_itself 3 (buffer_of (range_with_len 2 6) 1) (Ok tt) (0 ∷ 1 ∷ 2 ∷ []) (buffer_of (range_with_len 26 6) 4)
+two_bytes_on : Makes steps_kept_taken steps_kept_after from_itself 3 (buffer_of (range_with_len 2 6) 1) (Ok tt) (0 ∷ 1 ∷ 2 ∷ []) (buffer_of (range_with_len 26 6) 4)
 unfolding named words_from value_drawn left_by left_after taken buffered_taken buffered_after
 two_bytes_on =
-    let between = partner_between kept_taken kept_after from_itself 3 in
-    three_partners kept_taken kept_after from_itself
+    let between = partner_between steps_kept_taken steps_kept_after from_itself 3 in
+    three_partners steps_kept_taken steps_kept_after from_itself
     (buffer_of (range_with_len 2 6) 1) (buffer_of (range_with_len 10 6) 2) (buffer_of (range_with_len 18 6) 3) (buffer_of (range_with_len 26 6) 4) 0 1 2
     (between 0 (buffer_of (range_with_len 2 6) 1) (omega arith) (omega arith) ∙ refl)
     (between 1 (buffer_of (range_with_len 10 6) 2) (omega arith) (omega arith) ∙ refl)
     (between 2 (buffer_of (range_with_len 18 6) 3) (omega arith) (omega arith) ∙ refl)
 
-buffered_replay_of_rising_bytes : replayed kept_taken kept_after (buffer_of [] 0) items_7_to_9 four_calls
+buffered_replay_of_rising_bytes : replayed steps_kept_taken steps_kept_after (buffer_of [] 0) items_7_to_9 four_calls
     ≡ record { answers = Unsigned 0 ∷ Unsigned 10 ∷ Shuffled ∷ Truth true ∷ []; items = items_7_to_9; state = buffer_of (27 ∷ 28 ∷ 29 ∷ 30 ∷ 31 ∷ []) 4 }
 unfolding named range_within words_from value_drawn left_by left_after taken buffered_taken buffered_after
 buffered_replay_of_rising_bytes =
-    ap (goes_on kept_taken kept_after (Unsigned 0 ∷ Unsigned 10 ∷ []) (Gen kinds.Bool ∷ []))
-    (whole_shuffle kept_taken kept_after (buffer_of (range_with_len 2 6) 1) (buffer_of (range_with_len 26 6) 4) (0 ∷ 1 ∷ 2 ∷ []) 7 8 9 two_bytes_on) ∙ refl
+    ap (goes_on steps_kept_taken steps_kept_after (Unsigned 0 ∷ Unsigned 10 ∷ []) (Gen kinds.Bool ∷ []))
+    (whole_shuffle steps_kept_taken steps_kept_after (buffer_of (range_with_len 2 6) 1) (buffer_of (range_with_len 26 6) 4) (0 ∷ 1 ∷ 2 ∷ []) 7 8 9 two_bytes_on) ∙ refl
 
-twenty_seven_bytes : kept_after (buffer_of [] 0) 27 ≡ buffer_of (27 ∷ 28 ∷ 29 ∷ 30 ∷ 31 ∷ []) 4
+twenty_seven_bytes : steps_kept_after (buffer_of [] 0) 27 ≡ buffer_of (27 ∷ 28 ∷ 29 ∷ 30 ∷ 31 ∷ []) 4
 unfolding taken buffered_after
 twenty_seven_bytes = refl
 

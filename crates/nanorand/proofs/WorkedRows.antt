@@ -1,9 +1,8 @@
 -- Worked rows, computed from the definitions alone.
-use Rattle.std.specs.Prelude.{◌≡◌, ℕ, ◌+◌, ◌*◌, ◌%◌, List, [], ◌∷◌, map, refl}
+use Rattle.std.specs.Prelude.{◌≡◌, ℕ, List, [], ◌∷◌, refl}
 use Rattle.std.specs.Int.{w8}
 use Rattle.std.specs.Prelude.{negsuc, true, false}
-use Rattle.std.specs.List.{range_with_len}
-use Rattle.nanorand.specs.Blocks.{taken, plain_after}
+use Rattle.nanorand.specs.Blocks.{taken}
 use Rattle.nanorand.specs.Buffered.{Buffered, buffer_of, buffered_block, buffered_step, buffered_taken, buffered_after}
 use Rattle.nanorand.specs.Values.{number_of, signed_number_of, truth_of}
 use Rattle.nanorand.specs.WyRand.{wyrand_block}
@@ -12,6 +11,7 @@ use Rattle.nanorand.specs.declared.replay.Kind.TheVariants as kinds
 use Rattle.nanorand.specs.declared.replay.Call.{Call}
 use Rattle.nanorand.specs.declared.replay.Call.TheVariants.{Gen}
 use Rattle.nanorand.specs.declared.replay.Answer.TheVariants.{Unsigned}
+use Rattle.nanorand.proofs.WorkedGenerators.{next_count, rising_block, steps_taken, steps_after}
 
 -- wyrand's words: the new seed 0 and the new seed that the mask cancels give 0
 word_of_zero : wyrand_block 0x5f89e29b87429bd1 ≡ 0 ∷ 0 ∷ 0 ∷ 0 ∷ 0 ∷ 0 ∷ 0 ∷ 0 ∷ []
@@ -28,19 +28,6 @@ word_of_two = refl
 
 word_of_half : wyrand_block 0xdf89e29b87429bd1 ≡ 0x6d ∷ 0x14 ∷ 0x5a ∷ 0xd0 ∷ 0x68 ∷ 0xbf ∷ 0x81 ∷ 0xb3 ∷ []
 word_of_half = refl
-
--- a generator of the bytes 0, 1, 2, .. in blocks of eight, by the number of its blocks
-abbrev steps_block : ℕ → List ℕ
-steps_block n = map (λ i. (8 * n + i) % 256) (range_with_len 0 8)
-
-abbrev steps_next : ℕ → ℕ
-steps_next n = n + 1
-
-abbrev pub steps_taken : ℕ → ℕ → List ℕ
-steps_taken = taken steps_block steps_next
-
-abbrev pub steps_after : ℕ → ℕ → ℕ
-steps_after = plain_after steps_next 8
 
 -- a plain generator begins a new block at each request: u8, u8, u16
 two_bytes_and_a_word : (replayed steps_taken steps_after 0 [] (Gen kinds.U8 ∷ Gen kinds.U8 ∷ Gen kinds.U16 ∷ [])).answers ≡ Unsigned 0 ∷ Unsigned 8 ∷ Unsigned 0x1110 ∷ []
@@ -68,7 +55,7 @@ blocks_of_nothing = refl
 -- a buffered generator goes on where the last request ended: u8, u8, u16, and four bytes are left of the one block
 abbrev buffered_replay : List Call → Replay (Buffered ℕ)
 buffered_replay calls =
-    replayed (taken (buffered_block steps_block steps_next 8) (buffered_step steps_block steps_next 8)) (buffered_after steps_block steps_next 8) (buffer_of [] 0) [] calls
+    replayed (taken (buffered_block (rising_block 8) next_count 8) (buffered_step (rising_block 8) next_count 8)) (buffered_after (rising_block 8) next_count 8) (buffer_of [] 0) [] calls
 
 unbroken_bytes_and_a_word : (buffered_replay (Gen kinds.U8 ∷ Gen kinds.U8 ∷ Gen kinds.U16 ∷ [])).answers ≡ Unsigned 0 ∷ Unsigned 1 ∷ Unsigned 0x0302 ∷ []
 unfolding taken buffered_taken buffered_after

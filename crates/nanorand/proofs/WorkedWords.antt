@@ -1,26 +1,24 @@
 -- Worked rows of ranges by the words that decide them: one word, a word after rejected ones, and none.
-use Rattle.std.specs.Prelude.{◌≡◌, ℕ, ◌+◌, ◌-◌, ◌^◌, ℤ, List, [], ◌∷◌, ◌++◌, Some, None, Result, Ok, Err, replicate, slice_index_or, pos, negsuc, map, refl}
+use Rattle.std.specs.Prelude.{◌≡◌, ℕ, ◌+◌, ◌-◌, ◌^◌, ℤ, List, [], ◌∷◌, ◌++◌, Some, None, Result, Ok, Err, replicate, pos, negsuc, map, refl}
 use Rattle.std.proofs.Common.{arith}
 use Rattle.std.specs.List.{range_with_len}
 use Rattle.std.specs.declared.ops.Bound.{Bound}
 use Rattle.std.specs.declared.ops.Bound.TheVariants.{Included, Excluded, Unbounded}
-use Rattle.nanorand.specs.Blocks.{taken, plain_after}
+use Rattle.nanorand.specs.Blocks.{taken}
 use Rattle.nanorand.specs.Runs.{named}
 use Rattle.nanorand.specs.Range.{range_within}
 use Rattle.nanorand.specs.Draws.{unsigned_outcome, signed_outcome, value_drawn, left_by, left_after, words_from}
 use Rattle.nanorand.specs.declared.values.range.RangeError.{RangeError}
 use Rattle.nanorand.specs.declared.values.range.RangeError.TheVariants.{Empty, Exhausted}
 use Rattle.nanorand.proofs.RunLemmas.{picks, rejects, names-itself}
+use Rattle.nanorand.proofs.WorkedGenerators.{script_taken, script_after}
 
 -- the outcome from a list of bytes, a block of eight each, with zeros after the list, and the number of the blocks drawn
-abbrev script : List ℕ → ℕ → List ℕ
-script bytes n = replicate 8 (slice_index_or bytes n 0)
-
 abbrev unsigned_by : ℕ → List ℕ → Bound ℕ → Bound ℕ → Result ℕ RangeError × ℕ
-unsigned_by drawn bytes low high = unsigned_outcome (taken (script bytes) (λ n. n + 1)) (plain_after (λ n. n + 1) 8) 8 drawn low high
+unsigned_by drawn bytes low high = unsigned_outcome (script_taken bytes) script_after 8 drawn low high
 
 abbrev signed_by : List ℕ → Bound ℤ → Bound ℤ → Result ℤ RangeError × ℕ
-signed_by bytes low high = signed_outcome (taken (script bytes) (λ n. n + 1)) (plain_after (λ n. n + 1) 8) 8 0 low high
+signed_by bytes low high = signed_outcome (script_taken bytes) script_after 8 0 low high
 
 -- u8: the greatest, a range of four by the word 0, and 10..=12 by the last of 128 words, and by the next 128 words
 greatest_byte : unsigned_by 0 (255 ∷ []) Unbounded Unbounded ≡ (Ok 255, 1)
