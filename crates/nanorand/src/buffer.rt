@@ -3,7 +3,7 @@ ghost use Rattle.std.specs.Prelude.{◌≡◌, ℕ, ◌++◌, ◌<◌, ◌≤◌
 ghost use Rattle.std.specs.Io.{ReadsAtMost};
 ghost use Rattle.std.specs.Io.KnownBytes.{ReadConsumes};
 ghost use Rattle.nanorand.specs.Buffered.{buffered_block, buffered_step, buffered_after, buffered_taken, buffer_of};
-ghost use Rattle.nanorand.specs.BufferedLaws.{length-buffered_taken, after_nothing, same_buffer};
+ghost use Rattle.nanorand.specs.BufferedLaws.{length-buffered_taken, after_nothing};
 
 use crate::rand::{Blocks, Rng, SeedableRng, fill_by_blocks};
 use std::alloc::{AllocError, Allocator};
@@ -159,8 +159,6 @@ impl<G: Rng<OUTPUT>, const OUTPUT: usize> Rng<OUTPUT> for BufferedRng<G, OUTPUT>
     ghost after_nothing = { after_nothing G.block G.step OUTPUT G.positive G.block_length };
 
     ghost after_block = { λ _. refl };
-
-    ghost clones = { λ b c same. same_buffer same.0 (G.clones b.inner c.inner same.1) };
 }
 
 impl<G, const SEED_SIZE: usize, const OUTPUT: usize> SeedableRng<SEED_SIZE, OUTPUT>

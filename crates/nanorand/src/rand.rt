@@ -111,9 +111,6 @@ pub trait Rng<const OUTPUT: usize>: Clone + Blocks<OUTPUT> {
     ghost after_nothing: { (g : Self) → after g 0 ≡ g };
 
     ghost after_block: { (g : Self) → after g OUTPUT ≡ Self.step g };
-
-    // A clone is an equal generator.
-    ghost clones: { (g c : Self) → Self.is_clone g c → c ≡ g };
 }
 
 /// A generator that can be seeded anew.

@@ -130,8 +130,6 @@ impl Rng<1> for Bytes1 {
     ghost after_nothing = { λ _. refl };
 
     ghost after_block = { λ _. refl };
-
-    ghost clones = { λ _ _ same. same };
 }
 
 impl Rng<64> for Bytes64 {
@@ -144,8 +142,6 @@ impl Rng<64> for Bytes64 {
     ghost after_nothing = { λ _. refl };
 
     ghost after_block = { λ _. refl };
-
-    ghost clones = { λ _ _ same. same };
 }
 
 // Block number `drawn` of so many bytes.

@@ -82,6 +82,4 @@ impl Rng<8> for Script<'_> {
     ghost after_nothing = { λ _. refl };
 
     ghost after_block = { λ _. refl };
-
-    ghost clones = { λ _ _ same. same };
 }

@@ -95,6 +95,4 @@ impl Rng<8> for Steps {
     ghost after_nothing = { λ _. refl };
 
     ghost after_block = { λ _. refl };
-
-    ghost clones = { λ _ _ same. same };
 }

@@ -91,6 +91,4 @@ impl Rng<8> for Waste {
     ghost after_nothing = { λ _. refl };
 
     ghost after_block = { λ _. refl };
-
-    ghost clones = { λ _ _ same. same };
 }

@@ -2,7 +2,7 @@
 //! where it was stopped on the way and taken up again.
 //!
 //! A simulation is a list of calls of a generator, with items that its shuffles move.
-ghost use Rattle.std.specs.Prelude.{◌≡◌, ◌≤◌, length, OnOk, OnErr, IfOk};
+ghost use Rattle.std.specs.Prelude.{◌≡◌, ◌≤◌, length, OnOk, OnErr, IfOk, IsOk};
 ghost use Rattle.nanorand.specs.Blocks.{plain_after, taken};
 ghost use Rattle.nanorand.specs.Replay.{replayed};
 ghost use Rattle.nanorand.specs.WyRand.{next_seed, wyrand_block};
@@ -41,8 +41,8 @@ pub fn replay_twice<G: Rng<OUTPUT>, const OUTPUT: usize>(
 /// Runs the calls on the generator and on a copy that was taken before, which is given back as the
 /// run left it.
 ///
-/// A clone may be refused, as a generator of a user's own says; nothing was run then, and nothing has
-/// changed.
+/// A clone of the generator is an equal one, as of all the library's: another's need not be. It may be
+/// refused, as a generator of a user's own says; nothing was run then, and nothing has changed.
 pub fn replay_copy<G: Rng<OUTPUT> + Drop, const OUTPUT: usize>(
     rng: &mut G,
     calls: &[Call],
@@ -51,6 +51,7 @@ pub fn replay_copy<G: Rng<OUTPUT> + Drop, const OUTPUT: usize>(
     first_answers: &mut [Answer],
     second_answers: &mut [Answer],
 ) -> Result<G, AllocError>
+    requires equal { (copy : G) → G.is_clone rng.old copy → copy ≡ rng.old }
     requires items { second_items.old ≡ first_items.old }
     requires first_room { length first_answers.old ≡ length calls.now }
     requires second_room { length second_answers.old ≡ length calls.now }
@@ -60,6 +61,7 @@ pub fn replay_copy<G: Rng<OUTPUT> + Drop, const OUTPUT: usize>(
     ensures same_answers { OnOk result (second_answers.new ≡ first_answers.new) }
     ensures same_items { OnOk result (second_items.new ≡ first_items.new) }
     ensures same_state { IfOk result (λ copy. copy ≡ rng.new) }
+    ensures cause { G.is_infallible rng.old → IsOk result }
     ensures unchanged { OnErr result ((first_answers.new ≡ first_answers.old) × (second_answers.new ≡ second_answers.old)
         × (first_items.new ≡ first_items.old) × (second_items.new ≡ second_items.old) × (rng.new ≡ rng.old)) }
 {

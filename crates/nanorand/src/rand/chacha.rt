@@ -192,8 +192,6 @@ impl<const ROUNDS: u8> Rng<64> for ChaCha<ROUNDS> {
     ghost after_nothing = { λ _. refl };
 
     ghost after_block = { λ _. refl };
-
-    ghost clones = { λ _ _ same. same };
 }
 
 impl<const ROUNDS: u8> SeedableRng<40, 64> for ChaCha<ROUNDS> {

@@ -187,8 +187,6 @@ impl Rng<8> for Pcg64 {
     ghost after_nothing = { λ _. refl };
 
     ghost after_block = { λ _. refl };
-
-    ghost clones = { λ _ _ same. same };
 }
 
 impl SeedableRng<16, 8> for Pcg64 {

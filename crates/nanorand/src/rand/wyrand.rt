@@ -155,8 +155,6 @@ impl Rng<8> for WyRand {
     ghost after_nothing = { λ _. refl };
 
     ghost after_block = { λ _. refl };
-
-    ghost clones = { λ _ _ same. same };
 }
 
 impl SeedableRng<8, 8> for WyRand {

@@ -72,6 +72,4 @@ impl Rng<8> for Zeros {
     ghost after_nothing = { λ _. refl };
 
     ghost after_block = { λ _. refl };
-
-    ghost clones = { λ _ _ same. same };
 }
