@@ -2,6 +2,7 @@ mod CycleLemmas
 mod DistanceLemmas
 mod DoublingLemmas
 mod HalvesLemmas
+mod HexadecimalLemmas
 mod JumpLemmas
 mod ModulusLemmas
 mod Pcg64Lemmas

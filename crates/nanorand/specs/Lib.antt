@@ -25,6 +25,7 @@ pub mod Pcg64Laws
 pub mod Shuffles
 pub mod Arrangements
 pub mod Entropy
+pub mod Texts
 pub mod Replay
 pub mod Asked
 pub mod Unbroken

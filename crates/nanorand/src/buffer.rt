@@ -1,5 +1,5 @@
 //! A generator whose unused bytes are kept: it delivers one unbroken row of bytes.
-ghost use Rattle.std.specs.Prelude.{◌≡◌, ℕ, ◌++◌, ◌<◌, ◌≤◌, [], length, refl, take, drop, min, IfOk, OnOk, OnErr, IsOk, IsErr, Ok, None};
+ghost use Rattle.std.specs.Prelude.{◌≡◌, ℕ, ◌+◌, ◌++◌, ◌<◌, ◌≤◌, [], length, vec_len, vec_capacity, refl, take, drop, min, IfOk, OnOk, OnErr, IsOk, IsErr, Ok, None};
 ghost use Rattle.std.specs.Io.{ReadsAtMost};
 ghost use Rattle.std.specs.Io.KnownBytes.{ReadConsumes};
 ghost use Rattle.nanorand.specs.Buffered.{buffered_block, buffered_step, buffered_after, buffered_taken, buffer_of};
@@ -76,19 +76,26 @@ impl<G: Rng<OUTPUT>, const OUTPUT: usize> BufferedRng<G, OUTPUT> {
 
     /// Appends the buffered bytes alone, empties the buffer, and answers how many they were.
     ///
-    /// Nothing is drawn. Where the vector's growth is refused, vector and buffer are as before. An
-    /// empty buffer takes no memory and answers 0.
+    /// Nothing is drawn. It makes room first: where the vector has none and its growth is refused,
+    /// its items, its capacity and the buffer are as before. An empty buffer takes no memory and
+    /// answers 0.
     pub fn read_to_end<A: Allocator>(&mut self, out: &mut Vec<u8, A>) -> Result<usize, AllocError>
         ensures count { IfOk result (λ count. count ≡ length self.old.rest) }
         ensures appended { OnOk result (out.new.items ≡ out.old.items ++ self.old.rest) }
         ensures rest { OnOk result (self.new ≡ buffer_of [] self.old.inner) }
         ensures vector_stays { OnErr result (out.new.items ≡ out.old.items) }
+        ensures capacity_stays { OnErr result (vec_capacity out.new ≡ vec_capacity out.old) }
         ensures buffer_stays { OnErr result (self.new ≡ self.old) }
+
+        // It is refused only where the vector had no room, and so never for an empty buffer.
+        ensures full { OnErr result (vec_capacity out.old < vec_len out.old + length self.old.rest) }
         ensures empty { self.old.rest ≡ [] → IsOk result }
     {
         let count = OUTPUT - self.cursor;
         if count > 0 {
             let bytes = &self.block[..];
+            out.reserve(count)?;
+            // There is room now, so this is never refused.
             out.extend_from_slice(&bytes[self.cursor..])?;
             self.cursor = OUTPUT;
         }

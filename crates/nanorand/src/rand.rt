@@ -8,6 +8,7 @@ ghost use Rattle.nanorand.specs.Values.{values_from};
 
 pub mod chacha;
 mod halves;
+mod hexadecimal;
 pub mod pcg64;
 pub mod wyrand;
 

@@ -8,6 +8,7 @@ ghost use Rattle.nanorand.specs.ChaCha.{initial_state, seeded_state, bytes, coun
 ghost use Rattle.nanorand.specs.ChaChaRounds.{IsMatrix};
 ghost use Rattle.nanorand.specs.ChaChaLaws.{length-chacha_block};
 ghost use Rattle.nanorand.specs.Entropy.{HasFewer, IsMadeOf};
+ghost use Rattle.nanorand.specs.Texts.{chacha_debug};
 ghost use Rattle.nanorand.specs.declared.entropy.EntropyError.TheVariants.{Short, Fault};
 
 use crate::crypto::chacha::{
@@ -135,6 +136,8 @@ impl<const ROUNDS: u8> Clone for ChaCha<ROUNDS> {
 }
 
 impl<const ROUNDS: u8> fmt::Debug for ChaCha<ROUNDS> {
+    ghost debug_output = { λ state. Some (chacha_debug ROUNDS (counter state)) };
+
     fn fmt<W: fmt::Write>(&self, f: &mut fmt::Formatter<W>) -> fmt::Result {
         let counter = counter(&self.state);
         write!(f, "ChaCha20 {{ rounds: {ROUNDS}, counter: {counter} }}")

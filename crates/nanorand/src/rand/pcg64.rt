@@ -4,11 +4,13 @@ ghost use Rattle.std.proofs.Common.{rules};
 ghost use Rattle.nanorand.specs.Blocks.{plain_after, taken};
 ghost use Rattle.nanorand.specs.Entropy.{HasFewer, IsMadeOf};
 ghost use Rattle.nanorand.specs.Pcg64.{next, pcg64_after, pcg64_block, reseeded, seed_after, SameCycle};
+ghost use Rattle.nanorand.specs.Texts.{pcg64_debug};
 ghost use Rattle.nanorand.specs.Values.{number_of};
 ghost use Rattle.nanorand.specs.declared.entropy.EntropyError.TheVariants.{Short, Fault};
 
 use crate::entropy::{EntropyError, system};
 use crate::rand::halves::folded;
+use crate::rand::hexadecimal::Hexadecimal;
 use crate::rand::{Blocks, Rng, SeedableRng, fill_by_blocks};
 use std::alloc::AllocError;
 use std::fmt;
@@ -133,17 +135,24 @@ impl Clone for Pcg64 {
 }
 
 impl fmt::Debug for Pcg64 {
+    ghost debug_output = { λ g. Some (pcg64_debug g) };
+
     fn fmt<W: fmt::Write>(&self, f: &mut fmt::Formatter<W>) -> fmt::Result {
         write!(
             f,
-            "Pcg64 {{ seed: {:#x}, state: {:#x}, inc: {:#x} }}",
-            self.seed, self.state, self.inc
+            "Pcg64 {{ seed: 0x{}, state: 0x{}, inc: 0x{} }}",
+            Hexadecimal(self.seed),
+            Hexadecimal(self.state),
+            Hexadecimal(self.inc)
         )
     }
 }
 
 impl fmt::Display for Pcg64 {
     ghost output = { λ _. Some (codes "Pcg64") };
+
+    // A width, a fill or another option changes nothing.
+    ghost styled_output = { λ _ _. Some (codes "Pcg64") };
 
     fn fmt<W: fmt::Write>(&self, f: &mut fmt::Formatter<W>) -> fmt::Result {
         f.write_str("Pcg64")

@@ -3,6 +3,7 @@ ghost use Rattle.std.specs.Prelude.{◌≡◌, length, ◌⊎◌, ⊤, refl, Som
 ghost use Rattle.std.proofs.Common.{rules};
 ghost use Rattle.nanorand.specs.Blocks.{plain_after, taken};
 ghost use Rattle.nanorand.specs.Entropy.{HasFewer, IsMadeOf};
+ghost use Rattle.nanorand.specs.Texts.{wyrand_debug};
 ghost use Rattle.nanorand.specs.Values.{number_of};
 ghost use Rattle.nanorand.specs.WyRand.{next_seed, wyrand_block, word, seed_after, wyrand_after};
 ghost use Rattle.nanorand.specs.declared.entropy.EntropyError.TheVariants.{Short, Fault};
@@ -107,13 +108,18 @@ impl Clone for WyRand {
 }
 
 impl fmt::Debug for WyRand {
+    ghost debug_output = { λ seed. Some (wyrand_debug seed) };
+
     fn fmt<W: fmt::Write>(&self, f: &mut fmt::Formatter<W>) -> fmt::Result {
-        write!(f, "WyRand {{ seed: {:#x} }}", self.seed)
+        write!(f, "WyRand {{ seed: 0x{:x} }}", self.seed)
     }
 }
 
 impl fmt::Display for WyRand {
     ghost output = { λ _. Some (codes "WyRand") };
+
+    // A width, a fill or another option changes nothing.
+    ghost styled_output = { λ _ _. Some (codes "WyRand") };
 
     fn fmt<W: fmt::Write>(&self, f: &mut fmt::Formatter<W>) -> fmt::Result {
         f.write_str("WyRand")
