@@ -1,6 +1,7 @@
 //! Worked rows of the program: words go in, and text or a refusal comes out.
 
 mod refusals;
+mod sizes;
 mod writers;
 
 use crate::error::DrawError;
@@ -237,7 +238,15 @@ fn every_type(rt: HostRuntime) -> Result<(), Fail> {
 fn reports(rt: HostRuntime) -> Result<(), Fail> {
     let rows = [
         (Ok(()), 0, ""),
+        (Err(DrawError::BadWord(1)), 2, "draw: bad word 1\n"),
         (Err(DrawError::BadWord(6)), 2, "draw: bad word 6\n"),
+        (Err(DrawError::BadWord(42)), 2, "draw: bad word 42\n"),
+        (Err(DrawError::BadWord(54321)), 2, "draw: bad word 54321\n"),
+        (
+            Err(DrawError::BadWord(usize::MAX)),
+            2,
+            "draw: bad word 18446744073709551615\n",
+        ),
         (Err(DrawError::Memory), 3, "draw: no memory\n"),
         (Err(DrawError::Write), 4, "draw: write failed\n"),
     ];
