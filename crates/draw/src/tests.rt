@@ -1,5 +1,6 @@
 //! Worked rows of the program: words go in, and text or a refusal comes out.
 
+mod derives;
 mod refusals;
 mod sizes;
 mod writers;
