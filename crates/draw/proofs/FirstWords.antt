@@ -1,5 +1,5 @@
 -- From the requests to all words.
-use Rattle.std.proofs.Common.{◌≡◌, ℕ, zero, suc, ◌+◌, ◌-◌, ◌<◌, List, [], drop, sym, subst, arith, get_or-drop, length-drop}
+use Rattle.std.proofs.Common.{◌≡◌, ℕ, zero, suc, ◌+◌, ◌-◌, ◌<◌, List, [], drop, refl, sym, subst, arith, get_or-drop, length-drop}
 use Rattle.nanorand.specs.declared.replay.Call.{Call}
 use Rattle.draw.specs.Requests.{IsRequest}
 use Rattle.draw.specs.Words.{Asked, IsReadable, IsFirstUnreadable, FirstBadRequest, word_at}
@@ -31,3 +31,17 @@ first_of_all words k one two three four bad = record {
       bad.unreadable said.0 (subst (λ t. IsRequest t said.0) (sym (behind_four words bad.place)) said.1);
   first = λ place within. before words bad.place one two three four bad.first place (omega (arith, bad.number));
 }
+
+-- the number of the first word that says nothing, where the one before it says something
+pub second_is_first : (words : List (List ℕ)) (k : ℕ) → IsFirstUnreadable words k → IsReadable words 0 → (IsReadable words 1 → ⊥) → k ≡ 2
+second_is_first words zero first one bad = absurd (omega (arith, first.counted))
+second_is_first words (suc zero) first one bad = absurd (first.unreadable one)
+second_is_first words (suc (suc zero)) first one bad = refl
+second_is_first words (suc (suc (suc k))) first one bad = absurd (bad (first.first 1 (omega arith)))
+
+pub third_is_first : (words : List (List ℕ)) (k : ℕ) → IsFirstUnreadable words k → IsReadable words 0 → IsReadable words 1 → (IsReadable words 2 → ⊥) → k ≡ 3
+third_is_first words zero first one two bad = absurd (omega (arith, first.counted))
+third_is_first words (suc zero) first one two bad = absurd (first.unreadable one)
+third_is_first words (suc (suc zero)) first one two bad = absurd (first.unreadable two)
+third_is_first words (suc (suc (suc zero))) first one two bad = refl
+third_is_first words (suc (suc (suc (suc k)))) first one two bad = absurd (bad (first.first 2 (omega arith)))

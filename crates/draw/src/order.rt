@@ -1,6 +1,6 @@
 //! The words of the command line, read into an order. Nothing is drawn or written here.
 
-ghost use Rattle.std.specs.Prelude.{◌≡◌, ◌≢◌, ℕ, ◌<◌, ◌+◌, IfOk, IfErr, IfSome, OnOk, Some, List, drop, IsTrue, ◌↔◌, slice_index_or, [], length};
+ghost use Rattle.std.specs.Prelude.{◌≡◌, ◌≢◌, ℕ, ◌<◌, ◌≤◌, ◌+◌, IfOk, IfErr, IfSome, OnOk, Some, List, drop, IsTrue, ◌↔◌, slice_index_or, [], length};
 ghost use Rattle.draw.specs.Words.{IsSeed, generator_of, name_of_generator, IsCount, IsFirstUnreadable, AreRequests, Asked, Says, asked_of, name_of_mode, FirstBadRequest, texts, word_at};
 ghost use Rattle.draw.specs.Requests.{IsRequest};
 ghost use Rattle.nanorand.specs.declared.replay.Call.{Call as ACall};
@@ -134,6 +134,10 @@ pub fn read<A: Allocator>(alloc: A, words: &[String]) -> Result<Order<A>, DrawEr
     ensures only { IfOk result (λ order. (other : Asked) → Says (texts words.now) other → other ≡ asked_of order) }
     ensures not_write { result ≢ Err DrawError.Write }
     ensures bad { (k : ℕ) → result ≡ Err (DrawError.BadWord k) → IsFirstUnreadable (texts words.now) k }
+
+    // The first four words need no memory.
+    ensures early { (k : ℕ) → k ≤ 4 → IsFirstUnreadable (texts words.now) k →
+        result ≡ Err (DrawError.BadWord k) }
 {
     let generator = generator_of(word(words, 0)).ok_or(DrawError::BadWord(1))?;
     let source = source_of(generator, word(words, 1)).ok_or(DrawError::BadWord(2))?;

@@ -1,6 +1,6 @@
 //! From the words of the command line to the text that is written.
 
-ghost use Rattle.std.specs.Prelude.{◌≡◌, ◌≢◌, ℕ, length, IfOk, IfErr, OnOk, string_bytes};
+ghost use Rattle.std.specs.Prelude.{◌≡◌, ◌≢◌, ◌≤◌, ℕ, length, IfOk, IfErr, OnOk, string_bytes};
 ghost use Rattle.std.specs.List.{range_with_len};
 ghost use Rattle.std.specs.Io.KnownBytes.{Appends};
 ghost use Rattle.draw.specs.Text.{in_mode, from_source, text_asked, status_of};
@@ -45,6 +45,8 @@ fn text_said<'a, A: Allocator>(alloc: &'a A, words: &[String]) -> Result<String<
     ensures text { IfOk result (λ text. (asked : Asked) → Says (texts words.now) asked → string_bytes text ≡ text_asked asked) }
     ensures not_write { result ≢ Err DrawError.Write }
     ensures bad_word { (k : ℕ) → result ≡ Err (DrawError.BadWord k) → IsFirstUnreadable (texts words.now) k }
+    ensures early { (k : ℕ) → k ≤ 4 → IsFirstUnreadable (texts words.now) k →
+        result ≡ Err (DrawError.BadWord k) }
 {
     let order = read(alloc, words)?;
     Ok(text_drawn(alloc, &order)?)
@@ -60,6 +62,10 @@ pub fn run<A: Allocator, W: Write>(alloc: A, words: &[String], out: &mut W) -> R
     // A bad word is the first that says nothing, and a write is tried only where all words say something.
     ensures bad_word { (k : ℕ) → result ≡ Err (DrawError.BadWord k) → IsFirstUnreadable (texts words.now) k }
     ensures write { result ≡ Err DrawError.Write → (asked : Asked) × Says (texts words.now) asked }
+
+    // A bad word of the first four is told, whatever memory there is.
+    ensures early { (k : ℕ) → k ≤ 4 → IsFirstUnreadable (texts words.now) k →
+        result ≡ Err (DrawError.BadWord k) }
 
     // No other error comes after a write.
     ensures untouched { IfErr result (λ error. error ≢ DrawError.Write → out.new ≡ out.old) }

@@ -1,6 +1,9 @@
 //! Worked rows of the program: words go in, and text or a refusal comes out.
 
+mod derives;
 mod refusals;
+mod sizes;
+mod writers;
 
 use crate::error::DrawError;
 use crate::run::{report, run};
@@ -9,6 +12,7 @@ use std::io;
 use std::io::{ErrorKind, Write};
 use std::process::Abort;
 use std::test::Fail;
+use writers::{Pieces, check_flushed, check_untouched};
 
 // The words of a line that spaces separate.
 fn words(alloc: Global, line: &str) -> Result<Vec<String>, AllocError> {
@@ -27,22 +31,26 @@ fn drawn(alloc: Global, line: &str) -> Result<(Result<(), DrawError>, Vec<u8>), 
     Ok((outcome, out))
 }
 
-// Each line is read whole, and its text is written.
+// Each line is read whole, and its text is written and flushed.
 fn check_texts(rt: &impl Abort, alloc: Global, rows: &[(&str, &str)]) -> Result<(), Fail> {
     for (line, text) in rows {
-        let (outcome, out) = drawn(alloc, line)?;
-        assert_eq!(rt; outcome, Ok(()), "{line}");
-        assert_eq!(rt; out.as_slice(), text.as_bytes(), "{line}");
+        let words = words(alloc, line)?;
+        let mut out = Pieces::honest(alloc, usize::MAX);
+        assert_eq!(rt; run(alloc, &words, &mut out), Ok(()), "{line}");
+        assert_eq!(rt; out.kept.as_slice(), text.as_bytes(), "{line}");
+        check_flushed(rt, &out, text.as_bytes(), line);
     }
     Ok(())
 }
 
-// Of each line the word of that number is the first bad one, and nothing is written.
+// Of each line the word of that number is the first bad one, and the writer is not called.
 fn check_bad_words(rt: &impl Abort, alloc: Global, rows: &[(&str, usize)]) -> Result<(), Fail> {
     for (line, word) in rows {
-        let (outcome, out) = drawn(alloc, line)?;
+        let words = words(alloc, line)?;
+        let mut out = Pieces::honest(alloc, usize::MAX);
+        let outcome = run(alloc, &words, &mut out);
         assert_eq!(rt; outcome, Err(DrawError::BadWord(*word)), "{line}");
-        assert!(rt; out.is_empty(), "{line}");
+        check_untouched(rt, &out, line);
     }
     Ok(())
 }
@@ -231,7 +239,15 @@ fn every_type(rt: HostRuntime) -> Result<(), Fail> {
 fn reports(rt: HostRuntime) -> Result<(), Fail> {
     let rows = [
         (Ok(()), 0, ""),
+        (Err(DrawError::BadWord(1)), 2, "draw: bad word 1\n"),
         (Err(DrawError::BadWord(6)), 2, "draw: bad word 6\n"),
+        (Err(DrawError::BadWord(42)), 2, "draw: bad word 42\n"),
+        (Err(DrawError::BadWord(54321)), 2, "draw: bad word 54321\n"),
+        (
+            Err(DrawError::BadWord(usize::MAX)),
+            2,
+            "draw: bad word 18446744073709551615\n",
+        ),
         (Err(DrawError::Memory), 3, "draw: no memory\n"),
         (Err(DrawError::Write), 4, "draw: write failed\n"),
     ];

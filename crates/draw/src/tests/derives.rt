@@ -1,0 +1,93 @@
+//! What the derives of the crate's types give.
+
+use crate::error::DrawError;
+use crate::order::{Generator, Mode, Source};
+use std::alloc::Global;
+use std::fmt::Debug;
+use std::process::Abort;
+use std::test::Fail;
+
+// A value, two copies of it and a clone are written alike.
+fn check_copies<T: Copy + Debug>(
+    rt: &impl Abort,
+    alloc: Global,
+    rows: &[(T, &str)],
+) -> Result<(), Fail> {
+    for (value, text) in rows {
+        let (one, two) = (*value, *value);
+        let clone = value.clone()?;
+        let shown = format!(in alloc; "{value:?} {one:?} {two:?} {clone:?}")?;
+        let texts = format!(in alloc; "{text} {text} {text} {text}")?;
+        assert_eq!(rt; shown.as_str(), texts.as_str());
+    }
+    Ok(())
+}
+
+// Each value is equal to itself alone.
+fn check_equality<T: Copy + Eq + Debug>(rt: &impl Abort, rows: &[(T, &str)]) -> Result<(), Fail> {
+    for (i, (one, _)) in rows.iter().enumerate() {
+        for (j, (other, _)) in rows.iter().enumerate() {
+            assert_eq!(rt; *one == *other, i == j, "{one:?} and {other:?}");
+            assert_eq!(rt; *one != *other, i != j, "{one:?} and {other:?}");
+        }
+        assert!(rt; one.clone()? == *one, "{one:?}");
+    }
+    Ok(())
+}
+
+#[test]
+fn errors(rt: HostRuntime) -> Result<(), Fail> {
+    let rows = [
+        (DrawError::BadWord(0), "BadWord(0)"),
+        (DrawError::BadWord(1), "BadWord(1)"),
+        (DrawError::BadWord(256), "BadWord(256)"),
+        (
+            DrawError::BadWord(usize::MAX),
+            "BadWord(18446744073709551615)",
+        ),
+        (DrawError::Memory, "Memory"),
+        (DrawError::Write, "Write"),
+    ];
+    check_copies(&rt, rt.alloc(), &rows)?;
+    check_equality(&rt, &rows)
+}
+
+#[test]
+fn generators(rt: HostRuntime) -> Result<(), Fail> {
+    let rows = [
+        (Generator::WyRand, "WyRand"),
+        (Generator::Pcg64, "Pcg64"),
+        (Generator::ChaCha8, "ChaCha8"),
+        (Generator::ChaCha12, "ChaCha12"),
+        (Generator::ChaCha20, "ChaCha20"),
+    ];
+    check_copies(&rt, rt.alloc(), &rows)?;
+    check_equality(&rt, &rows)
+}
+
+#[test]
+fn modes(rt: HostRuntime) -> Result<(), Fail> {
+    let rows = [(Mode::Plain, "Plain"), (Mode::Buffered, "Buffered")];
+    check_copies(&rt, rt.alloc(), &rows)?;
+    check_equality(&rt, &rows)
+}
+
+#[test]
+fn sources(rt: HostRuntime) -> Result<(), Fail> {
+    let eight = "WyRand([1, 2, 3, 4, 5, 6, 7, 8])";
+    let sixteen = "Pcg64([9, 9, 9, 9, 9, 9, 9, 9, 9, 9, 9, 9, 9, 9, 9, 9])";
+    let forty =
+        "[0, 0, 0, 0, 0, 0, 0, 0, 0, 0, 0, 0, 0, 0, 0, 0, 0, 0, 0, 0, 0, 0, 0, 0, 0, 0, 0, 0, 0, 0, 0, 0, 0, 0, 0, 0, 0, 0, 0, 0]";
+    let alloc = rt.alloc();
+    let of_8 = format!(in alloc; "ChaCha8({forty})")?;
+    let of_12 = format!(in alloc; "ChaCha12({forty})")?;
+    let of_20 = format!(in alloc; "ChaCha20({forty})")?;
+    let rows = [
+        (Source::WyRand([1, 2, 3, 4, 5, 6, 7, 8]), eight),
+        (Source::Pcg64([9; 16]), sixteen),
+        (Source::ChaCha8([0; 40]), of_8.as_str()),
+        (Source::ChaCha12([0; 40]), of_12.as_str()),
+        (Source::ChaCha20([0; 40]), of_20.as_str()),
+    ];
+    check_copies(&rt, alloc, &rows)
+}

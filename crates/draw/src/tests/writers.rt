@@ -1,0 +1,164 @@
+//! Writers that take pieces, fail or count: what is written, when it is flushed, and how often.
+
+use super::refusals::{LONGEST, LONGEST_TEXT, two_hundred_requests};
+use super::{drawn, words};
+use crate::error::DrawError;
+use crate::run::run;
+use std::alloc::Global;
+use std::io;
+use std::io::{ErrorKind, Write};
+use std::process::Abort;
+use std::test::Fail;
+
+/// Takes at most so many bytes at a time, keeps them, and counts the calls. The write of one
+/// number fails, counted from 0, and the flush may fail.
+#[derive(Drop)]
+pub struct Pieces {
+    pub kept: Vec<u8>,
+    pub writes: u64,
+    pub flushes: u64,
+    // The writes that no flush came after.
+    pub writes_since_flush: u64,
+    piece: usize,
+    failing: u64,
+    can_flush: bool,
+}
+
+const NEVER: u64 = u64::MAX;
+
+impl Pieces {
+    /// Takes so many bytes at a time, and never fails.
+    pub fn honest(alloc: Global, piece: usize) -> Pieces {
+        Pieces::failing(alloc, piece, NEVER, true)
+    }
+
+    fn failing(alloc: Global, piece: usize, failing: u64, can_flush: bool) -> Pieces {
+        Pieces {
+            kept: Vec::new(alloc),
+            writes: 0,
+            flushes: 0,
+            writes_since_flush: 0,
+            piece,
+            failing,
+            can_flush,
+        }
+    }
+}
+
+impl Write for Pieces {
+    fn write(&mut self, buf: &[u8]) -> io::Result<usize> {
+        let write = self.writes;
+        self.writes = write.wrapping_add(1);
+        self.writes_since_flush = self.writes_since_flush.wrapping_add(1);
+        let count = self.piece.min(buf.len());
+        if write == self.failing || self.kept.extend_from_slice(&buf[..count]).is_err() {
+            return Err(io::Error::from(ErrorKind::BrokenPipe));
+        }
+        Ok(count)
+    }
+
+    fn flush(&mut self) -> io::Result<()> {
+        self.flushes = self.flushes.wrapping_add(1);
+        self.writes_since_flush = 0;
+        if self.can_flush {
+            Ok(())
+        } else {
+            Err(io::Error::from(ErrorKind::BrokenPipe))
+        }
+    }
+}
+
+/// The writer has got the text, and then one flush.
+pub fn check_flushed(rt: &impl Abort, out: &Pieces, text: &[u8], row: &str) {
+    assert_eq!(rt; out.kept.len(), text.len(), "bytes of {row}");
+    assert!(rt; out.kept.as_slice() == text, "text of {row}");
+    assert_eq!(rt;
+        out.writes_since_flush,
+        0,
+        "writes that no flush came after in {row}"
+    );
+    assert_eq!(rt; out.flushes, 1, "flushes of {row}");
+}
+
+/// The writer was not called.
+pub fn check_untouched(rt: &impl Abort, out: &Pieces, row: &str) {
+    assert_eq!(rt; out.writes, 0, "writes of {row}");
+    assert_eq!(rt; out.flushes, 0, "flushes of {row}");
+    assert!(rt; out.kept.is_empty(), "text of {row}");
+}
+
+#[test]
+fn one_byte_at_a_time(rt: HostRuntime) -> Result<(), Fail> {
+    let words = words(rt.alloc(), LONGEST)?;
+    let mut out = Pieces::honest(rt.alloc(), 1);
+    assert_eq!(rt; run(rt.alloc(), &words, &mut out), Ok(()));
+    assert_eq!(rt; out.kept.as_slice(), LONGEST_TEXT.as_bytes());
+    assert_eq!(rt; out.writes, LONGEST_TEXT.len() as u64);
+    Ok(())
+}
+
+// A run that succeeds flushes once, after the last byte, however many writes that takes.
+#[test]
+fn one_flush_at_the_end(rt: HostRuntime) -> Result<(), Fail> {
+    let alloc = rt.alloc();
+    let many = two_hundred_requests(alloc)?;
+    for line in [
+        "wyrand d29b42879be2895f plain 0",
+        "wyrand d29b42879be2895f plain 1",
+        LONGEST,
+        many.as_str(),
+    ] {
+        let words = words(alloc, line)?;
+        let (_, text) = drawn(alloc, line)?;
+        for piece in [1, 2, 7, 4096, usize::MAX] {
+            let mut out = Pieces::honest(alloc, piece);
+            assert_eq!(rt; run(alloc, &words, &mut out), Ok(()), "{line}");
+            check_flushed(&rt, &out, text.as_slice(), line);
+        }
+    }
+    Ok(())
+}
+
+// Where the flush alone fails, all of the text went out before it.
+#[test]
+fn failed_flush(rt: HostRuntime) -> Result<(), Fail> {
+    let alloc = rt.alloc();
+    for line in ["wyrand d29b42879be2895f plain 0", LONGEST] {
+        let words = words(alloc, line)?;
+        let (_, text) = drawn(alloc, line)?;
+        for piece in [1, 7, 4096] {
+            let mut out = Pieces::failing(alloc, piece, NEVER, false);
+            let outcome = run(alloc, &words, &mut out);
+            assert_eq!(rt; outcome, Err(DrawError::Write), "{line}");
+            check_flushed(&rt, &out, text.as_slice(), line);
+        }
+    }
+    Ok(())
+}
+
+// Each write fails in turn, and none comes after it.
+#[test]
+fn failed_writes(rt: HostRuntime) -> Result<(), Fail> {
+    let alloc = rt.alloc();
+    let words = words(alloc, LONGEST)?;
+    for failing in 0..LONGEST_TEXT.len() as u64 {
+        let mut out = Pieces::failing(alloc, 1, failing, true);
+        let outcome = run(alloc, &words, &mut out);
+        assert_eq!(rt; outcome, Err(DrawError::Write), "{failing}");
+        assert_eq!(rt; out.writes, failing + 1);
+    }
+    Ok(())
+}
+
+// A writer that takes nothing is no better than one that fails.
+#[test]
+fn nothing_taken(rt: HostRuntime) -> Result<(), Fail> {
+    let alloc = rt.alloc();
+    let words = words(alloc, LONGEST)?;
+    for can_flush in [true, false] {
+        let mut out = Pieces::failing(alloc, 0, NEVER, can_flush);
+        let outcome = run(alloc, &words, &mut out);
+        assert_eq!(rt; outcome, Err(DrawError::Write));
+    }
+    Ok(())
+}
