@@ -40,6 +40,7 @@ mod WorkedCounters
 mod PlaceLemmas
 mod ChoiceLemmas
 mod CorrespondenceLemmas
+mod CopyLemmas
 mod ShuffleLemmas
 mod PartnerLemmas
 mod WorkedShuffles
