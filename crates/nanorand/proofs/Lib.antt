@@ -42,6 +42,7 @@ mod ChoiceLemmas
 mod CorrespondenceLemmas
 mod CopyLemmas
 mod ShuffleLemmas
+mod RecordLemmas
 mod PartnerLemmas
 mod WorkedShuffles
 mod WorkedPartners

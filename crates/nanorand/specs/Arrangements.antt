@@ -1,5 +1,5 @@
 -- Arrangements (permutations) of 0, 1, .., n - 1, and the lists of choices that make each of them once.
-use Rattle.std.specs.Prelude.{◌≡◌, ℕ, ◌<◌, ◌≤◌, ◌==◌, List, length, slice_index, count_by, IsPermutation}
+use Rattle.std.specs.Prelude.{◌≡◌, ℕ, ◌<◌, ◌≤◌, ◌-◌, ◌==◌, List, ◌++◌, length, slice_index, count_by, IsPermutation}
 use Rattle.std.specs.List.{range_with_len}
 use Rattle.nanorand.specs.Shuffles.{arranged}
 
@@ -11,6 +11,10 @@ IsValid choices =
 -- 0, 1, .., n - 1.
 abbrev pub rising : ℕ → List ℕ
 rising n = range_with_len 0 n
+
+-- The choices, and for each place behind them, up to place n - 1, the place itself: a swap that moves nothing.
+abbrev pub completed : ℕ → List ℕ → List ℕ
+completed n choices = choices ++ range_with_len (length choices) (n - length choices)
 
 -- Each number below the length stands in the list once.
 abbrev pub IsArrangement : List ℕ → Type 0
