@@ -1,8 +1,8 @@
 -- Choices and the arrangements that they make.
 use Rattle.std.proofs.Common.{◌≡◌, ℕ, suc, ◌+◌, ◌<◌, ◌≤◌, List, [], ◌∷◌, ◌++◌, length, get_or, swap, IsPermutation, refl, sym, ◌∙◌, ap, inl, inr, arith, add-zero, take, set, subst}
 use Rattle.std.proofs.lemmas.Bool.{cases_lt}
-use Rattle.std.proofs.lemmas.List.{take_more, take_more_set, take_all, length-take-le, get_or_append_left, get_or_push, length_push, map-id}
-use Rattle.std.proofs.lemmas.List.FromFn.{fill_by_all, length-range_with_len}
+use Rattle.std.proofs.lemmas.List.{take_more, take_more_set, take_all, length-take-le, get_or_append_left, get_or_push, length_push}
+use Rattle.std.proofs.lemmas.List.FromFn.{length-range_with_len}
 use Rattle.std.proofs.lemmas.Grind.{same_number_lists}
 use Rattle.std.proofs.lemmas.List.Edits.{length-swap}
 use Rattle.std.proofs.lemmas.List.Sorted.{IsPermutation-refl, IsPermutation-swap, IsPermutation-trans}
@@ -10,13 +10,18 @@ use Rattle.nanorand.specs.Shuffles.{arranged_from, arranged}
 use Rattle.nanorand.specs.Arrangements.{IsValid, rising, IsArrangement}
 use Rattle.nanorand.proofs.PlaceLemmas.{IsDistinct, IsDistinct-swap, IsDistinct-rising, IsDistinct-arrangement, AllBelow-arrangement, HasBelow-arrangement, get_or-swap_first, get_or-swap_other}
 
+-- choices behind others are swaps behind theirs
+pub arranged_from-append : {T : Type 0} (i : ℕ) (choices more : List ℕ) (items : List T)
+    → arranged_from i (choices ++ more) items ≡ arranged_from (i + length choices) more (arranged_from i choices items)
+arranged_from-append i [] more items = rw (add-zero i) refl
+arranged_from-append i (c ∷ cs) more items =
+    let place : i + 1 + length cs ≡ i + suc (length cs) = omega arith in
+    rw (← place) (arranged_from-append (i + 1) cs more (swap items i c))
+
 -- one choice more is one swap more
 pub arranged_from-push : {T : Type 0} (i j : ℕ) (choices : List ℕ) (items : List T)
     → arranged_from i (choices ++ j ∷ []) items ≡ swap (arranged_from i choices items) (i + length choices) j
-arranged_from-push i j [] items = rw (add-zero i) refl
-arranged_from-push i j (c ∷ cs) items =
-    let place : i + 1 + length cs ≡ i + suc (length cs) = omega arith in
-    rw (← place) (arranged_from-push (i + 1) j cs (swap items i c))
+arranged_from-push i j choices items = arranged_from-append i choices (j ∷ []) items
 
 pub arranged-more : {T : Type 0} (choices : List ℕ) (items : List T) (i : ℕ) → i < length choices
     → arranged (take (i + 1) choices) items ≡ swap (arranged (take i choices) items) i (get_or choices i 0)
@@ -88,10 +93,9 @@ pub record Choosing (order out scratch : List ℕ) (i : ℕ) : Type 0 where
   pub chosen : Chosen 0 (length order) (take i out)
   pub front : (k : ℕ) → k < i → get_or scratch k 0 ≡ get_or order k 0
 
-pub choosing_start : (order out scratch : List ℕ) → length scratch ≡ length order
-    → ((k : ℕ) → k < length scratch → get_or scratch k 0 ≡ k) → Choosing order out scratch 0
-choosing_start order out scratch size is = record {
-  made = fill_by_all (λ k. k) scratch (length order) 0 size (λ k low. is k (omega arith)) ∙ map-id (rising (length order));
+pub choosing_start : (order out scratch : List ℕ) → scratch ≡ rising (length order) → Choosing order out scratch 0
+choosing_start order out scratch is = record {
+  made = is;
   chosen = record { each = λ k low. absurd (omega arith) };
   front = λ k low. absurd (omega arith);
 }

@@ -1,8 +1,8 @@
 -- Every arrangement is made by valid choices.
-use Rattle.std.proofs.Common.{◌≡◌, ℕ, zero, suc, ◌+◌, List, length, replicate, set, swap, IsPermutation, sym, ◌∙◌, subst, arith}
+use Rattle.std.proofs.Common.{◌≡◌, ℕ, zero, suc, ◌+◌, List, length, replicate, set, swap, IsPermutation, refl, sym, ◌∙◌, subst, arith}
 use Rattle.std.proofs.lemmas.List.{length-replicate, length-set}
 use Rattle.std.proofs.lemmas.List.Edits.{length-swap}
-use Rattle.std.proofs.lemmas.List.FromFn.{length-range_with_len, get_or-range_with_len}
+use Rattle.std.proofs.lemmas.List.FromFn.{length-range_with_len}
 use Rattle.std.proofs.lemmas.List.Sorted.{length_permutation}
 use Rattle.nanorand.specs.Shuffles.{arranged}
 use Rattle.nanorand.specs.Arrangements.{IsValid, rising, IsArrangement, CorrespondsOneToOne}
@@ -33,8 +33,7 @@ made_by_choices order arrangement =
     let size = length-range_with_len 0 (length order) in
     choose_rest order arrangement (length order) 0 (replicate (length order) 0) (rising (length order)) (omega arith)
     (length-replicate (length order) 0) size
-    (choosing_start order (replicate (length order) 0) (rising (length order)) size
-    (λ k low. get_or-range_with_len 0 (length order) k 0 (omega arith) ∙ omega arith))
+    (choosing_start order (replicate (length order) 0) (rising (length order)) refl)
 
 module _ (n : ℕ) where
   rising_size : length (rising n) ≡ n

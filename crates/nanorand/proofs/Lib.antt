@@ -41,7 +41,9 @@ mod WorkedCounters
 mod PlaceLemmas
 mod ChoiceLemmas
 mod CorrespondenceLemmas
+mod CopyLemmas
 mod ShuffleLemmas
+mod RecordLemmas
 mod PartnerLemmas
 mod WorkedShuffles
 mod WorkedPartners

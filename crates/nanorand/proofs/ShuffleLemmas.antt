@@ -29,11 +29,14 @@ module _ {G : Type 0} (bytes : G → ℕ → List ℕ) (after : G → ℕ → G)
   limits = keeps_limits (next_word bytes 64) (after_word after 64) nat_le nat_lt 64 unsigned_number (Included (first i)) (Excluded n) g
 
   -- a partner is a place from `first i` on
-  pub partner-within : (j : ℕ) → (partner_drawn bytes after first n i g).0 ≡ Ok j → (nat_le (first i) j ≡ true) × (nat_lt j n ≡ true)
+  partner-within : (j : ℕ) → (partner_drawn bytes after first n i g).0 ≡ Ok j → (nat_le (first i) j ≡ true) × (nat_lt j n ≡ true)
   partner-within j is = rw is at limits.within
 
+  pub partner-below : (j : ℕ) → Ok j ≡ (partner_drawn bytes after first n i g).0 → j < n
+  partner-below j is = ltb-true j n (partner-within j (sym is)).1
+
   -- where there is a place, only words can be wanting
-  pub partner-refused : first i < n → n < 2 ^ 64 → (e : RangeError) → (partner_drawn bytes after first n i g).0 ≡ Err e → e ≡ Exhausted
+  partner-refused : first i < n → n < 2 ^ 64 → (e : RangeError) → (partner_drawn bytes after first n i g).0 ≡ Err e → e ≡ Exhausted
   partner-refused low fits e is =
       rw is at (limits.some (first i) (omega arith) (le-leb (first i) (first i) (omega arith)) (lt-ltb (first i) n low))
 
@@ -52,7 +55,7 @@ choice-chosen i n (Ok j) rest within h =
 
 -- partners that are drawn each from the place itself are valid choices
 module _ {G : Type 0} (bytes : G → ℕ → List ℕ) (after : G → ℕ → G) (n : ℕ) where
-  choices-chosen : (left i : ℕ) (g : G) → Chosen i n (choices_from bytes after from_itself n i left g)
+  pub choices-chosen : (left i : ℕ) (g : G) → Chosen i n (choices_from bytes after from_itself n i left g)
   unfolding choices_from
   choices-chosen zero i g = record { each = λ k low. absurd (omega arith) }
   choices-chosen (suc left) i g =
@@ -72,6 +75,12 @@ module _ {G T : Type 0} (bytes : G → ℕ → List ℕ) (after : G → ℕ → 
     pub reached : now ≡ state_after_places bytes after first (length items) 0 i g
     pub made : list ≡ arranged (take i (shuffle_choices bytes after first (length items) g)) items
     pub shuffled : IsPermutation items list
+
+  -- what the shuffle answers, leaves and makes
+  pub record Shuffled (answer : Result (Unit {0}) RangeError) (now : G) (list : List T) : Type 0 where
+    pub answered : answer ≡ shuffle_answer bytes after first (length items) g
+    pub left : now ≡ shuffle_state bytes after first (length items) g
+    pub made : list ≡ arranged (shuffle_choices bytes after first (length items) g) items
 
   state-more : (a count : ℕ) (h : G) → state_after_places bytes after first (length items) a (suc count) h
       ≡ (partner_drawn bytes after first (length items) (a + count) (state_after_places bytes after first (length items) a count h)).1
@@ -100,12 +109,21 @@ module _ {G T : Type 0} (bytes : G → ℕ → List ℕ) (after : G → ℕ → 
         let left : length items - i ≡ suc (length items - (i + 1)) = omega arith in
         let is = rw left at m.drawn in is
 
-    pub shuffling-step : (j : ℕ) → i < length items → j < length items → Ok j ≡ (partner_drawn bytes after first (length items) i now).0
-        → Shuffling (i + 1) (partner_drawn bytes after first (length items) i now).1 (swap list i j)
-    shuffling-step j low to drawn =
+    -- what was drawn is the choice at i
+    pub choice-drawn : (j : ℕ) → i < length items → Ok j ≡ (partner_drawn bytes after first (length items) i now).0
+        → (i < length (shuffle_choices bytes after first (length items) g)) × (get_or (shuffle_choices bytes after first (length items) g) i 0 ≡ j)
+        × (drop (i + 1) (shuffle_choices bytes after first (length items) g)
+        ≡ choices_from bytes after first (length items) (i + 1) (length items - (i + 1)) (partner_drawn bytes after first (length items) i now).1)
+    choice-drawn j low drawn =
         let is = rw (← drawn) at next low in
-        let parts = drop-is (shuffle_choices bytes after first (length items) g) i j
-        (choices_from bytes after first (length items) (i + 1) (length items - (i + 1)) (partner_drawn bytes after first (length items) i now).1) is in
+        drop-is (shuffle_choices bytes after first (length items) g) i j
+        (choices_from bytes after first (length items) (i + 1) (length items - (i + 1)) (partner_drawn bytes after first (length items) i now).1) is
+
+    pub shuffling-step : (j : ℕ) → i < length items → Ok j ≡ (partner_drawn bytes after first (length items) i now).0
+        → Shuffling (i + 1) (partner_drawn bytes after first (length items) i now).1 (swap list i j)
+    shuffling-step j low drawn =
+        let parts = choice-drawn j low drawn in
+        let to = partner-below bytes after first (length items) i now j drawn in
         record {
           drawn = parts.2;
           many = omega (arith, parts.0);
@@ -117,27 +135,26 @@ module _ {G T : Type 0} (bytes : G → ℕ → List ℕ) (after : G → ℕ → 
 
     -- the choices end where one is refused
     module _ (e : RangeError) (low : i < length items) (drawn : Err e ≡ (partner_drawn bytes after first (length items) i now).0) where
-      count-refused : length (shuffle_choices bytes after first (length items) g) ≡ i
+      pub count-refused : length (shuffle_choices bytes after first (length items) g) ≡ i
       count-refused =
           let is = rw (← drawn) at next low in
           omega (arith, length-drop i (shuffle_choices bytes after first (length items) g), ap length is, m.many)
 
-      pub refused-answer : e ≡ Exhausted → Err e ≡ shuffle_answer bytes after first (length items) g
-      refused-answer reason = rw (count-refused, ne_eqb i (length items) (λ same. omega arith), reason) refl
-
-      pub refused-items : list ≡ arranged (shuffle_choices bytes after first (length items) g) items
-      refused-items =
+      pub refused : first i < length items → length items < 2 ^ 64
+          → Shuffled (Err e) (partner_drawn bytes after first (length items) i now).1 list
+      refused from fits =
+          let reason = partner-refused bytes after first (length items) i now from fits e (sym drawn) in
           let all = take_all i (shuffle_choices bytes after first (length items) g) (omega (arith, count-refused)) in
-          rw all at m.made
-
-      pub refused-state : (partner_drawn bytes after first (length items) i now).1 ≡ shuffle_state bytes after first (length items) g
-      refused-state =
           let draws : min (length items) (length (shuffle_choices bytes after first (length items) g) + 1) ≡ suc i = omega (arith, count-refused) in
           let place : 0 + i ≡ i = omega arith in
-          rw (draws, state-more 0 i g, place, ← m.reached) refl
+          record {
+            answered = rw (count-refused, ne_eqb i (length items) (λ same. omega arith), reason) refl;
+            made = rw all at m.made;
+            left = rw (draws, state-more 0 i g, place, ← m.reached) refl;
+          }
 
     -- all choices were drawn
-    module _ (done : i ≡ length items) where
+    module _ (end : i ≡ length items) where
       pub count-done : length (shuffle_choices bytes after first (length items) g) ≡ i
       unfolding choices_from
       count-done =
@@ -145,18 +162,15 @@ module _ {G T : Type 0} (bytes : G → ℕ → List ℕ) (after : G → ℕ → 
           let is = rw none at m.drawn in
           omega (arith, length-drop i (shuffle_choices bytes after first (length items) g), ap length is, m.many)
 
-      pub done-answer : Ok tt ≡ shuffle_answer bytes after first (length items) g
-      done-answer = rw (count-done, eq-eqb i (length items) done) refl
-
-      pub done-items : list ≡ arranged (shuffle_choices bytes after first (length items) g) items
-      done-items =
+      pub done : Shuffled (Ok tt) now list
+      done =
           let all = take_all i (shuffle_choices bytes after first (length items) g) (omega (arith, count-done)) in
-          rw all at m.made
-
-      pub done-state : now ≡ shuffle_state bytes after first (length items) g
-      done-state =
           let draws : min (length items) (length (shuffle_choices bytes after first (length items) g) + 1) ≡ i = omega (arith, count-done) in
-          rw draws m.reached
+          record {
+            answered = rw (count-done, eq-eqb i (length items) end) refl;
+            made = rw all at m.made;
+            left = rw draws m.reached;
+          }
 
 -- an exchange is the same from either place
 swap-other : {T : Type 0} (xs : List T) (i j : ℕ) → ((i ≡ j) → ⊥) → swap xs j i ≡ swap xs i j

@@ -1,11 +1,11 @@
 //! Laws of the definitions. The functions do nothing: each contract is a law.
-ghost use Rattle.std.specs.Prelude.{◌≡◌, ◌<◌, length, ℕ, ℤ, nat_le, nat_lt, int_le, int_lt, ◌+◌, ◌^◌, bit_xor, ◌≢◌, ◌%◌, ◌↔◌, List, slice_index};
+ghost use Rattle.std.specs.Prelude.{◌≡◌, ◌<◌, length, ℕ, ℤ, nat_le, nat_lt, int_le, int_lt, ◌+◌, ◌^◌, bit_xor, ◌≢◌, ◌%◌, ◌↔◌, List, slice_index, IsPermutation};
 ghost use Rattle.std.specs.declared.ops.Bound.{Bound};
 ghost use Rattle.std.specs.Fn.{iterate};
 ghost use Rattle.std.specs.Int.{w64, to_le_bytes, ◌∣◌};
 ghost use Rattle.nanorand.specs.Blocks.{taken};
 ghost use Rattle.nanorand.specs.Buffered.{Buffered, buffered_after, buffered_taken};
-ghost use Rattle.nanorand.specs.Arrangements.{CorrespondsOneToOne};
+ghost use Rattle.nanorand.specs.Arrangements.{CorrespondsOneToOne, HoldEquallyOften, HoldsEachOnce, IsArrangement};
 ghost use Rattle.nanorand.specs.Replay.{ReplaysJoin};
 ghost use Rattle.nanorand.specs.Unbroken.{IsUnbroken};
 ghost use Rattle.nanorand.specs.Range.{unsigned_number, signed_number};
@@ -60,6 +60,17 @@ pub fn replays_join<G: Rng<OUTPUT>, const OUTPUT: usize>()
 /// valid list makes an arrangement, no other valid list makes it, and each arrangement is made.
 pub fn choices_and_arrangements()
     ensures { (n : ℕ) → CorrespondsOneToOne n }
+{}
+
+/// Permutations and arrangements are told by counting.
+///
+/// `permutations`: one list of numbers is a permutation of another exactly if every number stands in
+/// both equally often. `arrangements`: a list arranges the numbers below its length exactly if each of
+/// them stands in it once; nothing has to be said of other numbers.
+pub fn permutations_by_counting()
+    ensures permutations { (xs ys : List ℕ) → IsPermutation xs ys ↔ HoldEquallyOften xs ys }
+    ensures arrangements { (order : List ℕ) →
+        IsArrangement order ↔ HoldsEachOnce (length order) order }
 {}
 
 /// A `BufferedRng` over any generator delivers without a break, whatever is asked of it.

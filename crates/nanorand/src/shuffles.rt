@@ -1,8 +1,8 @@
 //! Shuffles as lists of choices, and the shuffle that draws from all places.
 ghost use Rattle.std.specs.Prelude.{◌≡◌, ◌≢◌, ℕ, ◌<◌, ◌≤◌, length, slice_index, MatchOption, OnOk, OnErr, List, IsPermutation};
-ghost use Rattle.nanorand.specs.Arrangements.{rising, IsValid, IsArrangement};
+ghost use Rattle.nanorand.specs.Arrangements.{completed, rising, IsValid, IsArrangement};
 ghost use Rattle.nanorand.specs.Blocks.{taken};
-ghost use Rattle.nanorand.specs.Shuffles.{arranged, from_all, shuffle_answer, shuffle_choices, shuffle_state};
+ghost use Rattle.nanorand.specs.Shuffles.{arranged, from_all, from_itself, shuffle_answer, shuffle_choices, shuffle_state};
 
 use crate::rand::Rng;
 use crate::values::RangeError;
@@ -50,9 +50,7 @@ pub fn choices_of(
     ensures exact { OnOk result (IsArrangement order.now) }
     ensures refused { OnErr result (¬ IsArrangement order.now) }
 {
-    for (number, slot) in scratch.iter_mut().enumerate() {
-        *slot = number;
-    }
+    write_places(scratch);
     for (place, wanted) in order.iter().enumerate() {
         match place_from(scratch, place, *wanted) {
             Some(choice) => {
@@ -63,6 +61,15 @@ pub fn choices_of(
         }
     }
     Ok(())
+}
+
+// Writes 0, 1, .. over the slice.
+fn write_places(slots: &mut [usize])
+    ensures { slots.new ≡ rising (length slots.old) }
+{
+    for (place, slot) in slots.iter_mut().enumerate() {
+        *slot = place;
+    }
 }
 
 // The first place from `from` on that has the wanted number.
@@ -78,6 +85,44 @@ fn place_from(items: &[usize], from: usize, wanted: usize) -> Option<usize>
         }
     }
     None
+}
+
+/// Shuffles the slice as `Rng::shuffle` does, and records the choices that it draws.
+///
+/// It answers, shuffles and draws as `Rng::shuffle`. At Ok `choices` holds the choices drawn, one for
+/// each item. After `Exhausted` it holds those drawn before the refusal, and for each place behind them
+/// the place itself, which moves nothing. So the record is valid and makes what the items became from
+/// what they were in either case: `apply_choices` deals it again. It takes no memory.
+pub fn shuffle_and_record<G: Rng<OUTPUT>, T, const OUTPUT: usize>(
+    rng: &mut G,
+    target: &mut [T],
+    choices: &mut [usize],
+) -> Result<(), RangeError>
+    requires lengths { length choices.old ≡ length target.old }
+    ensures answer { result
+        ≡ shuffle_answer (taken G.block G.step) G.after from_itself (length target.old) rng.old }
+    ensures items { let count = length target.old in
+        let drawn = shuffle_choices (taken G.block G.step) G.after from_itself count rng.old in
+        target.new ≡ arranged drawn target.old }
+    ensures state { rng.new
+        ≡ shuffle_state (taken G.block G.step) G.after from_itself (length target.old) rng.old }
+    ensures arrangement { IsPermutation target.old target.new }
+    ensures drawn { OnOk result (choices.new
+        ≡ shuffle_choices (taken G.block G.step) G.after from_itself (length target.old) rng.old) }
+    ensures recorded { let count = length target.old in
+        let drawn = shuffle_choices (taken G.block G.step) G.after from_itself count rng.old in
+        choices.new ≡ completed count drawn }
+    ensures valid { IsValid choices.new }
+    ensures makes { arranged choices.new target.old ≡ target.new }
+{
+    write_places(choices);
+    let count = target.len();
+    for place in 0..count {
+        let partner = rng.generate_range(Bound::Included(place), Bound::Excluded(count))?;
+        target.swap(place, partner);
+        choices[place] = partner;
+    }
+    Ok(())
 }
 
 /// Shuffles the slice with partners from all places, as the Rust crate does: each place, from the

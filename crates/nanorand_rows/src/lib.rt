@@ -10,6 +10,8 @@ mod chacha;
 mod choices;
 pub mod constant;
 #[cfg(test)]
+mod counting;
+#[cfg(test)]
 mod cursors;
 pub mod die;
 #[cfg(test)]
@@ -46,6 +48,8 @@ mod shuffles;
 #[cfg(test)]
 mod signed_ranges;
 pub mod steps;
+#[cfg(test)]
+mod stored_shuffles;
 #[cfg(test)]
 mod values;
 pub mod waste;

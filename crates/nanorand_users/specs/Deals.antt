@@ -1,13 +1,5 @@
 -- Decks of cards, and the hands that are dealt from them. The full deck of n cards is `rising n`: 0, 1, .., n - 1.
-use Rattle.std.specs.Prelude.{◌≡◌, ℕ, zero, suc, ◌*◌, ◌<◌, ◌==◌, List, [], ◌++◌, length, slice_index, take, drop, count_by}
-
--- How often a list holds a card.
-abbrev pub copies : ℕ → List ℕ → ℕ
-copies card cards = count_by (λ other. other == card) cards
-
--- The deck holds each of so many cards exactly once.
-abbrev pub HoldsEachOnce : ℕ → List ℕ → Type 0
-HoldsEachOnce count deck = (card : ℕ) → card < count → copies card deck ≡ 1
+use Rattle.std.specs.Prelude.{◌≡◌, ℕ, zero, suc, ◌*◌, ◌<◌, List, [], ◌++◌, length, slice_index, take, drop}
 
 -- No card stands at two places.
 abbrev pub HoldsNoneTwice : List ℕ → Type 0

@@ -3,13 +3,14 @@
 //!
 //! The cards of a deck of n are the numbers 0, 1, .., n - 1.
 ghost use Rattle.std.specs.Prelude.{◌≡◌, ◌+◌, ◌*◌, ◌≤◌, ◌++◌, ℕ, List, length, drop, OnOk, IfErr};
-ghost use Rattle.nanorand.specs.Arrangements.{rising, IsValid, IsArrangement};
+ghost use Rattle.nanorand.specs.Arrangements.{rising, IsValid, IsArrangement, HoldsEachOnce};
 ghost use Rattle.nanorand.specs.Blocks.{taken};
 ghost use Rattle.nanorand.specs.Shuffles.{arranged, from_itself, shuffle_answer, shuffle_choices, shuffle_state};
 ghost use Rattle.nanorand.specs.declared.values.range.RangeError.TheVariants.{Exhausted};
-ghost use Rattle.nanorand_users.specs.Deals.{HoldsEachOnce, HoldsNoneTwice, HandsAreApart, hand_of, hands};
+ghost use Rattle.nanorand_users.specs.Deals.{HoldsNoneTwice, HandsAreApart, hand_of, hands};
 
-use nanorand::shuffles::{apply_choices, choices_of};
+use nanorand::laws::permutations_by_counting;
+use nanorand::shuffles::{apply_choices, choices_of, shuffle_and_record};
 use nanorand::{RangeError, Rng};
 
 /// Writes the full deck, in order.
@@ -40,22 +41,21 @@ pub fn shuffle_deck<G: Rng<OUTPUT>, const OUTPUT: usize>(
     ensures each_once { HoldsEachOnce (length deck.old) deck.new }
     ensures none_twice { HoldsNoneTwice deck.new }
 {
+    permutations_by_counting();
     write_deck(deck);
     rng.shuffle(deck)
 }
 
-/// Shuffles a deck, and stores it as choices: those that were drawn, if none was refused.
+/// Writes the full deck, shuffles it, and stores it as choices: those that were drawn, if none was
+/// refused.
 ///
-/// After a refusal the stored choices make the deck as it is then. `scratch` serves for a while, and
-/// what it holds at the end is open.
+/// After a refusal the stored choices make the deck as it is then.
 pub fn shuffle_and_store<G: Rng<OUTPUT>, const OUTPUT: usize>(
     rng: &mut G,
     deck: &mut [usize],
     choices: &mut [usize],
-    scratch: &mut [usize],
 ) -> Result<(), RangeError>
-    requires choices { length choices.old ≡ length deck.old }
-    requires scratch { length scratch.old ≡ length deck.old }
+    requires { length choices.old ≡ length deck.old }
     ensures answer { result ≡ shuffle_answer (taken G.block G.step) G.after from_itself (length deck.old) rng.old }
     ensures deck { let count = length deck.old in
         deck.new ≡ arranged (shuffle_choices (taken G.block G.step) G.after from_itself count rng.old) (rising count) }
@@ -64,10 +64,23 @@ pub fn shuffle_and_store<G: Rng<OUTPUT>, const OUTPUT: usize>(
     ensures stored { arranged choices.new (rising (length deck.old)) ≡ deck.new }
     ensures drawn { OnOk result (choices.new ≡ shuffle_choices (taken G.block G.step) G.after from_itself (length deck.old) rng.old) }
 {
-    let shuffled = shuffle_deck(rng, deck);
-    // A deck is an arrangement, so this is never refused.
+    write_deck(deck);
+    shuffle_and_record(rng, deck, choices)
+}
+
+/// Stores a deck that holds each card once, however it was shuffled, as choices.
+///
+/// `scratch` serves for a while, and what it holds at the end is open.
+pub fn store_deck(deck: &[usize], choices: &mut [usize], scratch: &mut [usize])
+    requires choices { length choices.old ≡ length deck.now }
+    requires scratch { length scratch.old ≡ length deck.now }
+    requires each_once { HoldsEachOnce (length deck.now) deck.now }
+    ensures valid { IsValid choices.new }
+    ensures stored { arranged choices.new (rising (length deck.now)) ≡ deck.now }
+{
+    permutations_by_counting();
+    // Such a deck is an arrangement, so this is never refused.
     let _ = choices_of(deck, choices, scratch);
-    shuffled
 }
 
 /// Deals the deck that stored choices make.

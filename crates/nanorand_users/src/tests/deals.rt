@@ -1,10 +1,12 @@
 //! A deck of ten cards, shuffled by the words of wyrand and the multiplication that names a place.
 
 use super::zeros::Zeros;
-use crate::deals::{deal_again, hand, rest, shuffle_and_store, shuffle_deck};
+use crate::deals::{deal_again, hand, rest, shuffle_and_store, shuffle_deck, store_deck};
 use nanorand::{RangeError, WyRand};
 
 const DECK: [usize; 10] = [6, 9, 8, 1, 0, 3, 4, 7, 5, 2];
+
+const CHOICES: [usize; 10] = [6, 9, 8, 9, 6, 9, 6, 7, 9, 9];
 
 #[test]
 fn hands_of_a_shuffled_deck(rt: HostRuntime) {
@@ -20,16 +22,26 @@ fn hands_of_a_shuffled_deck(rt: HostRuntime) {
 fn a_deck_dealt_again(rt: HostRuntime) {
     let mut deck = [0; 10];
     let mut choices = [0; 10];
-    let mut scratch = [0; 10];
     let mut rng = WyRand::new_seed(42);
-    let shuffled = shuffle_and_store(&mut rng, &mut deck, &mut choices, &mut scratch);
-    assert_eq!(rt; shuffled, Ok(()));
+    assert_eq!(rt;
+        shuffle_and_store(&mut rng, &mut deck, &mut choices),
+        Ok(())
+    );
     assert_eq!(rt; deck, DECK);
-    assert_eq!(rt; choices, [6, 9, 8, 9, 6, 9, 6, 7, 9, 9]);
+    assert_eq!(rt; choices, CHOICES);
 
     let mut again = [0; 10];
     deal_again(&choices, &mut again);
     assert_eq!(rt; again, DECK);
+}
+
+#[test]
+fn a_deck_stored_afterwards(rt: HostRuntime) {
+    let mut deck = [0; 10];
+    assert_eq!(rt; shuffle_deck(&mut WyRand::new_seed(42), &mut deck), Ok(()));
+    let mut choices = [0; 10];
+    store_deck(&deck, &mut choices, &mut [0; 10]);
+    assert_eq!(rt; choices, CHOICES);
 }
 
 // The word 0 names no place of ten, so the first card is refused.
@@ -43,4 +55,19 @@ fn a_refused_deck_is_whole(rt: HostRuntime) {
     );
     assert_eq!(rt; deck, [0, 1, 2, 3, 4, 5, 6, 7, 8, 9]);
     assert_eq!(rt; rng.drawn(), 128);
+}
+
+// The choices that are left of an earlier deck are not dealt again.
+#[test]
+fn a_refused_deck_is_stored(rt: HostRuntime) {
+    let mut deck = [7; 10];
+    let mut choices = CHOICES;
+    assert_eq!(rt;
+        shuffle_and_store(&mut Zeros::new(), &mut deck, &mut choices),
+        Err(RangeError::Exhausted)
+    );
+    assert_eq!(rt; choices, [0, 1, 2, 3, 4, 5, 6, 7, 8, 9]);
+    let mut again = [7; 10];
+    deal_again(&choices, &mut again);
+    assert_eq!(rt; again, deck);
 }

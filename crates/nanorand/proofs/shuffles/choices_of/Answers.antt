@@ -1,11 +1,12 @@
-use Rattle.std.proofs.Common.{◌≡◌, length, arith}
+use Rattle.std.proofs.Common.{◌≡◌, length, ◌∙◌, ap, arith}
+use Rattle.nanorand.specs.Arrangements.{rising}
 use Rattle.nanorand.proofs.ChoiceLemmas.{choosing_start, choosing_step, choosing_refused, end_chosen, end_made, made_alone, made_arrangement}
 use Rattle.nanorand.proofs.shuffles.choices_of.Goals as goal
 
 pub loop-place-init : goal.loop-place-init
 loop-place-init c =
-    choosing_start c.args.order.now c.args.out.now c.loop-number.scratch (omega arith)
-    (λ k low. c.loop-number.invariant k (omega arith))
+    choosing_start c.args.order.now c.args.out.now c.write_places.new.slots
+    (c.write_places.ensures ∙ ap rising (omega arith))
 
 pub returns-in-None-clause-refused : goal.returns-in-None-clause-refused
 returns-in-None-clause-refused c =

@@ -1,10 +1,13 @@
-use Rattle.std.proofs.Common.{length}
-use Rattle.nanorand_users.proofs.DeckLemmas.{each-once, none-twice}
+use Rattle.std.proofs.Common.{◌≡◌, length, arith}
+use Rattle.nanorand_users.proofs.DeckLemmas.{none-twice}
 use Rattle.nanorand_users.proofs.deals.shuffle_deck.Goals as goal
 
 pub returns-clause-each_once : goal.returns-clause-each_once
 returns-clause-each_once g c =
-    each-once (length c.args.deck.now) c.shuffle.new.target (rw c.write_deck.ensures at c.shuffle.ensures.arrangement)
+    let deck = c.shuffle.new.target in
+    let size : length deck ≡ length c.args.deck.now = omega arith in
+    let order = rw c.write_deck.ensures at c.shuffle.ensures.arrangement in
+    rw (← size) ((c.permutations_by_counting.ensures.arrangements deck).0 (rw size order))
 
 pub returns-clause-none_twice : goal.returns-clause-none_twice
 returns-clause-none_twice g c =
