@@ -17,6 +17,9 @@ mod distances;
 #[cfg(test)]
 mod entropy;
 pub mod examples;
+pub mod forking;
+#[cfg(test)]
+mod forks;
 #[cfg(test)]
 mod full_shuffles;
 #[cfg(test)]
@@ -54,6 +57,7 @@ mod wyrand;
 
 pub use constant::Constant;
 pub use die::Die;
+pub use forking::Forking;
 pub use rising::{Bytes1, Bytes64};
 pub use script::Script;
 pub use steps::Steps;
