@@ -6,3 +6,4 @@ pub mod RisingLaws
 pub mod Waste
 pub mod Die
 pub mod Forking
+pub mod Zeros

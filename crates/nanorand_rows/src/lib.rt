@@ -54,6 +54,7 @@ mod values;
 pub mod waste;
 #[cfg(test)]
 mod wyrand;
+pub mod zeros;
 
 pub use constant::Constant;
 pub use die::Die;
@@ -62,3 +63,4 @@ pub use rising::{Bytes1, Bytes64};
 pub use script::Script;
 pub use steps::Steps;
 pub use waste::Waste;
+pub use zeros::Zeros;
