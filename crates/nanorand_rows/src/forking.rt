@@ -90,9 +90,11 @@ pub fn parts_of_clone<G: Rng<OUTPUT> + Drop, const OUTPUT: usize>(
     Ok((kept, copy.into_inner()))
 }
 
-/// Fills the slice from a clone: the bytes that the buffer keeps, and then those of the next stream.
+/// Fills the slice from a clone: first the bytes that the buffer keeps, then those of the next
+/// stream.
 pub fn fill_from_clone(rng: &BufferedRng<Forking, 8>, out: &mut [u8]) -> Result<(), AllocError>
-    ensures bytes { OnOk result (out.new ≡ buffered_taken forking_block forking_step 8 (buffer_of rng.now.rest (forked rng.now.inner)) (length out.old)) }
+    ensures bytes { OnOk result (out.new ≡ buffered_taken forking_block forking_step 8
+        (buffer_of rng.now.rest (forked rng.now.inner)) (length out.old)) }
 {
     unbroken_delivery::<Forking, 8>();
     let mut copy = rng.clone()?;
