@@ -11,6 +11,8 @@ mod choices;
 pub mod constant;
 #[cfg(test)]
 mod cursors;
+#[cfg(test)]
+mod derives;
 pub mod die;
 #[cfg(test)]
 mod distances;
@@ -49,6 +51,8 @@ mod shuffles;
 #[cfg(test)]
 mod signed_ranges;
 pub mod steps;
+#[cfg(test)]
+mod texts;
 #[cfg(test)]
 mod values;
 pub mod waste;
