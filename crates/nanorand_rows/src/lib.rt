@@ -31,6 +31,12 @@ mod hostile;
 pub mod in_place;
 #[cfg(test)]
 mod jumps;
+#[cfg(test)]
+mod lengths;
+#[cfg(test)]
+mod long_lists;
+#[cfg(test)]
+mod makers;
 pub mod nested;
 #[cfg(test)]
 mod pcg64;
