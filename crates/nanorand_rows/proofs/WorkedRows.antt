@@ -17,6 +17,7 @@ use Rattle.nanorand_rows.specs.Rising.{rising_block}
 use Rattle.nanorand_rows.specs.Constant.{constant_block, constant_step}
 use Rattle.nanorand_rows.specs.Script.{script_block, script_step}
 use Rattle.nanorand_rows.specs.Waste.{waste_after}
+use Rattle.nanorand_rows.specs.Zeros.{zeros_block}
 use Rattle.nanorand_rows.specs.Die.{die_value, die_after, die_bound}
 
 -- the first, the second and the last block of rising bytes, and what comes behind the last
@@ -79,6 +80,14 @@ throw_of_zeros = refl
 words_of_a_throw : die_after (taken constant_block constant_step) (plain_after constant_step 8) (record { byte = 0; drawn = 0 }) ≡ record { byte = 0; drawn = 128 }
 unfolding named range_within words_from value_drawn left_by left_after taken
 words_of_a_throw = refl
+
+throw_of_no_words : die_value (taken zeros_block next_count) (plain_after next_count 8) 0 ≡ 1
+unfolding named range_within words_from value_drawn left_by left_after taken
+throw_of_no_words = refl
+
+zeros_of_a_throw : die_after (taken zeros_block next_count) (plain_after next_count 8) 0 ≡ 128
+unfolding named range_within words_from value_drawn left_by left_after taken
+zeros_of_a_throw = refl
 
 throw_of_steps : die_value (taken steps_block next_count) (plain_after next_count 8) 0 ≡ 1
 unfolding named range_within words_from value_drawn left_by left_after taken

@@ -1,5 +1,5 @@
 -- A die: a number of 1 to 6.
-use Rattle.std.specs.Prelude.{ℕ, List, Result, Ok, Err}
+use Rattle.std.specs.Prelude.{ℕ, ◌≤◌, List, Result, Ok, Err}
 use Rattle.std.specs.declared.ops.Bound.{Bound}
 use Rattle.std.specs.declared.ops.Bound.TheVariants.{Included, Excluded, Unbounded}
 use Rattle.nanorand.specs.Draws.{unsigned_outcome}
@@ -23,3 +23,9 @@ abbrev pub die_bound : ℕ → Bound ℕ → Bound ℕ
 die_bound last (Included pips) = Included pips
 die_bound last (Excluded pips) = Excluded pips
 die_bound last Unbounded = Included last
+
+-- The bound has a number, which is a die's.
+abbrev pub HasPips : Bound ℕ → Type 0
+HasPips (Included pips) = (1 ≤ pips) × (pips ≤ 6)
+HasPips (Excluded pips) = (1 ≤ pips) × (pips ≤ 6)
+HasPips Unbounded = ⊥

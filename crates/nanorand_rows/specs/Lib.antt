@@ -5,3 +5,5 @@ pub mod Rising
 pub mod RisingLaws
 pub mod Waste
 pub mod Die
+pub mod Forking
+pub mod Zeros

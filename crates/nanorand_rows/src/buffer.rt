@@ -1,7 +1,7 @@
 //! Buffered generators.
 
 use crate::replays::calls;
-use crate::{Constant, Steps};
+use crate::{Steps, Zeros};
 use nanorand::buffer::TextRefused;
 use nanorand::replay::{Answer, Call, Kind, replay};
 use nanorand::{BufferedRng, ChaCha8, Pcg64, Rng, SeedableRng, WyRand};
@@ -152,7 +152,7 @@ fn clones_go_on(rt: HostRuntime) -> Result<(), Fail> {
 
 #[test]
 fn zeros_shuffle_nothing(rt: HostRuntime) {
-    let mut rng = BufferedRng::new(Constant::new(0));
+    let mut rng = BufferedRng::new(Zeros::new());
     let mut items = [7, 8, 9];
     let mut answers = [Answer::Empty; 2];
     replay(
@@ -164,5 +164,5 @@ fn zeros_shuffle_nothing(rt: HostRuntime) {
     assert_eq!(rt; answers, [Answer::Exhausted, Answer::Truth(true)]);
     assert_eq!(rt; items, [7, 8, 9]);
     assert_eq!(rt; rng.buffered(), 7);
-    assert_eq!(rt; rng.into_inner().drawn, 129);
+    assert_eq!(rt; rng.into_inner().drawn(), 129);
 }

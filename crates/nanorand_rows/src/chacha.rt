@@ -69,8 +69,9 @@ fn bytes_of(words: &[u32; 16]) -> [u8; 64] {
     bytes
 }
 
+// The published vectors, by the block function and by the generator.
 #[test]
-fn published_vectors(rt: HostRuntime) -> Result<(), Fail> {
+fn test_ietf_chacha20_test_vectors(rt: HostRuntime) -> Result<(), Fail> {
     for (key, nonce, blocks) in VECTORS {
         let key = <[u8; 32] as FromHex>::from_hex(key)?;
         let nonce = <[u8; 8] as FromHex>::from_hex(nonce)?;

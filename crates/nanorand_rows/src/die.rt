@@ -1,9 +1,10 @@
 //! A value type of a user's own.
-ghost use Rattle.std.specs.Prelude.{◌≡◌};
+ghost use Rattle.std.specs.Prelude.{◌≡◌, ◌≤◌};
 ghost use Rattle.nanorand.specs.Blocks.{taken};
 ghost use Rattle.nanorand.specs.Draws.{unsigned_outcome};
-ghost use Rattle.nanorand_rows.specs.Die.{die_after, die_bound, die_value};
+ghost use Rattle.nanorand_rows.specs.Die.{HasPips, die_after, die_bound, die_value};
 
+use nanorand::values::range::draw_number;
 use nanorand::{RandomGen, RandomRange, RangeError, Rng};
 use std::marker::Model;
 use std::ops::Bound;
@@ -16,16 +17,19 @@ pub struct Die {
 
 // A die is its number.
 impl Model for Die {
-    ghost use Rattle.std.specs.Prelude.{ℕ};
+    ghost use Rattle.std.specs.Prelude.{ℕ, ◌≤◌};
 
     ghost Value = { ℕ };
 
     ghost view = { λ die. die.pips };
+
+    ghost invariant = { λ die. (1 ≤ die.pips) × (die.pips ≤ 6) };
 }
 
 impl Die {
-    /// A die that shows this number.
+    /// A die that shows this number, of 1 to 6.
     pub fn new(pips: u8) -> Self
+        requires { (1 ≤ pips) × (pips ≤ 6) }
         ensures { result ≡ pips }
     {
         Die { pips }
@@ -33,7 +37,8 @@ impl Die {
 
     /// The number that it shows.
     pub fn pips(&self) -> u8
-        ensures { result ≡ self.now }
+        ensures value { result ≡ self.now }
+        ensures face { (1 ≤ result) × (result ≤ 6) }
     {
         self.pips
     }
@@ -46,9 +51,9 @@ impl<G: Rng<OUTPUT>, const OUTPUT: usize> RandomGen<G, OUTPUT> for Die {
     ghost state_after = { die_after (taken G.block G.step) G.after };
 
     fn random(rng: &mut G) -> Die {
-        let pips = rng.generate_range::<u8>(Bound::Included(1), Bound::Included(6));
-        Die {
-            pips: pips.unwrap_or(1),
+        match draw_number(rng, Bound::Included(1), Bound::Included(6)) {
+            Ok(pips) => Die { pips },
+            Err(_) => Die { pips: 1 },
         }
     }
 }
@@ -61,7 +66,7 @@ impl<G: Rng<OUTPUT>, const OUTPUT: usize> RandomRange<G, OUTPUT> for Die {
         ensures value { result ≡ (unsigned_outcome (taken G.block G.step) G.after 8 rng.old (die_bound 1 low) (die_bound 6 high)).0 }
         ensures state { rng.new ≡ (unsigned_outcome (taken G.block G.step) G.after 8 rng.old (die_bound 1 low) (die_bound 6 high)).1 }
     {
-        match rng.generate_range(pips_bound(low, 1), pips_bound(high, 6)) {
+        match draw_number(rng, pips_bound(low, 1), pips_bound(high, 6)) {
             Ok(pips) => Ok(Die { pips }),
             Err(refusal) => Err(refusal),
         }
@@ -70,7 +75,9 @@ impl<G: Rng<OUTPUT>, const OUTPUT: usize> RandomRange<G, OUTPUT> for Die {
 
 // The bound's number, or the end of a die.
 fn pips_bound(bound: Bound<Die>, last: u8) -> Bound<u8>
-    ensures { result ≡ die_bound last bound }
+    requires { (1 ≤ last) × (last ≤ 6) }
+    ensures value { result ≡ die_bound last bound }
+    ensures pips { HasPips result }
 {
     match bound {
         Bound::Included(die) => Bound::Included(die.pips),

@@ -1,11 +1,27 @@
 //! Rows of distances. A body that tries every number of draws would not end on most of them.
 
 use nanorand::{Pcg64, WyRand};
+use std::alloc::AllocError;
+use std::process::Abort;
+use std::test::Fail;
 
 const FIRST: u128 = 0x3b1dd060ff2fd1e09624b94fc0ada4df;
 
+// The seed stands in Debug's text, where it comes first.
+fn is_at_seed(
+    rt: &(impl Abort + AllocGlobal),
+    pcg64: &Pcg64,
+    seed: u128,
+) -> Result<(), AllocError> {
+    assert_eq!(rt; pcg64.seed(), seed);
+    let text = format!(in rt.alloc(); "{pcg64:?}")?;
+    let start = format!(in rt.alloc(); "Pcg64 {{ seed: {seed:#x}, state: ")?;
+    assert!(rt; text.as_str().starts_with(start.as_str()), "{seed:#x}");
+    Ok(())
+}
+
 #[test]
-fn of_wyrand(rt: HostRuntime) {
+fn of_wyrand(rt: HostRuntime) -> Result<(), Fail> {
     for (start, end, draws) in [
         (0, 0xa0761d6478bd642f, 1),
         (0xa0761d6478bd642f, 0, u64::MAX),
@@ -19,7 +35,13 @@ fn of_wyrand(rt: HostRuntime) {
         assert_eq!(rt; wyrand.distance(&other), draws, "from {start} to {end}");
         wyrand.jump(draws);
         assert_eq!(rt; wyrand.seed(), end);
+        let text = format!(in rt.alloc(); "WyRand {{ seed: {end:#x} }}")?;
+        assert_eq!(rt;
+            format!(in rt.alloc(); "{wyrand:?}")?.as_str(),
+            text.as_str()
+        );
     }
+    Ok(())
 }
 
 #[test]
@@ -63,7 +85,7 @@ fn of_pcg64_after_draws(rt: HostRuntime) {
 
 // A jump of the distance leads to the second seed.
 #[test]
-fn jumps_of_distances(rt: HostRuntime) {
+fn jumps_of_distances(rt: HostRuntime) -> Result<(), Fail> {
     for (start, end) in [
         (5, (1 << 127) + 5),
         (0, 0),
@@ -78,13 +100,14 @@ fn jumps_of_distances(rt: HostRuntime) {
             .distance(&Pcg64::new_seed(end))
             .expect(&rt, "one cycle");
         pcg64.jump(draws);
-        assert_eq!(rt; pcg64.seed(), end, "from {start}");
+        is_at_seed(&rt, &pcg64, end)?;
     }
+    Ok(())
 }
 
 // Of the seeds below 8 draws lead from each to itself and to what it lacks of 7.
 #[test]
-fn four_cycles(rt: HostRuntime) {
+fn four_cycles(rt: HostRuntime) -> Result<(), Fail> {
     for start in [0, 1, 2, 3, 4, 5, 6, 7] {
         for end in [0, 1, 2, 3, 4, 5, 6, 7] {
             let mut pcg64 = Pcg64::new_seed(start);
@@ -92,10 +115,11 @@ fn four_cycles(rt: HostRuntime) {
                 Some(draws) => {
                     assert!(rt; start == end || start + end == 7, "{start} and {end}");
                     pcg64.jump(draws);
-                    assert_eq!(rt; pcg64.seed(), end);
+                    is_at_seed(&rt, &pcg64, end)?;
                 }
                 None => assert!(rt; start != end && start + end != 7, "{start} and {end}"),
             }
         }
     }
+    Ok(())
 }

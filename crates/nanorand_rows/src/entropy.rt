@@ -3,7 +3,7 @@
 use crate::readers::Pieces;
 use hex::FromHex;
 use nanorand::entropy::{EntropyError, backup, rdseed, system};
-use nanorand::{Blocks, ChaCha20, Pcg64, WyRand};
+use nanorand::{Blocks, ChaCha8, ChaCha12, ChaCha20, Pcg64, WyRand};
 use std::io::ErrorKind;
 use std::process::Abort;
 use std::test::Fail;
@@ -28,14 +28,18 @@ enum Made {
     Bytes,
     WyRand,
     Pcg64,
+    ChaCha8,
+    ChaCha12,
     ChaCha20,
 }
 
 // Each with the number of bytes that it takes.
-const MAKERS: [(Made, usize); 4] = [
+const MAKERS: [(Made, usize); 6] = [
     (Made::Bytes, 11),
     (Made::WyRand, 8),
     (Made::Pcg64, 16),
+    (Made::ChaCha8, 40),
+    (Made::ChaCha12, 40),
     (Made::ChaCha20, 40),
 ];
 
@@ -45,6 +49,8 @@ fn outcome_of(made: Made, source: &mut Pieces) -> Result<(), EntropyError> {
         Made::Bytes => system(source, &mut [0; 11]),
         Made::WyRand => WyRand::new(source).map(|_| ()),
         Made::Pcg64 => Pcg64::new(source).map(|_| ()),
+        Made::ChaCha8 => ChaCha8::new(source).map(|_| ()),
+        Made::ChaCha12 => ChaCha12::new(source).map(|_| ()),
         Made::ChaCha20 => ChaCha20::new(source).map(|_| ()),
     }
 }

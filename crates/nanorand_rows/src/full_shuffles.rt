@@ -1,6 +1,6 @@
 //! Shuffles with partners from all places.
 
-use crate::{Constant, Script, Steps};
+use crate::{Script, Steps, Zeros};
 use nanorand::shuffles::shuffle_full;
 use nanorand::values::RangeError;
 use nanorand::{BufferedRng, Rng};
@@ -28,14 +28,14 @@ fn chosen_from_all(rt: HostRuntime) {
 
 #[test]
 fn refused_by_zeros(rt: HostRuntime) {
-    let mut zeros = Constant::new(0);
+    let mut zeros = Zeros::new();
     let mut letters = ['a', 'b', 'c'];
     assert_eq!(rt;
         shuffle_full(&mut zeros, &mut letters),
         Err(RangeError::Exhausted)
     );
     assert_eq!(rt; letters, ['a', 'b', 'c']);
-    assert_eq!(rt; zeros.drawn, 128);
+    assert_eq!(rt; zeros.drawn(), 128);
 }
 
 #[test]

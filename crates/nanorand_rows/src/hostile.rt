@@ -1,6 +1,7 @@
 //! Generators that keep the contract and little else, and a value type of a user's own.
+ghost use Rattle.std.specs.Prelude.{◌≤◌};
 
-use crate::{Bytes1, Bytes64, Constant, Die, Script, Steps, Waste};
+use crate::{Bytes1, Bytes64, Constant, Die, Script, Steps, Waste, Zeros};
 use nanorand::replay::{Answer, Call, Kind, Span, replay};
 use nanorand::{BufferedRng, RangeError, Rng};
 use std::ops::Bound;
@@ -38,7 +39,7 @@ fn a_refused_range_and_a_byte(rt: HostRuntime) {
 
 #[test]
 fn a_refused_shuffle_and_a_truth_value(rt: HostRuntime) {
-    let mut zeros = Constant::new(0);
+    let mut zeros = Zeros::new();
     let mut items = [7, 8, 9];
     let mut answers = [Answer::Empty; 2];
     replay(
@@ -49,15 +50,18 @@ fn a_refused_shuffle_and_a_truth_value(rt: HostRuntime) {
     );
     assert_eq!(rt; answers, [Answer::Exhausted, Answer::Truth(true)]);
     assert_eq!(rt; items, [7, 8, 9]);
-    assert_eq!(rt; zeros.drawn, 129);
+    assert_eq!(rt; zeros.drawn(), 129);
 }
 
 #[test]
 fn blocks_of_one_byte(rt: HostRuntime) {
-    assert_eq!(rt; Bytes1::new().generate::<u16>(), 0x0100);
+    let mut plain = Bytes1::new();
+    assert_eq!(rt; plain.generate::<u16>(), 0x0100);
+    assert_eq!(rt; plain.drawn(), 2);
     let mut buffered = BufferedRng::new(Bytes1::new());
     assert_eq!(rt; buffered.generate::<u16>(), 0x0100);
     assert_eq!(rt; buffered.buffered(), 0);
+    assert_eq!(rt; buffered.into_inner().drawn(), 2);
 }
 
 #[test]
@@ -70,6 +74,7 @@ fn blocks_of_64_bytes(rt: HostRuntime) {
     assert_eq!(rt; buffered.generate::<u8>(), 0);
     assert_eq!(rt; buffered.generate::<u8>(), 1);
     assert_eq!(rt; buffered.buffered(), 62);
+    assert_eq!(rt; buffered.into_inner().drawn(), 1);
 }
 
 #[test]
@@ -86,9 +91,9 @@ fn wasted_blocks(rt: HostRuntime) {
 
 #[test]
 fn throws_of_a_die(rt: HostRuntime) -> Result<(), Fail> {
-    let mut zeros = Constant::new(0);
+    let mut zeros = Zeros::new();
     assert_eq!(rt; zeros.generate::<Die>().pips(), 1);
-    assert_eq!(rt; zeros.drawn, 128);
+    assert_eq!(rt; zeros.drawn(), 128);
 
     let mut steps = Steps::new();
     assert_eq!(rt; steps.generate::<Die>().pips(), 1);
@@ -102,6 +107,32 @@ fn throws_of_a_die(rt: HostRuntime) -> Result<(), Fail> {
     let none = Steps::new().generate_range(Bound::Excluded(Die::new(6)), Bound::Unbounded);
     assert_eq!(rt; none.map(|die| die.pips()), Err(RangeError::Empty));
     Ok(())
+}
+
+// What the range of two dice gives by a byte.
+fn die_between(low: u8, high: u8, byte: u8) -> Result<u8, RangeError>
+    requires low { (1 ≤ low) × (low ≤ 6) }
+    requires high { (1 ≤ high) × (high ≤ 6) }
+{
+    let (low, high) = (Die::new(low), Die::new(high));
+    let drawn = Constant::new(byte).generate_range(Bound::Included(low), Bound::Included(high));
+    drawn.map(|die: Die| die.pips())
+}
+
+// The byte 1 names the least number of each range, and the greatest byte the greatest.
+#[test]
+fn ranges_of_dice(rt: HostRuntime) {
+    for low in 1..7u8 {
+        for high in 1..7u8 {
+            let both = (die_between(low, high, 1), die_between(low, high, 255));
+            if high < low {
+                let empty = (Err(RangeError::Empty), Err(RangeError::Empty));
+                assert_eq!(rt; both, empty, "{low} {high}");
+            } else {
+                assert_eq!(rt; both, (Ok(low), Ok(high)), "{low} {high}");
+            }
+        }
+    }
 }
 
 // The number that each word names, by counting: number k has the words from

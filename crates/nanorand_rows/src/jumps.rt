@@ -26,9 +26,14 @@ fn pcg64_lands(rt: HostRuntime) -> Result<(), Fail> {
     let mut pcg64 = Pcg64::new_seed(5);
     pcg64.jump(1 << 125);
     assert_eq!(rt; pcg64.seed(), (1 << 127) + 5);
+    let text = format!(in rt.alloc(); "{pcg64:?}")?;
+    let seed = "Pcg64 { seed: 0x80000000000000000000000000000005, state: ";
+    assert!(rt; text.as_str().starts_with(seed));
     let mut round = Pcg64::new_seed(5);
     round.jump(1 << 126);
     assert_eq!(rt; round.seed(), 5);
+    let text = format!(in rt.alloc(); "{round:?}")?;
+    assert!(rt; text.as_str().starts_with("Pcg64 { seed: 0x5, state: "));
     let mut still = Pcg64::new_seed(5);
     still.jump(0);
     assert_eq!(rt;
@@ -71,6 +76,10 @@ fn a_jump_is_its_draws(rt: HostRuntime) -> Result<(), Fail> {
     pcg64_jumped.jump(1000);
     assert_eq!(rt; wyrand_jumped.seed(), wyrand.seed());
     assert_eq!(rt;
+        format!(in rt.alloc(); "{wyrand_jumped:?}")?.as_str(),
+        format!(in rt.alloc(); "{wyrand:?}")?.as_str()
+    );
+    assert_eq!(rt;
         format!(in rt.alloc(); "{pcg64_jumped:?}")?.as_str(),
         format!(in rt.alloc(); "{pcg64:?}")?.as_str()
     );
@@ -86,6 +95,11 @@ fn jumps_add(rt: HostRuntime) -> Result<(), Fail> {
             wyrand.jump(second);
             wyrand_once.jump(first + second);
             assert_eq!(rt; wyrand.seed(), wyrand_once.seed(), "{first} and {second}");
+            assert_eq!(rt;
+                format!(in rt.alloc(); "{wyrand:?}")?.as_str(),
+                format!(in rt.alloc(); "{wyrand_once:?}")?.as_str(),
+                "{first} and {second}"
+            );
             let (mut pcg64, mut pcg64_once) = (Pcg64::new_seed(42), Pcg64::new_seed(42));
             pcg64.jump(u128::from(first));
             pcg64.jump(u128::from(second));

@@ -13,12 +13,17 @@ pub mod constant;
 mod counting;
 #[cfg(test)]
 mod cursors;
+#[cfg(test)]
+mod derives;
 pub mod die;
 #[cfg(test)]
 mod distances;
 #[cfg(test)]
 mod entropy;
 pub mod examples;
+pub mod forking;
+#[cfg(test)]
+mod forks;
 #[cfg(test)]
 mod full_shuffles;
 #[cfg(test)]
@@ -28,6 +33,12 @@ mod hostile;
 pub mod in_place;
 #[cfg(test)]
 mod jumps;
+#[cfg(test)]
+mod lengths;
+#[cfg(test)]
+mod long_lists;
+#[cfg(test)]
+mod makers;
 pub mod nested;
 #[cfg(test)]
 mod pcg64;
@@ -51,14 +62,19 @@ pub mod steps;
 #[cfg(test)]
 mod stored_shuffles;
 #[cfg(test)]
+mod texts;
+#[cfg(test)]
 mod values;
 pub mod waste;
 #[cfg(test)]
 mod wyrand;
+pub mod zeros;
 
 pub use constant::Constant;
 pub use die::Die;
+pub use forking::Forking;
 pub use rising::{Bytes1, Bytes64};
 pub use script::Script;
 pub use steps::Steps;
 pub use waste::Waste;
+pub use zeros::Zeros;

@@ -1,6 +1,6 @@
 //! Ranges of unsigned numbers, and words that name numbers.
 
-use crate::{Constant, Script, Steps};
+use crate::{Constant, Script, Steps, Zeros};
 use nanorand::replay::{Answer, Call, Kind, Span, replay};
 use nanorand::values::pick_word;
 use nanorand::{RangeError, Rng, WyRand};
@@ -53,15 +53,15 @@ fn words_name_numbers(rt: HostRuntime) {
 
 #[test]
 fn the_first_accepted_word_decides(rt: HostRuntime) {
-    let mut zeros = Constant::new(0);
+    let mut zeros = Zeros::new();
     assert_eq!(rt;
         zeros.generate_range::<u8>(Included(10), Included(12)),
         Err(RangeError::Exhausted)
     );
-    assert_eq!(rt; zeros.drawn, 128);
+    assert_eq!(rt; zeros.drawn(), 128);
 
     assert_eq!(rt;
-        Constant::new(0).generate_range::<u8>(Included(10), Included(13)),
+        Zeros::new().generate_range::<u8>(Included(10), Included(13)),
         Ok(10)
     );
 
@@ -185,7 +185,7 @@ fn a_refusal_does_not_end_a_replay(rt: HostRuntime) {
 
 #[test]
 fn unsigned_spans_are_replayed(rt: HostRuntime) {
-    let mut zeros = Constant::new(0);
+    let mut zeros = Zeros::new();
     let calls = [
         Call::Range(Span::U8(Included(10), Included(12))),
         Call::Range(Span::U16(Unbounded, Unbounded)),
@@ -205,5 +205,5 @@ fn unsigned_spans_are_replayed(rt: HostRuntime) {
             Answer::Unsigned(3)
         ]
     );
-    assert_eq!(rt; zeros.drawn, 259);
+    assert_eq!(rt; zeros.drawn(), 259);
 }

@@ -1,7 +1,8 @@
 //! Memory that is refused.
 
 use crate::Steps;
-use nanorand::{BufferedRng, Rng};
+use crate::makers::counted;
+use nanorand::{BufferedRng, ChaCha20, Rng, WyRand};
 use refusing::Refusing;
 use std::alloc::{AllocError, Allocator};
 use std::process::Abort;
@@ -14,43 +15,90 @@ fn full<A: Allocator>(alloc: A, bytes: &[u8]) -> Result<Vec<u8, A>, AllocError> 
     Ok(out)
 }
 
-// A buffer over Steps after five bytes.
-fn after_five() -> BufferedRng<Steps, 8> {
-    let mut rng = BufferedRng::new(Steps::new());
+// A buffer after five bytes, and the bytes that are left of its block.
+fn after_five<G: Rng<OUTPUT> + Drop, const OUTPUT: usize>(
+    rt: &(impl Abort + AllocGlobal),
+    fresh: &BufferedRng<G, OUTPUT>,
+) -> Result<(BufferedRng<G, OUTPUT>, Vec<u8>), AllocError> {
+    let mut plain = fresh.clone()?.into_inner();
+    let block = plain.rand();
+    let mut rng = fresh.clone()?;
     let mut five = [0; 5];
     rng.fill_bytes(&mut five);
-    rng
+    assert!(rt; 5 <= OUTPUT);
+    let mut left = Vec::new(rt.alloc());
+    let bytes = &block[..];
+    left.extend_from_slice(&bytes[5..])?;
+    Ok((rng, left))
 }
 
-// Each request for memory is refused in turn, until none is met. A refusal changes neither the vector
-// nor the buffer, which goes on as if nothing had been asked.
+// The request of that number is refused while the bytes that are left go behind a full vector. It
+// changes neither the vector nor the buffer, which goes on as if nothing had been asked. The answer
+// is whether that request was made.
+fn is_refused_once<G: Rng<OUTPUT> + Drop, const OUTPUT: usize>(
+    rt: &(impl Abort + AllocGlobal),
+    fresh: &BufferedRng<G, OUTPUT>,
+    held: &[u8],
+    number: u64,
+) -> Result<bool, AllocError> {
+    let (mut rng, left) = after_five(rt, fresh)?;
+    let made = if held.is_empty() { 0 } else { 1 };
+    let last = number.wrapping_add(made);
+    let heap = Refusing::nth(rt.alloc(), last);
+    let mut out = full(&heap, held)?;
+    assert_eq!(rt; heap.requests(), made);
+    let room = out.capacity();
+    let outcome = rng.read_to_end(&mut out);
+    let refused = heap.requests() >= last;
+    if refused {
+        assert_eq!(rt; outcome, Err(AllocError));
+        assert_eq!(rt; out.as_slice(), held);
+        assert_eq!(rt; out.capacity(), room);
+        assert_eq!(rt; rng.buffered(), left.len());
+        assert_eq!(rt; rng.read_to_end(&mut out), Ok(left.len()));
+    } else {
+        assert_eq!(rt; outcome, Ok(left.len()));
+    }
+    assert_eq!(rt; out.len(), held.len().wrapping_add(left.len()));
+    assert!(rt; out.starts_with(held));
+    assert!(rt; out.ends_with(left.as_slice()));
+    assert_eq!(rt; rng.buffered(), 0);
+    Ok(refused)
+}
+
+// Each request for memory is refused in turn, until none is met: there is one.
+fn is_refused_in_turn<G: Rng<OUTPUT> + Drop, const OUTPUT: usize>(
+    rt: &(impl Abort + AllocGlobal),
+    fresh: BufferedRng<G, OUTPUT>,
+) -> Result<(), AllocError> {
+    for count in [0, 2, 1000, 70_000] {
+        let held = counted(rt.alloc(), count)?;
+        assert!(rt; is_refused_once(rt, &fresh, &held, 1)?, "{count}");
+        assert!(rt; !is_refused_once(rt, &fresh, &held, 2)?, "{count}");
+    }
+    Ok(())
+}
+
 #[test]
 fn read_to_end(rt: HostRuntime) -> Result<(), Fail> {
-    let rows: [(&[u8], &[u8]); 2] = [(&[], &[5, 6, 7]), (&[1, 2], &[1, 2, 5, 6, 7])];
-    for (held, whole) in rows {
-        let mut refusals = 0u64;
-        for number in 1..10u64 {
-            let made = if held.is_empty() { 0 } else { 1 };
-            let heap = Refusing::nth(rt.alloc(), made + number);
-            let mut out = full(&heap, held)?;
-            assert_eq!(rt; heap.requests(), made);
-            let mut rng = after_five();
-            let outcome = rng.read_to_end(&mut out);
-            if heap.requests() < made + number {
-                assert_eq!(rt; outcome, Ok(3));
-                assert_eq!(rt; out.as_slice(), whole);
-                assert_eq!(rt; rng.buffered(), 0);
-                break;
-            }
-            refusals = number;
-            assert_eq!(rt; outcome, Err(AllocError));
-            assert_eq!(rt; out.as_slice(), held);
-            assert_eq!(rt; rng.buffered(), 3);
-            assert_eq!(rt; rng.read_to_end(&mut out), Ok(3));
-            assert_eq!(rt; out.as_slice(), whole);
-        }
-        assert_eq!(rt; refusals, 1);
-    }
+    is_refused_in_turn(&rt, BufferedRng::new(Steps::new()))?;
+    is_refused_in_turn(&rt, BufferedRng::new(WyRand::new_seed(42)))?;
+    is_refused_in_turn(&rt, BufferedRng::new(ChaCha20::new_key([1; 32], [2; 8])))?;
+    let (_, left) = after_five(&rt, &BufferedRng::new(Steps::new()))?;
+    assert_eq!(rt; left.as_slice(), [5, 6, 7].as_slice());
+    Ok(())
+}
+
+// Where a vector has room, no memory is asked for, so that none can be refused.
+#[test]
+fn read_to_end_into_room(rt: HostRuntime) -> Result<(), Fail> {
+    let heap = Refusing::from_nth(rt.alloc(), 2);
+    let mut out = Vec::with_capacity(&heap, 100)?;
+    let fresh = BufferedRng::new(ChaCha20::new_key([1; 32], [2; 8]));
+    let (mut rng, left) = after_five(&rt, &fresh)?;
+    assert_eq!(rt; rng.read_to_end(&mut out), Ok(59));
+    assert_eq!(rt; out.as_slice(), left.as_slice());
+    assert_eq!(rt; heap.requests(), 1);
     Ok(())
 }
 

@@ -46,6 +46,13 @@ impl Bytes1 {
     {
         Bytes1 { drawn: 0 }
     }
+
+    /// How many blocks were drawn, modulo 2^64.
+    pub fn drawn(&self) -> u64
+        ensures { result ≡ self.now }
+    {
+        self.drawn
+    }
 }
 
 impl Bytes64 {

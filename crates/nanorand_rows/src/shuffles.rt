@@ -1,6 +1,6 @@
 //! Filled slices and shuffles.
 
-use crate::{Constant, Script, Steps};
+use crate::{Script, Steps, Zeros};
 use nanorand::values::RangeError;
 use nanorand::{Rng, WyRand};
 use std::test::Fail;
@@ -38,11 +38,11 @@ fn chosen_from_the_rest(rt: HostRuntime) {
 
 #[test]
 fn refused_by_zeros(rt: HostRuntime) {
-    let mut zeros = Constant::new(0);
+    let mut zeros = Zeros::new();
     let mut letters = ['a', 'b', 'c'];
     assert_eq!(rt; zeros.shuffle(&mut letters), Err(RangeError::Exhausted));
     assert_eq!(rt; letters, ['a', 'b', 'c']);
-    assert_eq!(rt; zeros.drawn, 128);
+    assert_eq!(rt; zeros.drawn(), 128);
 }
 
 #[test]

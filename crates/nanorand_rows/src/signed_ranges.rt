@@ -1,6 +1,6 @@
 //! Ranges of signed numbers, and every pair of bounds at both ends of the ten types.
 
-use crate::{Constant, Script};
+use crate::{Constant, Script, Zeros};
 use nanorand::replay::{Answer, Call, Span, replay};
 use nanorand::{RandomRange, RangeError, Rng, WyRand};
 use std::ops::Bound::{self, Excluded, Included, Unbounded};
@@ -43,11 +43,11 @@ fn empty_ranges_draw_nothing(rt: HostRuntime) {
         (Excluded(127), Unbounded),
         (Unbounded, Excluded(-128)),
     ];
-    let mut zeros = Constant::new(0);
+    let mut zeros = Zeros::new();
     for (low, high) in rows {
         assert_eq!(rt; zeros.generate_range(low, high), Err(RangeError::Empty));
     }
-    assert_eq!(rt; zeros.drawn, 0);
+    assert_eq!(rt; zeros.drawn(), 0);
 }
 
 // Whether a range gives this by the least word and that by the greatest.
@@ -157,8 +157,9 @@ fn ensure_signed_in_range(rt: HostRuntime) {
     }
 }
 
+// A range that has no number is refused here, where it ended the program before.
 #[test]
-fn ensure_invalid_range_is_empty(rt: HostRuntime) {
+fn ensure_invalid_range_panics(rt: HostRuntime) {
     assert_eq!(rt;
         WyRand::new_seed(42).generate_range::<i32>(Included(10), Included(5)),
         Err(RangeError::Empty)
@@ -176,7 +177,7 @@ fn example_of_numbers_in_a_range(rt: HostRuntime) {
 
 #[test]
 fn signed_spans_are_replayed(rt: HostRuntime) {
-    let mut zeros = Constant::new(0);
+    let mut zeros = Zeros::new();
     let calls = [
         Call::Range(Span::I8(Included(-1), Included(1))),
         Call::Range(Span::I16(Unbounded, Unbounded)),
@@ -196,5 +197,5 @@ fn signed_spans_are_replayed(rt: HostRuntime) {
             Answer::Signed(-1)
         ]
     );
-    assert_eq!(rt; zeros.drawn, 131);
+    assert_eq!(rt; zeros.drawn(), 131);
 }

@@ -1,0 +1,17 @@
+-- A generator of numbered streams, whose clone is another stream.
+use Rattle.std.specs.Prelude.{ℕ, ◌+◌, ◌%◌, List, [], ◌∷◌}
+use Rattle.nanorand_rows.specs.declared.forking.Forking.{Forking}
+use Rattle.nanorand_rows.specs.Steps.{next_count}
+
+-- A block has the number of its stream and its own number, in turns.
+abbrev pub forking_block : Forking → List ℕ
+forking_block g =
+    let count = g.drawn % 256 in
+    g.stream ∷ count ∷ g.stream ∷ count ∷ g.stream ∷ count ∷ g.stream ∷ count ∷ []
+
+abbrev pub forking_step : Forking → Forking
+forking_step g = record { stream = g.stream; drawn = next_count g.drawn }
+
+-- What a clone is: the next stream, at the same block.
+abbrev pub forked : Forking → Forking
+forked g = record { stream = (g.stream + 1) % 256; drawn = g.drawn }

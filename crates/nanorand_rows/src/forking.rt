@@ -1,0 +1,103 @@
+//! Numbered streams, of which a clone begins another one.
+ghost use Rattle.std.specs.Prelude.{◌≡◌, ⊤, refl, length, OnOk, IfOk};
+ghost use Rattle.std.proofs.Common.{rules};
+ghost use Rattle.nanorand.specs.Blocks.{plain_after};
+ghost use Rattle.nanorand.specs.Buffered.{buffer_of, buffered_taken};
+ghost use Rattle.nanorand_rows.specs.declared.forking.Forking.{Forking};
+ghost use Rattle.nanorand_rows.specs.Forking.{forked, forking_block, forking_step};
+
+use nanorand::laws::unbroken_delivery;
+use nanorand::rand::fill_by_blocks;
+use nanorand::{Blocks, BufferedRng, Rng};
+use std::alloc::AllocError;
+
+/// Gives as each block the number of its stream and the block's own number, in turns.
+///
+/// A clone is not equal: it is the next stream, at the same block.
+#[derive(Drop)]
+pub struct Forking {
+    pub stream: u8,
+    pub drawn: u64,
+}
+
+impl Forking {
+    /// A fresh generator of this stream.
+    pub fn new(stream: u8) -> Self
+        ensures { result ≡ record { stream = stream; drawn = 0 } }
+    {
+        Forking { stream, drawn: 0 }
+    }
+}
+
+impl Clone for Forking {
+    ghost is_clone = { λ g c. c ≡ forked g };
+
+    ghost is_infallible = { λ _. ⊤ };
+
+    fn clone(&self) -> Result<Self, AllocError> {
+        Ok(Forking {
+            stream: self.stream.wrapping_add(1),
+            drawn: self.drawn,
+        })
+    }
+}
+
+impl Blocks<8> for Forking {
+    ghost block = { forking_block };
+
+    ghost step = { forking_step };
+
+    fn rand(&mut self) -> [u8; 8] {
+        let stream = self.stream;
+        let count = (self.drawn % 256) as u8;
+        self.drawn = self.drawn.wrapping_add(1);
+        [stream, count, stream, count, stream, count, stream, count]
+    }
+
+    ghost positive = { Prim.search rules };
+
+    ghost in_memory = { Prim.search rules };
+
+    ghost block_length = { λ _. refl };
+}
+
+impl Rng<8> for Forking {
+    ghost after = { plain_after forking_step 8 };
+
+    fn fill_bytes(&mut self, buffer: &mut [u8]) {
+        fill_by_blocks(self, buffer)
+    }
+
+    ghost after_nothing = { λ _. refl };
+
+    ghost after_block = { λ _. refl };
+}
+
+/// No block of one stream is a block of another.
+pub fn streams_differ()
+    ensures { (g h : Forking) → forking_block g ≡ forking_block h → g.stream ≡ h.stream }
+{}
+
+/// What a clone of a buffer holds: as many bytes as the buffer keeps, and a clone of its generator.
+pub fn parts_of_clone<G: Rng<OUTPUT> + Drop, const OUTPUT: usize>(
+    rng: &BufferedRng<G, OUTPUT>,
+) -> Result<(usize, G), AllocError>
+    ensures kept { IfOk result (λ parts. parts.0 ≡ length rng.now.rest) }
+    ensures inner { IfOk result (λ parts. G.is_clone rng.now.inner parts.1) }
+{
+    let copy = rng.clone()?;
+    let kept = copy.buffered();
+    Ok((kept, copy.into_inner()))
+}
+
+/// Fills the slice from a clone: first the bytes that the buffer keeps, then those of the next
+/// stream.
+pub fn fill_from_clone(rng: &BufferedRng<Forking, 8>, out: &mut [u8]) -> Result<(), AllocError>
+    ensures bytes { OnOk result (out.new ≡ buffered_taken forking_block forking_step 8
+        (buffer_of rng.now.rest (forked rng.now.inner)) (length out.old)) }
+{
+    unbroken_delivery::<Forking, 8>();
+    let mut copy = rng.clone()?;
+    copy.fill_bytes(out);
+    Ok(())
+}

@@ -1,0 +1,122 @@
+//! Requests of many lengths, of plain and of buffered generators, against blocks drawn one by one.
+ghost use Rattle.std.specs.Prelude.{◌≤◌};
+
+use crate::makers::counted;
+use crate::{Bytes64, Steps};
+use nanorand::{BufferedRng, ChaCha8, ChaCha12, ChaCha20, Pcg64, Rng, WyRand};
+use std::alloc::AllocError;
+use std::io::{self, Read};
+use std::process::Abort;
+use std::test::Fail;
+
+const LENGTHS: [usize; 13] = [0, 1, 7, 8, 9, 63, 64, 65, 255, 256, 257, 4096, 70_000];
+
+// The blocks of a generator, one after another, until they have so many bytes.
+fn row_of<G: Rng<OUTPUT> + Drop, const OUTPUT: usize>(
+    rt: &impl AllocGlobal,
+    mut rng: G,
+    count: usize,
+) -> Result<Vec<u8>, AllocError> {
+    let mut row = Vec::new(rt.alloc());
+    for _ in 0..count {
+        if count <= row.len() {
+            break;
+        }
+        row.extend_from_slice(&rng.rand())?;
+    }
+    Ok(row)
+}
+
+// One request of a plain generator, and two of a buffered one, the second by `read`.
+fn gives_the_row<G: Rng<OUTPUT> + Drop, const OUTPUT: usize>(
+    rt: &(impl Abort + AllocGlobal),
+    fresh: &BufferedRng<G, OUTPUT>,
+    row: &[u8],
+    length: usize,
+) -> io::Result<()> {
+    let mut bytes = vec![in rt.alloc(); 0xee; length]?;
+    let mut plain = fresh.clone()?.into_inner();
+    plain.fill_bytes(&mut bytes);
+    assert!(rt; row.starts_with(bytes.as_slice()), "{length}");
+
+    let mut buffered = fresh.clone()?;
+    bytes.fill(0xee);
+    buffered.fill_bytes(&mut bytes);
+    assert!(rt; row.starts_with(bytes.as_slice()), "{length}");
+    assert_eq!(rt; buffered.read(&mut bytes)?, length);
+    assert!(rt; length <= row.len());
+    assert!(rt; row[length..].starts_with(bytes.as_slice()), "{length}");
+    Ok(())
+}
+
+fn gives_its_blocks<G: Rng<OUTPUT> + Drop, const OUTPUT: usize>(
+    rt: &(impl Abort + AllocGlobal),
+    fresh: BufferedRng<G, OUTPUT>,
+) -> io::Result<()> {
+    let row = row_of(rt, fresh.clone()?.into_inner(), 140_000)?;
+    for length in LENGTHS {
+        gives_the_row(rt, &fresh, &row, length)?;
+    }
+    Ok(())
+}
+
+#[test]
+fn requests_give_the_blocks(rt: HostRuntime) -> Result<(), Fail> {
+    gives_its_blocks(&rt, BufferedRng::new(Steps::new()))?;
+    gives_its_blocks(&rt, BufferedRng::new(Bytes64::new()))?;
+    gives_its_blocks(&rt, BufferedRng::new(WyRand::new_seed(42)))?;
+    gives_its_blocks(&rt, BufferedRng::new(Pcg64::new_seed(42)))?;
+    gives_its_blocks(&rt, BufferedRng::new(ChaCha8::new_key([1; 32], [2; 8])))?;
+    gives_its_blocks(&rt, BufferedRng::new(ChaCha12::new_key([1; 32], [2; 8])))?;
+    gives_its_blocks(&rt, BufferedRng::new(ChaCha20::new_key([1; 32], [2; 8])))?;
+    Ok(())
+}
+
+// After five bytes the rest of a block goes behind what a vector holds, with room for it or not.
+fn goes_behind<G: Rng<OUTPUT> + Drop, const OUTPUT: usize>(
+    rt: &(impl Abort + AllocGlobal),
+    fresh: &BufferedRng<G, OUTPUT>,
+    held: &[u8],
+    room: usize,
+) -> Result<(), AllocError> {
+    let mut plain = fresh.clone()?.into_inner();
+    let block = plain.rand();
+    let mut rng = fresh.clone()?;
+    let mut five = [0; 5];
+    rng.fill_bytes(&mut five);
+    let left = rng.buffered();
+    let mut out = Vec::with_capacity(rt.alloc(), held.len().saturating_add(room))?;
+    out.extend_from_slice(held)?;
+    assert_eq!(rt; rng.read_to_end(&mut out), Ok(left));
+    assert_eq!(rt; left.wrapping_add(5), OUTPUT);
+    assert_eq!(rt; out.len(), held.len().wrapping_add(left));
+    assert!(rt; out.starts_with(held));
+    assert!(rt; 5 <= OUTPUT);
+    let bytes = &block[..];
+    assert!(rt; out.ends_with(&bytes[5..]));
+    assert_eq!(rt; rng.buffered(), 0);
+    Ok(())
+}
+
+fn reads_to_its_end<G: Rng<OUTPUT> + Drop, const OUTPUT: usize>(
+    rt: &(impl Abort + AllocGlobal),
+    fresh: BufferedRng<G, OUTPUT>,
+) -> Result<(), AllocError> {
+    for count in [0, 1, 1000, 70_000] {
+        let held = counted(rt.alloc(), count)?;
+        for room in [0, 1, 64, 4096] {
+            goes_behind(rt, &fresh, &held, room)?;
+        }
+    }
+    Ok(())
+}
+
+#[test]
+fn kept_bytes_go_behind_a_vector(rt: HostRuntime) -> Result<(), Fail> {
+    reads_to_its_end(&rt, BufferedRng::new(Bytes64::new()))?;
+    reads_to_its_end(&rt, BufferedRng::new(WyRand::new_seed(42)))?;
+    reads_to_its_end(&rt, BufferedRng::new(ChaCha8::new_key([1; 32], [2; 8])))?;
+    reads_to_its_end(&rt, BufferedRng::new(ChaCha12::new_key([1; 32], [2; 8])))?;
+    reads_to_its_end(&rt, BufferedRng::new(ChaCha20::new_key([1; 32], [2; 8])))?;
+    Ok(())
+}
