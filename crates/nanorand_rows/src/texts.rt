@@ -76,6 +76,14 @@ fn of_chacha(rt: HostRuntime) -> Result<(), Fail> {
         chacha_has_texts(&rt, ChaCha12::new_key(key, nonce), counter)?;
         chacha_has_texts(&rt, ChaCha20::new_key(key, nonce), counter)?;
     }
+    let mut carried = ChaCha20::new_key(key, nonce);
+    carried.jump(1 << 32);
+    has_texts(
+        &rt,
+        &carried,
+        "ChaCha20 { rounds: 20, counter: 4294967296 }",
+        "ChaCha (20 rounds)",
+    )?;
     let mut last = ChaCha12::new_key(key, nonce);
     last.jump(u64::MAX);
     has_texts(
