@@ -12,7 +12,7 @@ IsValid choices =
 abbrev pub rising : ℕ → List ℕ
 rising n = range_with_len 0 n
 
--- The choices, and for each place behind them, up to place n - 1, the place itself: a swap that moves nothing.
+-- The choices, and behind them, up to place n - 1, each place itself: swaps that move nothing.
 abbrev pub completed : ℕ → List ℕ → List ℕ
 completed n choices = choices ++ range_with_len (length choices) (n - length choices)
 

@@ -64,9 +64,9 @@ pub fn choices_and_arrangements()
 
 /// Permutations and arrangements are told by counting.
 ///
-/// `permutations`: one list of numbers is a permutation of another exactly if every number stands in
-/// both equally often. `arrangements`: a list arranges the numbers below its length exactly if each of
-/// them stands in it once; nothing has to be said of other numbers.
+/// `permutations`: one list of numbers is a permutation of another exactly if every number stands
+/// in both equally often. `arrangements`: a list arranges the numbers below its length exactly if
+/// each of them stands in it once; nothing has to be said of other numbers.
 pub fn permutations_by_counting()
     ensures permutations { (xs ys : List ℕ) → IsPermutation xs ys ↔ HoldEquallyOften xs ys }
     ensures arrangements { (order : List ℕ) →

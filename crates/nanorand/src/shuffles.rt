@@ -89,16 +89,16 @@ fn place_from(items: &[usize], from: usize, wanted: usize) -> Option<usize>
 
 /// Shuffles the slice as `Rng::shuffle` does, and records the choices that it draws.
 ///
-/// It answers, shuffles and draws as `Rng::shuffle`. At Ok `choices` holds the choices drawn, one for
-/// each item. After `Exhausted` it holds those drawn before the refusal, and for each place behind them
-/// the place itself, which moves nothing. So the record is valid and makes what the items became from
-/// what they were in either case: `apply_choices` deals it again. It takes no memory.
+/// Answer, items and generator are those of `Rng::shuffle`. At Ok `choices` holds the choices that
+/// were drawn. After `Exhausted` it holds those drawn before the refusal, and behind them each
+/// place itself, which moves nothing. So they are valid choices in either case, and `apply_choices`
+/// deals by them what was dealt here. What `choices` held before is gone. It takes no memory.
 pub fn shuffle_and_record<G: Rng<OUTPUT>, T, const OUTPUT: usize>(
     rng: &mut G,
     target: &mut [T],
     choices: &mut [usize],
 ) -> Result<(), RangeError>
-    requires lengths { length choices.old ≡ length target.old }
+    requires { length choices.old ≡ length target.old }
     ensures answer { result
         ≡ shuffle_answer (taken G.block G.step) G.after from_itself (length target.old) rng.old }
     ensures items { let count = length target.old in
