@@ -12,6 +12,6 @@ forking_block g =
 abbrev pub forking_step : Forking → Forking
 forking_step g = record { stream = g.stream; drawn = next_count g.drawn }
 
--- What a clone is: the next stream, at the same block.
+-- What a clone is: the next stream, at the same block. Behind the last one, 255, there is none.
 abbrev pub forked : Forking → Forking
-forked g = record { stream = (g.stream + 1) % 256; drawn = g.drawn }
+forked g = record { stream = g.stream + 1; drawn = g.drawn }

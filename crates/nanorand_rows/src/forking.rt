@@ -1,5 +1,5 @@
 //! Numbered streams, of which a clone begins another one.
-ghost use Rattle.std.specs.Prelude.{◌≡◌, ⊤, refl, length, OnOk, IfOk};
+ghost use Rattle.std.specs.Prelude.{◌≡◌, ◌<◌, refl, length, OnOk, IfOk, IsOk};
 ghost use Rattle.std.proofs.Common.{rules};
 ghost use Rattle.nanorand.specs.Blocks.{plain_after};
 ghost use Rattle.nanorand.specs.Buffered.{buffer_of, buffered_taken};
@@ -13,7 +13,8 @@ use std::alloc::AllocError;
 
 /// Gives as each block the number of its stream and the block's own number, in turns.
 ///
-/// A clone is not equal: it is the next stream, at the same block.
+/// A clone is not equal: it is the next stream, at the same block. Behind stream 255 there is none,
+/// and the clone is refused.
 #[derive(Drop)]
 pub struct Forking {
     pub stream: u8,
@@ -32,11 +33,12 @@ impl Forking {
 impl Clone for Forking {
     ghost is_clone = { λ g c. c ≡ forked g };
 
-    ghost is_infallible = { λ _. ⊤ };
+    ghost is_infallible = { λ g. g.stream < 255 };
 
     fn clone(&self) -> Result<Self, AllocError> {
+        let next = self.stream.checked_add(1).ok_or(AllocError)?;
         Ok(Forking {
-            stream: self.stream.wrapping_add(1),
+            stream: next,
             drawn: self.drawn,
         })
     }
@@ -84,6 +86,7 @@ pub fn parts_of_clone<G: Rng<OUTPUT> + Drop, const OUTPUT: usize>(
 ) -> Result<(usize, G), AllocError>
     ensures kept { IfOk result (λ parts. parts.0 ≡ length rng.now.rest) }
     ensures inner { IfOk result (λ parts. G.is_clone rng.now.inner parts.1) }
+    ensures cause { G.is_infallible rng.now.inner → IsOk result }
 {
     let copy = rng.clone()?;
     let kept = copy.buffered();
@@ -95,6 +98,7 @@ pub fn parts_of_clone<G: Rng<OUTPUT> + Drop, const OUTPUT: usize>(
 pub fn fill_from_clone(rng: &BufferedRng<Forking, 8>, out: &mut [u8]) -> Result<(), AllocError>
     ensures bytes { OnOk result (out.new ≡ buffered_taken forking_block forking_step 8
         (buffer_of rng.now.rest (forked rng.now.inner)) (length out.old)) }
+    ensures cause { rng.now.inner.stream < 255 → IsOk result }
 {
     unbroken_delivery::<Forking, 8>();
     let mut copy = rng.clone()?;

@@ -15,7 +15,6 @@ fn a_clone_gives_the_next_stream(rt: HostRuntime) -> Result<(), Fail> {
     assert_eq!(rt; copy.generate::<u16>(), 0x0208);
     assert_eq!(rt; original.generate::<u16>(), 0x0207);
     assert_eq!(rt; copy.clone()?.stream, 9);
-    assert_eq!(rt; Forking::new(255).clone()?.stream, 0);
     Ok(())
 }
 
@@ -45,6 +44,23 @@ fn a_buffer_keeps_the_bytes_of_its_original(rt: HostRuntime) -> Result<(), Fail>
     assert_eq!(rt; inner.stream, 8);
     assert_eq!(rt; inner.drawn, 2);
     Ok(())
+}
+
+// The clone of the last stream is refused, and so is that of a buffer over it, whatever it keeps. No
+// other clone is.
+#[test]
+fn a_buffer_is_cloned_where_its_generator_is(rt: HostRuntime) {
+    for stream in 0..=255 {
+        let mut rng = BufferedRng::new(Forking::new(stream));
+        for kept in [0, 7, 6, 5, 4, 3, 2, 1] {
+            assert_eq!(rt; rng.buffered(), kept);
+            assert_eq!(rt; rng.clone().is_ok(), stream < 255, "{stream} and {kept}");
+            assert_eq!(rt;
+                rng.generate::<u8>(),
+                if kept % 2 == 0 { stream } else { 0 }
+            );
+        }
+    }
 }
 
 #[test]
