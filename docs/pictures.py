@@ -10,7 +10,7 @@ MARGIN = 16
 
 # Name, what it does, and what it uses of the layer below.
 LAYERS = [
-    ("draw; programs of users; nanorand_c, for Rust", "words of a command line to printed text; samplers, decks, schedules; exports", "each call's clauses, and the laws"),
+    ("draw; programs of users; nanorand_c, for Rust", "words of a command line to the text that is written; samplers, decks, schedules; exports", "each call's clauses, and the laws"),
     ("replay", "a list of calls, one answer each", "values, outcomes of ranges, a shuffle's answer and items"),
     ("values, shuffles", "thirteen types of values, ten of ranges; arrangements", "what a request delivers and leaves"),
     ("rand: the traits", "Blocks, Rng, SeedableRng; fill_by_blocks", "block, step, and the state after a request"),

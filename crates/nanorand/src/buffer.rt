@@ -116,8 +116,8 @@ impl<G: Rng<OUTPUT>, const OUTPUT: usize> BufferedRng<G, OUTPUT> {
     }
 }
 
-/// Equal buffered bytes, and the inner generator that the inner clone answers. It is refused only
-/// where the inner clone is.
+/// Equal buffered bytes, and the inner generator that the inner clone answers, whatever that is. It
+/// takes no memory, so it is never refused where the inner clone never is.
 impl<G: Rng<OUTPUT>, const OUTPUT: usize> Clone for BufferedRng<G, OUTPUT> {
     ghost is_clone = { λ b c. (c.rest ≡ b.rest) × G.is_clone b.inner c.inner };
 

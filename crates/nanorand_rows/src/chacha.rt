@@ -69,7 +69,8 @@ fn bytes_of(words: &[u32; 16]) -> [u8; 64] {
     bytes
 }
 
-// The published vectors, by the block function and by the generator.
+// The published vectors. Here the generator gives them too, where the Rust crate's test has them of the
+// block function alone.
 #[test]
 fn test_ietf_chacha20_test_vectors(rt: HostRuntime) -> Result<(), Fail> {
     for (key, nonce, blocks) in VECTORS {

@@ -65,10 +65,14 @@ fn requests_give_the_blocks(rt: HostRuntime) -> Result<(), Fail> {
     gives_its_blocks(&rt, BufferedRng::new(Steps::new()))?;
     gives_its_blocks(&rt, BufferedRng::new(Bytes64::new()))?;
     gives_its_blocks(&rt, BufferedRng::new(WyRand::new_seed(42)))?;
+    gives_its_blocks(&rt, BufferedRng::new(WyRand::new_seed(0)))?;
     gives_its_blocks(&rt, BufferedRng::new(Pcg64::new_seed(42)))?;
+    gives_its_blocks(&rt, BufferedRng::new(Pcg64::new_seed(u128::MAX)))?;
     gives_its_blocks(&rt, BufferedRng::new(ChaCha8::new_key([1; 32], [2; 8])))?;
     gives_its_blocks(&rt, BufferedRng::new(ChaCha12::new_key([1; 32], [2; 8])))?;
     gives_its_blocks(&rt, BufferedRng::new(ChaCha20::new_key([1; 32], [2; 8])))?;
+    gives_its_blocks(&rt, BufferedRng::new(ChaCha20::new_key([0; 32], [0; 8])))?;
+    gives_its_blocks(&rt, BufferedRng::new(ChaCha8::new_key([255; 32], [255; 8])))?;
     Ok(())
 }
 
@@ -115,8 +119,13 @@ fn reads_to_its_end<G: Rng<OUTPUT> + Drop, const OUTPUT: usize>(
 fn kept_bytes_go_behind_a_vector(rt: HostRuntime) -> Result<(), Fail> {
     reads_to_its_end(&rt, BufferedRng::new(Bytes64::new()))?;
     reads_to_its_end(&rt, BufferedRng::new(WyRand::new_seed(42)))?;
+    reads_to_its_end(&rt, BufferedRng::new(Pcg64::new_seed(0)))?;
     reads_to_its_end(&rt, BufferedRng::new(ChaCha8::new_key([1; 32], [2; 8])))?;
     reads_to_its_end(&rt, BufferedRng::new(ChaCha12::new_key([1; 32], [2; 8])))?;
     reads_to_its_end(&rt, BufferedRng::new(ChaCha20::new_key([1; 32], [2; 8])))?;
+    reads_to_its_end(
+        &rt,
+        BufferedRng::new(ChaCha20::new_key([255; 32], [255; 8])),
+    )?;
     Ok(())
 }

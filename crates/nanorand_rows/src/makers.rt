@@ -46,6 +46,17 @@ fn slices_of_many_sizes(rt: HostRuntime) -> Result<(), Fail> {
     Ok(())
 }
 
+#[test]
+fn slices_of_all_small_sizes(rt: HostRuntime) -> Result<(), Fail> {
+    let bytes = counted(rt.alloc(), 301)?;
+    for size in 0..=300 {
+        for piece in [1, 7, 300] {
+            fills(&rt, &bytes, size, piece)?;
+        }
+    }
+    Ok(())
+}
+
 // Both give the same next blocks.
 fn go_on_equally<A: Blocks<OUTPUT>, const OUTPUT: usize>(
     rt: &impl Abort,

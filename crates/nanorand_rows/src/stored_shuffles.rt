@@ -1,7 +1,7 @@
 //! Shuffles that record the choices that they draw.
 ghost use Rattle.std.specs.Prelude.{◌≤◌};
 
-use crate::{Constant, Script, Steps};
+use crate::{Constant, Script, Steps, Zeros};
 use nanorand::shuffles::{apply_choices, shuffle_and_record};
 use nanorand::values::RangeError;
 use nanorand::{BufferedRng, ChaCha8, Pcg64, Rng, WyRand};
@@ -37,7 +37,7 @@ fn middle_then_itself(rt: HostRuntime) {
 // What stood in the record before is gone, also behind the refused draw.
 #[test]
 fn refused_by_zeros(rt: HostRuntime) {
-    let mut zeros = Constant::new(0);
+    let mut zeros = Zeros::new();
     let mut letters = ['a', 'b', 'c'];
     let mut choices = [9; 3];
     assert_eq!(rt;
@@ -46,7 +46,7 @@ fn refused_by_zeros(rt: HostRuntime) {
     );
     assert_eq!(rt; choices, [0, 1, 2]);
     assert_eq!(rt; letters, ['a', 'b', 'c']);
-    assert_eq!(rt; zeros.drawn, 128);
+    assert_eq!(rt; zeros.drawn(), 128);
 }
 
 // The second draw is from three places, and the words behind the list are zeros.
@@ -114,7 +114,7 @@ fn as_shuffle_and_dealt_again(rt: HostRuntime) {
     lengths_alike(&rt, &|| ChaCha8::new_key([7; 32], [9; 8]));
     lengths_alike(&rt, &|| BufferedRng::new(WyRand::new_seed(42)));
     lengths_alike(&rt, &|| Steps::new());
-    lengths_alike(&rt, &|| Constant::new(0));
+    lengths_alike(&rt, &|| Zeros::new());
     lengths_alike(&rt, &|| Constant::new(255));
     lengths_alike(&rt, &|| Script::new(&[255, 128, 1, 77, 200]));
 }

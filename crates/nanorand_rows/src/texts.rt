@@ -6,7 +6,7 @@ use std::fmt;
 use std::process::Abort;
 use std::test::Fail;
 
-// The texts, which an alternate form, a width, a fill and a precision do not change.
+// The texts, which no option changes: an alternate form, a sign, a width, a fill, a precision.
 fn has_texts<T: fmt::Debug + fmt::Display>(
     rt: &(impl Abort + AllocGlobal),
     value: &T,
@@ -16,6 +16,11 @@ fn has_texts<T: fmt::Debug + fmt::Display>(
     assert_eq!(rt; format!(in rt.alloc(); "{value:?}")?.as_str(), debug);
     assert_eq!(rt; format!(in rt.alloc(); "{value:#?}")?.as_str(), debug);
     assert_eq!(rt; format!(in rt.alloc(); "{value:>200?}")?.as_str(), debug);
+    assert_eq!(rt; format!(in rt.alloc(); "{value:08?}")?.as_str(), debug);
+    assert_eq!(rt;
+        format!(in rt.alloc(); "{value:*^+200.3?}")?.as_str(),
+        debug
+    );
     assert_eq!(rt; format!(in rt.alloc(); "{value}")?.as_str(), display);
     assert_eq!(rt; format!(in rt.alloc(); "{value:#}")?.as_str(), display);
     assert_eq!(rt; format!(in rt.alloc(); "{value:>20}")?.as_str(), display);

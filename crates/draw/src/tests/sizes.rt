@@ -185,6 +185,26 @@ fn every_count(rt: HostRuntime) -> Result<(), Fail> {
     Ok(())
 }
 
+// Each count that can be read, with as many rounds as there are below 9 in turn.
+#[test]
+fn all_counts(rt: HostRuntime) -> Result<(), Fail> {
+    for count in 0..=1000 {
+        let size = Size {
+            byte: 255,
+            count,
+            rounds: count % 9,
+        };
+        check_size(
+            &rt,
+            rt.alloc(),
+            ("pcg64", "buffered", 16),
+            size,
+            &[usize::MAX],
+        )?;
+    }
+    Ok(())
+}
+
 #[test]
 fn no_requests(rt: HostRuntime) -> Result<(), Fail> {
     for source in SOURCES {

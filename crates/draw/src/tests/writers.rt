@@ -97,7 +97,8 @@ fn one_byte_at_a_time(rt: HostRuntime) -> Result<(), Fail> {
     Ok(())
 }
 
-// A run that succeeds flushes once, after the last byte, however many writes that takes.
+// A run that succeeds flushes once, after the last byte, however many writes that takes. The text is
+// that of a run into a vector, which the worked rows check.
 #[test]
 fn one_flush_at_the_end(rt: HostRuntime) -> Result<(), Fail> {
     let alloc = rt.alloc();
@@ -109,7 +110,8 @@ fn one_flush_at_the_end(rt: HostRuntime) -> Result<(), Fail> {
         many.as_str(),
     ] {
         let words = words(alloc, line)?;
-        let (_, text) = drawn(alloc, line)?;
+        let (outcome, text) = drawn(alloc, line)?;
+        assert_eq!(rt; outcome, Ok(()), "{line}");
         for piece in [1, 2, 7, 4096, usize::MAX] {
             let mut out = Pieces::honest(alloc, piece);
             assert_eq!(rt; run(alloc, &words, &mut out), Ok(()), "{line}");
@@ -125,7 +127,8 @@ fn failed_flush(rt: HostRuntime) -> Result<(), Fail> {
     let alloc = rt.alloc();
     for line in ["wyrand d29b42879be2895f plain 0", LONGEST] {
         let words = words(alloc, line)?;
-        let (_, text) = drawn(alloc, line)?;
+        let (outcome, text) = drawn(alloc, line)?;
+        assert_eq!(rt; outcome, Ok(()), "{line}");
         for piece in [1, 7, 4096] {
             let mut out = Pieces::failing(alloc, piece, NEVER, false);
             let outcome = run(alloc, &words, &mut out);
@@ -136,7 +139,7 @@ fn failed_flush(rt: HostRuntime) -> Result<(), Fail> {
     Ok(())
 }
 
-// Each write fails in turn, and none comes after it.
+// Each write fails in turn. Neither a write nor a flush comes after it.
 #[test]
 fn failed_writes(rt: HostRuntime) -> Result<(), Fail> {
     let alloc = rt.alloc();
@@ -146,6 +149,9 @@ fn failed_writes(rt: HostRuntime) -> Result<(), Fail> {
         let outcome = run(alloc, &words, &mut out);
         assert_eq!(rt; outcome, Err(DrawError::Write), "{failing}");
         assert_eq!(rt; out.writes, failing + 1);
+        assert_eq!(rt; out.flushes, 0, "{failing}");
+        assert_eq!(rt; out.kept.len() as u64, failing);
+        assert!(rt; LONGEST_TEXT.as_bytes().starts_with(out.kept.as_slice()));
     }
     Ok(())
 }
