@@ -88,7 +88,8 @@ impl<G: Rng<OUTPUT>, const OUTPUT: usize> BufferedRng<G, OUTPUT> {
         ensures buffer_stays { OnErr result (self.new ≡ self.old) }
 
         // It is refused only where the vector had no room, and so never for an empty buffer.
-        ensures full { OnErr result (vec_capacity out.old < vec_len out.old + length self.old.rest) }
+        ensures full { let kept = length self.old.rest in
+            OnErr result (vec_capacity out.old < vec_len out.old + kept) }
         ensures empty { self.old.rest ≡ [] → IsOk result }
     {
         let count = OUTPUT - self.cursor;
