@@ -1,11 +1,2 @@
-mod AllRequests
-mod FirstWords
-mod RangeText
-mod WorkedRows
-mod WorkedDraws
-mod WorkedTexts
-mod WorkedRequests
-mod WorkedCommands
-mod WorkedShuffles
-mod WorkedBadRequests
-mod WorkedBadWords
+mod lemmas
+mod known_answers

@@ -1,5 +1,5 @@
 pub mod Numbers
-pub mod PlainLaws
 pub mod Requests
-pub mod Words
+pub mod Arguments
 pub mod Text
+pub mod support

@@ -5,20 +5,20 @@ use Rattle.std.specs.List.{flat_map, range_with_len}
 use Rattle.nanorand.specs.declared.replay.Answer.{Answer}
 use Rattle.nanorand.specs.declared.replay.Answer.TheVariants.{Unsigned, Signed, Truth, Empty, Exhausted, Shuffled}
 use Rattle.nanorand.specs.declared.replay.Call.{Call}
-use Rattle.nanorand.specs.Blocks.{taken, plain_after}
-use Rattle.nanorand.specs.Buffered.{buffer_of, buffered_block, buffered_step, buffered_after}
-use Rattle.nanorand.specs.Values.{number_of}
-use Rattle.nanorand.specs.ChaCha.{chacha_block, next_state, seeded_state}
-use Rattle.nanorand.specs.Pcg64.{next, pcg64_block}
-use Rattle.nanorand.specs.WyRand.{next_seed, wyrand_block}
-use Rattle.nanorand.specs.Replay.{replayed}
+use Rattle.nanorand.specs.generators.Blocks.{taken, plain_after}
+use Rattle.nanorand.specs.generators.Buffered.{buffer_of, buffered_block, buffered_step, buffered_after}
+use Rattle.nanorand.specs.values.Values.{number_of}
+use Rattle.nanorand.specs.generators.ChaCha.{chacha_block, next_state, seeded_state}
+use Rattle.nanorand.specs.generators.Pcg64.{next, pcg64_block}
+use Rattle.nanorand.specs.generators.WyRand.{next_seed, wyrand_block}
+use Rattle.nanorand.specs.replay.Replay.{replayed}
 use Rattle.draw.specs.declared.order.Mode.{Mode}
 use Rattle.draw.specs.declared.order.Mode.TheVariants.{Plain, Buffered}
 use Rattle.draw.specs.declared.order.Source.{Source}
 use Rattle.draw.specs.declared.order.Source.TheVariants.{WyRand, Pcg64, ChaCha8, ChaCha12, ChaCha20}
 use Rattle.draw.specs.declared.error.DrawError.{DrawError}
 use Rattle.draw.specs.declared.error.DrawError.TheVariants.{BadWord, Memory, Write}
-use Rattle.draw.specs.Words.{Asked}
+use Rattle.draw.specs.Arguments.{Asked}
 
 -- What is drawn: the answers to the calls, and the items that they leave.
 pub record Drawn : Type 0 where

@@ -1,10 +1,10 @@
 //! From a seed and a mode to the generator that answers the calls.
 
 ghost use Rattle.std.specs.Prelude.{◌≡◌, ◌%◌, length};
-ghost use Rattle.nanorand.specs.Blocks.{taken};
-ghost use Rattle.nanorand.specs.ChaCha.{seeded_state};
-ghost use Rattle.nanorand.specs.Replay.{replayed};
-ghost use Rattle.nanorand.specs.Values.{number_of};
+ghost use Rattle.nanorand.specs.generators.Blocks.{taken};
+ghost use Rattle.nanorand.specs.generators.ChaCha.{seeded_state};
+ghost use Rattle.nanorand.specs.replay.Replay.{replayed};
+ghost use Rattle.nanorand.specs.values.Values.{number_of};
 ghost use Rattle.draw.specs.Text.{from_source};
 ghost use Rattle.draw.specs.declared.order.Mode.TheVariants.{Plain, Buffered};
 

@@ -2,8 +2,8 @@
 ghost use Rattle.std.specs.Prelude.{◌≡◌, ℕ, ◌+◌, ◌++◌, ◌<◌, ◌≤◌, [], length, vec_len, vec_capacity, refl, take, drop, min, IfOk, OnOk, OnErr, IsOk, IsErr, Ok, None};
 ghost use Rattle.std.specs.Io.{ReadsAtMost};
 ghost use Rattle.std.specs.Io.KnownBytes.{ReadConsumes};
-ghost use Rattle.nanorand.specs.Buffered.{buffered_block, buffered_step, buffered_after, buffered_taken, buffer_of};
-ghost use Rattle.nanorand.specs.BufferedLaws.{length-buffered_taken, after_nothing};
+ghost use Rattle.nanorand.specs.generators.Buffered.{buffered_block, buffered_step, buffered_after, buffered_taken, buffer_of};
+ghost use Rattle.nanorand.specs.support.BufferedLemmas.{length-buffered_taken, after_nothing};
 
 use crate::rand::{Blocks, Rng, SeedableRng, fill_by_blocks};
 use std::alloc::{AllocError, Allocator};
@@ -27,7 +27,7 @@ pub struct BufferedRng<G: Rng<OUTPUT>, const OUTPUT: usize> {
 // of the block from the cursor on, and the bytes before it mean nothing.
 impl<G: Rng<OUTPUT>, const OUTPUT: usize> Model for BufferedRng<G, OUTPUT> {
     ghost use Rattle.std.specs.Prelude.{◌≡◌, ◌<◌, ◌≤◌, length, drop};
-    ghost use Rattle.nanorand.specs.Buffered.{Buffered, buffered_code};
+    ghost use Rattle.nanorand.specs.generators.Buffered.{Buffered, buffered_code};
 
     ghost Value = { Buffered G };
 

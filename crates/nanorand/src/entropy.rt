@@ -1,7 +1,7 @@
 //! Seeds from a reader of random bytes that the caller hands in.
 ghost use Rattle.std.specs.Prelude.{◌≡◌, ◌<◌, ◌⊎◌, length, [], None, IfErr, OnOk};
 ghost use Rattle.std.specs.Io.KnownBytes.{Consumes};
-ghost use Rattle.nanorand.specs.Entropy.{HasFewer};
+ghost use Rattle.nanorand.specs.generators.Entropy.{HasFewer};
 ghost use Rattle.nanorand.specs.declared.entropy.EntropyError.TheVariants.{Short, Fault};
 
 use std::io::Read;

@@ -1,10 +1,10 @@
 //! The traits that every generator keeps, and the body that the plain generators share.
 ghost use Rattle.std.specs.Prelude.{◌≡◌, ℕ, ◌^◌, ◌<◌, List, length, OnOk, IsPermutation};
 ghost use Rattle.std.specs.Fn.{iterate};
-ghost use Rattle.nanorand.specs.Arrangements.{IsValid};
-ghost use Rattle.nanorand.specs.Blocks.{taken, plain_after};
-ghost use Rattle.nanorand.specs.Shuffles.{arranged, from_itself, shuffle_answer, shuffle_choices, shuffle_state};
-ghost use Rattle.nanorand.specs.Values.{values_from};
+ghost use Rattle.nanorand.specs.shuffles.Arrangements.{IsValid};
+ghost use Rattle.nanorand.specs.generators.Blocks.{taken, plain_after};
+ghost use Rattle.nanorand.specs.shuffles.Shuffles.{arranged, from_itself, shuffle_answer, shuffle_choices, shuffle_state};
+ghost use Rattle.nanorand.specs.values.Values.{values_from};
 
 pub mod chacha;
 mod halves;

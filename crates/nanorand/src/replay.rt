@@ -1,7 +1,7 @@
 //! Lists of calls, made in order, with one answer each.
 ghost use Rattle.std.specs.Prelude.{◌≡◌, length};
-ghost use Rattle.nanorand.specs.Blocks.{taken};
-ghost use Rattle.nanorand.specs.Replay.{outcome, replayed, size_of, value_of, span_outcome, unsigned_answer, signed_answer, refusal_answer};
+ghost use Rattle.nanorand.specs.generators.Blocks.{taken};
+ghost use Rattle.nanorand.specs.replay.Replay.{outcome, replayed, size_of, value_of, span_outcome, unsigned_answer, signed_answer, refusal_answer};
 
 use crate::rand::Rng;
 use crate::values::RangeError;

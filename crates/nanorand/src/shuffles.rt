@@ -1,8 +1,8 @@
 //! Shuffles as lists of choices, and the shuffle that draws from all places.
 ghost use Rattle.std.specs.Prelude.{◌≡◌, ◌≢◌, ℕ, ◌<◌, ◌≤◌, length, slice_index, MatchOption, OnOk, OnErr, List, IsPermutation};
-ghost use Rattle.nanorand.specs.Arrangements.{completed, rising, IsValid, IsArrangement};
-ghost use Rattle.nanorand.specs.Blocks.{taken};
-ghost use Rattle.nanorand.specs.Shuffles.{arranged, from_all, from_itself, shuffle_answer, shuffle_choices, shuffle_state};
+ghost use Rattle.nanorand.specs.shuffles.Arrangements.{completed, rising, IsValid, IsArrangement};
+ghost use Rattle.nanorand.specs.generators.Blocks.{taken};
+ghost use Rattle.nanorand.specs.shuffles.Shuffles.{arranged, from_all, from_itself, shuffle_answer, shuffle_choices, shuffle_state};
 
 use crate::rand::Rng;
 use crate::values::RangeError;

@@ -1,4 +1,4 @@
 pub mod Status
-pub mod Draws
-pub mod Place
-pub mod Wide
+pub mod Between
+pub mod ChaChaPlace
+pub mod SeedHalves

@@ -2,9 +2,9 @@
 ghost use Rattle.std.specs.Prelude.{◌≡◌, ℕ, ◌+◌, ◌%◌, ◌^◌, length};
 ghost use Rattle.std.specs.Fn.{iterate};
 ghost use Rattle.std.specs.Int.{div_ceil};
-ghost use Rattle.nanorand.specs.Blocks.{plain_after, taken};
-ghost use Rattle.nanorand.specs.ChaCha.{chacha_block, next_state};
-ghost use Rattle.nanorand_c.specs.Place.{state_at};
+ghost use Rattle.nanorand.specs.generators.Blocks.{plain_after, taken};
+ghost use Rattle.nanorand.specs.generators.ChaCha.{chacha_block, next_state};
+ghost use Rattle.nanorand_c.specs.ChaChaPlace.{state_at};
 
 use nanorand::laws::chacha_counter;
 use nanorand::{Blocks, ChaCha, Rng};

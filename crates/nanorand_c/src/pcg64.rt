@@ -1,12 +1,12 @@
 //! Pcg64. Its seed is the caller's memory, and moves on by each draw.
 ghost use Rattle.std.specs.Prelude.{◌≡◌, ◌≤◌, length, IsPermutation};
-ghost use Rattle.nanorand.specs.Blocks.{plain_after, taken};
-ghost use Rattle.nanorand.specs.Pcg64.{next, pcg64_block, seed_after};
-ghost use Rattle.nanorand.specs.Shuffles.{arranged, from_all, from_itself, shuffle_answer, shuffle_choices, shuffle_state};
-ghost use Rattle.nanorand.specs.Values.{number_of};
-ghost use Rattle.nanorand_c.specs.Draws.{between};
+ghost use Rattle.nanorand.specs.generators.Blocks.{plain_after, taken};
+ghost use Rattle.nanorand.specs.generators.Pcg64.{next, pcg64_block, seed_after};
+ghost use Rattle.nanorand.specs.shuffles.Shuffles.{arranged, from_all, from_itself, shuffle_answer, shuffle_choices, shuffle_state};
+ghost use Rattle.nanorand.specs.values.Values.{number_of};
+ghost use Rattle.nanorand_c.specs.Between.{between};
 ghost use Rattle.nanorand_c.specs.Status.{drawn_or, status};
-ghost use Rattle.nanorand_c.specs.Wide.{at_seed, wide_number};
+ghost use Rattle.nanorand_c.specs.SeedHalves.{at_seed, wide_number};
 
 use crate::status::{hand_over, status};
 use crate::wide::{Wide, joined, split};

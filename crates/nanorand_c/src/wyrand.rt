@@ -1,11 +1,11 @@
 //! Wyrand. The generator itself is the caller's memory.
 ghost use Rattle.std.specs.Prelude.{◌≡◌, ◌≤◌, length, IsPermutation};
-ghost use Rattle.nanorand.specs.Blocks.{plain_after, taken};
-ghost use Rattle.nanorand.specs.Shuffles.{arranged, from_all, from_itself, shuffle_answer, shuffle_choices, shuffle_state};
-ghost use Rattle.nanorand.specs.Values.{number_of};
-ghost use Rattle.nanorand.specs.WyRand.{next_seed, seed_after, wyrand_block};
+ghost use Rattle.nanorand.specs.generators.Blocks.{plain_after, taken};
+ghost use Rattle.nanorand.specs.shuffles.Shuffles.{arranged, from_all, from_itself, shuffle_answer, shuffle_choices, shuffle_state};
+ghost use Rattle.nanorand.specs.values.Values.{number_of};
+ghost use Rattle.nanorand.specs.generators.WyRand.{next_seed, seed_after, wyrand_block};
 ghost use Rattle.nanorand_c.specs.Status.{drawn_or, status};
-ghost use Rattle.nanorand_c.specs.Draws.{between};
+ghost use Rattle.nanorand_c.specs.Between.{between};
 
 use crate::status::{hand_over, status};
 use nanorand::shuffles::shuffle_full;

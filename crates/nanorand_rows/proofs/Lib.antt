@@ -1,1 +1,1 @@
-mod WorkedRows
+mod known_answers

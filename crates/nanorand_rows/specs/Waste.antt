@@ -1,6 +1,6 @@
 -- A generator that wastes a block at most requests. Its state is the number of its blocks.
 use Rattle.std.specs.Prelude.{ℕ, ◌==◌, ◌||◌, if◌then◌else◌}
-use Rattle.nanorand.specs.Blocks.{plain_after}
+use Rattle.nanorand.specs.generators.Blocks.{plain_after}
 use Rattle.nanorand_rows.specs.Steps.{next_count}
 
 -- A request of no byte or of a whole block leaves what a plain generator leaves, and any other one block more.

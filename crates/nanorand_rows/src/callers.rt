@@ -1,14 +1,14 @@
 //! Proved callers, one for each use. The page `CALLING.md` of the library quotes them.
 ghost use Rattle.std.specs.Prelude.{◌≡◌, ◌≤◌, ◌+◌, ◌++◌, [], length, MatchResult, IsPermutation};
 ghost use Rattle.std.specs.declared.ops.Bound.TheVariants.{Included};
-ghost use Rattle.nanorand.specs.Blocks.{plain_after, taken};
-ghost use Rattle.nanorand.specs.Buffered.{buffered_taken};
-ghost use Rattle.nanorand.specs.Draws.{unsigned_outcome};
-ghost use Rattle.nanorand.specs.Pcg64.{pcg64_after};
-ghost use Rattle.nanorand.specs.Replay.{replayed};
-ghost use Rattle.nanorand.specs.Shuffles.{from_itself, shuffle_answer};
-ghost use Rattle.nanorand.specs.Values.{number_of};
-ghost use Rattle.nanorand.specs.WyRand.{next_seed, wyrand_block};
+ghost use Rattle.nanorand.specs.generators.Blocks.{plain_after, taken};
+ghost use Rattle.nanorand.specs.generators.Buffered.{buffered_taken};
+ghost use Rattle.nanorand.specs.values.Draws.{unsigned_outcome};
+ghost use Rattle.nanorand.specs.generators.Pcg64.{pcg64_after};
+ghost use Rattle.nanorand.specs.replay.Replay.{replayed};
+ghost use Rattle.nanorand.specs.shuffles.Shuffles.{from_itself, shuffle_answer};
+ghost use Rattle.nanorand.specs.values.Values.{number_of};
+ghost use Rattle.nanorand.specs.generators.WyRand.{next_seed, wyrand_block};
 
 use nanorand::laws::{pcg64_cycles, unbroken_delivery};
 use nanorand::replay::{Answer, Call, replay};

@@ -1,6 +1,6 @@
 //! Arrangements, told by counting.
 ghost use Rattle.std.specs.Prelude.{◌≡◌, ◌≤◌};
-ghost use Rattle.nanorand.specs.Arrangements.{copies};
+ghost use Rattle.nanorand.specs.shuffles.Arrangements.{copies};
 
 use nanorand::shuffles::choices_of;
 use std::process::Abort;

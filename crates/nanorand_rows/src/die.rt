@@ -1,7 +1,7 @@
 //! A value type of a user's own.
 ghost use Rattle.std.specs.Prelude.{◌≡◌, ◌≤◌};
-ghost use Rattle.nanorand.specs.Blocks.{taken};
-ghost use Rattle.nanorand.specs.Draws.{unsigned_outcome};
+ghost use Rattle.nanorand.specs.generators.Blocks.{taken};
+ghost use Rattle.nanorand.specs.values.Draws.{unsigned_outcome};
 ghost use Rattle.nanorand_rows.specs.Die.{HasPips, die_after, die_bound, die_value};
 
 use nanorand::values::range::draw_number;

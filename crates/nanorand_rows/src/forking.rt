@@ -1,8 +1,8 @@
 //! Numbered streams, of which a clone begins another one.
 ghost use Rattle.std.specs.Prelude.{◌≡◌, ◌<◌, refl, length, OnOk, IfOk, IsOk};
 ghost use Rattle.std.proofs.Common.{rules};
-ghost use Rattle.nanorand.specs.Blocks.{plain_after};
-ghost use Rattle.nanorand.specs.Buffered.{buffer_of, buffered_taken};
+ghost use Rattle.nanorand.specs.generators.Blocks.{plain_after};
+ghost use Rattle.nanorand.specs.generators.Buffered.{buffer_of, buffered_taken};
 ghost use Rattle.nanorand_rows.specs.declared.forking.Forking.{Forking};
 ghost use Rattle.nanorand_rows.specs.Forking.{forked, forking_block, forking_step};
 

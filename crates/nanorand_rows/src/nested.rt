@@ -1,6 +1,6 @@
 //! A proved caller of a buffer in a buffer: it has the contract of a buffer over any generator.
 ghost use Rattle.std.specs.Prelude.{◌≡◌, length, Ok};
-ghost use Rattle.nanorand.specs.Buffered.{buffered_after, buffered_block, buffered_step, buffered_taken};
+ghost use Rattle.nanorand.specs.generators.Buffered.{buffered_after, buffered_block, buffered_step, buffered_taken};
 ghost use Rattle.nanorand_rows.specs.Steps.{next_count, steps_block};
 
 use crate::Steps;

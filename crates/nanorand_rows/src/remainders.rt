@@ -1,6 +1,6 @@
 //! The number that a word names, with a remainder each time: a second opinion of `pick_word`.
 ghost use Rattle.std.specs.Prelude.{◌^◌, ◌<◌, ◌≤◌};
-ghost use Rattle.nanorand.specs.Runs.{IsWordWidth};
+ghost use Rattle.nanorand.specs.values.Runs.{IsWordWidth};
 
 use nanorand::values::pick_word;
 

@@ -1,9 +1,9 @@
 //! The bytes 0, 1, 2, .. in blocks of one byte and of 64.
 ghost use Rattle.std.specs.Prelude.{◌≡◌, ◌^◌, ◌<◌, ⊤, refl};
 ghost use Rattle.std.proofs.Common.{rules};
-ghost use Rattle.nanorand.specs.Blocks.{plain_after};
+ghost use Rattle.nanorand.specs.generators.Blocks.{plain_after};
 ghost use Rattle.nanorand_rows.specs.Rising.{rising_block};
-ghost use Rattle.nanorand_rows.specs.RisingLaws.{length-rising_block};
+ghost use Rattle.nanorand_rows.specs.support.RisingLemmas.{length-rising_block};
 ghost use Rattle.nanorand_rows.specs.Steps.{next_count};
 
 use nanorand::rand::fill_by_blocks;

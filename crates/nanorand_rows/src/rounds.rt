@@ -1,6 +1,6 @@
 //! Callers of ChaCha that meet its condition: an even number of rounds.
 ghost use Rattle.std.specs.Prelude.{◌≡◌, ◌%◌};
-ghost use Rattle.nanorand.specs.ChaCha.{chacha_block, next_state};
+ghost use Rattle.nanorand.specs.generators.ChaCha.{chacha_block, next_state};
 
 use nanorand::crypto::chacha::{chacha_block, chacha_rounds, chacha_unrounds};
 use nanorand::{Blocks, ChaCha};

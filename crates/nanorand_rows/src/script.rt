@@ -1,7 +1,7 @@
 //! Blocks of eight equal bytes, by a list.
 ghost use Rattle.std.specs.Prelude.{◌≡◌, ⊤, refl};
 ghost use Rattle.std.proofs.Common.{rules};
-ghost use Rattle.nanorand.specs.Blocks.{plain_after};
+ghost use Rattle.nanorand.specs.generators.Blocks.{plain_after};
 ghost use Rattle.nanorand_rows.specs.Script.{script_block, script_step};
 
 use nanorand::rand::fill_by_blocks;

@@ -1,7 +1,7 @@
 //! Zeros for ever, whose words name nothing unless the size of a range divides their number.
 ghost use Rattle.std.specs.Prelude.{◌≡◌, ⊤, refl};
 ghost use Rattle.std.proofs.Common.{rules};
-ghost use Rattle.nanorand.specs.Blocks.{plain_after};
+ghost use Rattle.nanorand.specs.generators.Blocks.{plain_after};
 ghost use Rattle.nanorand_rows.specs.Steps.{next_count};
 ghost use Rattle.nanorand_rows.specs.Zeros.{zeros_block};
 

@@ -1,9 +1,9 @@
 -- Choices by weight: the numbers below the sum of the weights are shared out among the items, each having in turn as
 -- many of them as its weight.
 use Rattle.std.specs.Prelude.{◌≡◌, ℕ, suc, ◌+◌, ◌-◌, ◌*◌, ◌<◌, ◌≤◌, ◌^◌, ◌==◌, List, [], ◌∷◌, length, Option, Result, Ok, Err, sum, take, slice_index, nat_le, nat_lt, ok_or, is_ok, option_map, if◌then◌else◌}
-use Rattle.nanorand.specs.Runs.{IsWordWidth, named, quota, words_that}
-use Rattle.nanorand.specs.Draws.{after_word, left_after, next_word, number_drawn, word_limit}
-use Rattle.nanorand.specs.Fairness.{passes}
+use Rattle.nanorand.specs.values.Runs.{IsWordWidth, named, quota, words_that}
+use Rattle.nanorand.specs.values.Draws.{after_word, left_after, next_word, number_drawn, word_limit}
+use Rattle.nanorand.specs.values.Fairness.{passes}
 use Rattle.nanorand_users.specs.declared.choice.ChoiceError.{ChoiceError}
 use Rattle.nanorand_users.specs.declared.choice.ChoiceError.TheVariants.{NoWeight, TooHeavy, Exhausted}
 

@@ -2,7 +2,7 @@
 use Rattle.std.specs.Prelude.{ℕ, zero, suc, ◌+◌, ◌*◌, ◌/◌, ◌^◌, List, [], ◌∷◌, Result, min}
 use Rattle.std.specs.Result.{result_unwrap_or}
 use Rattle.std.specs.declared.ops.Bound.TheVariants.{Included}
-use Rattle.nanorand.specs.Draws.{unsigned_outcome}
+use Rattle.nanorand.specs.values.Draws.{unsigned_outcome}
 use Rattle.nanorand.specs.declared.values.range.RangeError.{RangeError}
 
 -- The ceiling after k tries.

@@ -1,8 +1,8 @@
 -- One stream of draws that workers share: each has a part of its own.
 use Rattle.std.specs.Prelude.{◌≡◌, ℕ, ◌+◌, ◌*◌, ◌<◌, ◌≤◌, List}
 use Rattle.std.specs.Fn.{iterate}
-use Rattle.nanorand.specs.Blocks.{taken}
-use Rattle.nanorand.specs.Values.{number_of}
+use Rattle.nanorand.specs.generators.Blocks.{taken}
+use Rattle.nanorand.specs.values.Values.{number_of}
 
 -- The state after so many draws, made one by one. It does not unfold by itself, as the number may be a large literal.
 unfoldable pub after_draws : {G : Type 0} → (G → G) → ℕ → G → G

@@ -3,9 +3,9 @@
 //!
 //! The cards of a deck of n are the numbers 0, 1, .., n - 1.
 ghost use Rattle.std.specs.Prelude.{◌≡◌, ◌+◌, ◌*◌, ◌≤◌, ◌++◌, ℕ, List, length, drop, OnOk, IfErr};
-ghost use Rattle.nanorand.specs.Arrangements.{rising, IsValid, IsArrangement, HoldsEachOnce};
-ghost use Rattle.nanorand.specs.Blocks.{taken};
-ghost use Rattle.nanorand.specs.Shuffles.{arranged, from_itself, shuffle_answer, shuffle_choices, shuffle_state};
+ghost use Rattle.nanorand.specs.shuffles.Arrangements.{rising, IsValid, IsArrangement, HoldsEachOnce};
+ghost use Rattle.nanorand.specs.generators.Blocks.{taken};
+ghost use Rattle.nanorand.specs.shuffles.Shuffles.{arranged, from_itself, shuffle_answer, shuffle_choices, shuffle_state};
 ghost use Rattle.nanorand.specs.declared.values.range.RangeError.TheVariants.{Exhausted};
 ghost use Rattle.nanorand_users.specs.Deals.{HoldsNoneTwice, HandsAreApart, hand_of, hands};
 

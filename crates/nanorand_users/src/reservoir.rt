@@ -3,8 +3,8 @@
 ghost use Rattle.std.specs.Prelude.{◌≡◌, ◌≢◌, ℕ, ◌-◌, ◌*◌, ◌<◌, ◌≤◌, All, length, IfOk, IfErr};
 ghost use Rattle.std.specs.Fn.{iterate};
 ghost use Rattle.std.specs.List.{AllPairs, range_with_len};
-ghost use Rattle.nanorand.specs.Blocks.{taken};
-ghost use Rattle.nanorand.specs.Draws.{after_word};
+ghost use Rattle.nanorand.specs.generators.Blocks.{taken};
+ghost use Rattle.nanorand.specs.values.Draws.{after_word};
 ghost use Rattle.nanorand.specs.declared.values.range.RangeError.TheVariants.{Exhausted};
 ghost use Rattle.nanorand_users.specs.Reservoir.{SamplesAreFair, place_up_to, placed, sampled};
 

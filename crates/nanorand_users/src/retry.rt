@@ -3,8 +3,8 @@
 ghost use Rattle.std.specs.Prelude.{◌≡◌, ℕ, ◌*◌, ◌/◌, ◌≤◌, Err, EachIndex, length, slice_index, IfOk, IfErr};
 ghost use Rattle.std.specs.Fn.{iterate};
 ghost use Rattle.std.specs.Result.{result_unwrap_or};
-ghost use Rattle.nanorand.specs.Blocks.{taken};
-ghost use Rattle.nanorand.specs.Draws.{after_word};
+ghost use Rattle.nanorand.specs.generators.Blocks.{taken};
+ghost use Rattle.nanorand.specs.values.Draws.{after_word};
 ghost use Rattle.nanorand.specs.declared.values.range.RangeError.TheVariants.{Exhausted};
 ghost use Rattle.nanorand_users.specs.Retry.{ceiling_after, delay_drawn, delays_after, state_after_delays};
 

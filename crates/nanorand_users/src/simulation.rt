@@ -3,9 +3,9 @@
 //!
 //! A simulation is a list of calls of a generator, with items that its shuffles move.
 ghost use Rattle.std.specs.Prelude.{◌≡◌, ◌≤◌, length, OnOk, OnErr, IfOk, IsOk};
-ghost use Rattle.nanorand.specs.Blocks.{plain_after, taken};
-ghost use Rattle.nanorand.specs.Replay.{replayed};
-ghost use Rattle.nanorand.specs.WyRand.{next_seed, wyrand_block};
+ghost use Rattle.nanorand.specs.generators.Blocks.{plain_after, taken};
+ghost use Rattle.nanorand.specs.replay.Replay.{replayed};
+ghost use Rattle.nanorand.specs.generators.WyRand.{next_seed, wyrand_block};
 
 use nanorand::laws::replays_join;
 use nanorand::replay::{Answer, Call, replay};

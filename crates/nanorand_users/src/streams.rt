@@ -4,10 +4,10 @@
 //! A stream is a generator, and its draws are numbered from 0. Worker number i takes `share` draws
 //! from number i * share on, and finds them by `skip`, without the draws of the others.
 ghost use Rattle.std.specs.Prelude.{◌≡◌, ◌+◌, ◌*◌, ◌^◌, ◌<◌, ℕ, List, length, slice_index, refl};
-ghost use Rattle.nanorand.specs.ChaCha.{next_state};
-ghost use Rattle.nanorand.specs.ChaChaRounds.{IsMatrix};
-ghost use Rattle.nanorand.specs.Pcg64.{Generator, next};
-ghost use Rattle.nanorand.specs.WyRand.{next_seed};
+ghost use Rattle.nanorand.specs.generators.ChaCha.{next_state};
+ghost use Rattle.nanorand.specs.generators.ChaChaRounds.{IsMatrix};
+ghost use Rattle.nanorand.specs.generators.Pcg64.{Generator, next};
+ghost use Rattle.nanorand.specs.generators.WyRand.{next_seed};
 ghost use Rattle.nanorand_users.specs.Streams.{after_draws, word_at, PartsAreApart};
 
 use nanorand::laws::{chacha_counter, pcg64_cycles, wyrand_cycle};

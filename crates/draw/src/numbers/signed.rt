@@ -2,7 +2,7 @@
 
 ghost use Rattle.std.specs.Int.{w8, w16, w32, w64};
 ghost use Rattle.draw.specs.Numbers.{IsSigned};
-ghost use Rattle.draw.specs.PlainLaws.{signed_plain};
+ghost use Rattle.draw.specs.support.PlainTexts.{signed_plain};
 
 use super::{Number, read_signed};
 

@@ -1,7 +1,7 @@
 //! The unsigned numbers: decimal digits whose value fits the type.
 
 ghost use Rattle.draw.specs.Numbers.{IsUnsigned};
-ghost use Rattle.draw.specs.PlainLaws.{unsigned_plain};
+ghost use Rattle.draw.specs.support.PlainTexts.{unsigned_plain};
 
 use super::{Number, read_unsigned};
 

@@ -3,12 +3,12 @@ ghost use Rattle.std.specs.Prelude.{◌≡◌, ℕ, ◌%◌, ◌⊎◌, List, �
 ghost use Rattle.std.specs.Fmt.{decimal};
 ghost use Rattle.std.proofs.Common.{rules};
 ghost use Rattle.std.specs.Fn.{iterate};
-ghost use Rattle.nanorand.specs.Blocks.{taken, plain_after};
-ghost use Rattle.nanorand.specs.ChaCha.{initial_state, seeded_state, bytes, counter, chacha_block, next_state, advanced, chacha_after};
-ghost use Rattle.nanorand.specs.ChaChaRounds.{IsMatrix};
-ghost use Rattle.nanorand.specs.ChaChaLaws.{length-chacha_block};
-ghost use Rattle.nanorand.specs.Entropy.{HasFewer, IsMadeOf};
-ghost use Rattle.nanorand.specs.Texts.{chacha_debug};
+ghost use Rattle.nanorand.specs.generators.Blocks.{taken, plain_after};
+ghost use Rattle.nanorand.specs.generators.ChaCha.{initial_state, seeded_state, bytes, counter, chacha_block, next_state, advanced, chacha_after};
+ghost use Rattle.nanorand.specs.generators.ChaChaRounds.{IsMatrix};
+ghost use Rattle.nanorand.specs.support.ChaChaDrawLemmas.{length-chacha_block};
+ghost use Rattle.nanorand.specs.generators.Entropy.{HasFewer, IsMadeOf};
+ghost use Rattle.nanorand.specs.generators.DebugTexts.{chacha_debug};
 ghost use Rattle.nanorand.specs.declared.entropy.EntropyError.TheVariants.{Short, Fault};
 
 use crate::crypto::chacha::{

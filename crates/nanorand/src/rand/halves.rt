@@ -1,6 +1,6 @@
 // Words of 64 bits from numbers of 128.
 ghost use Rattle.std.specs.Prelude.{◌≡◌};
-ghost use Rattle.nanorand.specs.Halves.{folded};
+ghost use Rattle.nanorand.specs.generators.Halves.{folded};
 
 // The high half xored with the low half.
 #[inline]

@@ -1,6 +1,6 @@
 // Numbers of 128 bits in hexadecimal.
 ghost use Rattle.std.specs.Prelude.{Some};
-ghost use Rattle.nanorand.specs.Texts.{hexadecimal};
+ghost use Rattle.nanorand.specs.generators.DebugTexts.{hexadecimal};
 
 use std::fmt;
 

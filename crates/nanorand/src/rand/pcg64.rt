@@ -1,11 +1,11 @@
 //! Pcg64: 128 bits of seed, and a word of 64 bits a draw.
 ghost use Rattle.std.specs.Prelude.{◌≡◌, length, ◌⊎◌, ⊤, refl, Some, IfOk, IfErr, codes, ℕ, ◌<◌, ◌^◌, ◌↔◌, IsTrue, IsSome, IfSome};
 ghost use Rattle.std.proofs.Common.{rules};
-ghost use Rattle.nanorand.specs.Blocks.{plain_after, taken};
-ghost use Rattle.nanorand.specs.Entropy.{HasFewer, IsMadeOf};
-ghost use Rattle.nanorand.specs.Pcg64.{next, pcg64_after, pcg64_block, reseeded, seed_after, SameCycle};
-ghost use Rattle.nanorand.specs.Texts.{pcg64_debug};
-ghost use Rattle.nanorand.specs.Values.{number_of};
+ghost use Rattle.nanorand.specs.generators.Blocks.{plain_after, taken};
+ghost use Rattle.nanorand.specs.generators.Entropy.{HasFewer, IsMadeOf};
+ghost use Rattle.nanorand.specs.generators.Pcg64.{next, pcg64_after, pcg64_block, reseeded, seed_after, SameCycle};
+ghost use Rattle.nanorand.specs.generators.DebugTexts.{pcg64_debug};
+ghost use Rattle.nanorand.specs.values.Values.{number_of};
 ghost use Rattle.nanorand.specs.declared.entropy.EntropyError.TheVariants.{Short, Fault};
 
 use crate::entropy::{EntropyError, system};
@@ -48,7 +48,7 @@ pub struct Pcg64 {
 
 // A generator is its three numbers.
 impl Model for Pcg64 {
-    ghost use Rattle.nanorand.specs.Pcg64.{Generator};
+    ghost use Rattle.nanorand.specs.generators.Pcg64.{Generator};
 
     ghost Value = { Generator };
 

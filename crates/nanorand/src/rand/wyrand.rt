@@ -1,11 +1,11 @@
 //! Wyrand: 64 bits of seed, and a word of 64 bits a draw.
 ghost use Rattle.std.specs.Prelude.{◌≡◌, length, ◌⊎◌, ⊤, refl, Some, IfOk, IfErr, codes, ℕ, ◌<◌, ◌^◌};
 ghost use Rattle.std.proofs.Common.{rules};
-ghost use Rattle.nanorand.specs.Blocks.{plain_after, taken};
-ghost use Rattle.nanorand.specs.Entropy.{HasFewer, IsMadeOf};
-ghost use Rattle.nanorand.specs.Texts.{wyrand_debug};
-ghost use Rattle.nanorand.specs.Values.{number_of};
-ghost use Rattle.nanorand.specs.WyRand.{next_seed, wyrand_block, word, seed_after, wyrand_after};
+ghost use Rattle.nanorand.specs.generators.Blocks.{plain_after, taken};
+ghost use Rattle.nanorand.specs.generators.Entropy.{HasFewer, IsMadeOf};
+ghost use Rattle.nanorand.specs.generators.DebugTexts.{wyrand_debug};
+ghost use Rattle.nanorand.specs.values.Values.{number_of};
+ghost use Rattle.nanorand.specs.generators.WyRand.{next_seed, wyrand_block, word, seed_after, wyrand_after};
 ghost use Rattle.nanorand.specs.declared.entropy.EntropyError.TheVariants.{Short, Fault};
 
 use crate::entropy::{EntropyError, system};

@@ -1,6 +1,6 @@
 //! The types of whole numbers over which ranges are drawn.
 ghost use Rattle.std.specs.Prelude.{◌≡◌, ℕ, Bool, ◌^◌, ◌<◌, nat_le, nat_lt};
-ghost use Rattle.nanorand.specs.Runs.{IsWordWidth};
+ghost use Rattle.nanorand.specs.values.Runs.{IsWordWidth};
 
 mod signed;
 mod unsigned;

@@ -2,9 +2,9 @@
 ghost use Rattle.std.specs.Prelude.{◌≡◌, ℕ, ◌^◌, ◌<◌, ◌≤◌, true, Result, Err, IfOk, IfErr, nat_le, nat_lt};
 ghost use Rattle.std.specs.Fn.{iterate};
 ghost use Rattle.std.specs.declared.ops.Bound.{Bound};
-ghost use Rattle.nanorand.specs.Blocks.{taken};
-ghost use Rattle.nanorand.specs.Range.{is_above, is_below, range_within};
-ghost use Rattle.nanorand.specs.Draws.{word_limit, after_word, range_outcome};
+ghost use Rattle.nanorand.specs.generators.Blocks.{taken};
+ghost use Rattle.nanorand.specs.values.Range.{is_above, is_below, range_within};
+ghost use Rattle.nanorand.specs.values.Draws.{word_limit, after_word, range_outcome};
 ghost use Rattle.nanorand.specs.declared.values.range.RangeError.{RangeError};
 ghost use Rattle.nanorand.specs.declared.values.range.RangeError.TheVariants.{Empty, Exhausted};
 

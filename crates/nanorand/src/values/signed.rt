@@ -1,7 +1,7 @@
 //! The signed numbers: one request of their bytes, least byte first, in two's complement.
 ghost use Rattle.std.specs.Int.{w8, w16, w32, w64, w128};
-ghost use Rattle.nanorand.specs.Blocks.{taken};
-ghost use Rattle.nanorand.specs.Values.{signed_number_of};
+ghost use Rattle.nanorand.specs.generators.Blocks.{taken};
+ghost use Rattle.nanorand.specs.values.Values.{signed_number_of};
 
 use super::{RandomGen, next_bytes};
 use crate::rand::Rng;

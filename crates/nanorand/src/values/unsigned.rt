@@ -1,6 +1,6 @@
 //! The unsigned numbers: one request of their bytes, least byte first.
-ghost use Rattle.nanorand.specs.Blocks.{taken};
-ghost use Rattle.nanorand.specs.Values.{number_of};
+ghost use Rattle.nanorand.specs.generators.Blocks.{taken};
+ghost use Rattle.nanorand.specs.values.Values.{number_of};
 
 use super::{RandomGen, next_bytes};
 use crate::rand::Rng;

@@ -1,9 +1,9 @@
 //! Words, and the numbers that they name.
 ghost use Rattle.std.specs.Prelude.{◌≡◌, ℕ, ◌^◌, ◌<◌, ◌≤◌, MatchOption, IfSome, IfNone};
 ghost use Rattle.std.specs.Fn.{iterate};
-ghost use Rattle.nanorand.specs.Blocks.{taken};
-ghost use Rattle.nanorand.specs.Runs.{IsWordWidth, Names, named, rejected};
-ghost use Rattle.nanorand.specs.Draws.{word_limit, next_word, after_word, number_drawn, left_after};
+ghost use Rattle.nanorand.specs.generators.Blocks.{taken};
+ghost use Rattle.nanorand.specs.values.Runs.{IsWordWidth, Names, named, rejected};
+ghost use Rattle.nanorand.specs.values.Draws.{word_limit, next_word, after_word, number_drawn, left_after};
 
 use crate::rand::Rng;
 

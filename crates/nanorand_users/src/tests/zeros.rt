@@ -1,7 +1,7 @@
 //! A generator of zeros, whose words name nothing unless a size divides 2^64.
 ghost use Rattle.std.specs.Prelude.{◌≡◌, ◌+◌, ◌%◌, ◌^◌, ⊤, refl, replicate};
 ghost use Rattle.std.proofs.Common.{rules};
-ghost use Rattle.nanorand.specs.Blocks.{plain_after};
+ghost use Rattle.nanorand.specs.generators.Blocks.{plain_after};
 
 use nanorand::rand::fill_by_blocks;
 use nanorand::{Blocks, Rng};

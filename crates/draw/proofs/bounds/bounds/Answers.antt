@@ -1,5 +1,5 @@
 use Rattle.std.proofs.Common.{◌≡◌, Some, None}
-use Rattle.draw.proofs.RangeText.{parts_of_range, range_from_parts}
+use Rattle.draw.proofs.lemmas.RangeText.{parts_of_range, range_from_parts}
 use Rattle.draw.proofs.bounds.bounds.Goals as goal
 
 pub returns-in_err-low-clause-only : goal.returns-in_err-low-clause-only

@@ -3,8 +3,8 @@ use Rattle.std.proofs.lemmas.List.{length-map}
 use Rattle.std.specs.Prelude.{string_bytes}
 use Rattle.nanorand.specs.declared.replay.Call.{Call}
 use Rattle.draw.specs.Requests.{IsRequest}
-use Rattle.draw.specs.Words.{word_at, texts}
-use Rattle.draw.proofs.AllRequests.{text_at, said_all, said_more, only_more}
+use Rattle.draw.specs.Arguments.{word_at, texts}
+use Rattle.draw.proofs.lemmas.AllRequests.{text_at, said_all, said_more, only_more}
 use Rattle.draw.proofs.order.calls_of.Goals as goal
 
 pub loop-place-preserved : goal.loop-place-preserved

@@ -1,7 +1,7 @@
 use Rattle.std.proofs.Common.{◌≡◌, ℕ, ◌<◌, List, ◌++◌, drop}
 use Rattle.nanorand.specs.declared.replay.Call.{Call}
 use Rattle.draw.specs.Requests.{IsRequest}
-use Rattle.draw.specs.Words.{AreRequests, texts, word_at}
+use Rattle.draw.specs.Arguments.{AreRequests, texts, word_at}
 use Rattle.draw.proofs.order.calls_of.Given as goal
 
 abbrev pub invariant-loop-place : goal.invariant-loop-place

@@ -1,8 +1,8 @@
 use Rattle.std.proofs.Common.{◌≡◌, ◌≤◌, ℕ, List, ◌++◌, [], length, length-append, length-take, length-drop, take, drop, ◌+◌, ◌-◌, refl, arith, ap, sym, ◌∙◌}
 use Rattle.std.proofs.lemmas.List.{take_at, take_rest, drop-drop}
-use Rattle.nanorand.specs.Buffered.{buffer_of, buffered_taken, buffered_after}
-use Rattle.nanorand.specs.BlockLaws.{put_end}
-use Rattle.nanorand.specs.BufferedLaws.{same_buffer, taken_kept, after_kept, taken_past, after_past}
+use Rattle.nanorand.specs.generators.Buffered.{buffer_of, buffered_taken, buffered_after}
+use Rattle.nanorand.specs.support.BlockLemmas.{put_end}
+use Rattle.nanorand.specs.support.BufferedLemmas.{same_buffer, taken_kept, after_kept, taken_past, after_past}
 use Rattle.nanorand.proofs.buffer.deliver.Goals as goal
 
 -- the bytes that are kept

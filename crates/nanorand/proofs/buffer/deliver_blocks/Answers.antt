@@ -1,8 +1,8 @@
 use Rattle.std.proofs.Common.{◌≡◌, ℕ, ◌++◌, length, take, drop, ◌-◌, ◌%◌, arith, ap, sym, ◌∙◌}
 use Rattle.std.proofs.lemmas.List.{append-nil, length-take-le, take_at, drop_all}
-use Rattle.nanorand.specs.Blocks.{taken, plain_after}
-use Rattle.nanorand.specs.BlockLaws.{put_end}
-use Rattle.nanorand.specs.BufferedLaws.{same_buffer, taken_fresh, after_fresh, taken_parts, after_parts}
+use Rattle.nanorand.specs.generators.Blocks.{taken, plain_after}
+use Rattle.nanorand.specs.support.BlockLemmas.{put_end}
+use Rattle.nanorand.specs.support.BufferedLemmas.{same_buffer, taken_fresh, after_fresh, taken_parts, after_parts}
 use Rattle.nanorand.proofs.buffer.deliver_blocks.Goals as goal
 
 pub returns-then-last-gt0-clause-bytes : goal.returns-then-last-gt0-clause-bytes

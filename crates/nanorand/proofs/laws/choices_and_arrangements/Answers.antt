@@ -1,4 +1,4 @@
-use Rattle.nanorand.proofs.CorrespondenceLemmas.{corresponds}
+use Rattle.nanorand.proofs.lemmas.shuffles.CorrespondenceLemmas.{corresponds}
 use Rattle.nanorand.proofs.laws.choices_and_arrangements.Goals as goal
 
 pub returns : goal.returns

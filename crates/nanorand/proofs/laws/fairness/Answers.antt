@@ -1,6 +1,6 @@
-use Rattle.nanorand.proofs.FairnessLemmas.{shares}
-use Rattle.nanorand.proofs.SwapLemmas.{swaps}
-use Rattle.nanorand.proofs.EventLemmas.{event_words}
+use Rattle.nanorand.proofs.lemmas.ranges.FairnessLemmas.{shares}
+use Rattle.nanorand.proofs.lemmas.ranges.SwapLemmas.{swaps}
+use Rattle.nanorand.proofs.lemmas.ranges.EventLemmas.{event_words}
 use Rattle.nanorand.proofs.laws.fairness.Goals as goal
 
 pub returns-clause-runs : goal.returns-clause-runs

@@ -1,5 +1,5 @@
-use Rattle.nanorand.specs.Pcg64Laws.{pcg64_steps, pcg64_more, pcg64_adds, pcg64_closed, pcg64_seeds, pcg64_fits, pcg64_words, pcg64_blocks}
-use Rattle.nanorand.proofs.Pcg64Lemmas.{seed_after-agree, word-half, pcg64_periods}
+use Rattle.nanorand.specs.support.Pcg64DrawLemmas.{pcg64_steps, pcg64_more, pcg64_adds, pcg64_closed, pcg64_seeds, pcg64_fits, pcg64_words, pcg64_blocks}
+use Rattle.nanorand.proofs.lemmas.cycles.Pcg64Lemmas.{seed_after-agree, word-half, pcg64_periods}
 use Rattle.nanorand.proofs.laws.pcg64_cycles.Goals as goal
 
 pub returns : goal.returns

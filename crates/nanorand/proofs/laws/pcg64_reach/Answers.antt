@@ -1,4 +1,4 @@
-use Rattle.nanorand.proofs.ReachLemmas.{reached-class, reached_once}
+use Rattle.nanorand.proofs.lemmas.cycles.ReachLemmas.{reached-class, reached_once}
 use Rattle.nanorand.proofs.laws.pcg64_reach.Goals as goal
 
 pub returns : goal.returns

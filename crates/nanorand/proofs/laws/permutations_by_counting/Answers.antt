@@ -1,4 +1,4 @@
-use Rattle.nanorand.proofs.CopyLemmas.{permutation-copies, permutation_by_copies, arrangement-copies, arrangement_by_copies}
+use Rattle.nanorand.proofs.lemmas.shuffles.CopyLemmas.{permutation-copies, permutation_by_copies, arrangement-copies, arrangement_by_copies}
 use Rattle.nanorand.proofs.laws.permutations_by_counting.Goals as goal
 
 pub returns : goal.returns

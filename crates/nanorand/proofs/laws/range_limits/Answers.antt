@@ -1,4 +1,4 @@
-use Rattle.nanorand.proofs.LimitLemmas.{keeps_limits}
+use Rattle.nanorand.proofs.lemmas.ranges.LimitLemmas.{keeps_limits}
 use Rattle.nanorand.proofs.laws.range_limits.Goals as goal
 
 pub returns-clause-unsigned : goal.returns-clause-unsigned

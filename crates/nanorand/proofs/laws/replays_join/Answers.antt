@@ -1,5 +1,5 @@
-use Rattle.nanorand.specs.Blocks.{taken}
-use Rattle.nanorand.proofs.ReplayLemmas.{joined}
+use Rattle.nanorand.specs.generators.Blocks.{taken}
+use Rattle.nanorand.proofs.lemmas.replay.ReplayLemmas.{joined}
 use Rattle.nanorand.proofs.laws.replays_join.Goals as goal
 
 pub returns : goal.returns

@@ -1,8 +1,8 @@
 use Rattle.std.proofs.Common.{sym, ◌+◌}
-use Rattle.nanorand.specs.BlockLaws.{taken_nothing}
-use Rattle.nanorand.specs.Buffered.{buffered_after}
-use Rattle.nanorand.specs.BufferedLaws.{after_nothing, after_add, taken_add, taken_unbroken, rest_below}
-use Rattle.nanorand.proofs.UnbrokenLemmas.{unbroken}
+use Rattle.nanorand.specs.support.BlockLemmas.{taken_nothing}
+use Rattle.nanorand.specs.generators.Buffered.{buffered_after}
+use Rattle.nanorand.specs.support.BufferedLemmas.{after_nothing, after_add, taken_add, taken_unbroken, rest_below}
+use Rattle.nanorand.proofs.lemmas.replay.UnbrokenLemmas.{unbroken}
 use Rattle.nanorand.proofs.laws.unbroken_delivery.Goals as goal
 
 pub returns-clause-unbroken : goal.returns-clause-unbroken

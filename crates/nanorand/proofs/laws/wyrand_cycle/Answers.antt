@@ -1,5 +1,5 @@
-use Rattle.nanorand.specs.WyRandLaws.{wyrand_steps, wyrand_more, wyrand_adds, wyrand_closed, wyrand_seeds, wyrand_fits, wyrand_words}
-use Rattle.nanorand.proofs.WyRandLemmas.{seed_after-agree, wyrand_periods}
+use Rattle.nanorand.specs.support.WyRandDrawLemmas.{wyrand_steps, wyrand_more, wyrand_adds, wyrand_closed, wyrand_seeds, wyrand_fits, wyrand_words}
+use Rattle.nanorand.proofs.lemmas.cycles.WyRandLemmas.{seed_after-agree, wyrand_periods}
 use Rattle.nanorand.proofs.laws.wyrand_cycle.Goals as goal
 
 pub returns : goal.returns

@@ -1,7 +1,7 @@
 use Rattle.std.proofs.Common.{◌≡◌, ℕ, ◌-◌, ◌<◌, ◌≤◌, ◌++◌, length, take, min, arith, ap, sym, ◌∙◌}
 use Rattle.std.proofs.lemmas.List.{append-nil, take_all}
-use Rattle.nanorand.specs.Blocks.{taken, plain_after}
-use Rattle.nanorand.specs.BlockLaws.{taken_nothing, filled_length, filled_bytes, filled_state, put_end, taken_front, plain_after_front}
+use Rattle.nanorand.specs.generators.Blocks.{taken, plain_after}
+use Rattle.nanorand.specs.support.BlockLemmas.{taken_nothing, filled_length, filled_bytes, filled_state, put_end, taken_front, plain_after_front}
 use Rattle.nanorand.proofs.rand.fill_by_blocks.Goals as goal
 
 pub loop-buffer-preserved : goal.loop-buffer-preserved

@@ -1,5 +1,5 @@
 use Rattle.std.proofs.Common.{length, ◌-◌, ◌≡◌, ◌≤◌, ◌++◌, take}
-use Rattle.nanorand.specs.Blocks.{taken, plain_after}
+use Rattle.nanorand.specs.generators.Blocks.{taken, plain_after}
 use Rattle.nanorand.proofs.rand.fill_by_blocks.Given as goal
 
 -- the bytes so far and those of a request for the rest are those of the whole request

@@ -1,6 +1,6 @@
 use Rattle.std.proofs.Common.{◌≡◌, length, ◌++◌, take, drop}
-use Rattle.nanorand.specs.Blocks.{taken}
-use Rattle.nanorand.specs.Replay.{replayed}
+use Rattle.nanorand.specs.generators.Blocks.{taken}
+use Rattle.nanorand.specs.replay.Replay.{replayed}
 use Rattle.nanorand.proofs.replay.replay.Given as goal
 
 -- the answers so far and those to the calls that are left are those to all, and what is left leaves the same

@@ -1,6 +1,6 @@
 use Rattle.std.proofs.Common.{sym, ◌∙◌, ap, swap, get_or, length, arith}
 use Rattle.std.proofs.lemmas.List.{take_all}
-use Rattle.nanorand.proofs.ChoiceLemmas.{arranged-more, arranged-permutation, Chosen-valid}
+use Rattle.nanorand.proofs.lemmas.shuffles.ChoiceLemmas.{arranged-more, arranged-permutation, Chosen-valid}
 use Rattle.nanorand.proofs.shuffles.apply_choices.Goals as goal
 
 pub loop-place-preserved : goal.loop-place-preserved

@@ -1,5 +1,5 @@
 use Rattle.std.proofs.Common.{◌≡◌, take}
-use Rattle.nanorand.specs.Shuffles.{arranged}
+use Rattle.nanorand.specs.shuffles.Shuffles.{arranged}
 use Rattle.nanorand.proofs.shuffles.apply_choices.Given as goal
 
 abbrev pub invariant-loop-place : goal.invariant-loop-place

@@ -1,4 +1,4 @@
-use Rattle.nanorand.proofs.ChoiceLemmas.{Choosing}
+use Rattle.nanorand.proofs.lemmas.shuffles.ChoiceLemmas.{Choosing}
 use Rattle.nanorand.proofs.shuffles.choices_of.Given as goal
 
 abbrev pub invariant-loop-place : goal.invariant-loop-place

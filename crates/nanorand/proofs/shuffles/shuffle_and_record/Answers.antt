@@ -1,10 +1,10 @@
 use Rattle.std.proofs.Common.{length, ◌∙◌, ap, arith}
 use Rattle.std.proofs.lemmas.Result.{err_from_is_err_and}
-use Rattle.nanorand.specs.Arrangements.{rising}
-use Rattle.nanorand.specs.Blocks.{taken}
-use Rattle.nanorand.specs.Shuffles.{from_itself, partner_drawn}
-use Rattle.nanorand.proofs.ShuffleLemmas.{partner-below, shuffling-start, shuffling-step, refused, done, count-refused, count-done}
-use Rattle.nanorand.proofs.RecordLemmas.{completed-whole, recorded-start, recorded-step, recorded}
+use Rattle.nanorand.specs.shuffles.Arrangements.{rising}
+use Rattle.nanorand.specs.generators.Blocks.{taken}
+use Rattle.nanorand.specs.shuffles.Shuffles.{from_itself, partner_drawn}
+use Rattle.nanorand.proofs.lemmas.shuffles.ShuffleLemmas.{partner-below, shuffling-start, shuffling-step, refused, done, count-refused, count-done}
+use Rattle.nanorand.proofs.lemmas.shuffles.RecordLemmas.{completed-whole, recorded-start, recorded-step, recorded}
 use Rattle.nanorand.proofs.shuffles.shuffle_and_record.Goals as goal
 
 pub loop-place-init : goal.loop-place-init

@@ -1,5 +1,5 @@
-use Rattle.nanorand.specs.Blocks.{taken}
-use Rattle.nanorand.proofs.RecordLemmas.{Recording}
+use Rattle.nanorand.specs.generators.Blocks.{taken}
+use Rattle.nanorand.proofs.lemmas.shuffles.RecordLemmas.{Recording}
 use Rattle.nanorand.proofs.shuffles.shuffle_and_record.Given as goal
 
 abbrev pub invariant-loop-place : goal.invariant-loop-place

@@ -1,6 +1,6 @@
-use Rattle.nanorand.specs.Blocks.{taken}
-use Rattle.nanorand.specs.Shuffles.{from_all}
-use Rattle.nanorand.proofs.ShuffleLemmas.{Shuffling}
+use Rattle.nanorand.specs.generators.Blocks.{taken}
+use Rattle.nanorand.specs.shuffles.Shuffles.{from_all}
+use Rattle.nanorand.proofs.lemmas.shuffles.ShuffleLemmas.{Shuffling}
 use Rattle.nanorand.proofs.shuffles.shuffle_full.Given as goal
 
 abbrev pub invariant-loop-place : goal.invariant-loop-place

@@ -1,7 +1,7 @@
 use Rattle.std.proofs.Common.{length, ◌∙◌, arith}
 use Rattle.std.proofs.lemmas.List.{map-id}
 use Rattle.std.proofs.lemmas.List.FromFn.{fill_by_all}
-use Rattle.nanorand.specs.Arrangements.{rising}
+use Rattle.nanorand.specs.shuffles.Arrangements.{rising}
 use Rattle.nanorand.proofs.shuffles.write_places.Goals as goal
 
 pub returns : goal.returns

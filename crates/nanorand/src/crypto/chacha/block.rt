@@ -1,6 +1,6 @@
 //! The rounds and the block.
 ghost use Rattle.std.specs.Prelude.{◌≡◌, ◌%◌};
-ghost use Rattle.nanorand.specs.ChaChaRounds.{rounds, block};
+ghost use Rattle.nanorand.specs.generators.ChaChaRounds.{rounds, block};
 
 use super::lanes::{add, matrix_of, mix, rows_of};
 

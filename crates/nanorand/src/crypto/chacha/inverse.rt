@@ -1,8 +1,8 @@
 //! The rounds undone, in place, word by word.
 ghost use Rattle.std.specs.Prelude.{◌≡◌, ℕ, ◌%◌, ◌<◌, List};
-ghost use Rattle.nanorand.specs.ChaChaRounds.{quarter_round, on_columns, on_diagonals, rounds, IsMatrix};
-ghost use Rattle.nanorand.specs.ChaChaInverse.{unquarter_round};
-ghost use Rattle.nanorand.specs.ChaChaLines.{with_line};
+ghost use Rattle.nanorand.specs.generators.ChaChaRounds.{quarter_round, on_columns, on_diagonals, rounds, IsMatrix};
+ghost use Rattle.nanorand.specs.support.ChaChaInverse.{unquarter_round};
+ghost use Rattle.nanorand.specs.support.ChaChaLines.{with_line};
 
 /// The inverse of `chacha_rounds`: of all matrices the one that the rounds turn into `output`.
 ///

@@ -1,7 +1,7 @@
 //! Rounds on four vectors of four lanes, one vector for each row of the matrix.
 ghost use Rattle.std.specs.Prelude.{◌≡◌, ℕ, ◌+◌, ◌%◌, ◌<◌, slice_index};
-ghost use Rattle.nanorand.specs.ChaChaRounds.{add, xor_rotate, quarter_round, on_columns, on_diagonals, rounds};
-ghost use Rattle.nanorand.specs.ChaChaRows.{matrix};
+ghost use Rattle.nanorand.specs.generators.ChaChaRounds.{add, xor_rotate, quarter_round, on_columns, on_diagonals, rounds};
+ghost use Rattle.nanorand.specs.support.ChaChaRows.{matrix};
 
 use std::simd::u32x4;
 

@@ -2,7 +2,7 @@
 ghost use Rattle.std.specs.Prelude.{◌≡◌, ◌+◌, ◌^◌, ◌<◌, ◌≤◌, ◌↔◌, length, drop, IsTrue};
 ghost use Rattle.std.specs.Bool.{OnTrue, OnFalse};
 ghost use Rattle.std.specs.Int.{w32, from_le_bytes};
-ghost use Rattle.nanorand.specs.ChaCha.{initial_state, counter, with_counter};
+ghost use Rattle.nanorand.specs.generators.ChaCha.{initial_state, counter, with_counter};
 
 /// The state of a key and a nonce, at the counter 0.
 ///

@@ -2,9 +2,9 @@
 ghost use Rattle.std.specs.Prelude.{◌≡◌, ℕ, ◌%◌, ◌^◌, ◌<◌, ◌/◌, map, slice_index};
 ghost use Rattle.std.specs.Fn.{iterate};
 ghost use Rattle.std.specs.List.{range_with_len};
-ghost use Rattle.nanorand.specs.ChaChaRounds.{add, quarter_round, on_columns, on_diagonals, rounds, block};
-ghost use Rattle.nanorand.specs.ChaCha.{next_state, chacha_after};
-ghost use Rattle.nanorand.specs.ChaChaRows.{lane};
+ghost use Rattle.nanorand.specs.generators.ChaChaRounds.{add, quarter_round, on_columns, on_diagonals, rounds, block};
+ghost use Rattle.nanorand.specs.generators.ChaCha.{next_state, chacha_after};
+ghost use Rattle.nanorand.specs.support.ChaChaRows.{lane};
 
 use super::lanes::{add, quarter_round};
 use super::state::counter;

@@ -1,7 +1,7 @@
 //! The unsigned numbers: each stands at the place of its own value.
 ghost use Rattle.std.specs.Prelude.{nat_le, nat_lt, refl};
-ghost use Rattle.nanorand.specs.Range.{unsigned_number};
-ghost use Rattle.nanorand.specs.NumberLaws.{width_8, width_16, width_32, width_64};
+ghost use Rattle.nanorand.specs.values.Range.{unsigned_number};
+ghost use Rattle.nanorand.specs.support.NumberOrderLemmas.{width_8, width_16, width_32, width_64};
 
 use super::Number;
 

@@ -1,7 +1,7 @@
 //! Ranges of the signed numbers.
 ghost use Rattle.std.specs.Prelude.{◌≡◌};
-ghost use Rattle.nanorand.specs.Blocks.{taken};
-ghost use Rattle.nanorand.specs.Draws.{signed_outcome};
+ghost use Rattle.nanorand.specs.generators.Blocks.{taken};
+ghost use Rattle.nanorand.specs.values.Draws.{signed_outcome};
 
 use super::{RandomRange, RangeError, draw_number};
 use crate::rand::Rng;

@@ -1,6 +1,6 @@
 use Rattle.std.proofs.Common.{◌+◌, ◌%◌, ◌^◌, sym, ap, ◌∙◌}
 use Rattle.std.proofs.Math.Nat.{mod-mod}
-use Rattle.nanorand.specs.ChaCha.{advanced, chacha_after}
+use Rattle.nanorand.specs.generators.ChaCha.{advanced, chacha_after}
 use Rattle.nanorand_c.proofs.chacha.at.Goals as goal
 
 -- The place is the state after so many draws from the start, and draws add up.

@@ -1,4 +1,4 @@
-use Rattle.nanorand_c.proofs.RangeLemmas.{drawn_within}
+use Rattle.nanorand_c.proofs.lemmas.BetweenLemmas.{drawn_within}
 use Rattle.nanorand_c.proofs.pcg64.nanorand_pcg64_range_u64.Goals as goal
 
 pub returns-clause-within : goal.returns-clause-within

@@ -1,5 +1,5 @@
 use Rattle.std.proofs.Common.{length}
-use Rattle.nanorand.specs.Buffered.{buffer_of}
+use Rattle.nanorand.specs.generators.Buffered.{buffer_of}
 use Rattle.nanorand_rows.specs.Forking.{forked}
 use Rattle.nanorand_rows.proofs.forking.fill_from_clone.Goals as goal
 

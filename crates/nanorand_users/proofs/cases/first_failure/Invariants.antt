@@ -1,5 +1,5 @@
 use Rattle.std.proofs.Common.{◌≡◌, ◌<◌, ℕ, true}
-use Rattle.nanorand.specs.WyRand.{wyrand_after}
+use Rattle.nanorand.specs.generators.WyRand.{wyrand_after}
 use Rattle.nanorand_users.specs.Cases.{case_seed}
 use Rattle.nanorand_users.proofs.cases.first_failure.Given as goal
 

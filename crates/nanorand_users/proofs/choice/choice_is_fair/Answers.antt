@@ -1,4 +1,4 @@
-use Rattle.nanorand_users.proofs.ChoiceLemmas.{choices_are_fair}
+use Rattle.nanorand_users.proofs.lemmas.ShareLemmas.{choices_are_fair}
 use Rattle.nanorand_users.proofs.choice.choice_is_fair.Goals as goal
 
 pub returns : goal.returns

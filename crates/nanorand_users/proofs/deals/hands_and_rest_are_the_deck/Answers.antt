@@ -1,4 +1,4 @@
-use Rattle.nanorand_users.proofs.HandLemmas.{hands-rest}
+use Rattle.nanorand_users.proofs.lemmas.HandLemmas.{hands-rest}
 use Rattle.nanorand_users.proofs.deals.hands_and_rest_are_the_deck.Goals as goal
 
 pub returns : goal.returns

@@ -1,4 +1,4 @@
-use Rattle.nanorand_users.proofs.HandLemmas.{hands-apart}
+use Rattle.nanorand_users.proofs.lemmas.HandLemmas.{hands-apart}
 use Rattle.nanorand_users.proofs.deals.hands_are_apart.Goals as goal
 
 pub returns : goal.returns

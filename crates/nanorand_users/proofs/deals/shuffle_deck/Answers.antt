@@ -1,5 +1,5 @@
 use Rattle.std.proofs.Common.{◌≡◌, length, arith}
-use Rattle.nanorand_users.proofs.DeckLemmas.{none-twice}
+use Rattle.nanorand_users.proofs.lemmas.DeckLemmas.{none-twice}
 use Rattle.nanorand_users.proofs.deals.shuffle_deck.Goals as goal
 
 pub returns-clause-each_once : goal.returns-clause-each_once

@@ -1,8 +1,8 @@
 use Rattle.std.proofs.Common.{◌≡◌, ◌≢◌, ℕ, ◌<◌, ◌≤◌, ◌*◌, ◌-◌, length}
 use Rattle.std.specs.Fn.{iterate}
 use Rattle.std.specs.List.{All, AllPairs, range_with_len}
-use Rattle.nanorand.specs.Blocks.{taken}
-use Rattle.nanorand.specs.Draws.{after_word}
+use Rattle.nanorand.specs.generators.Blocks.{taken}
+use Rattle.nanorand.specs.values.Draws.{after_word}
 use Rattle.nanorand_users.specs.Reservoir.{passed}
 use Rattle.nanorand_users.proofs.reservoir.sample_places.Given as goal
 

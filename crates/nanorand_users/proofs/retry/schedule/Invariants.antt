@@ -1,7 +1,7 @@
 use Rattle.std.proofs.Common.{◌≡◌, ℕ, ◌*◌, ◌/◌, ◌-◌, ◌<◌, ◌≤◌, ◌++◌, length, take, slice_index}
 use Rattle.std.specs.Fn.{iterate}
-use Rattle.nanorand.specs.Blocks.{taken}
-use Rattle.nanorand.specs.Draws.{after_word}
+use Rattle.nanorand.specs.generators.Blocks.{taken}
+use Rattle.nanorand.specs.values.Draws.{after_word}
 use Rattle.nanorand_users.specs.Retry.{ceiling_after, delays_after, state_after_delays}
 use Rattle.nanorand_users.proofs.retry.schedule.Given as goal
 

@@ -1,8 +1,8 @@
 use Rattle.std.proofs.Common.{◌≡◌, ℕ, ◌^◌, ◌∙◌, sym}
-use Rattle.nanorand.specs.ChaCha.{next_state, chacha_after}
+use Rattle.nanorand.specs.generators.ChaCha.{next_state, chacha_after}
 use Rattle.nanorand_users.specs.Streams.{after_draws}
-use Rattle.nanorand_users.proofs.StreamLemmas.{draws-leave}
-use Rattle.nanorand_users.proofs.PlaceLemmas.{parts-apart}
+use Rattle.nanorand_users.proofs.lemmas.StreamLemmas.{draws-leave}
+use Rattle.nanorand_users.proofs.lemmas.PartLemmas.{parts-apart}
 use Rattle.nanorand_users.proofs.streams.chacha_parts_are_apart.Goals as goal
 
 pub returns : goal.returns

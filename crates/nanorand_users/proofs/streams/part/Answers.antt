@@ -1,5 +1,5 @@
 use Rattle.std.proofs.Common.{◌*◌, length}
-use Rattle.nanorand_users.proofs.StreamLemmas.{word-behind}
+use Rattle.nanorand_users.proofs.lemmas.StreamLemmas.{word-behind}
 use Rattle.nanorand_users.proofs.streams.part.Goals as goal
 
 pub returns : goal.returns

@@ -1,8 +1,8 @@
 use Rattle.std.proofs.Common.{◌≡◌, ℕ, ◌^◌, ◌∙◌, ap, sym}
-use Rattle.nanorand.specs.Pcg64.{Generator, next, seed_after}
+use Rattle.nanorand.specs.generators.Pcg64.{Generator, next, seed_after}
 use Rattle.nanorand_users.specs.Streams.{after_draws}
-use Rattle.nanorand_users.proofs.StreamLemmas.{draws-leave}
-use Rattle.nanorand_users.proofs.PlaceLemmas.{parts-apart}
+use Rattle.nanorand_users.proofs.lemmas.StreamLemmas.{draws-leave}
+use Rattle.nanorand_users.proofs.lemmas.PartLemmas.{parts-apart}
 use Rattle.nanorand_users.proofs.streams.pcg64_parts_are_apart.Goals as goal
 
 pub returns : goal.returns

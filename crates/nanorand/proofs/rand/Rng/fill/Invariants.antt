@@ -1,6 +1,6 @@
 use Rattle.std.proofs.Common.{◌≡◌, ◌-◌, ◌++◌, length, take}
 use Rattle.std.specs.Fn.{iterate}
-use Rattle.nanorand.specs.Values.{values_from}
+use Rattle.nanorand.specs.values.Values.{values_from}
 use Rattle.nanorand.proofs.rand.Rng.fill.Given as goal
 
 -- the values so far and those that are left are all, and what is left leaves the same state

@@ -1,8 +1,8 @@
 use Rattle.std.proofs.Common.{length, ◌∙◌, arith}
 use Rattle.std.proofs.lemmas.Result.{err_from_is_err_and}
-use Rattle.nanorand.specs.Blocks.{taken}
-use Rattle.nanorand.specs.Shuffles.{from_itself, partner_drawn}
-use Rattle.nanorand.proofs.ShuffleLemmas.{partner-below, shuffling-start, shuffling-step, refused, done, count-done, choices-valid}
+use Rattle.nanorand.specs.generators.Blocks.{taken}
+use Rattle.nanorand.specs.shuffles.Shuffles.{from_itself, partner_drawn}
+use Rattle.nanorand.proofs.lemmas.shuffles.ShuffleLemmas.{partner-below, shuffling-start, shuffling-step, refused, done, count-done, choices-valid}
 use Rattle.nanorand.proofs.rand.Rng.shuffle.Goals as goal
 
 pub loop-place-init : goal.loop-place-init

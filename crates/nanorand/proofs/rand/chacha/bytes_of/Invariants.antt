@@ -1,5 +1,5 @@
 use Rattle.std.proofs.Common.{◌≡◌, ◌*◌, length, take}
-use Rattle.nanorand.specs.ChaCha.{bytes}
+use Rattle.nanorand.specs.generators.ChaCha.{bytes}
 use Rattle.nanorand.proofs.rand.chacha.bytes_of.Given as goal
 
 abbrev pub invariant-words : goal.invariant-words

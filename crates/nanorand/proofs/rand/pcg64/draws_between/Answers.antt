@@ -1,6 +1,6 @@
 use Rattle.std.proofs.Common.{◌≡◌, arith}
 use Rattle.std.proofs.lemmas.Nat.{one_shl, pow_below}
-use Rattle.nanorand.proofs.DistanceLemmas.{IsDecided-start, IsDecided-unset, IsDecided-set, IsDecided-end}
+use Rattle.nanorand.proofs.lemmas.cycles.DistanceLemmas.{IsDecided-start, IsDecided-unset, IsDecided-set, IsDecided-end}
 use Rattle.nanorand.proofs.rand.pcg64.draws_between.Goals as goal
 use Rattle.nanorand.proofs.rand.pcg64.draws_between.Goals.{then-end-seed-ne0, else-end-seed-ne0}
 

@@ -1,4 +1,4 @@
-use Rattle.nanorand.proofs.DistanceLemmas.{IsDecided}
+use Rattle.nanorand.proofs.lemmas.cycles.DistanceLemmas.{IsDecided}
 use Rattle.nanorand.proofs.rand.pcg64.draws_between.Given as goal
 
 abbrev pub invariant-loop-bit : goal.invariant-loop-bit

@@ -1,5 +1,5 @@
 use Rattle.std.proofs.Common.{arith}
-use Rattle.nanorand.proofs.JumpLemmas.{IsOnWay-start, IsOnWay-even, IsOnWay-odd, IsOnWay-end}
+use Rattle.nanorand.proofs.lemmas.cycles.JumpLemmas.{IsOnWay-start, IsOnWay-even, IsOnWay-odd, IsOnWay-end}
 use Rattle.nanorand.proofs.rand.pcg64.seed_after.Goals as goal
 use Rattle.nanorand.proofs.rand.pcg64.seed_after.Goals.{then-left-eq1, else-left-eq1}
 

@@ -1,4 +1,4 @@
-use Rattle.nanorand.proofs.JumpLemmas.{IsOnWay}
+use Rattle.nanorand.proofs.lemmas.cycles.JumpLemmas.{IsOnWay}
 use Rattle.nanorand.proofs.rand.pcg64.seed_after.Given as goal
 
 abbrev pub invariant-bits : goal.invariant-bits

@@ -1,6 +1,6 @@
 use Rattle.std.proofs.Common.{◌+◌, ap, ◌∙◌, Ok, arith, ℕ, sym}
 use Rattle.std.proofs.lemmas.Bool.{le-leb, lt-ltb, leb-true, ltb-true}
-use Rattle.nanorand.proofs.RangeLemmas.{range-empty, range-places, value-empty, left-empty, value-number, value-exhausted, left-drawn}
+use Rattle.nanorand.proofs.lemmas.ranges.RangeLemmas.{range-empty, range-places, value-empty, left-empty, value-number, value-exhausted, left-drawn}
 use Rattle.nanorand.proofs.values.range.draw_number.Goals as goal
 
 pub returns-then-end-first-clause-value : goal.returns-then-end-first-clause-value

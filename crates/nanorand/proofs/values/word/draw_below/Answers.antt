@@ -1,9 +1,9 @@
 use Rattle.std.proofs.Common.{◌≡◌, ℕ, sym, ◌∙◌, ap, arith}
 use Rattle.std.specs.Fn.{iterate}
-use Rattle.nanorand.specs.Runs.{named}
-use Rattle.nanorand.specs.Draws.{word_limit, after_word}
-use Rattle.nanorand.proofs.RunLemmas.{Some-named}
-use Rattle.nanorand.proofs.DrawLemmas.{start, step, found_number, found_rest, missing_number, missing_rest, counted_words}
+use Rattle.nanorand.specs.values.Runs.{named}
+use Rattle.nanorand.specs.values.Draws.{word_limit, after_word}
+use Rattle.nanorand.proofs.lemmas.ranges.RunLemmas.{Some-named}
+use Rattle.nanorand.proofs.lemmas.ranges.DrawLemmas.{start, step, found_number, found_rest, missing_number, missing_rest, counted_words}
 use Rattle.nanorand.proofs.values.word.draw_below.Goals as goal
 
 pub returns-in-Some-clause-below : goal.returns-in-Some-clause-below

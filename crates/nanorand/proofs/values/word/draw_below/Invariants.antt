@@ -1,6 +1,6 @@
-use Rattle.nanorand.specs.Blocks.{taken}
-use Rattle.nanorand.specs.Draws.{next_word, after_word, word_limit}
-use Rattle.nanorand.proofs.DrawLemmas.{Searching}
+use Rattle.nanorand.specs.generators.Blocks.{taken}
+use Rattle.nanorand.specs.values.Draws.{next_word, after_word, word_limit}
+use Rattle.nanorand.proofs.lemmas.ranges.DrawLemmas.{Searching}
 use Rattle.nanorand.proofs.values.word.draw_below.Given as goal
 
 -- each word so far was rejected

@@ -1,8 +1,8 @@
 use Rattle.std.proofs.Common.{◌*◌, ◌%◌, ◌^◌, ◌<◌, ◌≤◌, sym, ◌∙◌, arith}
 use Rattle.std.proofs.lemmas.Bool.{leb-true, leb-false}
 use Rattle.std.proofs.lemmas.Nat.{one_shl, mod_below}
-use Rattle.nanorand.proofs.RunLemmas.{picks, rejects}
-use Rattle.nanorand.specs.Runs.{rejected}
+use Rattle.nanorand.proofs.lemmas.ranges.RunLemmas.{picks, rejects}
+use Rattle.nanorand.specs.values.Runs.{rejected}
 use Rattle.nanorand.proofs.values.word.pick_below.Goals as goal
 use Rattle.nanorand.proofs.values.word.pick_below.Goals.{then-low-size, else-low-size}
 

@@ -1,5 +1,5 @@
 use Rattle.std.proofs.Common.{◌≡◌, ◌^◌, sym}
-use Rattle.nanorand.proofs.RunLemmas.{Some-named, names-itself, size-is_whole, named-Names}
+use Rattle.nanorand.proofs.lemmas.ranges.RunLemmas.{Some-named, names-itself, size-is_whole, named-Names}
 use Rattle.nanorand.proofs.values.word.pick_word.Goals as goal
 
 pub returns-then-size-from-clause-value : goal.returns-then-size-from-clause-value

@@ -1,7 +1,7 @@
 use Rattle.std.proofs.Common.{◌-◌, ◌<◌, ◌^◌, arith, sym, ◌∙◌}
 use Rattle.std.proofs.Math.Nat.{mod-eq_of_lt}
 use Rattle.std.proofs.lemmas.Nat.{one_shl}
-use Rattle.nanorand.proofs.RunLemmas.{rejected-less}
+use Rattle.nanorand.proofs.lemmas.ranges.RunLemmas.{rejected-less}
 use Rattle.nanorand.proofs.values.word.rejected.Goals as goal
 
 pub returns-then-from-words : goal.returns-then-from-words

@@ -1,6 +1,6 @@
 use Rattle.std.proofs.Common.{◌≡◌, ◌%◌, ◌^◌, ◌∙◌, sym, arith}
-use Rattle.nanorand.specs.ChaCha.{next_state}
-use Rattle.nanorand_users.proofs.StreamLemmas.{draws-leave}
+use Rattle.nanorand.specs.generators.ChaCha.{next_state}
+use Rattle.nanorand_users.proofs.lemmas.StreamLemmas.{draws-leave}
 use Rattle.nanorand_users.proofs.streams.ChaChaSkip64.skip.Goals as goal
 
 pub returns : goal.returns

@@ -1,6 +1,6 @@
 use Rattle.std.proofs.Common.{◌∙◌, sym}
-use Rattle.nanorand.specs.Pcg64.{next}
-use Rattle.nanorand_users.proofs.StreamLemmas.{draws-leave}
+use Rattle.nanorand.specs.generators.Pcg64.{next}
+use Rattle.nanorand_users.proofs.lemmas.StreamLemmas.{draws-leave}
 use Rattle.nanorand_users.proofs.streams.Pcg64Skip8.skip.Goals as goal
 
 pub returns : goal.returns

@@ -1,6 +1,6 @@
 use Rattle.std.proofs.Common.{◌≡◌, ◌<◌, ◌%◌, ◌^◌, ◌∙◌, sym, arith}
-use Rattle.nanorand.specs.WyRand.{next_seed}
-use Rattle.nanorand_users.proofs.StreamLemmas.{draws-leave}
+use Rattle.nanorand.specs.generators.WyRand.{next_seed}
+use Rattle.nanorand_users.proofs.lemmas.StreamLemmas.{draws-leave}
 use Rattle.nanorand_users.proofs.streams.WyRandSkip8.skip.Goals as goal
 
 pub returns : goal.returns

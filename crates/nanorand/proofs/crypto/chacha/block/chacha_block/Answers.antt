@@ -1,6 +1,6 @@
 use Rattle.std.proofs.Common.{[], ◌∷◌, ap, ◌∙◌}
-use Rattle.nanorand.specs.ChaChaRounds.{block}
-use Rattle.nanorand.proofs.RowLemmas.{rows_block}
+use Rattle.nanorand.specs.generators.ChaChaRounds.{block}
+use Rattle.nanorand.proofs.lemmas.chacha.RowLemmas.{rows_block}
 use Rattle.nanorand.proofs.crypto.chacha.block.chacha_block.Goals as goal
 
 pub returns : goal.returns

@@ -1,6 +1,6 @@
 use Rattle.std.proofs.Common.{rules, sym, ◌∙◌}
-use Rattle.nanorand.specs.ChaChaRounds.{IsMatrix}
-use Rattle.nanorand.proofs.InverseLemmas.{rounds_are_injective}
+use Rattle.nanorand.specs.generators.ChaChaRounds.{IsMatrix}
+use Rattle.nanorand.proofs.lemmas.chacha.InverseLemmas.{rounds_are_injective}
 use Rattle.nanorand.proofs.crypto.chacha.inverse.chacha_unrounds.Goals as goal
 
 pub returns-clause-only : goal.returns-clause-only

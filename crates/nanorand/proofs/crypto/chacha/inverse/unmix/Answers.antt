@@ -1,5 +1,5 @@
 use Rattle.std.proofs.Common.{◌≡◌, ◌/◌, arith, ap, ◌∙◌, add-one}
-use Rattle.nanorand.specs.ChaChaRounds.{quarter_round, on_diagonals, pair_of_rounds, rounds}
+use Rattle.nanorand.specs.generators.ChaChaRounds.{quarter_round, on_diagonals, pair_of_rounds, rounds}
 use Rattle.nanorand.proofs.crypto.chacha.inverse.unmix.Goals as goal
 
 pub pairs-preserved : goal.pairs-preserved

@@ -1,8 +1,8 @@
 use Rattle.std.proofs.Common.{◌≡◌, length, arith, ap, ◌∙◌}
-use Rattle.nanorand.specs.ChaChaRounds.{quarter_round, on_columns}
-use Rattle.nanorand.specs.ChaChaInverse.{unquarter_round}
-use Rattle.nanorand.proofs.MatrixLemmas.{with_columns}
-use Rattle.nanorand.proofs.InverseLemmas.{columns-back}
+use Rattle.nanorand.specs.generators.ChaChaRounds.{quarter_round, on_columns}
+use Rattle.nanorand.specs.support.ChaChaInverse.{unquarter_round}
+use Rattle.nanorand.proofs.lemmas.chacha.MatrixLemmas.{with_columns}
+use Rattle.nanorand.proofs.lemmas.chacha.InverseLemmas.{columns-back}
 use Rattle.nanorand.proofs.crypto.chacha.inverse.unmix_columns.Goals as goal
 
 pub returns : goal.returns

@@ -1,8 +1,8 @@
 use Rattle.std.proofs.Common.{◌≡◌, length, arith, ap, ◌∙◌}
-use Rattle.nanorand.specs.ChaChaRounds.{quarter_round, on_diagonals}
-use Rattle.nanorand.specs.ChaChaInverse.{unquarter_round}
-use Rattle.nanorand.proofs.MatrixLemmas.{with_diagonals}
-use Rattle.nanorand.proofs.InverseLemmas.{diagonals-back}
+use Rattle.nanorand.specs.generators.ChaChaRounds.{quarter_round, on_diagonals}
+use Rattle.nanorand.specs.support.ChaChaInverse.{unquarter_round}
+use Rattle.nanorand.proofs.lemmas.chacha.MatrixLemmas.{with_diagonals}
+use Rattle.nanorand.proofs.lemmas.chacha.InverseLemmas.{diagonals-back}
 use Rattle.nanorand.proofs.crypto.chacha.inverse.unmix_diagonals.Goals as goal
 
 pub returns : goal.returns

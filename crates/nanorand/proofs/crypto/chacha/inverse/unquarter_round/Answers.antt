@@ -1,5 +1,5 @@
 use Rattle.std.proofs.Common.{refl}
-use Rattle.nanorand.specs.ChaChaInverse.{unquarter_round}
+use Rattle.nanorand.specs.support.ChaChaInverse.{unquarter_round}
 use Rattle.nanorand.proofs.crypto.chacha.inverse.unquarter_round.Goals as goal
 
 pub returns : goal.returns

@@ -1,5 +1,5 @@
 use Rattle.std.proofs.Common.{◌≡◌, ◌+◌, ◌%◌, refl, arith}
-use Rattle.nanorand.proofs.RowLemmas.{below_four}
+use Rattle.nanorand.proofs.lemmas.chacha.RowLemmas.{below_four}
 use Rattle.nanorand.proofs.crypto.chacha.lanes.from_lane.Goals as goal
 
 pub returns : goal.returns

@@ -1,6 +1,6 @@
 use Rattle.std.proofs.Common.{lit<}
-use Rattle.nanorand.specs.ChaChaRounds.{of_columns, on_columns}
-use Rattle.nanorand.proofs.MatrixLemmas.{of_four}
+use Rattle.nanorand.specs.generators.ChaChaRounds.{of_columns, on_columns}
+use Rattle.nanorand.proofs.lemmas.chacha.MatrixLemmas.{of_four}
 use Rattle.nanorand.proofs.crypto.chacha.lanes.mix_columns.Goals as goal
 
 pub returns : goal.returns

@@ -1,7 +1,7 @@
 use Rattle.std.proofs.Common.{◌≡◌, [], ◌∷◌, ◌<◌, slice_index_or, lit<, refl, ap, ◌∙◌}
-use Rattle.nanorand.specs.ChaChaRounds.{quarter_round, on_columns}
-use Rattle.nanorand.specs.ChaChaRows.{matrix}
-use Rattle.nanorand.proofs.RowLemmas.{slanted, upright-columns}
+use Rattle.nanorand.specs.generators.ChaChaRounds.{quarter_round, on_columns}
+use Rattle.nanorand.specs.support.ChaChaRows.{matrix}
+use Rattle.nanorand.proofs.lemmas.chacha.RowLemmas.{slanted, upright-columns}
 use Rattle.nanorand.proofs.crypto.chacha.lanes.mix_diagonals.Goals as goal
 
 pub returns : goal.returns

@@ -1,5 +1,5 @@
 use Rattle.std.proofs.Common.{refl}
-use Rattle.nanorand.specs.ChaChaRounds.{quarter_round}
+use Rattle.nanorand.specs.generators.ChaChaRounds.{quarter_round}
 use Rattle.nanorand.proofs.crypto.chacha.lanes.quarter_round.Goals as goal
 
 pub returns : goal.returns

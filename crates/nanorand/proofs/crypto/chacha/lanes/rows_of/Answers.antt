@@ -1,5 +1,5 @@
 use Rattle.std.proofs.Common.{◌≡◌, length, rules}
-use Rattle.nanorand.proofs.MatrixLemmas.{spelled}
+use Rattle.nanorand.proofs.lemmas.chacha.MatrixLemmas.{spelled}
 use Rattle.nanorand.proofs.crypto.chacha.lanes.rows_of.Goals as goal
 
 pub returns : goal.returns

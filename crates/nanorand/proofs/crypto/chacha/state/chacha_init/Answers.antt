@@ -1,6 +1,6 @@
 use Rattle.std.proofs.Common.{◌≡◌, length, rules, refl}
-use Rattle.nanorand.specs.ChaCha.{initial_state}
-use Rattle.nanorand.proofs.ChaChaStateLemmas.{words_of_8, words_of_32}
+use Rattle.nanorand.specs.generators.ChaCha.{initial_state}
+use Rattle.nanorand.proofs.lemmas.chacha.ChaChaStateLemmas.{words_of_8, words_of_32}
 use Rattle.nanorand.proofs.crypto.chacha.state.chacha_init.Goals as goal
 
 pub returns : goal.returns

@@ -1,5 +1,5 @@
 use Rattle.std.proofs.Common.{lit<, ◌∙◌}
-use Rattle.nanorand.proofs.RowLemmas.{lane_block}
+use Rattle.nanorand.proofs.lemmas.chacha.RowLemmas.{lane_block}
 use Rattle.nanorand.proofs.crypto.chacha.wide.four_blocks.Goals as goal
 
 pub returns-clause-first : goal.returns-clause-first

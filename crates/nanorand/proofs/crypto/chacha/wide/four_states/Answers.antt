@@ -1,9 +1,9 @@
 use Rattle.std.proofs.Common.{◌≡◌, ◌+◌, ◌%◌, ◌^◌, rules, arith}
-use Rattle.nanorand.specs.ChaCha.{counter}
-use Rattle.nanorand.proofs.RowLemmas.{below_four}
-use Rattle.nanorand.proofs.ChaChaStateLemmas.{with_counter-spelled}
-use Rattle.nanorand.specs.ChaChaRounds.{IsMatrix}
-use Rattle.nanorand.specs.ChaChaLaws.{chacha_closed}
+use Rattle.nanorand.specs.generators.ChaCha.{counter}
+use Rattle.nanorand.proofs.lemmas.chacha.RowLemmas.{below_four}
+use Rattle.nanorand.proofs.lemmas.chacha.ChaChaStateLemmas.{with_counter-spelled}
+use Rattle.nanorand.specs.generators.ChaChaRounds.{IsMatrix}
+use Rattle.nanorand.specs.support.ChaChaDrawLemmas.{chacha_closed}
 use Rattle.nanorand.proofs.crypto.chacha.wide.four_states.Goals as goal
 
 pub returns : goal.returns

@@ -1,7 +1,7 @@
 use Rattle.std.proofs.Common.{◌≡◌, ℕ, ◌<◌}
 use Rattle.std.specs.Fn.{iterate}
-use Rattle.nanorand.specs.ChaChaRounds.{pair_of_rounds}
-use Rattle.nanorand.specs.ChaChaRows.{lane}
+use Rattle.nanorand.specs.generators.ChaChaRounds.{pair_of_rounds}
+use Rattle.nanorand.specs.support.ChaChaRows.{lane}
 use Rattle.nanorand.proofs.crypto.chacha.wide.mix.Given as goal
 
 abbrev pub invariant-pairs : goal.invariant-pairs

@@ -1,4 +1,4 @@
-use Rattle.nanorand.specs.ChaChaRounds.{on_columns}
+use Rattle.nanorand.specs.generators.ChaChaRounds.{on_columns}
 use Rattle.nanorand.proofs.crypto.chacha.wide.mix_columns.Goals as goal
 
 pub returns : goal.returns

@@ -1,4 +1,4 @@
-use Rattle.nanorand.specs.ChaChaRounds.{on_diagonals}
+use Rattle.nanorand.specs.generators.ChaChaRounds.{on_diagonals}
 use Rattle.nanorand.proofs.crypto.chacha.wide.mix_diagonals.Goals as goal
 
 pub returns : goal.returns

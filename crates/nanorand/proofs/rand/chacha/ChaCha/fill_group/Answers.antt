@@ -1,7 +1,7 @@
 use Rattle.std.proofs.Common.{◌≡◌, ◌++◌, length, rules, sym, ap, ap₂, ◌∙◌}
-use Rattle.nanorand.specs.ChaCha.{bytes, chacha_block, next_state}
-use Rattle.nanorand.specs.ChaChaLaws.{length-chacha_block, chacha_steps}
-use Rattle.nanorand.proofs.GroupLemmas.{four_written, taken_group}
+use Rattle.nanorand.specs.generators.ChaCha.{bytes, chacha_block, next_state}
+use Rattle.nanorand.specs.support.ChaChaDrawLemmas.{length-chacha_block, chacha_steps}
+use Rattle.nanorand.proofs.lemmas.chacha.GroupLemmas.{four_written, taken_group}
 use Rattle.nanorand.proofs.rand.chacha.ChaCha.fill_group.Goals as goal
 
 pub returns-clause-bytes : goal.returns-clause-bytes

@@ -1,7 +1,7 @@
 use Rattle.std.proofs.Common.{◌≡◌, rules, sym, ◌∙◌}
-use Rattle.nanorand.specs.ChaCha.{advanced}
-use Rattle.nanorand.specs.ChaChaRounds.{IsMatrix}
-use Rattle.nanorand.specs.ChaChaLaws.{chacha_closed}
+use Rattle.nanorand.specs.generators.ChaCha.{advanced}
+use Rattle.nanorand.specs.generators.ChaChaRounds.{IsMatrix}
+use Rattle.nanorand.specs.support.ChaChaDrawLemmas.{chacha_closed}
 use Rattle.nanorand.proofs.rand.chacha.ChaCha.jump.Goals as goal
 
 pub returns-clause-state : goal.returns-clause-state

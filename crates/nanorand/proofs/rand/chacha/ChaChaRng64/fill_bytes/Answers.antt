@@ -1,7 +1,7 @@
 use Rattle.std.proofs.Common.{ℕ, ◌-◌, ◌≤◌, length, arith, ◌∙◌}
-use Rattle.nanorand.specs.ChaCha.{chacha_block, next_state}
-use Rattle.nanorand.specs.ChaChaLaws.{length-chacha_block}
-use Rattle.nanorand.proofs.GroupLemmas.{grouped_length, grouped_bytes, grouped_state}
+use Rattle.nanorand.specs.generators.ChaCha.{chacha_block, next_state}
+use Rattle.nanorand.specs.support.ChaChaDrawLemmas.{length-chacha_block}
+use Rattle.nanorand.proofs.lemmas.chacha.GroupLemmas.{grouped_length, grouped_bytes, grouped_state}
 use Rattle.nanorand.proofs.rand.chacha.ChaChaRng64.fill_bytes.Goals as goal
 
 pub groups-preserved : goal.groups-preserved

@@ -1,6 +1,6 @@
 use Rattle.std.proofs.Common.{length, ◌-◌, ◌≡◌, ◌≤◌, ◌++◌, take}
-use Rattle.nanorand.specs.Blocks.{taken, plain_after}
-use Rattle.nanorand.specs.ChaCha.{chacha_block, next_state}
+use Rattle.nanorand.specs.generators.Blocks.{taken, plain_after}
+use Rattle.nanorand.specs.generators.ChaCha.{chacha_block, next_state}
 use Rattle.nanorand.proofs.rand.chacha.ChaChaRng64.fill_bytes.Given as goal
 
 -- the bytes so far and those of a request for the rest are those of the whole request

@@ -1,7 +1,7 @@
 use Rattle.std.proofs.Common.{rules, ◌≡◌, ℕ, ◌+◌, ◌*◌, ◌/◌, ◌%◌, ◌^◌, ◌<◌, List, Option, Some, sym, ◌∙◌, ap, subst, arith}
 use Rattle.std.specs.Fmt.{DisplaysOnOk}
-use Rattle.nanorand.proofs.HexadecimalLemmas.{hexadecimal_words}
-use Rattle.nanorand.specs.Texts.{hexadecimal}
+use Rattle.nanorand.proofs.lemmas.generators.HexadecimalLemmas.{hexadecimal_words}
+use Rattle.nanorand.specs.generators.DebugTexts.{hexadecimal}
 use Rattle.nanorand.proofs.rand.hexadecimal.HexadecimalDisplay.fmt.Goals as goal
 
 pub returns-else-high-eq0-clause-writes : goal.returns-else-high-eq0-clause-writes

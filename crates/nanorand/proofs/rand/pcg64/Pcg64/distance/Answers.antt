@@ -1,7 +1,7 @@
 use Rattle.std.proofs.Common.{◌≡◌, ap, sym, ◌∙◌, Some, arith}
 use Rattle.std.proofs.lemmas.Bool.{false≢true}
-use Rattle.nanorand.specs.Pcg64.{Generator, seed_after}
-use Rattle.nanorand.proofs.ReachLemmas.{seed_after-only, reached-class}
+use Rattle.nanorand.specs.generators.Pcg64.{Generator, seed_after}
+use Rattle.nanorand.proofs.lemmas.cycles.ReachLemmas.{seed_after-only, reached-class}
 use Rattle.nanorand.proofs.rand.pcg64.Pcg64.distance.Goals as goal
 
 pub returns-then-in_one_cycle-clause-only : goal.returns-then-in_one_cycle-clause-only

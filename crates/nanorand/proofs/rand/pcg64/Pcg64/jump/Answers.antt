@@ -1,6 +1,6 @@
 use Rattle.std.proofs.Common.{◌∙◌, ◌-◌, ap}
-use Rattle.nanorand.specs.Pcg64.{Generator, seed_after}
-use Rattle.nanorand.proofs.Pcg64Lemmas.{next-last}
+use Rattle.nanorand.specs.generators.Pcg64.{Generator, seed_after}
+use Rattle.nanorand.proofs.lemmas.cycles.Pcg64Lemmas.{next-last}
 use Rattle.nanorand.proofs.rand.pcg64.Pcg64.jump.Goals as goal
 
 pub returns-then-n-gt0 : goal.returns-then-n-gt0

@@ -1,5 +1,5 @@
 use Rattle.std.proofs.Common.{◌≡◌, ℕ, length, ap, rules, ◌∙◌}
-use Rattle.nanorand.proofs.NumberLemmas.{number_of_16}
+use Rattle.nanorand.proofs.lemmas.generators.SeedLemmas.{number_of_16}
 use Rattle.nanorand.proofs.rand.pcg64.Pcg64.new.Goals as goal
 
 pub returns-clause-made : goal.returns-clause-made

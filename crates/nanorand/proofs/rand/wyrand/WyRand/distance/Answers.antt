@@ -1,6 +1,6 @@
 use Rattle.std.proofs.Common.{sym, ap, ◌∙◌, arith}
 use Rattle.std.proofs.Math.Nat.{mod-eq_of_lt}
-use Rattle.nanorand.proofs.WyRandLemmas.{draws_between, draws_between-seed_after, seed_after-draws_between}
+use Rattle.nanorand.proofs.lemmas.cycles.WyRandLemmas.{draws_between, draws_between-seed_after, seed_after-draws_between}
 use Rattle.nanorand.proofs.rand.wyrand.WyRand.distance.Goals as goal
 
 pub returns-clause-leads : goal.returns-clause-leads

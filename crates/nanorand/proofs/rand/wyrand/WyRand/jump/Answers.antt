@@ -1,6 +1,6 @@
 use Rattle.std.proofs.Common.{◌≡◌, ◌+◌, ◌*◌, ◌%◌, ◌^◌, ap, sym, ◌∙◌, arith}
-use Rattle.nanorand.specs.WyRand.{increment, seed_after, wyrand_after}
-use Rattle.nanorand.specs.WyRandLaws.{wyrand_closed}
+use Rattle.nanorand.specs.generators.WyRand.{increment, seed_after, wyrand_after}
+use Rattle.nanorand.specs.support.WyRandDrawLemmas.{wyrand_closed}
 use Rattle.nanorand.proofs.rand.wyrand.WyRand.jump.Goals as goal
 
 pub returns-clause-state : goal.returns-clause-state

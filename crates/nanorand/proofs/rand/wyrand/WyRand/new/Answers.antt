@@ -1,5 +1,5 @@
 use Rattle.std.proofs.Common.{◌≡◌, length, rules, ◌∙◌}
-use Rattle.nanorand.proofs.NumberLemmas.{number_of_8}
+use Rattle.nanorand.proofs.lemmas.generators.SeedLemmas.{number_of_8}
 use Rattle.nanorand.proofs.rand.wyrand.WyRand.new.Goals as goal
 
 pub returns-clause-made : goal.returns-clause-made

@@ -1,0 +1,3 @@
+mod AllRequests
+mod FirstArguments
+mod RangeText

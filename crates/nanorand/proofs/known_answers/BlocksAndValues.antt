@@ -1,0 +1,85 @@
+-- Worked rows, computed from the definitions alone.
+use Rattle.std.specs.Prelude.{◌≡◌, ℕ, List, [], ◌∷◌, refl}
+use Rattle.std.specs.Int.{w8}
+use Rattle.std.specs.Prelude.{negsuc, true, false}
+use Rattle.nanorand.specs.generators.Blocks.{taken}
+use Rattle.nanorand.specs.generators.Buffered.{Buffered, buffer_of, buffered_block, buffered_step, buffered_taken, buffered_after}
+use Rattle.nanorand.specs.values.Values.{number_of, signed_number_of, truth_of}
+use Rattle.nanorand.specs.generators.WyRand.{wyrand_block}
+use Rattle.nanorand.specs.replay.Replay.{Replay, replayed}
+use Rattle.nanorand.specs.declared.replay.Kind.TheVariants as kinds
+use Rattle.nanorand.specs.declared.replay.Call.{Call}
+use Rattle.nanorand.specs.declared.replay.Call.TheVariants.{Gen}
+use Rattle.nanorand.specs.declared.replay.Answer.TheVariants.{Unsigned}
+use Rattle.nanorand.proofs.known_answers.SmallGenerators.{next_count, rising_block, steps_taken, steps_after}
+
+-- wyrand's words: the new seed 0 and the new seed that the mask cancels give 0
+word_of_zero : wyrand_block 0x5f89e29b87429bd1 ≡ 0 ∷ 0 ∷ 0 ∷ 0 ∷ 0 ∷ 0 ∷ 0 ∷ 0 ∷ []
+word_of_zero = refl
+
+word_of_mask : wyrand_block 0x468d616d27f6c4ac ≡ 0 ∷ 0 ∷ 0 ∷ 0 ∷ 0 ∷ 0 ∷ 0 ∷ 0 ∷ []
+word_of_mask = refl
+
+word_of_one : wyrand_block 0x5f89e29b87429bd2 ≡ 0xda ∷ 0x28 ∷ 0xb4 ∷ 0xa0 ∷ 0xd1 ∷ 0x7e ∷ 0x03 ∷ 0xe7 ∷ []
+word_of_one = refl
+
+word_of_two : wyrand_block 0x5f89e29b87429bd3 ≡ 0xb3 ∷ 0x51 ∷ 0x68 ∷ 0x41 ∷ 0xa3 ∷ 0xfd ∷ 0x06 ∷ 0xce ∷ []
+word_of_two = refl
+
+word_of_half : wyrand_block 0xdf89e29b87429bd1 ≡ 0x6d ∷ 0x14 ∷ 0x5a ∷ 0xd0 ∷ 0x68 ∷ 0xbf ∷ 0x81 ∷ 0xb3 ∷ []
+word_of_half = refl
+
+-- a plain generator begins a new block at each request: u8, u8, u16
+two_bytes_and_a_word : (replayed steps_taken steps_after 0 [] (Gen kinds.U8 ∷ Gen kinds.U8 ∷ Gen kinds.U16 ∷ [])).answers ≡ Unsigned 0 ∷ Unsigned 8 ∷ Unsigned 0x1110 ∷ []
+unfolding taken
+two_bytes_and_a_word = refl
+
+one_wide_value : (replayed steps_taken steps_after 0 [] (Gen kinds.U128 ∷ [])).answers ≡ Unsigned 0x0f0e0d0c0b0a09080706050403020100 ∷ []
+unfolding taken
+one_wide_value = refl
+
+two_blocks_drawn : steps_after 0 16 ≡ 2
+two_blocks_drawn = refl
+
+-- nine bytes take two blocks, and none takes none
+nine_bytes : steps_taken 0 9 ≡ 0 ∷ 1 ∷ 2 ∷ 3 ∷ 4 ∷ 5 ∷ 6 ∷ 7 ∷ 8 ∷ []
+unfolding taken
+nine_bytes = refl
+
+blocks_of_nine_bytes : steps_after 0 9 ≡ 2
+blocks_of_nine_bytes = refl
+
+blocks_of_nothing : steps_after 0 0 ≡ 0
+blocks_of_nothing = refl
+
+-- a buffered generator goes on where the last request ended: u8, u8, u16, and four bytes are left of the one block
+abbrev buffered_replay : List Call → Replay (Buffered ℕ)
+buffered_replay calls =
+    replayed (taken (buffered_block (rising_block 8) next_count 8) (buffered_step (rising_block 8) next_count 8)) (buffered_after (rising_block 8) next_count 8) (buffer_of [] 0) [] calls
+
+unbroken_bytes_and_a_word : (buffered_replay (Gen kinds.U8 ∷ Gen kinds.U8 ∷ Gen kinds.U16 ∷ [])).answers ≡ Unsigned 0 ∷ Unsigned 1 ∷ Unsigned 0x0302 ∷ []
+unfolding taken buffered_taken buffered_after
+unbroken_bytes_and_a_word = refl
+
+four_bytes_left : (buffered_replay (Gen kinds.U8 ∷ Gen kinds.U8 ∷ Gen kinds.U16 ∷ [])).state ≡ buffer_of (4 ∷ 5 ∷ 6 ∷ 7 ∷ []) 1
+unfolding taken buffered_taken buffered_after
+four_bytes_left = refl
+
+-- numbers of bytes
+signed_byte : signed_number_of w8 (218 ∷ []) ≡ negsuc 37
+signed_byte = refl
+
+low_byte_first : number_of (0x10 ∷ 0x11 ∷ []) ≡ 0x1110
+low_byte_first = refl
+
+seed_of_8_bytes : number_of (0x2a ∷ 0 ∷ 0 ∷ 0 ∷ 0 ∷ 0 ∷ 0 ∷ 0 ∷ []) ≡ 42
+seed_of_8_bytes = refl
+
+seed_of_16_bytes : number_of (1 ∷ 0 ∷ 0 ∷ 0 ∷ 0 ∷ 0 ∷ 0 ∷ 0 ∷ 0 ∷ 0 ∷ 0 ∷ 0 ∷ 0 ∷ 0 ∷ 0 ∷ 0 ∷ []) ≡ 1
+seed_of_16_bytes = refl
+
+truth_below_half : truth_of (127 ∷ []) ≡ true
+truth_below_half = refl
+
+no_truth_from_half : truth_of (128 ∷ []) ≡ false
+no_truth_from_half = refl

@@ -1,0 +1,6 @@
+mod cycles
+mod generators
+mod ranges
+mod chacha
+mod shuffles
+mod replay

@@ -1,0 +1,6 @@
+mod MatrixLemmas
+mod QuarterLemmas
+mod InverseLemmas
+mod ChaChaStateLemmas
+mod GroupLemmas
+mod RowLemmas

@@ -1,0 +1,109 @@
+-- Rows of four lanes.
+use Rattle.std.proofs.Common.{◌≡◌, ℕ, zero, suc, ◌<◌, ◌-◌, ◌*◌, ◌/◌, ◌%◌, ◌^◌, List, [], ◌∷◌, length, slice_index, slice_index_or, map, bit_or, bit_xor, arith, lit<, refl, sym, ap, ◌∙◌}
+use Rattle.std.specs.List.{range_with_len}
+use Rattle.std.specs.Fn.{iterate}
+use Rattle.std.specs.Simd.Lanes.{zip2}
+use Rattle.nanorand.specs.generators.ChaCha.{next_state, chacha_after}
+use Rattle.nanorand.specs.support.ChaChaDrawLemmas.{chacha_steps}
+use Rattle.nanorand.specs.generators.ChaChaRounds.{Words, add, xor_rotate, on_columns, on_diagonals, rounds, block}
+use Rattle.nanorand.specs.support.ChaChaRows.{matrix, lane}
+use Rattle.nanorand.proofs.lemmas.chacha.MatrixLemmas.{four_more, no_more}
+
+-- what holds of each of the four lanes
+pub below_four : (P : ℕ → Type 0) → P 0 → P 1 → P 2 → P 3 → (j : ℕ) → j < 4 → P j
+below_four P p0 p1 p2 p3 zero h = p0
+below_four P p0 p1 p2 p3 (suc zero) h = p1
+below_four P p0 p1 p2 p3 (suc (suc zero)) h = p2
+below_four P p0 p1 p2 p3 (suc (suc (suc zero))) h = p3
+below_four P p0 p1 p2 p3 (suc (suc (suc (suc n)))) h = absurd (omega arith)
+
+-- what holds of each row spelled out holds of each row
+pub four_lanes : (P : List ℕ → Type 0) → ((a b c d : ℕ) → P (a ∷ b ∷ c ∷ d ∷ [])) → (x : List ℕ) → length x ≡ 4 → P x
+four_lanes P all = four_more 0 P (λ a b c d. no_more _ (all a b c d))
+
+-- two shifts of each lane and an or are a rotation
+abbrev Rotates : ℕ → List ℕ → List ℕ → Type 0
+Rotates n d a = (j : ℕ) → j < 4
+    → slice_index (zip2 bit_or
+    (zip2 (λ x k. x * 2 ^ k % 2 ^ 32) (zip2 bit_xor d a) (n ∷ n ∷ n ∷ n ∷ []))
+    (zip2 (λ x k. x / 2 ^ k) (zip2 bit_xor d a) ((32 - n) ∷ (32 - n) ∷ (32 - n) ∷ (32 - n) ∷ []))) j
+    ≡ xor_rotate (slice_index d j) (slice_index a j) n
+
+pub shifts_rotate : (n : ℕ) → 0 < n → n < 32 → (d : List ℕ) → length d ≡ 4 → (a : List ℕ) → length a ≡ 4 → Rotates n d a
+shifts_rotate n low high =
+    let left : n % 32 ≡ n = omega arith in
+    let right : (32 - n) % 32 ≡ 32 - n = omega arith in
+    four_lanes (λ d. (a : List ℕ) → length a ≡ 4 → Rotates n d a) (λ d0 d1 d2 d3.
+    four_lanes (Rotates n (d0 ∷ d1 ∷ d2 ∷ d3 ∷ [])) (λ a0 a1 a2 a3.
+    below_four _ (rw (left, right) refl) (rw (left, right) refl) (rw (left, right) refl) (rw (left, right) refl)))
+
+-- each lane is a sum
+abbrev pub Sums : List ℕ → List ℕ → List ℕ → Type 0
+Sums t p a = (j : ℕ) → j < 4 → slice_index t j ≡ add (slice_index p j) (slice_index a j)
+
+rows_summed : (t p a : List (List ℕ))
+    → Sums (slice_index_or t 0 []) (slice_index_or p 0 []) (slice_index_or a 0 [])
+    → Sums (slice_index_or t 1 []) (slice_index_or p 1 []) (slice_index_or a 1 [])
+    → Sums (slice_index_or t 2 []) (slice_index_or p 2 []) (slice_index_or a 2 [])
+    → Sums (slice_index_or t 3 []) (slice_index_or p 3 []) (slice_index_or a 3 [])
+    → matrix t ≡ map (λ k. add (slice_index (matrix p) k) (slice_index (matrix a) k)) (range_with_len 0 16)
+rows_summed t p a h0 h1 h2 h3 =
+    rw (
+      h0 0 (lit< tt),
+      h0 1 (lit< tt),
+      h0 2 (lit< tt),
+      h0 3 (lit< tt),
+      h1 0 (lit< tt),
+      h1 1 (lit< tt),
+      h1 2 (lit< tt),
+      h1 3 (lit< tt),
+      h2 0 (lit< tt),
+      h2 1 (lit< tt),
+      h2 2 (lit< tt),
+      h2 3 (lit< tt),
+      h3 0 (lit< tt),
+      h3 1 (lit< tt),
+      h3 2 (lit< tt),
+      h3 3 (lit< tt),
+    ) refl
+
+-- the sums of what the rounds make of a matrix and the matrix itself are the block
+pub rows_block : (R : ℕ) (t p a : List (List ℕ)) → matrix p ≡ rounds R (matrix a)
+    → Sums (slice_index_or t 0 []) (slice_index_or p 0 []) (slice_index_or a 0 [])
+    → Sums (slice_index_or t 1 []) (slice_index_or p 1 []) (slice_index_or a 1 [])
+    → Sums (slice_index_or t 2 []) (slice_index_or p 2 []) (slice_index_or a 2 [])
+    → Sums (slice_index_or t 3 []) (slice_index_or p 3 []) (slice_index_or a 3 [])
+    → matrix t ≡ block R (matrix a)
+unfolding block
+rows_block R t p a mixed h0 h1 h2 h3 =
+    rows_summed t p a h0 h1 h2 h3
+    ∙ ap (λ (m : List ℕ). map (λ k. add (slice_index m k) (slice_index (matrix a) k)) (range_with_len 0 16)) mixed
+
+-- a matrix turned so that each diagonal stands in a column
+abbrev pub slanted : List ℕ → List ℕ
+slanted x =
+    slice_index x 0 ∷ slice_index x 1 ∷ slice_index x 2 ∷ slice_index x 3
+    ∷ slice_index x 5 ∷ slice_index x 6 ∷ slice_index x 7 ∷ slice_index x 4
+    ∷ slice_index x 10 ∷ slice_index x 11 ∷ slice_index x 8 ∷ slice_index x 9
+    ∷ slice_index x 15 ∷ slice_index x 12 ∷ slice_index x 13 ∷ slice_index x 14 ∷ []
+
+-- and turned back
+abbrev pub upright : List ℕ → List ℕ
+upright x =
+    slice_index x 0 ∷ slice_index x 1 ∷ slice_index x 2 ∷ slice_index x 3
+    ∷ slice_index x 7 ∷ slice_index x 4 ∷ slice_index x 5 ∷ slice_index x 6
+    ∷ slice_index x 10 ∷ slice_index x 11 ∷ slice_index x 8 ∷ slice_index x 9
+    ∷ slice_index x 13 ∷ slice_index x 14 ∷ slice_index x 15 ∷ slice_index x 12 ∷ []
+
+pub upright-columns : (f : Words → Words) (x m : List ℕ) → m ≡ on_columns f (slanted x) → upright m ≡ on_diagonals f x
+unfolding on_columns on_diagonals
+upright-columns f x m h = ap upright h
+
+-- what the rounds of a lane and the lane itself sum to is its block, and lane j is the state after j draws
+pub lane_block : (R j : ℕ) (x : List ℕ) (s m a : List (List ℕ))
+    → lane j s ≡ map (λ k. add (slice_index (lane j m) k) (slice_index (lane j a) k)) (range_with_len 0 16)
+    → lane j m ≡ rounds R (lane j a) → lane j a ≡ chacha_after j x → lane j s ≡ block R (iterate next_state j x)
+unfolding block
+lane_block R j x s m a sums mixed drawn =
+    sums ∙ ap (λ r. map (λ k. add (slice_index r k) (slice_index (lane j a) k)) (range_with_len 0 16)) mixed
+    ∙ ap (block R) (drawn ∙ sym (chacha_steps j x))

@@ -1,0 +1,10 @@
+mod CycleLemmas
+mod DistanceLemmas
+mod DoublingLemmas
+mod HalvesLemmas
+mod JumpLemmas
+mod ModulusLemmas
+mod Pcg64Lemmas
+mod PeriodLemmas
+mod ReachLemmas
+mod WyRandLemmas

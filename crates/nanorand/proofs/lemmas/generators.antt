@@ -1,0 +1,2 @@
+mod HexadecimalLemmas
+mod SeedLemmas

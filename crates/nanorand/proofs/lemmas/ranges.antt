@@ -1,0 +1,9 @@
+mod CeilingLemmas
+mod RunLemmas
+mod DrawLemmas
+mod RangeLemmas
+mod LimitLemmas
+mod CountLemmas
+mod FairnessLemmas
+mod SwapLemmas
+mod EventLemmas

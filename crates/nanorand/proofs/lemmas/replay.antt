@@ -1,0 +1,2 @@
+mod ReplayLemmas
+mod UnbrokenLemmas

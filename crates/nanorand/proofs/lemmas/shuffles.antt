@@ -1,0 +1,7 @@
+mod PlaceLemmas
+mod ChoiceLemmas
+mod CorrespondenceLemmas
+mod CopyLemmas
+mod ShuffleLemmas
+mod RecordLemmas
+mod PartnerLemmas

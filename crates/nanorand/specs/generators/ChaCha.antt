@@ -1,0 +1,47 @@
+-- ChaCha as a generator. Its state is a matrix, whose words 12 and 13 count the blocks.
+use Rattle.std.specs.Prelude.{ℕ, zero, suc, ◌+◌, ◌*◌, ◌/◌, ◌%◌, ◌^◌, List, [], ◌∷◌, ◌++◌, take, drop, codes, slice_index, slice_set}
+use Rattle.std.specs.Int.{w32, from_le_bytes, to_le_bytes}
+use Rattle.std.specs.List.{flat_map}
+use Rattle.nanorand.specs.generators.ChaChaRounds.{block}
+
+-- The words that bytes spell, four bytes a word, least byte first.
+abbrev pub words : List ℕ → List ℕ
+words (a ∷ b ∷ c ∷ d ∷ rest) = from_le_bytes w32 (a ∷ b ∷ c ∷ d ∷ []) ∷ words rest
+words _ = []
+
+-- The bytes of words, four bytes a word, least byte first.
+abbrev pub bytes : List ℕ → List ℕ
+bytes = flat_map (to_le_bytes w32)
+
+-- The state of a key of 32 bytes and a nonce of 8, at the counter 0.
+unfoldable pub initial_state : List ℕ → List ℕ → List ℕ
+initial_state key nonce = words (codes "expand 32-byte k") ++ words key ++ (0 ∷ 0 ∷ []) ++ words nonce
+
+-- The state that a seed of 40 bytes gives: first the key, then the nonce.
+abbrev pub seeded_state : List ℕ → List ℕ
+seeded_state seed = initial_state (take 32 seed) (drop 32 seed)
+
+-- The counter: word 12 is its low half, and word 13 its high half.
+abbrev pub counter : List ℕ → ℕ
+counter x = slice_index x 12 + 2 ^ 32 * slice_index x 13
+
+-- The state with another counter.
+abbrev pub with_counter : List ℕ → ℕ → List ℕ
+with_counter x n = slice_set (slice_set x 12 (n % 2 ^ 32)) 13 (n / 2 ^ 32)
+
+-- The state n blocks on: the counter is n more, modulo 2^64.
+abbrev pub advanced : ℕ → List ℕ → List ℕ
+advanced n x = with_counter x ((counter x + n) % 2 ^ 64)
+
+-- The state after one block. After the greatest counter comes 0.
+abbrev pub next_state : List ℕ → List ℕ
+next_state = advanced 1
+
+-- The next block of a state under R rounds, as 64 bytes.
+abbrev pub chacha_block : ℕ → List ℕ → List ℕ
+chacha_block R x = bytes (block R x)
+
+-- What n draws leave. No draw leaves every list as it is, also one that is no matrix.
+abbrev pub chacha_after : ℕ → List ℕ → List ℕ
+chacha_after zero x = x
+chacha_after (suc n) x = advanced (suc n) x

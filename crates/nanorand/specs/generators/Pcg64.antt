@@ -1,0 +1,65 @@
+-- Pcg64. What moves on is its seed, a number below 2^128, by a linear congruential step: a draw multiplies it by the
+-- factor and adds the term.
+use Rattle.std.specs.Prelude.{◌≡◌, ◌⊎◌, ℕ, zero, suc, ◌+◌, ◌*◌, ◌%◌, ◌^◌, List}
+use Rattle.std.specs.Int.{w64, to_le_bytes}
+use Rattle.nanorand.specs.generators.Halves.{folded}
+use Rattle.nanorand.specs.values.Values.{number_of}
+
+-- The generator's constant, of which the factor and the term of a draw are made.
+abbrev pub multiplier : ℕ
+multiplier = 47026247687942121848144207491837523525
+
+abbrev pub factor : ℕ
+factor = (3 * multiplier * multiplier + 2 * multiplier + 2) % 2 ^ 128
+
+abbrev pub term : ℕ
+term = (multiplier * multiplier + multiplier + 1) % 2 ^ 128
+
+-- One draw takes the seed to the factor times the seed, plus the term.
+abbrev pub next_seed : ℕ → ℕ
+next_seed seed = (factor * seed + term) % 2 ^ 128
+
+-- What is seen of a generator. `state` and `inc` tell of the last draw, and no draw reads them.
+pub record Generator : Type 0 where
+  pub seed : ℕ
+  pub state : ℕ
+  pub inc : ℕ
+
+-- The generator after one draw: `state` is the new seed, and `inc` is twice the old seed and one more, modulo 2^128.
+abbrev pub next : Generator → Generator
+next g = record { seed = next_seed g.seed; state = next_seed g.seed; inc = (2 * g.seed + 1) % 2 ^ 128 }
+
+-- The next block: the eight bytes of the new seed's word, least first. The word of a seed is its two halves, xored.
+abbrev pub pcg64_block : Generator → List ℕ
+pcg64_block g = to_le_bytes w64 (folded (next_seed g.seed))
+
+-- What the bytes of a seed leave: their number as the seed, with `state` and `inc` as they were.
+abbrev pub reseeded : Generator → List ℕ → Generator
+reseeded g bytes = record { seed = number_of bytes; state = g.state; inc = g.inc }
+
+-- 1 + a + .. + a^(n - 1)
+unfoldable pub geometric_sum : ℕ → ℕ → ℕ
+geometric_sum a zero = 0
+geometric_sum a (suc n) = geometric_sum a n + a ^ n
+
+-- What s becomes where n times x is taken to a * x + c, in one sum.
+unfoldable pub affine_after : ℕ → ℕ → ℕ → ℕ → ℕ
+affine_after a c n s = a ^ n * s + c * geometric_sum a n
+
+-- The seed after n draws, in one sum.
+abbrev pub seed_after : ℕ → ℕ → ℕ
+seed_after n seed = affine_after factor term n seed % 2 ^ 128
+
+-- The generator after n draws: `state` is its seed, and `inc` tells the seed of one draw less. No draw changes nothing.
+abbrev pub pcg64_after : ℕ → Generator → Generator
+pcg64_after zero g = g
+pcg64_after (suc n) g = record {
+  seed = seed_after (suc n) g.seed;
+  state = seed_after (suc n) g.seed;
+  inc = (2 * seed_after n g.seed + 1) % 2 ^ 128;
+}
+
+-- Two seeds are in one cycle if they are equal modulo 8, or their sum is 7 modulo 8. There are four: the residues 0 and
+-- 7, 1 and 6, 2 and 5, 3 and 4.
+abbrev pub SameCycle : ℕ → ℕ → Type 0
+SameCycle s t = (s % 8 ≡ t % 8) ⊎ ((s + t) % 8 ≡ 7)

@@ -1,0 +1,28 @@
+-- Wyrand. Its state is the seed, a number below 2^64.
+use Rattle.std.specs.Prelude.{ℕ, zero, suc, ◌+◌, ◌*◌, ◌%◌, ◌^◌, List, bit_xor}
+use Rattle.std.specs.Int.{w64, to_le_bytes}
+use Rattle.nanorand.specs.generators.Halves.{folded}
+
+-- What one draw adds to the seed.
+abbrev pub increment : ℕ
+increment = 0xa0761d6478bd642f
+
+abbrev pub next_seed : ℕ → ℕ
+next_seed seed = (seed + increment) % 2 ^ 64
+
+-- The word that a new seed gives.
+abbrev pub word : ℕ → ℕ
+word seed = folded (seed * bit_xor seed 0xe7037ed1a0b428db)
+
+-- The next block: the eight bytes of the new seed's word, least first.
+abbrev pub wyrand_block : ℕ → List ℕ
+wyrand_block seed = to_le_bytes w64 (word (next_seed seed))
+
+-- The seed after n draws, in one sum.
+abbrev pub seed_after : ℕ → ℕ → ℕ
+seed_after n seed = (seed + n * increment) % 2 ^ 64
+
+-- What n draws leave. No draw leaves every number as it is, also one that is no seed.
+abbrev pub wyrand_after : ℕ → ℕ → ℕ
+wyrand_after zero seed = seed
+wyrand_after (suc n) seed = seed_after (suc n) seed

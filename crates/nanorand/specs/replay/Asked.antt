@@ -1,0 +1,59 @@
+-- How many bytes a list of calls asks for: the sum of the sizes of the requests that its values, ranges and shuffles make.
+use Rattle.std.specs.Prelude.{ℕ, zero, suc, ◌+◌, ◌*◌, ◌/◌, ◌==◌, List, [], ◌∷◌, length, min, if◌then◌else◌}
+use Rattle.std.specs.Option.{option_map_or}
+use Rattle.std.specs.declared.ops.Bound.TheVariants.{Included, Excluded}
+use Rattle.nanorand.specs.values.Range.{unsigned_range, signed_range}
+use Rattle.nanorand.specs.values.Draws.{word_limit, deciding_place, words_from, next_word, after_word}
+use Rattle.nanorand.specs.replay.Replay.{size_of, outcome}
+use Rattle.nanorand.specs.shuffles.Shuffles.{from_itself, partner_drawn, shuffle_choices}
+use Rattle.nanorand.specs.declared.replay.Call.{Call}
+use Rattle.nanorand.specs.declared.replay.Call.TheVariants.{Gen, Range, Shuffle}
+use Rattle.nanorand.specs.declared.replay.Span.{Span}
+use Rattle.nanorand.specs.declared.replay.Span.TheVariants as spans
+
+-- How many words are drawn for a range of these numbers: up to the deciding one, or all 128; none if there is no number.
+unfoldable pub words_drawn : {G T : Type 0} → (G → ℕ) → (G → G) → ℕ → List T → G → ℕ
+words_drawn word after bits numbers g =
+    if length numbers == 0 then 0
+    else option_map_or (λ i. i + 1) (deciding_place bits (length numbers) (words_from word after word_limit g)) word_limit
+
+module _ {G : Type 0} (bytes : G → ℕ → List ℕ) (after : G → ℕ → G) where
+  -- The bytes that a range of these numbers, of a type of so many bits, asks for.
+  abbrev pub asked_by_range : {T : Type 0} → ℕ → List T → G → ℕ
+  asked_by_range bits numbers g = words_drawn (next_word bytes bits) (after_word after bits) bits numbers g * (bits / 8)
+
+  abbrev pub asked_by_span : G → Span → ℕ
+  asked_by_span g (spans.I8 low high) = asked_by_range 8 (signed_range 8 low high) g
+  asked_by_span g (spans.I16 low high) = asked_by_range 16 (signed_range 16 low high) g
+  asked_by_span g (spans.I32 low high) = asked_by_range 32 (signed_range 32 low high) g
+  asked_by_span g (spans.I64 low high) = asked_by_range 64 (signed_range 64 low high) g
+  asked_by_span g (spans.Isize low high) = asked_by_range 64 (signed_range 64 low high) g
+  asked_by_span g (spans.U8 low high) = asked_by_range 8 (unsigned_range 8 low high) g
+  asked_by_span g (spans.U16 low high) = asked_by_range 16 (unsigned_range 16 low high) g
+  asked_by_span g (spans.U32 low high) = asked_by_range 32 (unsigned_range 32 low high) g
+  asked_by_span g (spans.U64 low high) = asked_by_range 64 (unsigned_range 64 low high) g
+  asked_by_span g (spans.Usize low high) = asked_by_range 64 (unsigned_range 64 low high) g
+
+  -- The bytes that the partners of `count` places from i on ask for, in a shuffle of n items.
+  unfoldable pub asked_by_places : (ℕ → ℕ) → ℕ → ℕ → ℕ → G → ℕ
+  asked_by_places first n i zero g = 0
+  asked_by_places first n i (suc count) g =
+      asked_by_range 64 (unsigned_range 64 (Included (first i)) (Excluded n)) g
+      + asked_by_places first n (i + 1) count (partner_drawn bytes after first n i g).1
+
+  -- The bytes that a shuffle of n items asks for: a partner for each place, up to the refused one.
+  abbrev pub asked_by_shuffle : (ℕ → ℕ) → ℕ → G → ℕ
+  asked_by_shuffle first n g = asked_by_places first n 0 (min n (length (shuffle_choices bytes after first n g) + 1)) g
+
+  -- The bytes that a call asks for.
+  abbrev pub asked_by_call : G → List ℕ → Call → ℕ
+  asked_by_call g items (Gen kind) = size_of kind
+  asked_by_call g items (Range span) = asked_by_span g span
+  asked_by_call g items Shuffle = asked_by_shuffle from_itself (length items) g
+
+  -- The bytes that a list of calls asks for.
+  abbrev pub asked : G → List ℕ → List Call → ℕ
+  asked g items [] = 0
+  asked g items (call ∷ calls) =
+      let first = outcome bytes after g items call in
+      asked_by_call g items call + asked first.state first.items calls

@@ -1,0 +1,134 @@
+-- Replay: a list of calls, the answers and items that it gives, and the state that it leaves. All of it is a function
+-- of what requests deliver and leave: `bytes g n` is what a request of n delivers, and `after g n` the state after it.
+use Rattle.std.specs.Prelude.{◌≡◌, ℕ, ℤ, List, [], ◌∷◌, ◌++◌, length, Result, Ok, Err}
+use Rattle.std.specs.declared.ops.Bound.{Bound}
+use Rattle.std.specs.Int.{w8, w16, w32, w64, w128}
+use Rattle.nanorand.specs.values.Values.{number_of, signed_number_of, truth_of}
+use Rattle.nanorand.specs.values.Draws.{unsigned_outcome, signed_outcome}
+use Rattle.nanorand.specs.shuffles.Shuffles.{arranged, from_itself, shuffle_answer, shuffle_choices, shuffle_state}
+use Rattle.nanorand.specs.declared.values.range.RangeError.{RangeError}
+use Rattle.nanorand.specs.declared.values.range.RangeError.TheVariants as refusals
+use Rattle.nanorand.specs.declared.replay.Kind.{Kind}
+use Rattle.nanorand.specs.declared.replay.Kind.TheVariants as kinds
+use Rattle.nanorand.specs.declared.replay.Call.{Call}
+use Rattle.nanorand.specs.declared.replay.Span.{Span}
+use Rattle.nanorand.specs.declared.replay.Span.TheVariants as spans
+use Rattle.nanorand.specs.declared.replay.Call.TheVariants.{Gen, Range, Shuffle}
+use Rattle.nanorand.specs.declared.replay.Answer.{Answer}
+use Rattle.nanorand.specs.declared.replay.Answer.TheVariants.{Unsigned, Signed, Truth, Empty, Exhausted, Shuffled}
+
+-- How many bytes a value of a type asks for.
+abbrev pub size_of : Kind → ℕ
+size_of kinds.I8 = 1
+size_of kinds.I16 = 2
+size_of kinds.I32 = 4
+size_of kinds.I64 = 8
+size_of kinds.I128 = 16
+size_of kinds.Isize = 8
+size_of kinds.U8 = 1
+size_of kinds.U16 = 2
+size_of kinds.U32 = 4
+size_of kinds.U64 = 8
+size_of kinds.U128 = 16
+size_of kinds.Usize = 8
+size_of kinds.Bool = 1
+
+-- The value of a type that these bytes give.
+abbrev pub value_of : Kind → List ℕ → Answer
+value_of kinds.I8 bytes = Signed (signed_number_of w8 bytes)
+value_of kinds.I16 bytes = Signed (signed_number_of w16 bytes)
+value_of kinds.I32 bytes = Signed (signed_number_of w32 bytes)
+value_of kinds.I64 bytes = Signed (signed_number_of w64 bytes)
+value_of kinds.I128 bytes = Signed (signed_number_of w128 bytes)
+value_of kinds.Isize bytes = Signed (signed_number_of w64 bytes)
+value_of kinds.U8 bytes = Unsigned (number_of bytes)
+value_of kinds.U16 bytes = Unsigned (number_of bytes)
+value_of kinds.U32 bytes = Unsigned (number_of bytes)
+value_of kinds.U64 bytes = Unsigned (number_of bytes)
+value_of kinds.U128 bytes = Unsigned (number_of bytes)
+value_of kinds.Usize bytes = Unsigned (number_of bytes)
+value_of kinds.Bool bytes = Truth (truth_of bytes)
+
+-- The answer to a call that is refused.
+abbrev pub refusal_answer : RangeError → Answer
+refusal_answer refusals.Empty = Empty
+refusal_answer refusals.Exhausted = Exhausted
+
+-- The answer of a range of an unsigned type.
+abbrev pub unsigned_answer : Result ℕ RangeError → Answer
+unsigned_answer (Ok number) = Unsigned number
+unsigned_answer (Err refusal) = refusal_answer refusal
+
+-- The answer of a range of a signed type.
+abbrev pub signed_answer : Result ℤ RangeError → Answer
+signed_answer (Ok number) = Signed number
+signed_answer (Err refusal) = refusal_answer refusal
+
+-- The answer of a shuffle.
+abbrev pub shuffle_call_answer : Result (Unit {0}) RangeError → Answer
+shuffle_call_answer (Ok tt) = Shuffled
+shuffle_call_answer (Err refusal) = refusal_answer refusal
+
+-- What one call answers, and the items and the state that it leaves.
+pub record Outcome (G : Type 0) : Type 0 where
+  pub answer : Answer
+  pub items : List ℕ
+  pub state : G
+
+-- What a list of calls answers, call by call, and the items and the state that it leaves.
+pub record Replay (G : Type 0) : Type 0 where
+  pub answers : List Answer
+  pub items : List ℕ
+  pub state : G
+
+module _ {G : Type 0} (bytes : G → ℕ → List ℕ) (after : G → ℕ → G) where
+  abbrev pub unsigned_span : ℕ → G → Bound ℕ → Bound ℕ → Answer × G
+  unsigned_span bits g low high =
+      let drawn = unsigned_outcome bytes after bits g low high in
+      (unsigned_answer drawn.0, drawn.1)
+
+  abbrev pub signed_span : ℕ → G → Bound ℤ → Bound ℤ → Answer × G
+  signed_span bits g low high =
+      let drawn = signed_outcome bytes after bits g low high in
+      (signed_answer drawn.0, drawn.1)
+
+  -- What a range answers, and the state that it leaves.
+  abbrev pub span_outcome : G → Span → Answer × G
+  span_outcome g (spans.I8 low high) = signed_span 8 g low high
+  span_outcome g (spans.I16 low high) = signed_span 16 g low high
+  span_outcome g (spans.I32 low high) = signed_span 32 g low high
+  span_outcome g (spans.I64 low high) = signed_span 64 g low high
+  span_outcome g (spans.Isize low high) = signed_span 64 g low high
+  span_outcome g (spans.U8 low high) = unsigned_span 8 g low high
+  span_outcome g (spans.U16 low high) = unsigned_span 16 g low high
+  span_outcome g (spans.U32 low high) = unsigned_span 32 g low high
+  span_outcome g (spans.U64 low high) = unsigned_span 64 g low high
+  span_outcome g (spans.Usize low high) = unsigned_span 64 g low high
+
+  abbrev pub outcome : G → List ℕ → Call → Outcome G
+  outcome g items (Gen kind) = record { answer = value_of kind (bytes g (size_of kind)); items = items; state = after g (size_of kind) }
+  outcome g items (Range span) = record { answer = (span_outcome g span).0; items = items; state = (span_outcome g span).1 }
+  outcome g items Shuffle =
+      let count = length items in
+      record {
+        answer = shuffle_call_answer (shuffle_answer bytes after from_itself count g);
+        items = arranged (shuffle_choices bytes after from_itself count g) items;
+        state = shuffle_state bytes after from_itself count g;
+      }
+
+  -- Each call starts from what the one before it left.
+  abbrev pub replayed : G → List ℕ → List Call → Replay G
+  replayed g items [] = record { answers = []; items = items; state = g }
+  replayed g items (call ∷ calls) =
+      let first = outcome g items call in
+      let rest = replayed first.state first.items calls in
+      record { answers = first.answer ∷ rest.answers; items = rest.items; state = rest.state }
+
+  -- A replay of two lists, one after the other, is a replay of the first and then of the second, from the state and the
+  -- items that the first left.
+  abbrev pub ReplaysJoin : Type 0
+  ReplaysJoin = (g : G) (items : List ℕ) (calls others : List Call) →
+      let first = replayed g items calls in
+      let rest = replayed first.state first.items others in
+      replayed g items (calls ++ others)
+      ≡ record { answers = first.answers ++ rest.answers; items = rest.items; state = rest.state }

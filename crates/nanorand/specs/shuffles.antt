@@ -1,0 +1,2 @@
+pub mod Shuffles
+pub mod Arrangements

@@ -1,0 +1,10 @@
+pub mod BlockLemmas
+pub mod BufferedLemmas
+pub mod NumberOrderLemmas
+pub mod IterateLemmas
+pub mod WyRandDrawLemmas
+pub mod ChaChaLines
+pub mod ChaChaRows
+pub mod ChaChaInverse
+pub mod ChaChaDrawLemmas
+pub mod Pcg64DrawLemmas

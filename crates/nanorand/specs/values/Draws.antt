@@ -1,0 +1,71 @@
+-- Bounded draws: words are drawn one after another until one names a number, 128 at most.
+use Rattle.std.specs.Prelude.{ℕ, ℤ, ◌+◌, ◌/◌, ◌==◌, List, length, map, position, slice_index, slice_get, Option, is_some, option_and_then, ok_or, Result, Err, if◌then◌else◌}
+use Rattle.std.specs.Fn.{iterate}
+use Rattle.std.specs.List.{range_with_len}
+use Rattle.std.specs.Option.{option_map_or}
+use Rattle.std.specs.declared.ops.Bound.{Bound}
+use Rattle.nanorand.specs.values.Values.{number_of}
+use Rattle.nanorand.specs.values.Runs.{named}
+use Rattle.nanorand.specs.values.Range.{unsigned_range, signed_range}
+use Rattle.nanorand.specs.declared.values.range.RangeError.{RangeError}
+use Rattle.nanorand.specs.declared.values.range.RangeError.TheVariants.{Empty, Exhausted}
+
+-- The deciding place of a list of words: the least whose word names a number below the size.
+abbrev pub deciding_place : ℕ → ℕ → List ℕ → Option ℕ
+deciding_place bits size words = position (λ word. is_some (named bits size word)) words
+
+-- The number that the word at the deciding place names.
+abbrev pub decided : ℕ → ℕ → List ℕ → Option ℕ
+decided bits size words = option_and_then (λ i. named bits size (slice_index words i)) (deciding_place bits size words)
+
+-- How many words are drawn for one number at most.
+abbrev pub word_limit : ℕ
+word_limit = 128
+
+-- Draws from a source of words: `word` is a state's next word, and `after` the state after it.
+module _ {G : Type 0} (word : G → ℕ) (after : G → G) where
+  -- The next n words.
+  unfoldable pub words_from : ℕ → G → List ℕ
+  words_from n g = map (λ i. word (iterate after i g)) (range_with_len 0 n)
+
+  -- The number below the size that the next `limit` words decide, if they decide one.
+  abbrev pub number_drawn : ℕ → ℕ → ℕ → G → Option ℕ
+  number_drawn limit bits size g = decided bits size (words_from limit g)
+
+  -- The state after the deciding word, or after all `limit` words.
+  unfoldable pub left_after : ℕ → ℕ → ℕ → G → G
+  left_after limit bits size g =
+      iterate after (option_map_or (λ i. i + 1) (deciding_place bits size (words_from limit g)) limit) g
+
+  -- What a range of these numbers gives: the number at the place that is drawn, counted from 0. An empty range is
+  -- refused, and so is a draw whose words are all rejected.
+  unfoldable pub value_drawn : {T : Type 0} → ℕ → List T → G → Result T RangeError
+  value_drawn bits numbers g =
+      if length numbers == 0 then Err Empty
+      else ok_or (option_and_then (slice_get numbers) (number_drawn word_limit bits (length numbers) g)) Exhausted
+
+  -- The state that is left. From an empty range nothing is drawn.
+  unfoldable pub left_by : {T : Type 0} → ℕ → List T → G → G
+  left_by bits numbers g = if length numbers == 0 then g else left_after word_limit bits (length numbers) g
+
+-- Words from requests: a word of so many bits is the number of the bytes that one request of bits / 8 delivers, least
+-- byte first, for the signed types too. `bytes g n` is what a request of n delivers.
+abbrev pub next_word : {G : Type 0} → (G → ℕ → List ℕ) → ℕ → G → ℕ
+next_word bytes bits g = number_of (bytes g (bits / 8))
+
+-- The state after that word. `after g n` is the state after a request of n.
+abbrev pub after_word : {G : Type 0} → (G → ℕ → G) → ℕ → G → G
+after_word after bits g = after g (bits / 8)
+
+module _ {G : Type 0} (bytes : G → ℕ → List ℕ) (after : G → ℕ → G) where
+  -- What a range of these numbers, of a type of so many bits, gives, and the state that it leaves.
+  abbrev pub range_outcome : {T : Type 0} → ℕ → List T → G → Result T RangeError × G
+  range_outcome bits numbers g =
+      (value_drawn (next_word bytes bits) (after_word after bits) bits numbers g, left_by (next_word bytes bits) (after_word after bits) bits numbers g)
+
+  -- The same for the unsigned and the signed type of so many bits, by its bounds.
+  abbrev pub unsigned_outcome : ℕ → G → Bound ℕ → Bound ℕ → Result ℕ RangeError × G
+  unsigned_outcome bits g low high = range_outcome bits (unsigned_range bits low high) g
+
+  abbrev pub signed_outcome : ℕ → G → Bound ℤ → Bound ℤ → Result ℤ RangeError × G
+  signed_outcome bits g low high = range_outcome bits (signed_range bits low high) g

@@ -1,0 +1,102 @@
+-- Worked rows of the test generators and of the die, computed from the definitions alone.
+use Rattle.std.specs.Prelude.{◌≡◌, ℕ, ◌-◌, ◌^◌, List, [], ◌∷◌, ◌++◌, replicate, Ok, refl}
+use Rattle.std.specs.List.{range_with_len}
+use Rattle.std.specs.declared.ops.Bound.TheVariants.{Included, Unbounded}
+use Rattle.nanorand.specs.generators.Blocks.{taken, plain_after}
+use Rattle.nanorand.specs.generators.Buffered.{Buffered, buffer_of, buffered_block, buffered_step, buffered_taken, buffered_after}
+use Rattle.nanorand.specs.values.Runs.{named}
+use Rattle.nanorand.specs.values.Range.{range_within}
+use Rattle.nanorand.specs.values.Draws.{unsigned_outcome, words_from, value_drawn, left_by, left_after}
+use Rattle.nanorand.specs.replay.Replay.{replayed}
+use Rattle.nanorand.specs.declared.replay.Kind.TheVariants as kinds
+use Rattle.nanorand.specs.declared.replay.Span.TheVariants as spans
+use Rattle.nanorand.specs.declared.replay.Call.TheVariants.{Gen, Range}
+use Rattle.nanorand.specs.declared.replay.Answer.TheVariants.{Unsigned, Exhausted}
+use Rattle.nanorand_rows.specs.Steps.{next_count, steps_block}
+use Rattle.nanorand_rows.specs.Rising.{rising_block}
+use Rattle.nanorand_rows.specs.Constant.{constant_block, constant_step}
+use Rattle.nanorand_rows.specs.Script.{script_block, script_step}
+use Rattle.nanorand_rows.specs.Waste.{waste_after}
+use Rattle.nanorand_rows.specs.Zeros.{zeros_block}
+use Rattle.nanorand_rows.specs.Die.{die_value, die_after, die_bound}
+
+-- the first, the second and the last block of rising bytes, and what comes behind the last
+steps_from_0 : steps_block 0 ≡ range_with_len 0 8
+steps_from_0 = refl
+
+steps_from_8 : steps_block 1 ≡ range_with_len 8 8
+steps_from_8 = refl
+
+steps_of_the_greatest : steps_block (2 ^ 64 - 1) ≡ range_with_len 248 8
+steps_of_the_greatest = refl
+
+count_after_the_greatest : next_count (2 ^ 64 - 1) ≡ 0
+count_after_the_greatest = refl
+
+steps_are_rising : rising_block 8 31 ≡ steps_block 31
+steps_are_rising = refl
+
+-- a generator that wastes a block at a byte, and none at a whole block
+wasted_replay : replayed (taken steps_block next_count) waste_after 0 [] (Gen kinds.U8 ∷ Gen kinds.U64 ∷ Gen kinds.U8 ∷ [])
+    ≡ record { answers = Unsigned 0 ∷ Unsigned 0x1716151413121110 ∷ Unsigned 24 ∷ []; items = []; state = 5 }
+unfolding taken
+wasted_replay = refl
+
+nothing_wasted : waste_after 7 0 ≡ 7
+nothing_wasted = refl
+
+-- a buffer around it draws whole blocks, and so it wastes none
+abbrev kept_taken : Buffered ℕ → ℕ → List ℕ
+kept_taken = taken (buffered_block steps_block next_count 8) (buffered_step steps_block next_count 8)
+
+kept_replay : replayed kept_taken (buffered_after steps_block next_count 8) (buffer_of [] 0) [] (Gen kinds.U8 ∷ Gen kinds.U8 ∷ [])
+    ≡ record { answers = Unsigned 0 ∷ Unsigned 1 ∷ []; items = []; state = buffer_of (range_with_len 2 6) 1 }
+unfolding taken buffered_taken buffered_after
+kept_replay = refl
+
+-- blocks of one byte and of 64
+byte_and_byte : replayed (taken (rising_block 1) next_count) (plain_after next_count 1) 0 [] (Gen kinds.U16 ∷ []) ≡ record { answers = Unsigned 0x0100 ∷ []; items = []; state = 2 }
+unfolding taken
+byte_and_byte = refl
+
+byte_of_each_64 : replayed (taken (rising_block 64) next_count) (plain_after next_count 64) 0 [] (Gen kinds.U8 ∷ Gen kinds.U8 ∷ []) ≡ record { answers = Unsigned 0 ∷ Unsigned 64 ∷ []; items = []; state = 2 }
+unfolding taken
+byte_of_each_64 = refl
+
+-- a script of 128 zeros and a one, whose range is refused
+abbrev late_one : List ℕ
+late_one = replicate 128 0 ++ 1 ∷ []
+
+byte_of_block_129 : replayed (taken script_block script_step) (plain_after script_step 8) (late_one, 0) [] (Range (spans.U8 (Included 10) (Included 12)) ∷ Gen kinds.U8 ∷ [])
+    ≡ record { answers = Exhausted ∷ Unsigned 1 ∷ []; items = []; state = (late_one, 129) }
+unfolding named range_within words_from value_drawn left_by left_after taken
+byte_of_block_129 = refl
+
+-- the die: 1 behind 128 rejected words of zeros, and behind one of rising bytes, and 2 where it begins at 2
+throw_of_zeros : die_value (taken constant_block constant_step) (plain_after constant_step 8) (record { byte = 0; drawn = 0 }) ≡ 1
+unfolding named range_within words_from value_drawn left_by left_after taken
+throw_of_zeros = refl
+
+words_of_a_throw : die_after (taken constant_block constant_step) (plain_after constant_step 8) (record { byte = 0; drawn = 0 }) ≡ record { byte = 0; drawn = 128 }
+unfolding named range_within words_from value_drawn left_by left_after taken
+words_of_a_throw = refl
+
+throw_of_no_words : die_value (taken zeros_block next_count) (plain_after next_count 8) 0 ≡ 1
+unfolding named range_within words_from value_drawn left_by left_after taken
+throw_of_no_words = refl
+
+zeros_of_a_throw : die_after (taken zeros_block next_count) (plain_after next_count 8) 0 ≡ 128
+unfolding named range_within words_from value_drawn left_by left_after taken
+zeros_of_a_throw = refl
+
+throw_of_steps : die_value (taken steps_block next_count) (plain_after next_count 8) 0 ≡ 1
+unfolding named range_within words_from value_drawn left_by left_after taken
+throw_of_steps = refl
+
+blocks_of_a_throw : die_after (taken steps_block next_count) (plain_after next_count 8) 0 ≡ 2
+unfolding named range_within words_from value_drawn left_by left_after taken
+blocks_of_a_throw = refl
+
+throw_from_two : unsigned_outcome (taken steps_block next_count) (plain_after next_count 8) 8 0 (die_bound 1 (Included 2)) (die_bound 6 Unbounded) ≡ (Ok 2, 2)
+unfolding named range_within words_from value_drawn left_by left_after taken
+throw_from_two = refl
