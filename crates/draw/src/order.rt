@@ -2,7 +2,6 @@
 
 ghost use Rattle.std.specs.Prelude.{◌≡◌, ◌≢◌, ℕ, ◌<◌, ◌≤◌, ◌+◌, IfOk, IfErr, IfSome, OnOk, Some, List, drop, IsTrue, ◌↔◌, slice_index_or, [], length};
 ghost use Rattle.draw.specs.Arguments.{IsSeed, generator_of, name_of_generator, IsCount, IsFirstUnreadable, AreRequests, Asked, Says, asked_of, name_of_mode, FirstBadRequest, texts, word_at};
-ghost use Rattle.draw.specs.Requests.{IsRequest};
 ghost use Rattle.nanorand.specs.declared.replay.Call.{Call as ACall};
 ghost use Rattle.draw.specs.declared.order.Generator.{Generator as AGenerator};
 ghost use Rattle.draw.specs.declared.order.Mode.{Mode as AMode};

@@ -3,7 +3,7 @@
 ghost use Rattle.std.specs.Prelude.{◌≡◌, ◌≢◌, ◌≤◌, ℕ, length, IfOk, IfErr, OnOk, string_bytes};
 ghost use Rattle.std.specs.List.{range_with_len};
 ghost use Rattle.std.specs.Io.KnownBytes.{Appends};
-ghost use Rattle.draw.specs.Text.{in_mode, from_source, text_asked, status_of};
+ghost use Rattle.draw.specs.Text.{text_asked, status_of};
 ghost use Rattle.draw.specs.Arguments.{Asked, Says, IsFirstUnreadable, asked_of, texts};
 
 use crate::error::DrawError;

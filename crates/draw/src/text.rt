@@ -2,7 +2,7 @@
 
 ghost use Rattle.std.specs.Prelude.{◌≡◌, ◌++◌, ◌∷◌, [], codes, IfOk, OnOk, string_bytes};
 ghost use Rattle.std.specs.List.{flat_map};
-ghost use Rattle.draw.specs.Text.{line_of, item_text, items_line, text_of};
+ghost use Rattle.draw.specs.Text.{line_of, item_text, text_of};
 
 use nanorand::replay::Answer;
 use std::alloc::{AllocError, Allocator};

@@ -153,7 +153,8 @@ impl<G: Rng<OUTPUT>, const OUTPUT: usize> Blocks<OUTPUT> for BufferedRng<G, OUTP
 
     ghost in_memory = { G.in_memory };
 
-    ghost block_length = { λ b. length-buffered_taken G.block G.step OUTPUT G.positive G.block_length b OUTPUT };
+    ghost block_length = { λ b.
+        length-buffered_taken G.block G.step OUTPUT G.positive G.block_length b OUTPUT };
 }
 
 impl<G: Rng<OUTPUT>, const OUTPUT: usize> Rng<OUTPUT> for BufferedRng<G, OUTPUT> {
@@ -219,8 +220,11 @@ fn deliver<G: Rng<OUTPUT>, const OUTPUT: usize>(
 )
     requires above { 0 < cursor.old }
     requires within { cursor.old ≤ OUTPUT }
-    ensures bytes { out.new ≡ buffered_taken G.block G.step OUTPUT (buffer_of (drop cursor.old block.old) inner.old) (length out.old) }
-    ensures state { buffer_of (drop cursor.new block.new) inner.new ≡ buffered_after G.block G.step OUTPUT (buffer_of (drop cursor.old block.old) inner.old) (length out.old) }
+    ensures bytes { let start = buffer_of (drop cursor.old block.old) inner.old in
+        out.new ≡ buffered_taken G.block G.step OUTPUT start (length out.old) }
+    ensures state { let start = buffer_of (drop cursor.old block.old) inner.old in
+        buffer_of (drop cursor.new block.new) inner.new
+        ≡ buffered_after G.block G.step OUTPUT start (length out.old) }
     ensures above { 0 < cursor.new }
     ensures within { cursor.new ≤ OUTPUT }
     ensures long { length block.new ≡ OUTPUT }
@@ -244,8 +248,11 @@ fn deliver_blocks<G: Rng<OUTPUT>, const OUTPUT: usize>(
     cursor: &mut usize,
     out: &mut [u8],
 )
-    ensures bytes { out.new ≡ buffered_taken G.block G.step OUTPUT (buffer_of [] inner.old) (length out.old) }
-    ensures state { buffer_of (drop cursor.new block.new) inner.new ≡ buffered_after G.block G.step OUTPUT (buffer_of [] inner.old) (length out.old) }
+    ensures bytes { let start = buffer_of [] inner.old in
+        out.new ≡ buffered_taken G.block G.step OUTPUT start (length out.old) }
+    ensures state { let start = buffer_of [] inner.old in
+        buffer_of (drop cursor.new block.new) inner.new
+        ≡ buffered_after G.block G.step OUTPUT start (length out.old) }
     ensures above { 0 < cursor.new }
     ensures within { cursor.new ≤ OUTPUT }
     ensures long { length block.new ≡ OUTPUT }

@@ -31,7 +31,8 @@ pub enum EntropyError {
 /// an error, an interruption included. After an error what the slice holds is open, and so is the
 /// place of the reader.
 pub fn system<R: Read>(source: &mut R, out: &mut [u8]) -> Result<(), EntropyError>
-    ensures next { OnOk result (Consumes (R.remaining source.old) (R.remaining source.new) out.new) }
+    ensures next { let old = R.remaining source.old in
+        OnOk result (Consumes old (R.remaining source.new) out.new) }
 
     // An empty slice is full as it is, and the reader is not asked.
     ensures nothing { out.old ≡ [] → result ≡ Ok tt }

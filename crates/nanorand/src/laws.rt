@@ -103,13 +103,16 @@ pub fn wyrand_cycle()
     ensures steps { DrawsLeave wyrand.next_seed wyrand.wyrand_after }
     ensures more { OneMoreDraw wyrand.next_seed wyrand.wyrand_after }
     ensures adds { DrawsAdd wyrand.wyrand_after }
-    ensures closed { (n seed : ℕ) → seed < 2 ^ 64 → wyrand.wyrand_after n seed ≡ wyrand.seed_after n seed }
-    ensures seeds { (n seed : ℕ) → wyrand.wyrand_after (n + 1) seed ≡ wyrand.seed_after (n + 1) seed }
+    ensures closed { (n seed : ℕ) → seed < 2 ^ 64
+        → wyrand.wyrand_after n seed ≡ wyrand.seed_after n seed }
+    ensures seeds { (n seed : ℕ)
+        → wyrand.wyrand_after (n + 1) seed ≡ wyrand.seed_after (n + 1) seed }
     ensures fits { (n seed : ℕ) → seed < 2 ^ 64 → wyrand.wyrand_after n seed < 2 ^ 64 }
     ensures words { (n seed : ℕ) → wyrand.wyrand_block (iterate wyrand.next_seed n seed)
         ≡ to_le_bytes w64 (wyrand.word (wyrand.seed_after (n + 1) seed)) }
     ensures agree { (seed : ℕ) → seed < 2 ^ 64 → AgreeModulo (2 ^ 64) wyrand.seed_after seed }
-    ensures periods { (seed : ℕ) → seed < 2 ^ 64 → PeriodsAreMultiplesOf (2 ^ 64) wyrand.next_seed wyrand.wyrand_block seed }
+    ensures periods { (seed : ℕ) → seed < 2 ^ 64
+        → PeriodsAreMultiplesOf (2 ^ 64) wyrand.next_seed wyrand.wyrand_block seed }
 {}
 
 /// The seeds of `Pcg64` are four cycles of 2^126 each, and its blocks have that period.
@@ -124,17 +127,22 @@ pub fn pcg64_cycles()
     ensures steps { DrawsLeave pcg64.next pcg64.pcg64_after }
     ensures more { OneMoreDraw pcg64.next pcg64.pcg64_after }
     ensures adds { DrawsAdd pcg64.pcg64_after }
-    ensures closed { (n : ℕ) (g : pcg64.Generator) → g.seed < 2 ^ 128 → (pcg64.pcg64_after n g).seed ≡ pcg64.seed_after n g.seed }
-    ensures seeds { (n : ℕ) (g : pcg64.Generator) → (pcg64.pcg64_after (n + 1) g).seed ≡ pcg64.seed_after (n + 1) g.seed }
-    ensures fits { (n : ℕ) (g : pcg64.Generator) → g.seed < 2 ^ 128 → (pcg64.pcg64_after n g).seed < 2 ^ 128 }
+    ensures closed { (n : ℕ) (g : pcg64.Generator) → g.seed < 2 ^ 128
+        → (pcg64.pcg64_after n g).seed ≡ pcg64.seed_after n g.seed }
+    ensures seeds { (n : ℕ) (g : pcg64.Generator)
+        → (pcg64.pcg64_after (n + 1) g).seed ≡ pcg64.seed_after (n + 1) g.seed }
+    ensures fits { (n : ℕ) (g : pcg64.Generator) → g.seed < 2 ^ 128
+        → (pcg64.pcg64_after n g).seed < 2 ^ 128 }
     ensures words { (n : ℕ) (g : pcg64.Generator) → pcg64.pcg64_block (iterate pcg64.next n g)
         ≡ to_le_bytes w64 (folded (pcg64.seed_after (n + 1) g.seed)) }
     ensures blocks { (n : ℕ) (g h : pcg64.Generator) → g.seed ≡ h.seed
         → pcg64.pcg64_block (iterate pcg64.next n g) ≡ pcg64.pcg64_block (iterate pcg64.next n h) }
     ensures agree { (seed : ℕ) → seed < 2 ^ 128 → AgreeModulo (2 ^ 126) pcg64.seed_after seed }
     ensures top_bit { (n seed : ℕ) → seed < 2 ^ 128
-        → folded (pcg64.seed_after (n + 2 ^ 125) seed) ≡ bit_xor (folded (pcg64.seed_after n seed)) (2 ^ 63) }
-    ensures periods { (g : pcg64.Generator) → g.seed < 2 ^ 128 → PeriodsAreMultiplesOf (2 ^ 126) pcg64.next pcg64.pcg64_block g }
+        → folded (pcg64.seed_after (n + 2 ^ 125) seed)
+        ≡ bit_xor (folded (pcg64.seed_after n seed)) (2 ^ 63) }
+    ensures periods { (g : pcg64.Generator) → g.seed < 2 ^ 128
+        → PeriodsAreMultiplesOf (2 ^ 126) pcg64.next pcg64.pcg64_block g }
 {}
 
 /// The states of `ChaCha` are cycles of 2^64, and its counter tells how far a state is.
@@ -151,13 +159,16 @@ pub fn chacha_counter()
     ensures adds { DrawsAdd chacha_after }
     ensures closed { (n : ℕ) (x : List ℕ) → IsMatrix x → chacha_after n x ≡ advanced n x }
     ensures matrices { (n : ℕ) (x : List ℕ) → IsMatrix x → IsMatrix (chacha_after n x) }
-    ensures counts { (n : ℕ) (x : List ℕ) → IsMatrix x → counter (chacha_after n x) ≡ (counter x + n) % 2 ^ 64 }
-    ensures keeps { (n k : ℕ) (x : List ℕ) → k ≢ 12 → k ≢ 13 → slice_index (chacha_after n x) k ≡ slice_index x k }
+    ensures counts { (n : ℕ) (x : List ℕ) → IsMatrix x
+        → counter (chacha_after n x) ≡ (counter x + n) % 2 ^ 64 }
+    ensures keeps { (n k : ℕ) (x : List ℕ) → k ≢ 12 → k ≢ 13
+        → slice_index (chacha_after n x) k ≡ slice_index x k }
     ensures blocks { (R n : ℕ) (x : List ℕ) → IsMatrix x
         → chacha_block R (iterate next_state n x) ≡ chacha_block R (advanced n x) }
     ensures agree { (i j : ℕ) (x : List ℕ) → IsMatrix x
         → (chacha_after i x ≡ chacha_after j x) ↔ (i % 2 ^ 64 ≡ j % 2 ^ 64) }
-    ensures periods { (R d : ℕ) (x : List ℕ) → IsMatrix x → 2 ^ 64 ∣ d → IsPeriod next_state (chacha_block R) x d }
+    ensures periods { (R d : ℕ) (x : List ℕ) → IsMatrix x → 2 ^ 64 ∣ d
+        → IsPeriod next_state (chacha_block R) x d }
 {}
 
 /// Which seeds of `Pcg64` lead to which.
@@ -165,6 +176,8 @@ pub fn chacha_counter()
 /// `reached`: draws lead from s to t exactly if both are in one of the four cycles. `once`: then
 /// exactly one number of draws below 2^126 does.
 pub fn pcg64_reach()
-    ensures reached { (s t : ℕ) → s < 2 ^ 128 → t < 2 ^ 128 → Reaches pcg64.seed_after s t ↔ pcg64.SameCycle s t }
-    ensures once { (s t : ℕ) → s < 2 ^ 128 → t < 2 ^ 128 → pcg64.SameCycle s t → ReachesOnceBelow (2 ^ 126) pcg64.seed_after s t }
+    ensures reached { (s t : ℕ) → s < 2 ^ 128 → t < 2 ^ 128
+        → Reaches pcg64.seed_after s t ↔ pcg64.SameCycle s t }
+    ensures once { (s t : ℕ) → s < 2 ^ 128 → t < 2 ^ 128 → pcg64.SameCycle s t
+        → ReachesOnceBelow (2 ^ 126) pcg64.seed_after s t }
 {}

@@ -65,7 +65,8 @@ pub trait Rng<const OUTPUT: usize>: Clone + Blocks<OUTPUT> {
 
     /// Fills the slice with values, one after another: one value an item, in order.
     fn fill<T: RandomGen<Self, OUTPUT> + Drop>(&mut self, target: &mut [T])
-        ensures values { target.new ≡ values_from T.value T.state_after (length target.old) self.old }
+        ensures values { let count = length target.old in
+            target.new ≡ values_from T.value T.state_after count self.old }
         ensures state { self.new ≡ iterate T.state_after (length target.old) self.old }
     {
         for item in target.iter_mut() {

@@ -44,7 +44,8 @@ pub fn choices_of(
     requires scratch { length scratch.old ≡ length order.now }
     ensures valid { OnOk result (IsValid out.new) }
     ensures makes { OnOk result (arranged out.new (rising (length order.now)) ≡ order.now) }
-    ensures alone { OnOk result ((choices : List ℕ) → length choices ≡ length order.now → IsValid choices
+    ensures alone { OnOk result ((choices : List ℕ)
+        → length choices ≡ length order.now → IsValid choices
         → arranged choices (rising (length order.now)) ≡ order.now → choices ≡ out.new) }
     ensures exact { OnOk result (IsArrangement order.now) }
     ensures refused { OnErr result (¬ IsArrangement order.now) }

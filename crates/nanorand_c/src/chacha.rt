@@ -2,8 +2,7 @@
 ghost use Rattle.std.specs.Prelude.{◌≡◌, ℕ, ◌+◌, ◌%◌, ◌^◌, length};
 ghost use Rattle.std.specs.Fn.{iterate};
 ghost use Rattle.std.specs.Int.{div_ceil};
-ghost use Rattle.nanorand.specs.generators.Blocks.{plain_after, taken};
-ghost use Rattle.nanorand.specs.generators.ChaCha.{chacha_block, next_state};
+ghost use Rattle.nanorand.specs.generators.ChaCha.{chacha_block, next_state, chacha_requests};
 ghost use Rattle.nanorand_c.specs.ChaChaPlace.{state_at};
 
 use nanorand::laws::chacha_counter;
@@ -20,7 +19,8 @@ pub extern "C" fn nanorand_chacha8_block(
 )
     ensures block { out.new ≡ chacha_block 8 (state_at key.now nonce.now counter.old) }
     ensures counter { counter.new ≡ (counter.old + 1) % 2 ^ 64 }
-    ensures place { state_at key.now nonce.now counter.new ≡ next_state (state_at key.now nonce.now counter.old) }
+    ensures place { let start = state_at key.now nonce.now counter.old in
+        state_at key.now nonce.now counter.new ≡ next_state start }
 {
     block::<8>(key, nonce, counter, out);
 }
@@ -34,9 +34,12 @@ pub extern "C" fn nanorand_chacha8_fill_bytes(
     counter: &mut u64,
     buffer: &mut [u8],
 )
-    ensures bytes { buffer.new ≡ taken (chacha_block 8) next_state (state_at key.now nonce.now counter.old) (length buffer.old) }
+    ensures bytes { let start = state_at key.now nonce.now counter.old in
+        buffer.new ≡ (chacha_requests 8).bytes start (length buffer.old) }
     ensures counter { counter.new ≡ (counter.old + div_ceil (length buffer.old) 64) % 2 ^ 64 }
-    ensures place { state_at key.now nonce.now counter.new ≡ plain_after next_state 64 (state_at key.now nonce.now counter.old) (length buffer.old) }
+    ensures place { let start = state_at key.now nonce.now counter.old in
+        state_at key.now nonce.now counter.new
+        ≡ (chacha_requests 8).after start (length buffer.old) }
 {
     fill_bytes::<8>(key, nonce, counter, buffer);
 }
@@ -52,7 +55,8 @@ pub extern "C" fn nanorand_chacha12_block(
 )
     ensures block { out.new ≡ chacha_block 12 (state_at key.now nonce.now counter.old) }
     ensures counter { counter.new ≡ (counter.old + 1) % 2 ^ 64 }
-    ensures place { state_at key.now nonce.now counter.new ≡ next_state (state_at key.now nonce.now counter.old) }
+    ensures place { let start = state_at key.now nonce.now counter.old in
+        state_at key.now nonce.now counter.new ≡ next_state start }
 {
     block::<12>(key, nonce, counter, out);
 }
@@ -66,9 +70,12 @@ pub extern "C" fn nanorand_chacha12_fill_bytes(
     counter: &mut u64,
     buffer: &mut [u8],
 )
-    ensures bytes { buffer.new ≡ taken (chacha_block 12) next_state (state_at key.now nonce.now counter.old) (length buffer.old) }
+    ensures bytes { let start = state_at key.now nonce.now counter.old in
+        buffer.new ≡ (chacha_requests 12).bytes start (length buffer.old) }
     ensures counter { counter.new ≡ (counter.old + div_ceil (length buffer.old) 64) % 2 ^ 64 }
-    ensures place { state_at key.now nonce.now counter.new ≡ plain_after next_state 64 (state_at key.now nonce.now counter.old) (length buffer.old) }
+    ensures place { let start = state_at key.now nonce.now counter.old in
+        state_at key.now nonce.now counter.new
+        ≡ (chacha_requests 12).after start (length buffer.old) }
 {
     fill_bytes::<12>(key, nonce, counter, buffer);
 }
@@ -84,7 +91,8 @@ pub extern "C" fn nanorand_chacha20_block(
 )
     ensures block { out.new ≡ chacha_block 20 (state_at key.now nonce.now counter.old) }
     ensures counter { counter.new ≡ (counter.old + 1) % 2 ^ 64 }
-    ensures place { state_at key.now nonce.now counter.new ≡ next_state (state_at key.now nonce.now counter.old) }
+    ensures place { let start = state_at key.now nonce.now counter.old in
+        state_at key.now nonce.now counter.new ≡ next_state start }
 {
     block::<20>(key, nonce, counter, out);
 }
@@ -98,9 +106,12 @@ pub extern "C" fn nanorand_chacha20_fill_bytes(
     counter: &mut u64,
     buffer: &mut [u8],
 )
-    ensures bytes { buffer.new ≡ taken (chacha_block 20) next_state (state_at key.now nonce.now counter.old) (length buffer.old) }
+    ensures bytes { let start = state_at key.now nonce.now counter.old in
+        buffer.new ≡ (chacha_requests 20).bytes start (length buffer.old) }
     ensures counter { counter.new ≡ (counter.old + div_ceil (length buffer.old) 64) % 2 ^ 64 }
-    ensures place { state_at key.now nonce.now counter.new ≡ plain_after next_state 64 (state_at key.now nonce.now counter.old) (length buffer.old) }
+    ensures place { let start = state_at key.now nonce.now counter.old in
+        state_at key.now nonce.now counter.new
+        ≡ (chacha_requests 20).after start (length buffer.old) }
 {
     fill_bytes::<20>(key, nonce, counter, buffer);
 }
@@ -109,7 +120,8 @@ pub extern "C" fn nanorand_chacha20_fill_bytes(
 fn at<const ROUNDS: u8>(key: &[u8; 32], nonce: &[u8; 8], counter: u64) -> ChaCha<ROUNDS>
     requires { ROUNDS % 2 ≡ 0 }
     ensures state { result ≡ state_at key.now nonce.now counter }
-    ensures places { (n : ℕ) → state_at key.now nonce.now ((counter + n) % 2 ^ 64) ≡ iterate next_state n result }
+    ensures places { (n : ℕ)
+        → state_at key.now nonce.now ((counter + n) % 2 ^ 64) ≡ iterate next_state n result }
 {
     chacha_counter();
     let mut rng = ChaCha::new_key(*key, *nonce);
@@ -122,7 +134,8 @@ fn block<const ROUNDS: u8>(key: &[u8; 32], nonce: &[u8; 8], counter: &mut u64, o
     requires { ROUNDS % 2 ≡ 0 }
     ensures block { out.new ≡ chacha_block ROUNDS (state_at key.now nonce.now counter.old) }
     ensures counter { counter.new ≡ (counter.old + 1) % 2 ^ 64 }
-    ensures place { state_at key.now nonce.now counter.new ≡ next_state (state_at key.now nonce.now counter.old) }
+    ensures place { let start = state_at key.now nonce.now counter.old in
+        state_at key.now nonce.now counter.new ≡ next_state start }
 {
     let mut rng = at::<ROUNDS>(key, nonce, *counter);
     *out = rng.rand();
@@ -137,9 +150,12 @@ fn fill_bytes<const ROUNDS: u8>(
     buffer: &mut [u8],
 )
     requires { ROUNDS % 2 ≡ 0 }
-    ensures bytes { buffer.new ≡ taken (chacha_block ROUNDS) next_state (state_at key.now nonce.now counter.old) (length buffer.old) }
+    ensures bytes { let start = state_at key.now nonce.now counter.old in
+        buffer.new ≡ (chacha_requests ROUNDS).bytes start (length buffer.old) }
     ensures counter { counter.new ≡ (counter.old + div_ceil (length buffer.old) 64) % 2 ^ 64 }
-    ensures place { state_at key.now nonce.now counter.new ≡ plain_after next_state 64 (state_at key.now nonce.now counter.old) (length buffer.old) }
+    ensures place { let start = state_at key.now nonce.now counter.old in
+        state_at key.now nonce.now counter.new
+        ≡ (chacha_requests ROUNDS).after start (length buffer.old) }
 {
     let mut rng = at::<ROUNDS>(key, nonce, *counter);
     rng.fill_bytes(buffer);

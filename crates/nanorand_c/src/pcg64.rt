@@ -1,8 +1,7 @@
 //! Pcg64. Its seed is the caller's memory, and moves on by each draw.
 ghost use Rattle.std.specs.Prelude.{◌≡◌, ◌≤◌, length, IsPermutation};
-ghost use Rattle.nanorand.specs.generators.Blocks.{plain_after, taken};
-ghost use Rattle.nanorand.specs.generators.Pcg64.{next, pcg64_block, seed_after};
-ghost use Rattle.nanorand.specs.shuffles.Shuffles.{arranged, from_all, from_itself, shuffle_answer, shuffle_choices, shuffle_state};
+ghost use Rattle.nanorand.specs.generators.Pcg64.{seed_after, pcg64_requests};
+ghost use Rattle.nanorand.specs.shuffles.Shuffles.{from_all, from_itself, shuffled};
 ghost use Rattle.nanorand.specs.values.Values.{number_of};
 ghost use Rattle.nanorand_c.specs.Between.{between};
 ghost use Rattle.nanorand_c.specs.Status.{drawn_or, status};
@@ -19,8 +18,8 @@ use std::ops::Bound;
 /// Draws a number.
 #[unsafe(no_mangle)]
 pub extern "C" fn nanorand_pcg64_u64(seed: &mut Wide) -> u64
-    ensures value { result ≡ number_of (taken pcg64_block next (at_seed seed.old) 8) }
-    ensures seed { wide_number seed.new ≡ (plain_after next 8 (at_seed seed.old) 8).seed }
+    ensures value { result ≡ number_of (pcg64_requests.bytes (at_seed seed.old) 8) }
+    ensures seed { wide_number seed.new ≡ (pcg64_requests.after (at_seed seed.old) 8).seed }
 {
     let mut rng = Pcg64::new_seed(joined(seed));
     let value = rng.generate();
@@ -31,8 +30,9 @@ pub extern "C" fn nanorand_pcg64_u64(seed: &mut Wide) -> u64
 /// Fills the slice with the next bytes, by one request.
 #[unsafe(no_mangle)]
 pub extern "C" fn nanorand_pcg64_fill_bytes(seed: &mut Wide, buffer: &mut [u8])
-    ensures bytes { buffer.new ≡ taken pcg64_block next (at_seed seed.old) (length buffer.old) }
-    ensures seed { wide_number seed.new ≡ (plain_after next 8 (at_seed seed.old) (length buffer.old)).seed }
+    ensures bytes { buffer.new ≡ pcg64_requests.bytes (at_seed seed.old) (length buffer.old) }
+    ensures seed { let left = pcg64_requests.after (at_seed seed.old) (length buffer.old) in
+        wide_number seed.new ≡ left.seed }
 {
     let mut rng = Pcg64::new_seed(joined(seed));
     rng.fill_bytes(buffer);
@@ -59,10 +59,12 @@ pub extern "C" fn nanorand_pcg64_range_u64(
     last: u64,
     number: &mut u64,
 ) -> u8
-    ensures status { result ≡ status (between (taken pcg64_block next) (plain_after next 8) first last (at_seed seed.old)).0 }
-    ensures number { number.new ≡ drawn_or number.old (between (taken pcg64_block next) (plain_after next 8) first last (at_seed seed.old)).0 }
+    ensures status { result ≡ status (between pcg64_requests first last (at_seed seed.old)).0 }
+    ensures number { let outcome = (between pcg64_requests first last (at_seed seed.old)).0 in
+        number.new ≡ drawn_or number.old outcome }
     ensures within { result ≡ 0 → (first ≤ number.new) × (number.new ≤ last) }
-    ensures seed { wide_number seed.new ≡ (between (taken pcg64_block next) (plain_after next 8) first last (at_seed seed.old)).1.seed }
+    ensures seed { let left = (between pcg64_requests first last (at_seed seed.old)).1 in
+        wide_number seed.new ≡ left.seed }
 {
     let mut rng = Pcg64::new_seed(joined(seed));
     let outcome = draw_number(&mut rng, Bound::Included(first), Bound::Included(last));
@@ -78,10 +80,12 @@ pub extern "C" fn nanorand_pcg64_range_usize(
     last: usize,
     number: &mut usize,
 ) -> u8
-    ensures status { result ≡ status (between (taken pcg64_block next) (plain_after next 8) first last (at_seed seed.old)).0 }
-    ensures number { number.new ≡ drawn_or number.old (between (taken pcg64_block next) (plain_after next 8) first last (at_seed seed.old)).0 }
+    ensures status { result ≡ status (between pcg64_requests first last (at_seed seed.old)).0 }
+    ensures number { let outcome = (between pcg64_requests first last (at_seed seed.old)).0 in
+        number.new ≡ drawn_or number.old outcome }
     ensures within { result ≡ 0 → (first ≤ number.new) × (number.new ≤ last) }
-    ensures seed { wide_number seed.new ≡ (between (taken pcg64_block next) (plain_after next 8) first last (at_seed seed.old)).1.seed }
+    ensures seed { let left = (between pcg64_requests first last (at_seed seed.old)).1 in
+        wide_number seed.new ≡ left.seed }
 {
     let mut rng = Pcg64::new_seed(joined(seed));
     let outcome = draw_number(&mut rng, Bound::Included(first), Bound::Included(last));
@@ -93,9 +97,15 @@ pub extern "C" fn nanorand_pcg64_range_usize(
 /// arranged by the choices that were made before.
 #[unsafe(no_mangle)]
 pub extern "C" fn nanorand_pcg64_shuffle(seed: &mut Wide, items: &mut [usize]) -> u8
-    ensures status { result ≡ status (shuffle_answer (taken pcg64_block next) (plain_after next 8) from_itself (length items.old) (at_seed seed.old)) }
-    ensures items { items.new ≡ arranged (shuffle_choices (taken pcg64_block next) (plain_after next 8) from_itself (length items.old) (at_seed seed.old)) items.old }
-    ensures seed { wide_number seed.new ≡ (shuffle_state (taken pcg64_block next) (plain_after next 8) from_itself (length items.old) (at_seed seed.old)).seed }
+    ensures status { let start = at_seed seed.old in
+        let shuffle = shuffled pcg64_requests from_itself start items.old in
+        result ≡ status shuffle.answer }
+    ensures items { let start = at_seed seed.old in
+        let shuffle = shuffled pcg64_requests from_itself start items.old in
+        items.new ≡ shuffle.items }
+    ensures seed { let start = at_seed seed.old in
+        let shuffle = shuffled pcg64_requests from_itself start items.old in
+        wide_number seed.new ≡ shuffle.state.seed }
     ensures arrangement { IsPermutation items.old items.new }
 {
     let mut rng = Pcg64::new_seed(joined(seed));
@@ -107,9 +117,15 @@ pub extern "C" fn nanorand_pcg64_shuffle(seed: &mut Wide, items: &mut [usize]) -
 /// The same with partners from all places, as the Rust crate draws them.
 #[unsafe(no_mangle)]
 pub extern "C" fn nanorand_pcg64_shuffle_full(seed: &mut Wide, items: &mut [usize]) -> u8
-    ensures status { result ≡ status (shuffle_answer (taken pcg64_block next) (plain_after next 8) from_all (length items.old) (at_seed seed.old)) }
-    ensures items { items.new ≡ arranged (shuffle_choices (taken pcg64_block next) (plain_after next 8) from_all (length items.old) (at_seed seed.old)) items.old }
-    ensures seed { wide_number seed.new ≡ (shuffle_state (taken pcg64_block next) (plain_after next 8) from_all (length items.old) (at_seed seed.old)).seed }
+    ensures status { let start = at_seed seed.old in
+        let shuffle = shuffled pcg64_requests from_all start items.old in
+        result ≡ status shuffle.answer }
+    ensures items { let start = at_seed seed.old in
+        let shuffle = shuffled pcg64_requests from_all start items.old in
+        items.new ≡ shuffle.items }
+    ensures seed { let start = at_seed seed.old in
+        let shuffle = shuffled pcg64_requests from_all start items.old in
+        wide_number seed.new ≡ shuffle.state.seed }
     ensures arrangement { IsPermutation items.old items.new }
 {
     let mut rng = Pcg64::new_seed(joined(seed));

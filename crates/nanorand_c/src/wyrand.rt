@@ -1,9 +1,8 @@
 //! Wyrand. The generator itself is the caller's memory.
 ghost use Rattle.std.specs.Prelude.{◌≡◌, ◌≤◌, length, IsPermutation};
-ghost use Rattle.nanorand.specs.generators.Blocks.{plain_after, taken};
-ghost use Rattle.nanorand.specs.shuffles.Shuffles.{arranged, from_all, from_itself, shuffle_answer, shuffle_choices, shuffle_state};
+ghost use Rattle.nanorand.specs.shuffles.Shuffles.{from_all, from_itself, shuffled};
 ghost use Rattle.nanorand.specs.values.Values.{number_of};
-ghost use Rattle.nanorand.specs.generators.WyRand.{next_seed, seed_after, wyrand_block};
+ghost use Rattle.nanorand.specs.generators.WyRand.{seed_after, wyrand_requests};
 ghost use Rattle.nanorand_c.specs.Status.{drawn_or, status};
 ghost use Rattle.nanorand_c.specs.Between.{between};
 
@@ -24,8 +23,8 @@ pub extern "C" fn nanorand_wyrand_new_seed(seed: u64) -> WyRand
 /// Draws a number.
 #[unsafe(no_mangle)]
 pub extern "C" fn nanorand_wyrand_u64(rng: &mut WyRand) -> u64
-    ensures value { result ≡ number_of (taken wyrand_block next_seed rng.old 8) }
-    ensures state { rng.new ≡ plain_after next_seed 8 rng.old 8 }
+    ensures value { result ≡ number_of (wyrand_requests.bytes rng.old 8) }
+    ensures state { rng.new ≡ wyrand_requests.after rng.old 8 }
 {
     rng.generate()
 }
@@ -33,8 +32,8 @@ pub extern "C" fn nanorand_wyrand_u64(rng: &mut WyRand) -> u64
 /// Fills the slice with the next bytes, by one request.
 #[unsafe(no_mangle)]
 pub extern "C" fn nanorand_wyrand_fill_bytes(rng: &mut WyRand, buffer: &mut [u8])
-    ensures bytes { buffer.new ≡ taken wyrand_block next_seed rng.old (length buffer.old) }
-    ensures state { rng.new ≡ plain_after next_seed 8 rng.old (length buffer.old) }
+    ensures bytes { buffer.new ≡ wyrand_requests.bytes rng.old (length buffer.old) }
+    ensures state { rng.new ≡ wyrand_requests.after rng.old (length buffer.old) }
 {
     rng.fill_bytes(buffer);
 }
@@ -56,10 +55,11 @@ pub extern "C" fn nanorand_wyrand_range_u64(
     last: u64,
     number: &mut u64,
 ) -> u8
-    ensures status { result ≡ status (between (taken wyrand_block next_seed) (plain_after next_seed 8) first last rng.old).0 }
-    ensures number { number.new ≡ drawn_or number.old (between (taken wyrand_block next_seed) (plain_after next_seed 8) first last rng.old).0 }
+    ensures status { result ≡ status (between wyrand_requests first last rng.old).0 }
+    ensures number { let outcome = (between wyrand_requests first last rng.old).0 in
+        number.new ≡ drawn_or number.old outcome }
     ensures within { result ≡ 0 → (first ≤ number.new) × (number.new ≤ last) }
-    ensures state { rng.new ≡ (between (taken wyrand_block next_seed) (plain_after next_seed 8) first last rng.old).1 }
+    ensures state { rng.new ≡ (between wyrand_requests first last rng.old).1 }
 {
     let outcome = draw_number(rng, Bound::Included(first), Bound::Included(last));
     hand_over(&outcome, number)
@@ -73,10 +73,11 @@ pub extern "C" fn nanorand_wyrand_range_usize(
     last: usize,
     number: &mut usize,
 ) -> u8
-    ensures status { result ≡ status (between (taken wyrand_block next_seed) (plain_after next_seed 8) first last rng.old).0 }
-    ensures number { number.new ≡ drawn_or number.old (between (taken wyrand_block next_seed) (plain_after next_seed 8) first last rng.old).0 }
+    ensures status { result ≡ status (between wyrand_requests first last rng.old).0 }
+    ensures number { let outcome = (between wyrand_requests first last rng.old).0 in
+        number.new ≡ drawn_or number.old outcome }
     ensures within { result ≡ 0 → (first ≤ number.new) × (number.new ≤ last) }
-    ensures state { rng.new ≡ (between (taken wyrand_block next_seed) (plain_after next_seed 8) first last rng.old).1 }
+    ensures state { rng.new ≡ (between wyrand_requests first last rng.old).1 }
 {
     let outcome = draw_number(rng, Bound::Included(first), Bound::Included(last));
     hand_over(&outcome, number)
@@ -86,9 +87,10 @@ pub extern "C" fn nanorand_wyrand_range_usize(
 /// arranged by the choices that were made before.
 #[unsafe(no_mangle)]
 pub extern "C" fn nanorand_wyrand_shuffle(rng: &mut WyRand, items: &mut [usize]) -> u8
-    ensures status { result ≡ status (shuffle_answer (taken wyrand_block next_seed) (plain_after next_seed 8) from_itself (length items.old) rng.old) }
-    ensures items { items.new ≡ arranged (shuffle_choices (taken wyrand_block next_seed) (plain_after next_seed 8) from_itself (length items.old) rng.old) items.old }
-    ensures state { rng.new ≡ shuffle_state (taken wyrand_block next_seed) (plain_after next_seed 8) from_itself (length items.old) rng.old }
+    ensures status { let shuffle = shuffled wyrand_requests from_itself rng.old items.old in
+        result ≡ status shuffle.answer }
+    ensures items { items.new ≡ (shuffled wyrand_requests from_itself rng.old items.old).items }
+    ensures state { rng.new ≡ (shuffled wyrand_requests from_itself rng.old items.old).state }
     ensures arrangement { IsPermutation items.old items.new }
 {
     let outcome = rng.shuffle(items);
@@ -98,9 +100,9 @@ pub extern "C" fn nanorand_wyrand_shuffle(rng: &mut WyRand, items: &mut [usize])
 /// The same with partners from all places, as the Rust crate draws them.
 #[unsafe(no_mangle)]
 pub extern "C" fn nanorand_wyrand_shuffle_full(rng: &mut WyRand, items: &mut [usize]) -> u8
-    ensures status { result ≡ status (shuffle_answer (taken wyrand_block next_seed) (plain_after next_seed 8) from_all (length items.old) rng.old) }
-    ensures items { items.new ≡ arranged (shuffle_choices (taken wyrand_block next_seed) (plain_after next_seed 8) from_all (length items.old) rng.old) items.old }
-    ensures state { rng.new ≡ shuffle_state (taken wyrand_block next_seed) (plain_after next_seed 8) from_all (length items.old) rng.old }
+    ensures status { result ≡ status (shuffled wyrand_requests from_all rng.old items.old).answer }
+    ensures items { items.new ≡ (shuffled wyrand_requests from_all rng.old items.old).items }
+    ensures state { rng.new ≡ (shuffled wyrand_requests from_all rng.old items.old).state }
     ensures arrangement { IsPermutation items.old items.new }
 {
     let outcome = shuffle_full(rng, items);

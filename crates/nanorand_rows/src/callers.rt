@@ -1,14 +1,14 @@
 //! Proved callers, one for each use. The page `CALLING.md` of the library quotes them.
 ghost use Rattle.std.specs.Prelude.{◌≡◌, ◌≤◌, ◌+◌, ◌++◌, [], length, MatchResult, IsPermutation};
 ghost use Rattle.std.specs.declared.ops.Bound.TheVariants.{Included};
-ghost use Rattle.nanorand.specs.generators.Blocks.{plain_after, taken};
+ghost use Rattle.nanorand.specs.generators.Blocks.{taken};
 ghost use Rattle.nanorand.specs.generators.Buffered.{buffered_taken};
 ghost use Rattle.nanorand.specs.values.Draws.{unsigned_outcome};
 ghost use Rattle.nanorand.specs.generators.Pcg64.{pcg64_after};
 ghost use Rattle.nanorand.specs.replay.Replay.{replayed};
 ghost use Rattle.nanorand.specs.shuffles.Shuffles.{from_itself, shuffle_answer};
 ghost use Rattle.nanorand.specs.values.Values.{number_of};
-ghost use Rattle.nanorand.specs.generators.WyRand.{next_seed, wyrand_block};
+ghost use Rattle.nanorand.specs.generators.WyRand.{next_seed, wyrand_block, wyrand_requests};
 
 use nanorand::laws::{pcg64_cycles, unbroken_delivery};
 use nanorand::replay::{Answer, Call, replay};
@@ -27,7 +27,8 @@ pub fn ticket(seed: u64) -> u64
 /// A throw of a die, from any generator. It is 1 where 128 words in a row were rejected.
 pub fn throw<G: Rng<OUTPUT>, const OUTPUT: usize>(rng: &mut G) -> u8
     ensures face { (1 ≤ result) × (result ≤ 6) }
-    ensures thrown { MatchResult (unsigned_outcome G.requests 8 rng.old (Included 1) (Included 6)).0 (λ pips. result ≡ pips) (λ _. result ≡ 1) }
+    ensures thrown { let outcome = unsigned_outcome G.requests 8 rng.old (Included 1) (Included 6) in
+        MatchResult outcome.0 (λ pips. result ≡ pips) (λ _. result ≡ 1) }
 {
     match draw_number::<u8, G, OUTPUT>(rng, Bound::Included(1), Bound::Included(6)) {
         Ok(pips) => pips,
@@ -38,7 +39,7 @@ pub fn throw<G: Rng<OUTPUT>, const OUTPUT: usize>(rng: &mut G) -> u8
 /// Shuffles a pack of cards. None is lost and none is made, also where the shuffle is refused.
 pub fn shuffle_cards(seed: u64, cards: &mut [u8]) -> Result<(), RangeError>
     ensures pack { IsPermutation cards.old cards.new }
-    ensures answer { result ≡ shuffle_answer (taken wyrand_block next_seed) (plain_after next_seed 8) from_itself (length cards.old) seed }
+    ensures answer { result ≡ shuffle_answer wyrand_requests from_itself (length cards.old) seed }
 {
     let mut rng = WyRand::new_seed(seed);
     rng.shuffle(cards)
@@ -50,7 +51,8 @@ pub fn fill_two<G: Rng<OUTPUT>, const OUTPUT: usize>(
     first: &mut [u8],
     second: &mut [u8],
 )
-    ensures row { first.new ++ second.new ≡ buffered_taken G.block G.step OUTPUT rng.old (length first.old + length second.old) }
+    ensures row { let count = length first.old + length second.old in
+        first.new ++ second.new ≡ buffered_taken G.block G.step OUTPUT rng.old count }
 {
     unbroken_delivery::<G, OUTPUT>();
     rng.fill_bytes(first);
@@ -61,7 +63,7 @@ pub fn fill_two<G: Rng<OUTPUT>, const OUTPUT: usize>(
 pub fn play_twice(seed: u64, calls: &[Call], first: &mut [Answer], second: &mut [Answer])
     requires first { length first.old ≡ length calls.now }
     requires second { length second.old ≡ length calls.now }
-    ensures answers { first.new ≡ (replayed (taken wyrand_block next_seed) (plain_after next_seed 8) seed [] calls.now).answers }
+    ensures answers { first.new ≡ (replayed wyrand_requests seed [] calls.now).answers }
     ensures again { second.new ≡ first.new }
 {
     let mut rng = WyRand::new_seed(seed);

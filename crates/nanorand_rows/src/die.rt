@@ -59,11 +59,14 @@ impl<G: Rng<OUTPUT>, const OUTPUT: usize> RandomGen<G, OUTPUT> for Die {
 
 /// The byte range of the bounds' numbers. Unbounded ends are 1 and 6.
 impl<G: Rng<OUTPUT>, const OUTPUT: usize> RandomRange<G, OUTPUT> for Die {
-    ghost outcome = { λ g low high. unsigned_outcome G.requests 8 g (die_bound 1 low) (die_bound 6 high) };
+    ghost outcome = { λ g low high.
+        unsigned_outcome G.requests 8 g (die_bound 1 low) (die_bound 6 high) };
 
     fn random_range(rng: &mut G, low: Bound<Die>, high: Bound<Die>) -> Result<Die, RangeError>
-        ensures value { result ≡ (unsigned_outcome G.requests 8 rng.old (die_bound 1 low) (die_bound 6 high)).0 }
-        ensures state { rng.new ≡ (unsigned_outcome G.requests 8 rng.old (die_bound 1 low) (die_bound 6 high)).1 }
+        ensures value { let first = die_bound 1 low in let last = die_bound 6 high in
+            result ≡ (unsigned_outcome G.requests 8 rng.old first last).0 }
+        ensures state { let first = die_bound 1 low in let last = die_bound 6 high in
+            rng.new ≡ (unsigned_outcome G.requests 8 rng.old first last).1 }
     {
         match draw_number(rng, pips_bound(low, 1), pips_bound(high, 6)) {
             Ok(pips) => Ok(Die { pips }),

@@ -12,8 +12,12 @@ pub fn read_nested(
     rng: &mut BufferedRng<BufferedRng<Steps, 8>, 8>,
     out: &mut [u8],
 ) -> io::Result<usize>
-    ensures bytes { out.new ≡ buffered_taken (buffered_block steps_block next_count 8) (buffered_step steps_block next_count 8) 8 rng.old (length out.old) }
-    ensures state { rng.new ≡ buffered_after (buffered_block steps_block next_count 8) (buffered_step steps_block next_count 8) 8 rng.old (length out.old) }
+    ensures bytes { let block = buffered_block steps_block next_count 8 in
+        let step = buffered_step steps_block next_count 8 in
+        out.new ≡ buffered_taken block step 8 rng.old (length out.old) }
+    ensures state { let block = buffered_block steps_block next_count 8 in
+        let step = buffered_step steps_block next_count 8 in
+        rng.new ≡ buffered_after block step 8 rng.old (length out.old) }
     ensures value { result ≡ Ok (length out.old) }
 {
     rng.read(out)

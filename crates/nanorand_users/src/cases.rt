@@ -25,10 +25,10 @@ pub fn first_failure<P: Property<T>, T: RandomGen<WyRand, 8> + Drop>(
     seed: u64,
     cases: u64,
 ) -> Option<u64>
-    ensures { MatchOption result
-        ((number : ℕ) → number < cases → P.holds property.now (T.value (case_seed seed number)) ≡ true)
-        (λ failed. (failed < cases) × (P.holds property.now (T.value (case_seed seed failed)) ≡ false)
-        × ((number : ℕ) → number < failed → P.holds property.now (T.value (case_seed seed number)) ≡ true)) }
+    ensures { let passes = λ (number : ℕ). P.holds property.now (T.value (case_seed seed number)) in
+        MatchOption result ((number : ℕ) → number < cases → passes number ≡ true)
+        (λ failed. (failed < cases) × (passes failed ≡ false)
+        × ((number : ℕ) → number < failed → passes number ≡ true)) }
 {
     wyrand_cycle();
     let mut stream = WyRand::new_seed(seed);
@@ -69,10 +69,11 @@ pub fn failing_value<P: Property<T>, T: RandomGen<WyRand, 8> + Drop>(
     seed: u64,
     cases: u64,
 ) -> Option<(u64, T)>
-    ensures { MatchOption result
-        ((number : ℕ) → number < cases → P.holds property.now (T.value (case_seed seed number)) ≡ true)
-        (λ found. (found.0 < cases) × (found.1 ≡ T.value (case_seed seed found.0)) × (P.holds property.now found.1 ≡ false)
-        × ((number : ℕ) → number < found.0 → P.holds property.now (T.value (case_seed seed number)) ≡ true)) }
+    ensures { let passes = λ (number : ℕ). P.holds property.now (T.value (case_seed seed number)) in
+        MatchOption result ((number : ℕ) → number < cases → passes number ≡ true)
+        (λ found. (found.0 < cases) × (found.1 ≡ T.value (case_seed seed found.0))
+        × (P.holds property.now found.1 ≡ false)
+        × ((number : ℕ) → number < found.0 → passes number ≡ true)) }
 {
     let number = first_failure::<P, T>(property, seed, cases)?;
     Some((number, value_of_case(seed, number)))
@@ -84,10 +85,9 @@ pub fn failure_again<P: Property<T>, T: RandomGen<WyRand, 8> + Drop>(
     seed: u64,
     cases: u64,
 ) -> Option<bool>
-    ensures { MatchOption result
-        ((number : ℕ) → number < cases → P.holds property.now (T.value (case_seed seed number)) ≡ true)
-        (λ held. (held ≡ false)
-        × ((number : ℕ) × (number < cases) × (P.holds property.now (T.value (case_seed seed number)) ≡ false))) }
+    ensures { let passes = λ (number : ℕ). P.holds property.now (T.value (case_seed seed number)) in
+        MatchOption result ((number : ℕ) → number < cases → passes number ≡ true)
+        (λ held. (held ≡ false) × ((number : ℕ) × (number < cases) × (passes number ≡ false))) }
 {
     let number = first_failure::<P, T>(property, seed, cases)?;
     Some(check_again::<P, T>(property, seed, number))

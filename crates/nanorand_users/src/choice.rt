@@ -1,8 +1,7 @@
 //! A load balancer sends each request to one of its servers, and a stronger server is to get more of
 //! them: an item is chosen by its weight, exactly and without floats.
 ghost use Rattle.std.specs.Prelude.{◌≡◌, ℕ, ◌^◌, ◌<◌, ◌≤◌, ◌↔◌, ◌⊎◌, length, slice_index, sum, Err, IfOk, IfSome};
-ghost use Rattle.std.specs.Fn.{iterate};
-ghost use Rattle.nanorand.specs.values.Draws.{after_word};
+ghost use Rattle.nanorand.specs.values.Draws.{after_words};
 ghost use Rattle.nanorand_users.specs.declared.choice.ChoiceError.TheVariants.{NoWeight, TooHeavy, Exhausted};
 ghost use Rattle.nanorand_users.specs.Choice.{ChoicesAreFair, IsInShare, choice_answer, choice_state, item_at, number_for, total_of};
 
@@ -39,7 +38,8 @@ pub fn choose<G: Rng<OUTPUT>, const OUTPUT: usize>(
     ensures state { rng.new ≡ choice_state G.requests weights.now rng.old }
 
     // What is chosen.
-    ensures share { IfOk result (λ i. IfSome (number_for G.requests weights.now rng.old) (λ k. IsInShare weights.now k i)) }
+    ensures share { let number = number_for G.requests weights.now rng.old in
+        IfOk result (λ i. IfSome number (λ k. IsInShare weights.now k i)) }
     ensures within { IfOk result (λ i. i < length weights.now) }
     ensures weight { IfOk result (λ i. 0 < slice_index weights.now i) }
 
@@ -47,8 +47,8 @@ pub fn choose<G: Rng<OUTPUT>, const OUTPUT: usize>(
     ensures no_weight { (result ≡ Err NoWeight) ↔ (sum weights.now ≡ 0) }
     ensures too_heavy { (result ≡ Err TooHeavy) ↔ (2 ^ 64 ≤ sum weights.now) }
     ensures undrawn { (result ≡ Err NoWeight) ⊎ (result ≡ Err TooHeavy) → rng.new ≡ rng.old }
-    ensures exhausted { result ≡ Err Exhausted → rng.new ≡ iterate (after_word G.requests 64) 128 rng.old }
-    ensures words { (n : ℕ) × (n ≤ 128) × (rng.new ≡ iterate (after_word G.requests 64) n rng.old) }
+    ensures exhausted { result ≡ Err Exhausted → rng.new ≡ after_words G.requests 64 128 rng.old }
+    ensures words { (n : ℕ) × (n ≤ 128) × (rng.new ≡ after_words G.requests 64 n rng.old) }
 {
     let total = total_weight(weights)?;
     match draw_below(rng, u128::from(total), 64) {

@@ -4,7 +4,7 @@
 //! The cards of a deck of n are the numbers 0, 1, .., n - 1.
 ghost use Rattle.std.specs.Prelude.{◌≡◌, ◌+◌, ◌*◌, ◌≤◌, ◌++◌, ℕ, List, length, drop, OnOk, IfErr};
 ghost use Rattle.nanorand.specs.shuffles.Arrangements.{rising, IsValid, IsArrangement, HoldsEachOnce};
-ghost use Rattle.nanorand.specs.shuffles.Shuffles.{arranged, from_itself, shuffle_answer, shuffle_choices, shuffle_state};
+ghost use Rattle.nanorand.specs.shuffles.Shuffles.{arranged, from_itself, shuffle_answer, shuffle_choices, shuffle_state, shuffled};
 ghost use Rattle.nanorand.specs.declared.values.range.RangeError.TheVariants.{Exhausted};
 ghost use Rattle.nanorand_users.specs.Deals.{HoldsNoneTwice, HandsAreApart, hand_of, hands};
 
@@ -34,8 +34,10 @@ pub fn shuffle_deck<G: Rng<OUTPUT>, const OUTPUT: usize>(
     ensures drawn { let count = length deck.old in
         deck.new ≡ arranged (shuffle_choices G.requests from_itself count rng.old) (rising count) }
     ensures state { rng.new ≡ shuffle_state G.requests from_itself (length deck.old) rng.old }
-    ensures whole { OnOk result (length (shuffle_choices G.requests from_itself (length deck.old) rng.old) ≡ length deck.old) }
-    ensures valid { OnOk result (IsValid (shuffle_choices G.requests from_itself (length deck.old) rng.old)) }
+    ensures whole { let shuffle = shuffled G.requests from_itself rng.old deck.old in
+        OnOk result (length shuffle.choices ≡ length deck.old) }
+    ensures valid { let shuffle = shuffled G.requests from_itself rng.old deck.old in
+        OnOk result (IsValid shuffle.choices) }
     ensures arrangement { IsArrangement deck.new }
     ensures each_once { HoldsEachOnce (length deck.old) deck.new }
     ensures none_twice { HoldsNoneTwice deck.new }
@@ -61,7 +63,8 @@ pub fn shuffle_and_store<G: Rng<OUTPUT>, const OUTPUT: usize>(
     ensures state { rng.new ≡ shuffle_state G.requests from_itself (length deck.old) rng.old }
     ensures valid { IsValid choices.new }
     ensures stored { arranged choices.new (rising (length deck.old)) ≡ deck.new }
-    ensures drawn { OnOk result (choices.new ≡ shuffle_choices G.requests from_itself (length deck.old) rng.old) }
+    ensures drawn { let shuffle = shuffled G.requests from_itself rng.old deck.old in
+        OnOk result (choices.new ≡ shuffle.choices) }
 {
     write_deck(deck);
     shuffle_and_record(rng, deck, choices)
@@ -112,11 +115,13 @@ pub fn rest(deck: &[usize], size: usize, players: usize) -> &[usize]
 
 /// The hands and the rest, one after another, are the deck.
 pub fn hands_and_rest_are_the_deck()
-    ensures { (size players : ℕ) (deck : List ℕ) → hands size players deck ++ drop (players * size) deck ≡ deck }
+    ensures { (size players : ℕ) (deck : List ℕ)
+        → hands size players deck ++ drop (players * size) deck ≡ deck }
 {}
 
 /// No card is in two hands, nor twice in one, of a deck that holds none twice.
 pub fn hands_are_apart()
-    ensures { (size players : ℕ) (deck : List ℕ) → players * size ≤ length deck → HoldsNoneTwice deck
+    ensures { (size players : ℕ) (deck : List ℕ) → players * size ≤ length deck
+        → HoldsNoneTwice deck
         → HandsAreApart size players deck }
 {}

@@ -1,9 +1,8 @@
 //! A log has more lines than a report can show, and one pass over them has to do: a sample of so many
 //! places is kept while the places go by.
 ghost use Rattle.std.specs.Prelude.{◌≡◌, ◌≢◌, ℕ, ◌-◌, ◌*◌, ◌<◌, ◌≤◌, All, length, IfOk, IfErr};
-ghost use Rattle.std.specs.Fn.{iterate};
 ghost use Rattle.std.specs.List.{AllPairs, range_with_len};
-ghost use Rattle.nanorand.specs.values.Draws.{after_word};
+ghost use Rattle.nanorand.specs.values.Draws.{after_words};
 ghost use Rattle.nanorand.specs.declared.values.range.RangeError.TheVariants.{Exhausted};
 ghost use Rattle.nanorand_users.specs.Reservoir.{SamplesAreFair, place_up_to, placed, sampled};
 
@@ -30,7 +29,8 @@ pub fn sample_places<G: Rng<OUTPUT>, const OUTPUT: usize>(
     ensures below { All (λ place. place < count) chosen.new }
     ensures apart { AllPairs (λ place other. place ≢ other) chosen.new }
     ensures refusal { IfErr result (λ refusal. refusal ≡ Exhausted) }
-    ensures words { (n : ℕ) × (n ≤ 128 * (count - length chosen.old)) × (rng.new ≡ iterate (after_word G.requests 64) n rng.old) }
+    ensures words { (n : ℕ) × (n ≤ 128 * (count - length chosen.old))
+        × (rng.new ≡ after_words G.requests 64 n rng.old) }
 {
     write_places(chosen);
     for place in chosen.len()..count {
@@ -67,7 +67,7 @@ fn draw_place<G: Rng<OUTPUT>, const OUTPUT: usize>(
     ensures state { rng.new ≡ (place_up_to G.requests last rng.old).1 }
     ensures within { IfOk result (λ place. place ≤ last) }
     ensures refusal { IfErr result (λ refusal. refusal ≡ Exhausted) }
-    ensures words { (n : ℕ) × (n ≤ 128) × (rng.new ≡ iterate (after_word G.requests 64) n rng.old) }
+    ensures words { (n : ℕ) × (n ≤ 128) × (rng.new ≡ after_words G.requests 64 n rng.old) }
 {
     range_limits::<G, OUTPUT>();
     rng.generate_range(Bound::Included(0), Bound::Included(last))

@@ -1,9 +1,8 @@
 //! A server that comes back after a failure is overrun if all its clients try again at one moment: each
 //! of them waits for a while, twice as long after each failure, and for a part that is drawn.
 ghost use Rattle.std.specs.Prelude.{◌≡◌, ℕ, ◌*◌, ◌/◌, ◌≤◌, Err, EachIndex, length, slice_index, IfOk, IfErr};
-ghost use Rattle.std.specs.Fn.{iterate};
 ghost use Rattle.std.specs.Result.{result_unwrap_or};
-ghost use Rattle.nanorand.specs.values.Draws.{after_word};
+ghost use Rattle.nanorand.specs.values.Draws.{after_words};
 ghost use Rattle.nanorand.specs.declared.values.range.RangeError.TheVariants.{Exhausted};
 ghost use Rattle.nanorand_users.specs.Retry.{ceiling_after, delay_drawn, delays_after, state_after_delays};
 
@@ -22,8 +21,8 @@ pub fn try_delay<G: Rng<OUTPUT>, const OUTPUT: usize>(
     ensures half { IfOk result (λ delay. ceiling / 2 ≤ delay) }
     ensures ceiling { IfOk result (λ delay. delay ≤ ceiling) }
     ensures refusal { IfErr result (λ refusal. refusal ≡ Exhausted) }
-    ensures words { (n : ℕ) × (n ≤ 128) × (rng.new ≡ iterate (after_word G.requests 64) n rng.old) }
-    ensures exhausted { result ≡ Err Exhausted → rng.new ≡ iterate (after_word G.requests 64) 128 rng.old }
+    ensures words { (n : ℕ) × (n ≤ 128) × (rng.new ≡ after_words G.requests 64 n rng.old) }
+    ensures exhausted { result ≡ Err Exhausted → rng.new ≡ after_words G.requests 64 128 rng.old }
 {
     draw_number(rng, Bound::Included(ceiling / 2), Bound::Included(ceiling))
 }
@@ -33,10 +32,11 @@ pub fn try_delay<G: Rng<OUTPUT>, const OUTPUT: usize>(
 pub fn delay<G: Rng<OUTPUT>, const OUTPUT: usize>(rng: &mut G, ceiling: u64) -> u64
     ensures value { result ≡ result_unwrap_or (delay_drawn G.requests ceiling rng.old).0 ceiling }
     ensures state { rng.new ≡ (delay_drawn G.requests ceiling rng.old).1 }
-    ensures fallback { (delay_drawn G.requests ceiling rng.old).0 ≡ Err Exhausted → result ≡ ceiling }
+    ensures fallback { (delay_drawn G.requests ceiling rng.old).0 ≡ Err Exhausted
+        → result ≡ ceiling }
     ensures half { ceiling / 2 ≤ result }
     ensures ceiling { result ≤ ceiling }
-    ensures words { (n : ℕ) × (n ≤ 128) × (rng.new ≡ iterate (after_word G.requests 64) n rng.old) }
+    ensures words { (n : ℕ) × (n ≤ 128) × (rng.new ≡ after_words G.requests 64 n rng.old) }
 {
     try_delay(rng, ceiling).unwrap_or(ceiling)
 }
@@ -51,10 +51,14 @@ pub fn schedule<G: Rng<OUTPUT>, const OUTPUT: usize>(
     delays: &mut [u64],
 )
     ensures delays { delays.new ≡ delays_after G.requests first cap 0 (length delays.old) rng.old }
-    ensures state { rng.new ≡ state_after_delays G.requests first cap 0 (length delays.old) rng.old }
-    ensures half { EachIndex delays.new (λ k. ceiling_after first cap k / 2 ≤ slice_index delays.new k) }
-    ensures ceiling { EachIndex delays.new (λ k. slice_index delays.new k ≤ ceiling_after first cap k) }
-    ensures words { (n : ℕ) × (n ≤ 128 * length delays.old) × (rng.new ≡ iterate (after_word G.requests 64) n rng.old) }
+    ensures state { rng.new
+        ≡ state_after_delays G.requests first cap 0 (length delays.old) rng.old }
+    ensures half { EachIndex delays.new (λ k.
+        ceiling_after first cap k / 2 ≤ slice_index delays.new k) }
+    ensures ceiling { EachIndex delays.new (λ k.
+        slice_index delays.new k ≤ ceiling_after first cap k) }
+    ensures words { (n : ℕ) × (n ≤ 128 * length delays.old)
+        × (rng.new ≡ after_words G.requests 64 n rng.old) }
 {
     let mut ceiling = first.min(cap);
     for slot in delays.iter_mut() {

@@ -3,9 +3,8 @@
 //!
 //! A simulation is a list of calls of a generator, with items that its shuffles move.
 ghost use Rattle.std.specs.Prelude.{◌≡◌, ◌≤◌, length, OnOk, OnErr, IfOk, IsOk};
-ghost use Rattle.nanorand.specs.generators.Blocks.{plain_after, taken};
+ghost use Rattle.nanorand.specs.generators.WyRand.{wyrand_requests};
 ghost use Rattle.nanorand.specs.replay.Replay.{replayed};
-ghost use Rattle.nanorand.specs.generators.WyRand.{next_seed, wyrand_block};
 
 use nanorand::laws::replays_join;
 use nanorand::replay::{Answer, Call, replay};
@@ -27,8 +26,10 @@ pub fn replay_twice<G: Rng<OUTPUT>, const OUTPUT: usize>(
     requires items { second_items.old ≡ first_items.old }
     requires first_room { length first_answers.old ≡ length calls.now }
     requires second_room { length second_answers.old ≡ length calls.now }
-    ensures answers { first_answers.new ≡ (replayed G.requests first.old first_items.old calls.now).answers }
-    ensures items { first_items.new ≡ (replayed G.requests first.old first_items.old calls.now).items }
+    ensures answers { let run = replayed G.requests first.old first_items.old calls.now in
+        first_answers.new ≡ run.answers }
+    ensures items { let run = replayed G.requests first.old first_items.old calls.now in
+        first_items.new ≡ run.items }
     ensures state { first.new ≡ (replayed G.requests first.old first_items.old calls.now).state }
     ensures same_answers { second_answers.new ≡ first_answers.new }
     ensures same_items { second_items.new ≡ first_items.new }
@@ -55,15 +56,20 @@ pub fn replay_copy<G: Rng<OUTPUT> + Drop, const OUTPUT: usize>(
     requires items { second_items.old ≡ first_items.old }
     requires first_room { length first_answers.old ≡ length calls.now }
     requires second_room { length second_answers.old ≡ length calls.now }
-    ensures answers { OnOk result (first_answers.new ≡ (replayed G.requests rng.old first_items.old calls.now).answers) }
-    ensures items { OnOk result (first_items.new ≡ (replayed G.requests rng.old first_items.old calls.now).items) }
-    ensures state { OnOk result (rng.new ≡ (replayed G.requests rng.old first_items.old calls.now).state) }
+    ensures answers { let run = replayed G.requests rng.old first_items.old calls.now in
+        OnOk result (first_answers.new ≡ run.answers) }
+    ensures items { let run = replayed G.requests rng.old first_items.old calls.now in
+        OnOk result (first_items.new ≡ run.items) }
+    ensures state { let run = replayed G.requests rng.old first_items.old calls.now in
+        OnOk result (rng.new ≡ run.state) }
     ensures same_answers { OnOk result (second_answers.new ≡ first_answers.new) }
     ensures same_items { OnOk result (second_items.new ≡ first_items.new) }
     ensures same_state { IfOk result (λ copy. copy ≡ rng.new) }
     ensures cause { G.is_infallible rng.old → IsOk result }
-    ensures unchanged { OnErr result ((first_answers.new ≡ first_answers.old) × (second_answers.new ≡ second_answers.old)
-        × (first_items.new ≡ first_items.old) × (second_items.new ≡ second_items.old) × (rng.new ≡ rng.old)) }
+    ensures unchanged { OnErr result (
+        (first_answers.new ≡ first_answers.old) × (second_answers.new ≡ second_answers.old)
+        × (first_items.new ≡ first_items.old) × (second_items.new ≡ second_items.old)
+        × (rng.new ≡ rng.old)) }
 {
     let mut copy = rng.clone()?;
     replay_twice(
@@ -90,8 +96,10 @@ pub fn replay_seed(
     requires items { second_items.old ≡ first_items.old }
     requires first_room { length first_answers.old ≡ length calls.now }
     requires second_room { length second_answers.old ≡ length calls.now }
-    ensures answers { first_answers.new ≡ (replayed (taken wyrand_block next_seed) (plain_after next_seed 8) seed first_items.old calls.now).answers }
-    ensures items { first_items.new ≡ (replayed (taken wyrand_block next_seed) (plain_after next_seed 8) seed first_items.old calls.now).items }
+    ensures answers { let run = replayed wyrand_requests seed first_items.old calls.now in
+        first_answers.new ≡ run.answers }
+    ensures items { let run = replayed wyrand_requests seed first_items.old calls.now in
+        first_items.new ≡ run.items }
     ensures same_answers { second_answers.new ≡ first_answers.new }
     ensures same_items { second_items.new ≡ first_items.new }
 {

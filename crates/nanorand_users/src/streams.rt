@@ -79,7 +79,8 @@ pub fn part<G: Skip<OUTPUT> + Drop, const OUTPUT: usize>(stream: G, index: u64, 
 
 /// Parts of a `WyRand` within 2^64 draws do not overlap: no seed comes twice.
 pub fn wyrand_parts_are_apart()
-    ensures { (seed : ℕ) → seed < 2 ^ 64 → PartsAreApart (2 ^ 64) (λ n. after_draws next_seed n seed) }
+    ensures { (seed : ℕ) → seed < 2 ^ 64
+        → PartsAreApart (2 ^ 64) (λ n. after_draws next_seed n seed) }
 {
     wyrand_cycle();
 }
@@ -87,7 +88,8 @@ pub fn wyrand_parts_are_apart()
 /// Parts of a `Pcg64` within 2^126 draws do not overlap: no seed comes twice, and the seed alone
 /// decides the blocks.
 pub fn pcg64_parts_are_apart()
-    ensures { (g : Generator) → g.seed < 2 ^ 128 → PartsAreApart (2 ^ 126) (λ n. (after_draws next n g).seed) }
+    ensures { (g : Generator) → g.seed < 2 ^ 128
+        → PartsAreApart (2 ^ 126) (λ n. (after_draws next n g).seed) }
 {
     pcg64_cycles();
 }

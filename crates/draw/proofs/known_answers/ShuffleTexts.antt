@@ -86,13 +86,13 @@ module _ {G : Type 0} (requests : Requests G) (g0 g1 g2 g3 : G) (a b c : ℕ)
 abbrev ordered : List ℕ
 ordered = seeded_state in_order
 
-ordered_choices : (shuffle_choices (plain (chacha_block 20) next_state 64) from_itself 3 ordered ≡ 1 ∷ 2 ∷ 2 ∷ [])
-    × (shuffle_answer (plain (chacha_block 20) next_state 64) from_itself 3 ordered ≡ Ok tt)
+ordered_choices : (shuffle_choices (chacha_requests 20) from_itself 3 ordered ≡ 1 ∷ 2 ∷ 2 ∷ [])
+    × (shuffle_answer (chacha_requests 20) from_itself 3 ordered ≡ Ok tt)
 unfolding quarter_round on_columns on_diagonals rounds block initial_state named words_from value_drawn left_by left_after taken
 ordered_choices =
     let g1 = next_state ordered in let g2 = next_state g1 in let g3 = next_state g2 in (
-      three_choices (plain (chacha_block 20) next_state 64) ordered g1 g2 g3 1 2 2 refl refl refl,
-      three_answer (plain (chacha_block 20) next_state 64) ordered g1 g2 g3 1 2 2 refl refl refl,
+      three_choices (chacha_requests 20) ordered g1 g2 g3 1 2 2 refl refl refl,
+      three_answer (chacha_requests 20) ordered g1 g2 g3 1 2 2 refl refl refl,
     )
 
 text_of_shuffle_in_order : text_asked shuffle_in_order ≡ codes "shuffled" ++ 10 ∷ codes "items: 1 2 0" ++ 10 ∷ []

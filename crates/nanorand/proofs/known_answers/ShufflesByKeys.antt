@@ -5,8 +5,8 @@ use Rattle.std.specs.List.{range_with_len}
 use Rattle.nanorand.specs.generators.Blocks.{taken, plain_after, plain, Requests}
 use Rattle.nanorand.specs.generators.Buffered.{Buffered, buffered, buffer_of, buffered_block, buffered_step, buffered_taken, buffered_after}
 use Rattle.nanorand.specs.generators.ChaChaRounds.{quarter_round, on_columns, on_diagonals, rounds, block}
-use Rattle.nanorand.specs.generators.ChaCha.{chacha_block, chacha_after, next_state, initial_state}
-use Rattle.nanorand.specs.generators.WyRand.{next_seed, wyrand_block}
+use Rattle.nanorand.specs.generators.ChaCha.{chacha_requests, chacha_block, chacha_after, next_state, initial_state}
+use Rattle.nanorand.specs.generators.WyRand.{wyrand_requests, next_seed, wyrand_block}
 use Rattle.std.specs.declared.ops.Bound.TheVariants.{Included, Excluded}
 use Rattle.nanorand.specs.values.Runs.{named}
 use Rattle.nanorand.specs.values.Range.{range_within}
@@ -21,7 +21,7 @@ use Rattle.nanorand.proofs.lemmas.shuffles.PartnerLemmas.{Makes, partner_between
 use Rattle.nanorand.proofs.known_answers.Replays.{goes_on, whole_shuffle}
 
 abbrev plain_requests : Requests (List ℕ)
-plain_requests = plain (chacha_block 20) next_state 64
+plain_requests = chacha_requests 20
 
 -- the key and the nonce in order, a block a partner
 abbrev in_order : ℕ → List ℕ
@@ -99,25 +99,25 @@ replay_of_zero_key =
 abbrev seed_of_zero : ℕ
 seed_of_zero = 0x5f89e29b87429bd1
 
-one_partner : partner_drawn (plain wyrand_block next_seed 8) from_itself 1 0 seed_of_zero ≡ (Ok 0, next_seed seed_of_zero)
+one_partner : partner_drawn wyrand_requests from_itself 1 0 seed_of_zero ≡ (Ok 0, next_seed seed_of_zero)
 unfolding named words_from value_drawn left_by left_after taken
-one_partner = partner_between (plain wyrand_block next_seed 8) from_itself 1 0 seed_of_zero (omega arith) (omega arith) ∙ refl
+one_partner = partner_between wyrand_requests from_itself 1 0 seed_of_zero (omega arith) (omega arith) ∙ refl
 
-one_choice : shuffle_choices (plain wyrand_block next_seed 8) from_itself 1 seed_of_zero ≡ 0 ∷ []
+one_choice : shuffle_choices wyrand_requests from_itself 1 seed_of_zero ≡ 0 ∷ []
 unfolding choices_from
 one_choice = rw one_partner refl
 
-one_answered : shuffle_answer (plain wyrand_block next_seed 8) from_itself 1 seed_of_zero ≡ Ok tt
+one_answered : shuffle_answer wyrand_requests from_itself 1 seed_of_zero ≡ Ok tt
 one_answered = rw one_choice refl
 
-one_word_drawn : shuffle_state (plain wyrand_block next_seed 8) from_itself 1 seed_of_zero ≡ next_seed seed_of_zero
+one_word_drawn : shuffle_state wyrand_requests from_itself 1 seed_of_zero ≡ next_seed seed_of_zero
 unfolding state_after_places
 one_word_drawn =
-    ap (λ choices. state_after_places (plain wyrand_block next_seed 8) from_itself 1 0 (min 1 (length choices + 1)) seed_of_zero) one_choice
+    ap (λ choices. state_after_places wyrand_requests from_itself 1 0 (min 1 (length choices + 1)) seed_of_zero) one_choice
     ∙ ap (λ drawn. drawn.1) one_partner
 
 -- an empty range and that shuffle
-empty_and_shuffle : replayed (plain wyrand_block next_seed 8) seed_of_zero (0 ∷ []) (Range (spans.U8 (Included 5) (Excluded 5)) ∷ Shuffle ∷ [])
+empty_and_shuffle : replayed wyrand_requests seed_of_zero (0 ∷ []) (Range (spans.U8 (Included 5) (Excluded 5)) ∷ Shuffle ∷ [])
     ≡ record { answers = Empty ∷ Shuffled ∷ []; items = 0 ∷ []; state = next_seed seed_of_zero }
 unfolding range_within value_drawn left_by
 empty_and_shuffle = λ i. record {

@@ -2,6 +2,7 @@
 use Rattle.std.specs.Prelude.{ℕ, zero, suc, ◌+◌, ◌*◌, ◌/◌, ◌%◌, ◌^◌, List, [], ◌∷◌, ◌++◌, take, drop, codes, slice_index, slice_set}
 use Rattle.std.specs.Int.{w32, from_le_bytes, to_le_bytes}
 use Rattle.std.specs.List.{flat_map}
+use Rattle.nanorand.specs.generators.Blocks.{Requests, plain}
 use Rattle.nanorand.specs.generators.ChaChaRounds.{block}
 
 -- The words that bytes spell, four bytes a word, least byte first.
@@ -40,6 +41,9 @@ next_state = advanced 1
 -- The next block of a state under R rounds, as 64 bytes.
 abbrev pub chacha_block : ℕ → List ℕ → List ℕ
 chacha_block R x = bytes (block R x)
+
+abbrev pub chacha_requests : ℕ → Requests (List ℕ)
+chacha_requests R = plain (chacha_block R) next_state 64
 
 -- What n draws leave. No draw leaves every list as it is, also one that is no matrix.
 abbrev pub chacha_after : ℕ → List ℕ → List ℕ

@@ -2,6 +2,7 @@
 -- factor and adds the term.
 use Rattle.std.specs.Prelude.{◌≡◌, ◌⊎◌, ℕ, zero, suc, ◌+◌, ◌*◌, ◌%◌, ◌^◌, List}
 use Rattle.std.specs.Int.{w64, to_le_bytes}
+use Rattle.nanorand.specs.generators.Blocks.{Requests, plain}
 use Rattle.nanorand.specs.generators.Halves.{folded}
 use Rattle.nanorand.specs.values.Values.{number_of}
 
@@ -25,6 +26,14 @@ pub record Generator : Type 0 where
   pub state : ℕ
   pub inc : ℕ
 
+-- The generator of a seed, before its first draw.
+abbrev pub initial_generator : ℕ → Generator
+initial_generator seed = record { seed = seed; state = 0; inc = 0 }
+
+-- The generator that a seed of 16 bytes gives: the seed is their number, least byte first.
+abbrev pub seeded_generator : List ℕ → Generator
+seeded_generator seed = initial_generator (number_of seed)
+
 -- The generator after one draw: `state` is the new seed, and `inc` is twice the old seed and one more, modulo 2^128.
 abbrev pub next : Generator → Generator
 next g = record { seed = next_seed g.seed; state = next_seed g.seed; inc = (2 * g.seed + 1) % 2 ^ 128 }
@@ -32,6 +41,9 @@ next g = record { seed = next_seed g.seed; state = next_seed g.seed; inc = (2 * 
 -- The next block: the eight bytes of the new seed's word, least first. The word of a seed is its two halves, xored.
 abbrev pub pcg64_block : Generator → List ℕ
 pcg64_block g = to_le_bytes w64 (folded (next_seed g.seed))
+
+abbrev pub pcg64_requests : Requests Generator
+pcg64_requests = plain pcg64_block next 8
 
 -- What the bytes of a seed leave: their number as the seed, with `state` and `inc` as they were.
 abbrev pub reseeded : Generator → List ℕ → Generator

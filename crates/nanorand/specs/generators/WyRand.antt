@@ -1,6 +1,7 @@
 -- Wyrand. Its state is the seed, a number below 2^64.
 use Rattle.std.specs.Prelude.{ℕ, zero, suc, ◌+◌, ◌*◌, ◌%◌, ◌^◌, List, bit_xor}
 use Rattle.std.specs.Int.{w64, to_le_bytes}
+use Rattle.nanorand.specs.generators.Blocks.{Requests, plain}
 use Rattle.nanorand.specs.generators.Halves.{folded}
 
 -- What one draw adds to the seed.
@@ -17,6 +18,9 @@ word seed = folded (seed * bit_xor seed 0xe7037ed1a0b428db)
 -- The next block: the eight bytes of the new seed's word, least first.
 abbrev pub wyrand_block : ℕ → List ℕ
 wyrand_block seed = to_le_bytes w64 (word (next_seed seed))
+
+abbrev pub wyrand_requests : Requests ℕ
+wyrand_requests = plain wyrand_block next_seed 8
 
 -- The seed after n draws, in one sum.
 abbrev pub seed_after : ℕ → ℕ → ℕ

@@ -64,6 +64,10 @@ pub record Draw (G : Type 0) : Type 0 where
   pub state : G
 
 module _ {G : Type 0} (requests : Requests G) where
+  -- The state after n words of so many bits.
+  abbrev pub after_words : ℕ → ℕ → G → G
+  after_words bits n g = iterate (after_word requests bits) n g
+
   -- A bounded draw below the size, by words of so many bits.
   abbrev pub drawn_below : ℕ → ℕ → G → Draw G
   drawn_below bits size g =

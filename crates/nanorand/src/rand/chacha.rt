@@ -3,8 +3,8 @@ ghost use Rattle.std.specs.Prelude.{◌≡◌, ℕ, ◌%◌, ◌⊎◌, List, �
 ghost use Rattle.std.specs.Fmt.{decimal};
 ghost use Rattle.std.proofs.Common.{rules};
 ghost use Rattle.std.specs.Fn.{iterate};
-ghost use Rattle.nanorand.specs.generators.Blocks.{taken, plain_after, plain};
-ghost use Rattle.nanorand.specs.generators.ChaCha.{initial_state, seeded_state, bytes, counter, chacha_block, next_state, advanced, chacha_after};
+ghost use Rattle.nanorand.specs.generators.Blocks.{taken};
+ghost use Rattle.nanorand.specs.generators.ChaCha.{initial_state, seeded_state, bytes, counter, chacha_block, next_state, advanced, chacha_after, chacha_requests};
 ghost use Rattle.nanorand.specs.generators.ChaChaRounds.{IsMatrix};
 ghost use Rattle.nanorand.specs.support.ChaChaDrawLemmas.{length-chacha_block};
 ghost use Rattle.nanorand.specs.generators.Entropy.{HasFewer, IsMadeOf};
@@ -69,7 +69,8 @@ impl<const ROUNDS: u8> ChaCha<ROUNDS> {
     /// open. `ROUNDS` is even.
     pub fn new<R: Read>(source: &mut R) -> Result<Self, EntropyError>
         requires { ROUNDS % 2 ≡ 0 }
-        ensures made { IfOk result (IsMadeOf 40 seeded_state (R.remaining source.old) (R.remaining source.new)) }
+        ensures made { let old = R.remaining source.old in
+            IfOk result (IsMadeOf 40 seeded_state old (R.remaining source.new)) }
         ensures error { IfErr result (λ e. (e ≡ Short) ⊎ (e ≡ Fault)) }
         ensures short { result ≡ Err Short → HasFewer (R.remaining source.old) 40 }
     {
@@ -158,10 +159,7 @@ impl<const ROUNDS: u8> Blocks<64> for ChaCha<ROUNDS> {
     ghost step = { next_state };
 
     #[inline]
-    fn rand(&mut self) -> [u8; 64]
-        ensures bytes { result ≡ chacha_block ROUNDS self.old }
-        ensures state { self.new ≡ next_state self.old }
-    {
+    fn rand(&mut self) -> [u8; 64] {
         let block = chacha_block::<ROUNDS>(self.state);
         if !chacha_increment_counter(&mut self.state) {
             set_counter(&mut self.state, 0);
@@ -177,13 +175,10 @@ impl<const ROUNDS: u8> Blocks<64> for ChaCha<ROUNDS> {
 }
 
 impl<const ROUNDS: u8> Rng<64> for ChaCha<ROUNDS> {
-    ghost requests = { plain (chacha_block ROUNDS) next_state 64 };
+    ghost requests = { chacha_requests ROUNDS };
 
     /// Whole groups of 256 bytes are worked four blocks side by side.
-    fn fill_bytes(&mut self, buffer: &mut [u8])
-        ensures bytes { buffer.new ≡ taken (chacha_block ROUNDS) next_state self.old (length buffer.old) }
-        ensures state { self.new ≡ plain_after next_state 64 self.old (length buffer.old) }
-    {
+    fn fill_bytes(&mut self, buffer: &mut [u8]) {
         let mut filled = 0;
         'groups: while 256 <= buffer.len() - filled {
             self.fill_group(&mut buffer[filled..filled + 256]);

@@ -1,11 +1,9 @@
 //! Pcg64: 128 bits of seed, and a word of 64 bits a draw.
 ghost use Rattle.std.specs.Prelude.{◌≡◌, length, ◌⊎◌, ⊤, refl, Some, IfOk, IfErr, codes, ℕ, ◌<◌, ◌^◌, ◌↔◌, IsTrue, IsSome, IfSome};
 ghost use Rattle.std.proofs.Common.{rules};
-ghost use Rattle.nanorand.specs.generators.Blocks.{plain_after, taken, plain};
 ghost use Rattle.nanorand.specs.generators.Entropy.{HasFewer, IsMadeOf};
-ghost use Rattle.nanorand.specs.generators.Pcg64.{next, pcg64_after, pcg64_block, reseeded, seed_after, SameCycle};
+ghost use Rattle.nanorand.specs.generators.Pcg64.{seeded_generator, next, pcg64_after, pcg64_block, reseeded, seed_after, SameCycle, initial_generator, pcg64_requests};
 ghost use Rattle.nanorand.specs.generators.DebugTexts.{pcg64_debug};
-ghost use Rattle.nanorand.specs.values.Values.{number_of};
 ghost use Rattle.nanorand.specs.declared.entropy.EntropyError.TheVariants.{Short, Fault};
 
 use crate::entropy::{EntropyError, system};
@@ -59,7 +57,7 @@ impl Pcg64 {
     /// A generator with this seed, before its first draw: `state` and `inc` are 0.
     #[inline]
     pub fn new_seed(seed: u128) -> Self
-        ensures { result ≡ record { seed = seed; state = 0; inc = 0 } }
+        ensures { result ≡ initial_generator seed }
     {
         Pcg64 {
             seed,
@@ -71,8 +69,8 @@ impl Pcg64 {
     /// A generator whose seed is the number of the reader's next 16 bytes, least byte first; `state`
     /// and `inc` are 0. After an error there is no generator, and the place of the reader is open.
     pub fn new<R: Read>(source: &mut R) -> Result<Self, EntropyError>
-        ensures made { IfOk result (IsMadeOf 16 (λ bytes. record { seed = number_of bytes; state = 0; inc = 0 })
-            (R.remaining source.old) (R.remaining source.new)) }
+        ensures made { let old = R.remaining source.old in
+            IfOk result (IsMadeOf 16 seeded_generator old (R.remaining source.new)) }
         ensures error { IfErr result (λ e. (e ≡ Short) ⊎ (e ≡ Fault)) }
         ensures short { result ≡ Err Short → HasFewer (R.remaining source.old) 16 }
     {
@@ -108,7 +106,8 @@ impl Pcg64 {
         ensures reached { IsSome result ↔ SameCycle self.now.seed other.now.seed }
         ensures below { IfSome result (λ n. n < 2 ^ 126) }
         ensures leads { IfSome result (λ n. seed_after n self.now.seed ≡ other.now.seed) }
-        ensures only { (n : ℕ) → n < 2 ^ 126 → seed_after n self.now.seed ≡ other.now.seed → result ≡ Some n }
+        ensures only { (n : ℕ) → n < 2 ^ 126 → seed_after n self.now.seed ≡ other.now.seed
+            → result ≡ Some n }
     {
         if in_one_cycle(self.seed, other.seed) {
             Some(draws_between(self.seed, other.seed))
@@ -165,10 +164,7 @@ impl Blocks<8> for Pcg64 {
     ghost step = { next };
 
     #[inline]
-    fn rand(&mut self) -> [u8; 8]
-        ensures bytes { result ≡ pcg64_block self.old }
-        ensures state { self.new ≡ next self.old }
-    {
+    fn rand(&mut self) -> [u8; 8] {
         self.inc = self.seed.wrapping_mul(2).wrapping_add(1);
         self.seed = self.seed.wrapping_mul(FACTOR).wrapping_add(TERM);
         self.state = self.seed;
@@ -183,13 +179,10 @@ impl Blocks<8> for Pcg64 {
 }
 
 impl Rng<8> for Pcg64 {
-    ghost requests = { plain pcg64_block next 8 };
+    ghost requests = { pcg64_requests };
 
     #[inline]
-    fn fill_bytes(&mut self, buffer: &mut [u8])
-        ensures bytes { buffer.new ≡ taken pcg64_block next self.old (length buffer.old) }
-        ensures state { self.new ≡ plain_after next 8 self.old (length buffer.old) }
-    {
+    fn fill_bytes(&mut self, buffer: &mut [u8]) {
         fill_by_blocks(self, buffer)
     }
 

@@ -1,11 +1,10 @@
 //! Wyrand: 64 bits of seed, and a word of 64 bits a draw.
 ghost use Rattle.std.specs.Prelude.{◌≡◌, length, ◌⊎◌, ⊤, refl, Some, IfOk, IfErr, codes, ℕ, ◌<◌, ◌^◌};
 ghost use Rattle.std.proofs.Common.{rules};
-ghost use Rattle.nanorand.specs.generators.Blocks.{plain_after, taken, plain};
 ghost use Rattle.nanorand.specs.generators.Entropy.{HasFewer, IsMadeOf};
 ghost use Rattle.nanorand.specs.generators.DebugTexts.{wyrand_debug};
 ghost use Rattle.nanorand.specs.values.Values.{number_of};
-ghost use Rattle.nanorand.specs.generators.WyRand.{next_seed, wyrand_block, word, seed_after, wyrand_after};
+ghost use Rattle.nanorand.specs.generators.WyRand.{next_seed, wyrand_block, word, seed_after, wyrand_after, wyrand_requests};
 ghost use Rattle.nanorand.specs.declared.entropy.EntropyError.TheVariants.{Short, Fault};
 
 use crate::entropy::{EntropyError, system};
@@ -59,7 +58,8 @@ impl WyRand {
     /// A generator whose seed is the number of the reader's next 8 bytes, least byte first. After an
     /// error there is no generator, and the place of the reader is open.
     pub fn new<R: Read>(source: &mut R) -> Result<Self, EntropyError>
-        ensures made { IfOk result (IsMadeOf 8 number_of (R.remaining source.old) (R.remaining source.new)) }
+        ensures made { let old = R.remaining source.old in
+            IfOk result (IsMadeOf 8 number_of old (R.remaining source.new)) }
         ensures error { IfErr result (λ e. (e ≡ Short) ⊎ (e ≡ Fault)) }
         ensures short { result ≡ Err Short → HasFewer (R.remaining source.old) 8 }
     {
@@ -132,10 +132,7 @@ impl Blocks<8> for WyRand {
     ghost step = { next_seed };
 
     #[inline]
-    fn rand(&mut self) -> [u8; 8]
-        ensures bytes { result ≡ wyrand_block self.old }
-        ensures state { self.new ≡ next_seed self.old }
-    {
+    fn rand(&mut self) -> [u8; 8] {
         self.seed = self.seed.wrapping_add(INCREMENT);
         word(self.seed).to_le_bytes()
     }
@@ -148,13 +145,10 @@ impl Blocks<8> for WyRand {
 }
 
 impl Rng<8> for WyRand {
-    ghost requests = { plain wyrand_block next_seed 8 };
+    ghost requests = { wyrand_requests };
 
     #[inline]
-    fn fill_bytes(&mut self, buffer: &mut [u8])
-        ensures bytes { buffer.new ≡ taken wyrand_block next_seed self.old (length buffer.old) }
-        ensures state { self.new ≡ plain_after next_seed 8 self.old (length buffer.old) }
-    {
+    fn fill_bytes(&mut self, buffer: &mut [u8]) {
         fill_by_blocks(self, buffer)
     }
 

@@ -1,8 +1,7 @@
 //! Words, and the numbers that they name.
 ghost use Rattle.std.specs.Prelude.{◌≡◌, ℕ, ◌^◌, ◌<◌, ◌≤◌, MatchOption, IfSome, IfNone};
-ghost use Rattle.std.specs.Fn.{iterate};
 ghost use Rattle.nanorand.specs.values.Runs.{IsWordWidth, Names, named, rejected};
-ghost use Rattle.nanorand.specs.values.Draws.{word_limit, next_word, after_word, drawn_below};
+ghost use Rattle.nanorand.specs.values.Draws.{word_limit, next_word, after_word, after_words, drawn_below};
 
 use crate::rand::Rng;
 
@@ -20,7 +19,8 @@ pub fn pick_word(size: u128, bits: u32, word: u64) -> Option<u64>
     requires within { size ≤ 2 ^ bits }
     requires fits { word < 2 ^ bits }
     ensures value { result ≡ named bits size word }
-    ensures names { MatchOption result ((k : ℕ) → ¬ Names bits size word k) (λ k. Names bits size word k) }
+    ensures names { MatchOption result ((k : ℕ) → ¬ Names bits size word k)
+        (λ k. Names bits size word k) }
 {
     if size > u128::from(u64::MAX) {
         return Some(word);
@@ -81,8 +81,8 @@ pub fn draw_below<G: Rng<OUTPUT>, const OUTPUT: usize>(
     ensures below { IfSome result (λ number. number < size) }
     ensures number { result ≡ (drawn_below G.requests bits size rng.old).number }
     ensures state { rng.new ≡ (drawn_below G.requests bits size rng.old).state }
-    ensures words { (n : ℕ) × (n ≤ word_limit) × (rng.new ≡ iterate (after_word G.requests bits) n rng.old) }
-    ensures exhausted { IfNone result (rng.new ≡ iterate (after_word G.requests bits) word_limit rng.old) }
+    ensures words { (n : ℕ) × (n ≤ word_limit) × (rng.new ≡ after_words G.requests bits n rng.old) }
+    ensures exhausted { IfNone result (rng.new ≡ after_words G.requests bits word_limit rng.old) }
 {
     let first = draw_word(rng, bits);
     if let Some(number) = pick_word(size, bits, first) {

@@ -102,7 +102,8 @@ fn mix<const ROUNDS: u8>(x: Lanes) -> Lanes
 // The matrix of each lane.
 #[inline(always)]
 fn matrices(x: Lanes) -> ([u32; 16], [u32; 16], [u32; 16], [u32; 16])
-    ensures { (result.0 ≡ lane 0 x) × (result.1 ≡ lane 1 x) × (result.2 ≡ lane 2 x) × (result.3 ≡ lane 3 x) }
+    ensures { (result.0 ≡ lane 0 x) × (result.1 ≡ lane 1 x) × (result.2 ≡ lane 2 x)
+        × (result.3 ≡ lane 3 x) }
 {
     let [a0, b0, c0, d0] = x[0].to_array();
     let [a1, b1, c1, d1] = x[1].to_array();
@@ -139,7 +140,9 @@ fn matrices(x: Lanes) -> ([u32; 16], [u32; 16], [u32; 16], [u32; 16])
 // The words of two matrices, added.
 #[inline(always)]
 fn sums(x: Lanes, y: Lanes) -> Lanes
-    ensures { (j : ℕ) → j < 4 → lane j result ≡ map (λ k. add (slice_index (lane j x) k) (slice_index (lane j y) k)) (range_with_len 0 16) }
+    ensures { (j : ℕ) → j < 4 →
+        let sum = λ (k : ℕ). add (slice_index (lane j x) k) (slice_index (lane j y) k) in
+        lane j result ≡ map sum (range_with_len 0 16) }
 {
     [
         add(x[0], y[0]),

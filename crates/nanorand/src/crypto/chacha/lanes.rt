@@ -49,7 +49,8 @@ fn mix_diagonals(rows: Rows) -> Rows
 #[inline(always)]
 pub(crate) fn quarter_round(a: u32x4, b: u32x4, c: u32x4, d: u32x4) -> (u32x4, u32x4, u32x4, u32x4)
     ensures { (j : ℕ) → j < 4
-        → (slice_index result.0 j, slice_index result.1 j, slice_index result.2 j, slice_index result.3 j)
+        → (slice_index result.0 j, slice_index result.1 j,
+        slice_index result.2 j, slice_index result.3 j)
         ≡ quarter_round (slice_index a j, slice_index b j, slice_index c j, slice_index d j) }
 {
     let a1 = add(a, b);
@@ -75,7 +76,8 @@ pub(crate) fn add(a: u32x4, b: u32x4) -> u32x4
 #[inline(always)]
 fn xor_rotate(d: u32x4, a: u32x4, n: u32) -> u32x4
     requires { (0 < n) × (n < 32) }
-    ensures { (j : ℕ) → j < 4 → slice_index result j ≡ xor_rotate (slice_index d j) (slice_index a j) n }
+    ensures { (j : ℕ) → j < 4
+        → slice_index result j ≡ xor_rotate (slice_index d j) (slice_index a j) n }
 {
     let x = d ^ a;
     (x << u32x4::splat(n)) | (x >> u32x4::splat(32 - n))

@@ -1,4 +1,5 @@
 use Rattle.std.proofs.Common.{◌≡◌, ℕ, length, ap, rules, ◌∙◌}
+use Rattle.nanorand.specs.generators.Pcg64.{initial_generator}
 use Rattle.nanorand.proofs.lemmas.generators.SeedLemmas.{number_of_16}
 use Rattle.nanorand.proofs.rand.pcg64.Pcg64.new.Goals as goal
 
@@ -6,4 +7,4 @@ pub returns-clause-made : goal.returns-clause-made
 returns-clause-made g c =
     let long : length c.system.new.out ≡ 16 = search rules in
     let seed = c.from_le_bytes.ensures ∙ number_of_16 c.system.new.out long in
-    (c.system.new.out, long, search rules, c.new_seed.ensures ∙ ap (λ (n : ℕ). record { seed = n; state = 0; inc = 0 }) seed)
+    (c.system.new.out, long, search rules, c.new_seed.ensures ∙ ap initial_generator seed)
