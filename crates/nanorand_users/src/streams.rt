@@ -20,7 +20,7 @@ pub trait Skip<const OUTPUT: usize>: Rng<OUTPUT> {
         ensures { self.new ≡ after_draws Self.step draws self.old };
 
     // A word of 64 bits is one draw.
-    ghost one_draw: { (g : Self) → Self.after g 8 ≡ Self.step g };
+    ghost one_draw: { (g : Self) → Self.requests.after g 8 ≡ Self.step g };
 }
 
 impl Skip<8> for WyRand {

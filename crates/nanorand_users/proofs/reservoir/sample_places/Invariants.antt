@@ -1,8 +1,6 @@
 use Rattle.std.proofs.Common.{◌≡◌, ◌≢◌, ℕ, ◌<◌, ◌≤◌, ◌*◌, ◌-◌, length}
-use Rattle.std.specs.Fn.{iterate}
 use Rattle.std.specs.List.{All, AllPairs, range_with_len}
-use Rattle.nanorand.specs.generators.Blocks.{taken}
-use Rattle.nanorand.specs.values.Draws.{after_word}
+use Rattle.nanorand.specs.values.Draws.{after_words}
 use Rattle.nanorand_users.specs.Reservoir.{passed}
 use Rattle.nanorand_users.proofs.reservoir.sample_places.Given as goal
 
@@ -15,5 +13,5 @@ invariant-loop-place g l =
           ≡ passed requests size (l.count - size) l.fn.rng (range_with_len 0 size);
       below : All (λ place. place < l.place) l.chosen;
       apart : AllPairs (λ place other. place ≢ other) l.chosen;
-      words : (n : ℕ) × (n ≤ 128 * (l.place - size)) × (l.rng ≡ iterate (after_word after 64) n l.fn.rng);
+      words : (n : ℕ) × (n ≤ 128 * (l.place - size)) × (l.rng ≡ after_words requests 64 n l.fn.rng);
     }

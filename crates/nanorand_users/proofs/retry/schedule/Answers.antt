@@ -22,5 +22,5 @@ loop-slot-preserved g c =
       state = state_more requests first cap tries k c.loop-slot.rng c.delay.new.rng _ c.loop-slot-test.true so_far.state state;
       half = below_more _ _ (λ j h. let other : j ≢ k = omega arith in rw get_or-set_other (so_far.half j h)) (rw (get_or-set_same, ← so_far.ceiling) c.delay.ensures.half);
       below = below_more _ _ (λ j h. let other : j ≢ k = omega arith in rw get_or-set_other (so_far.below j h)) (rw (get_or-set_same, ← so_far.ceiling) c.delay.ensures.ceiling);
-      words = words_more (after_word after 64) 128 k _ _ _ so_far.words c.delay.ensures.words;
+      words = words_more (after_word requests 64) 128 k _ _ _ so_far.words c.delay.ensures.words;
     }

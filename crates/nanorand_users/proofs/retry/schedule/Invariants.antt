@@ -1,7 +1,5 @@
 use Rattle.std.proofs.Common.{◌≡◌, ℕ, ◌*◌, ◌/◌, ◌-◌, ◌<◌, ◌≤◌, ◌++◌, length, take, slice_index}
-use Rattle.std.specs.Fn.{iterate}
-use Rattle.nanorand.specs.generators.Blocks.{taken}
-use Rattle.nanorand.specs.values.Draws.{after_word}
+use Rattle.nanorand.specs.values.Draws.{after_words}
 use Rattle.nanorand_users.specs.Retry.{ceiling_after, delays_after, state_after_delays}
 use Rattle.nanorand_users.proofs.retry.schedule.Given as goal
 
@@ -18,5 +16,5 @@ invariant-loop-slot g l =
           ≡ state_after_delays requests l.first l.cap 0 tries l.fn.rng;
       half : (j : ℕ) → j < k → ceiling_after l.first l.cap j / 2 ≤ slice_index l.delays j;
       below : (j : ℕ) → j < k → slice_index l.delays j ≤ ceiling_after l.first l.cap j;
-      words : (n : ℕ) × (n ≤ 128 * k) × (l.rng ≡ iterate (after_word after 64) n l.fn.rng);
+      words : (n : ℕ) × (n ≤ 128 * k) × (l.rng ≡ after_words requests 64 n l.fn.rng);
     }
