@@ -1,4 +1,4 @@
--- Worked rows of whole texts with shuffles, whose partners come from ranges of 64 bits.
+-- Known answers: whole texts with shuffles, whose choices are drawn from ranges of `u64`.
 use Rattle.std.proofs.Common.{◌≡◌, ℕ, zero, suc, ◌+◌, ◌-◌, ◌^◌, ◌≤◌, List, [], ◌∷◌, ◌++◌, Ok, codes, filter, map, nat_le, nat_lt, replicate, refl, ap, ◌∙◌, arith}
 use Rattle.std.specs.Prelude.{◌&&◌, drop}
 use Rattle.std.specs.Fmt.{digits}
@@ -19,7 +19,7 @@ use Rattle.nanorand.specs.declared.replay.Answer.TheVariants.{Empty}
 use Rattle.draw.specs.Text.{text_of, text_asked}
 use Rattle.draw.proofs.known_answers.CommandLines.{empty_and_shuffle, shuffle_in_order, shuffle_of_zeros, in_order}
 
--- past the high bound a range has no numbers, so it ends without a walk through all of them
+-- Past its high bound a range has no numbers, so it is computed without listing all 2^64.
 none_past : (low end a n : ℕ) → end ≤ a → filter (λ x. nat_le low x && nat_lt x end) (map unsigned_number (range_with_len a n)) ≡ []
 none_past low end a zero past = refl
 none_past low end a (suc n) past = rw (and_right (nat_le low a) (nat_lt a end) (le-ltb a end past)) (none_past low end (a + 1) n (omega arith))
@@ -40,7 +40,7 @@ from_2 : (bits more : ℕ) → 2 ^ bits ≡ suc (suc (suc more)) → unsigned_ra
 unfolding range_within
 from_2 bits more size = rw size (ap (λ rest. 2 ∷ rest) (none_past 2 3 3 more (omega arith)))
 
--- one item of wyrand
+-- One item, shuffled by wyrand.
 one_partner : partner_drawn (taken wyrand_block next_seed) (plain_after next_seed 8) from_itself 1 0 0x5f89e29b87429bd1 ≡ (Ok 0, next_seed 0x5f89e29b87429bd1)
 unfolding partner_drawn named words_from value_drawn left_by left_after taken
 one_partner =
@@ -58,7 +58,7 @@ unfolding digits range_within value_drawn left_by
 text_of_empty_and_shuffle =
     (λ i. text_of (record { answers = Empty ∷ shuffle_call_answer (one_answer i) ∷ []; items = arranged (one_choice i) (0 ∷ []) })) ∙ refl
 
--- three items by three partners
+-- Three items, shuffled by three choices.
 module _ {G : Type 0} (bytes : G → ℕ → List ℕ) (after : G → ℕ → G) (g0 g1 g2 g3 : G) (a b c : ℕ)
     (x : range_outcome bytes after 64 (0 ∷ 1 ∷ 2 ∷ []) g0 ≡ (Ok a, g1))
     (y : range_outcome bytes after 64 (1 ∷ 2 ∷ []) g1 ≡ (Ok b, g2))
@@ -82,7 +82,7 @@ module _ {G : Type 0} (bytes : G → ℕ → List ℕ) (after : G → ℕ → G)
   three_answer : shuffle_answer bytes after from_itself 3 g0 ≡ Ok tt
   three_answer = rw three_choices refl
 
--- the key and the nonce in order, a block a partner
+-- The key 00 01 .. 1f and the nonce 00 01 .. 07, plain: each choice takes a block.
 abbrev ordered : List ℕ
 ordered = seeded_state in_order
 
@@ -100,7 +100,7 @@ unfolding digits
 text_of_shuffle_in_order =
     (λ i. text_of (record { answers = shuffle_call_answer (ordered_choices.1 i) ∷ []; items = arranged (ordered_choices.0 i) (0 ∷ 1 ∷ 2 ∷ []) })) ∙ refl
 
--- the zero key and nonce, buffered: three partners of one block
+-- The zero key and nonce, buffered: one block gives all three choices.
 abbrev kept_taken : Buffered (List ℕ) → ℕ → List ℕ
 kept_taken = taken (buffered_block (chacha_block 20) next_state 64) (buffered_step (chacha_block 20) next_state 64)
 
