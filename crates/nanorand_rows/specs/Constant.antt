@@ -1,6 +1,6 @@
 -- A generator of one byte.
 use Rattle.std.specs.Prelude.{ℕ, List, replicate}
-use Rattle.nanorand_rows.specs.declared.constant.Constant.{Constant}
+use Rattle.nanorand_rows.specs.declared.generators.constant.Constant.{Constant}
 use Rattle.nanorand_rows.specs.Steps.{next_count}
 
 -- Each block is that byte, eight times.

@@ -1,6 +1,6 @@
 -- A generator of numbered streams, whose clone is another stream.
 use Rattle.std.specs.Prelude.{ℕ, ◌+◌, ◌%◌, List, [], ◌∷◌}
-use Rattle.nanorand_rows.specs.declared.forking.Forking.{Forking}
+use Rattle.nanorand_rows.specs.declared.generators.forking.Forking.{Forking}
 use Rattle.nanorand_rows.specs.Steps.{next_count}
 
 -- A block has the number of its stream and its own number, in turns.

@@ -1,4 +1,5 @@
-//! Proved callers, one for each use. The page `CALLING.md` of the library quotes them.
+//! Proved callers of the library, one for each use; they need no proof of their own. `CALLING.md`
+//! quotes them. Larger callers have a module each.
 ghost use Rattle.std.specs.Prelude.{◌≡◌, ◌≤◌, ◌+◌, ◌++◌, [], length, MatchResult, IsPermutation};
 ghost use Rattle.std.specs.declared.ops.Bound.TheVariants.{Included};
 ghost use Rattle.nanorand.specs.generators.Blocks.{plain_after, taken};
@@ -9,6 +10,11 @@ ghost use Rattle.nanorand.specs.replay.Replay.{replayed};
 ghost use Rattle.nanorand.specs.shuffles.Shuffles.{from_itself, shuffle_answer};
 ghost use Rattle.nanorand.specs.values.Values.{number_of};
 ghost use Rattle.nanorand.specs.generators.WyRand.{next_seed, wyrand_block};
+
+pub mod die;
+pub mod examples;
+pub mod nested;
+pub mod rounds;
 
 use nanorand::laws::{pcg64_cycles, unbroken_delivery};
 use nanorand::replay::{Answer, Call, replay};

@@ -1,7 +1,7 @@
 //! Clones that are another stream than their original.
 
 use crate::Forking;
-use crate::forking::{fill_from_clone, parts_of_clone};
+use crate::generators::forking::{fill_from_clone, parts_of_clone};
 use nanorand::{Blocks, BufferedRng, Rng};
 use std::test::Fail;
 

@@ -2,11 +2,11 @@
 
 ghost use Rattle.std.specs.Prelude.{◌≡◌, ◌%◌};
 
-use crate::in_place::{block_in_place, rounds_in_place};
-use crate::rounds::{
+use crate::callers::rounds::{
     back_and_there, blocks_of_even_rounds, first_block_of_eight_rounds, second_block,
     there_and_back,
 };
+use crate::references::in_place::{block_in_place, rounds_in_place};
 use hex::FromHex;
 use nanorand::crypto::chacha::{
     chacha_block, chacha_increment_counter, chacha_init, chacha_rounds, chacha_unrounds,

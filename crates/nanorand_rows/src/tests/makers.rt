@@ -1,7 +1,7 @@
 //! Entropy readers where they cannot fail: slices of many sizes, and each generator that is made.
 ghost use Rattle.std.specs.Prelude.{◌≡◌, ◌%◌};
 
-use crate::readers::Pieces;
+use crate::generators::readers::Pieces;
 use nanorand::entropy::{EntropyError, system};
 use nanorand::{Blocks, ChaCha, Pcg64, WyRand};
 use std::alloc::{AllocError, Global};
@@ -11,7 +11,7 @@ use std::test::Fail;
 const SIZES: [usize; 10] = [0, 1, 2, 7, 8, 63, 64, 65, 4096, 70_000];
 
 // The bytes 0, 1, .., 250 over and over.
-pub(crate) fn counted(alloc: Global, count: usize) -> Result<Vec<u8>, AllocError> {
+pub fn counted(alloc: Global, count: usize) -> Result<Vec<u8>, AllocError> {
     let mut bytes = Vec::with_capacity(alloc, count)?;
     for place in 0..count {
         bytes.push((place % 251) as u8)?;

@@ -1,6 +1,6 @@
 use Rattle.std.proofs.Common.{◌+◌, ◌*◌, ◌%◌, ◌<◌, arith}
 use Rattle.std.proofs.lemmas.List.FromFn.{fill_by_all}
-use Rattle.nanorand_rows.proofs.rising.rising.Goals as goal
+use Rattle.nanorand_rows.proofs.generators.rising.rising.Goals as goal
 
 pub returns : goal.returns
 returns g c =

@@ -5,7 +5,7 @@ use nanorand::replay::{Answer, Call, Kind, Span, replay};
 use std::ops::Bound;
 
 // A byte, a byte of a small range, a shuffle and a truth value.
-pub(crate) fn calls() -> [Call; 4] {
+pub fn calls() -> [Call; 4] {
     [
         Call::Gen(Kind::U8),
         Call::Range(Span::U8(Bound::Included(10), Bound::Included(12))),

@@ -1,5 +1,5 @@
 use Rattle.std.proofs.Common.{ap, slice_index_or}
-use Rattle.nanorand_rows.proofs.forking.streams_differ.Goals as goal
+use Rattle.nanorand_rows.proofs.generators.forking.streams_differ.Goals as goal
 
 -- The first byte of a block is the number of its stream.
 pub returns : goal.returns

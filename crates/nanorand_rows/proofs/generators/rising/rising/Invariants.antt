@@ -1,5 +1,5 @@
 use Rattle.std.proofs.Common.{◌≡◌, ℕ, ◌+◌, ◌*◌, ◌%◌, ◌<◌, length, get_or}
-use Rattle.nanorand_rows.proofs.rising.rising.Given as goal
+use Rattle.nanorand_rows.proofs.generators.rising.rising.Given as goal
 
 -- the bytes so far are written
 abbrev pub invariant-loop-i : goal.invariant-loop-i

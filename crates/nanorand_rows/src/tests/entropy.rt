@@ -1,6 +1,6 @@
 //! Rows of the entropy readers, and of generators that are made from them.
 
-use crate::readers::Pieces;
+use crate::generators::readers::Pieces;
 use hex::FromHex;
 use nanorand::entropy::{EntropyError, backup, rdseed, system};
 use nanorand::{Blocks, ChaCha8, ChaCha12, ChaCha20, Pcg64, WyRand};

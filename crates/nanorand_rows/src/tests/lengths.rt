@@ -1,7 +1,7 @@
 //! Requests of many lengths, of plain and of buffered generators, against blocks drawn one by one.
 ghost use Rattle.std.specs.Prelude.{◌≤◌};
 
-use crate::makers::counted;
+use super::makers::counted;
 use crate::{Bytes64, Steps};
 use nanorand::{BufferedRng, ChaCha8, ChaCha12, ChaCha20, Pcg64, Rng, WyRand};
 use std::alloc::AllocError;

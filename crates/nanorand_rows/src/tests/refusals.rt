@@ -1,7 +1,7 @@
 //! Memory that is refused.
 
+use super::makers::counted;
 use crate::Steps;
-use crate::makers::counted;
 use nanorand::{BufferedRng, ChaCha20, Rng, WyRand};
 use refusing::Refusing;
 use std::alloc::{AllocError, Allocator};

@@ -1,7 +1,7 @@
 use Rattle.std.proofs.Common.{length}
 use Rattle.nanorand.specs.generators.Buffered.{buffer_of}
 use Rattle.nanorand_rows.specs.Forking.{forked}
-use Rattle.nanorand_rows.proofs.forking.fill_from_clone.Goals as goal
+use Rattle.nanorand_rows.proofs.generators.forking.fill_from_clone.Goals as goal
 
 -- The clone is the pair of the bytes that are kept and the next stream, and it delivers without a break.
 pub returns-clause-bytes : goal.returns-clause-bytes

@@ -3,7 +3,7 @@ ghost use Rattle.std.specs.Prelude.{◌≡◌, ◌<◌, refl, length, OnOk, IfOk
 ghost use Rattle.std.proofs.Common.{rules};
 ghost use Rattle.nanorand.specs.generators.Blocks.{plain_after};
 ghost use Rattle.nanorand.specs.generators.Buffered.{buffer_of, buffered_taken};
-ghost use Rattle.nanorand_rows.specs.declared.forking.Forking.{Forking};
+ghost use Rattle.nanorand_rows.specs.declared.generators.forking.Forking.{Forking};
 ghost use Rattle.nanorand_rows.specs.Forking.{forked, forking_block, forking_step};
 
 use nanorand::laws::unbroken_delivery;

@@ -1,6 +1,6 @@
 //! Buffered generators.
 
-use crate::replays::calls;
+use super::replays::calls;
 use crate::{Steps, Zeros};
 use nanorand::buffer::TextRefused;
 use nanorand::replay::{Answer, Call, Kind, replay};
