@@ -22,7 +22,7 @@ use nanorand::values::range::draw_number;
 use nanorand::{BufferedRng, Pcg64, RangeError, Rng, WyRand};
 use std::ops::Bound;
 
-/// The first word of a seed.
+/// The first `u64` of a seed of WyRand.
 pub fn ticket(seed: u64) -> u64
     ensures { result ≡ number_of (taken wyrand_block next_seed seed 8) }
 {
@@ -30,7 +30,7 @@ pub fn ticket(seed: u64) -> u64
     rng.generate::<u64>()
 }
 
-/// A throw of a die, from any generator. It is 1 where 128 words in a row were rejected.
+/// A throw of a die, from any generator: a number from 1 to 6, and 1 if the range draw fails.
 pub fn throw<G: Rng<OUTPUT>, const OUTPUT: usize>(rng: &mut G) -> u8
     ensures face { (1 ≤ result) × (result ≤ 6) }
     ensures thrown { MatchResult (unsigned_outcome (taken G.block G.step) G.after 8 rng.old (Included 1) (Included 6)).0 (λ pips. result ≡ pips) (λ _. result ≡ 1) }
@@ -41,7 +41,7 @@ pub fn throw<G: Rng<OUTPUT>, const OUTPUT: usize>(rng: &mut G) -> u8
     }
 }
 
-/// Shuffles a pack of cards. None is lost and none is made, also where the shuffle is refused.
+/// Shuffles a pack of cards. The result is a permutation of the cards, also if the shuffle fails.
 pub fn shuffle_cards(seed: u64, cards: &mut [u8]) -> Result<(), RangeError>
     ensures pack { IsPermutation cards.old cards.new }
     ensures answer { result ≡ shuffle_answer (taken wyrand_block next_seed) (plain_after next_seed 8) from_itself (length cards.old) seed }
@@ -50,7 +50,7 @@ pub fn shuffle_cards(seed: u64, cards: &mut [u8]) -> Result<(), RangeError>
     rng.shuffle(cards)
 }
 
-/// Fills two slices from a buffer. Together they hold what one request of both sizes gives.
+/// Fills two slices from a buffer. Together they hold what one request of both lengths gives.
 pub fn fill_two<G: Rng<OUTPUT>, const OUTPUT: usize>(
     rng: &mut BufferedRng<G, OUTPUT>,
     first: &mut [u8],
@@ -63,7 +63,7 @@ pub fn fill_two<G: Rng<OUTPUT>, const OUTPUT: usize>(
     rng.fill_bytes(second);
 }
 
-/// Makes the calls twice from one seed, with no items: the answers are equal.
+/// Replays the calls twice from one seed, with no items. The answers are equal.
 pub fn play_twice(seed: u64, calls: &[Call], first: &mut [Answer], second: &mut [Answer])
     requires first { length first.old ≡ length calls.now }
     requires second { length second.old ≡ length calls.now }
@@ -76,7 +76,7 @@ pub fn play_twice(seed: u64, calls: &[Call], first: &mut [Answer], second: &mut 
     replay(&mut rng, calls, &mut [], second);
 }
 
-/// Jumps twice. One jump of the sum would leave the same.
+/// Jumps twice, with the result of one jump by the sum.
 pub fn skip_twice(rng: &mut Pcg64, first: u64, second: u64)
     ensures { rng.new ≡ pcg64_after (first + second) rng.old }
 {
@@ -85,7 +85,7 @@ pub fn skip_twice(rng: &mut Pcg64, first: u64, second: u64)
     rng.jump(u128::from(second));
 }
 
-/// Leads a generator to the seed of another one.
+/// Advances a generator to the seed of another.
 pub fn catch_up(rng: &mut WyRand, other: &WyRand)
     ensures { rng.new ≡ other.now }
 {

@@ -1,5 +1,5 @@
-//! Generators, and a reader, whose bytes are known. Each generator has its contract proved, so a test
-//! of the library on it is a test on a generator that the library does not know.
+//! Generators, and a reader, whose bytes are known. Each generator keeps the contract of `Rng`, and
+//! none of them is known to the library.
 
 pub mod constant;
 pub mod forking;

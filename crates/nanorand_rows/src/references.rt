@@ -1,5 +1,5 @@
-//! Other bodies for the same results, by simpler or older methods, which tests compare with those of
-//! the library.
+//! Other bodies for the same results, by simpler or older methods. Tests compare the library with
+//! them.
 
 #[cfg(test)]
 mod counting;

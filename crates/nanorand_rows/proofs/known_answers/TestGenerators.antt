@@ -1,4 +1,4 @@
--- Worked rows of the test generators and of the die, computed from the definitions alone.
+-- Known answers of the test generators and of the die, computed from the definitions alone.
 use Rattle.std.specs.Prelude.{◌≡◌, ℕ, ◌-◌, ◌^◌, List, [], ◌∷◌, ◌++◌, replicate, Ok, refl}
 use Rattle.std.specs.List.{range_with_len}
 use Rattle.std.specs.declared.ops.Bound.TheVariants.{Included, Unbounded}
@@ -20,7 +20,7 @@ use Rattle.nanorand_rows.specs.Waste.{waste_after}
 use Rattle.nanorand_rows.specs.Zeros.{zeros_block}
 use Rattle.nanorand_rows.specs.Die.{die_value, die_after, die_bound}
 
--- the first, the second and the last block of rising bytes, and what comes behind the last
+-- `Steps`: the first, the second and the last block, and the count after the last.
 steps_from_0 : steps_block 0 ≡ range_with_len 0 8
 steps_from_0 = refl
 
@@ -63,7 +63,7 @@ byte_of_each_64 : replayed (taken (rising_block 64) next_count) (plain_after nex
 unfolding taken
 byte_of_each_64 = refl
 
--- a script of 128 zeros and a one, whose range is refused
+-- A script of 128 zeros and a one. The range draw fails.
 abbrev late_one : List ℕ
 late_one = replicate 128 0 ++ 1 ∷ []
 

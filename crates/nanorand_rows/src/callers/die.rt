@@ -1,4 +1,4 @@
-//! A value type of a user's own.
+//! A user's own value type: a die.
 ghost use Rattle.std.specs.Prelude.{◌≡◌, ◌≤◌};
 ghost use Rattle.nanorand.specs.generators.Blocks.{taken};
 ghost use Rattle.nanorand.specs.values.Draws.{unsigned_outcome};
@@ -9,13 +9,13 @@ use nanorand::{RandomGen, RandomRange, RangeError, Rng};
 use std::marker::Model;
 use std::ops::Bound;
 
-/// A number of 1 to 6.
+/// A number from 1 to 6.
 #[derive(Drop)]
 pub struct Die {
     pips: u8,
 }
 
-// A die is its number.
+// A die is modelled by its number.
 impl Model for Die {
     ghost use Rattle.std.specs.Prelude.{ℕ, ◌≤◌};
 
@@ -27,7 +27,7 @@ impl Model for Die {
 }
 
 impl Die {
-    /// A die that shows this number, of 1 to 6.
+    /// A die that shows this number.
     pub fn new(pips: u8) -> Self
         requires { (1 ≤ pips) × (pips ≤ 6) }
         ensures { result ≡ pips }
@@ -44,7 +44,7 @@ impl Die {
     }
 }
 
-/// A throw: the byte range 1..=6, and 1 where 128 words in a row were rejected.
+/// A throw: a byte of the range 1..=6, and 1 if 128 words in a row were rejected.
 impl<G: Rng<OUTPUT>, const OUTPUT: usize> RandomGen<G, OUTPUT> for Die {
     ghost value = { die_value (taken G.block G.step) G.after };
 
@@ -58,7 +58,7 @@ impl<G: Rng<OUTPUT>, const OUTPUT: usize> RandomGen<G, OUTPUT> for Die {
     }
 }
 
-/// The byte range of the bounds' numbers. Unbounded ends are 1 and 6.
+/// A byte of the range with the numbers of the bounds. An unbounded end is 1 or 6.
 impl<G: Rng<OUTPUT>, const OUTPUT: usize> RandomRange<G, OUTPUT> for Die {
     ghost outcome = { λ g low high. unsigned_outcome (taken G.block G.step) G.after 8 g (die_bound 1 low) (die_bound 6 high) };
 
@@ -73,7 +73,7 @@ impl<G: Rng<OUTPUT>, const OUTPUT: usize> RandomRange<G, OUTPUT> for Die {
     }
 }
 
-// The bound's number, or the end of a die.
+// The bound's number, or `last` for an unbounded one.
 fn pips_bound(bound: Bound<Die>, last: u8) -> Bound<u8>
     requires { (1 ≤ last) × (last ≤ 6) }
     ensures value { result ≡ die_bound last bound }

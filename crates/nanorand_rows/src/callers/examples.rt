@@ -1,4 +1,4 @@
-//! The examples of the README, and each of them called.
+//! The examples of the README, and a test that calls each.
 
 use nanorand::entropy::EntropyError;
 use nanorand::{BufferedRng, RangeError, Rng, WyRand};

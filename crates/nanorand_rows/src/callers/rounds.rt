@@ -1,28 +1,29 @@
-//! Callers of ChaCha that meet its condition: an even number of rounds.
+//! Callers of ChaCha that meet its precondition: an even number of rounds.
 ghost use Rattle.std.specs.Prelude.{◌≡◌, ◌%◌};
 ghost use Rattle.nanorand.specs.generators.ChaCha.{chacha_block, next_state};
 
 use nanorand::crypto::chacha::{chacha_block, chacha_rounds, chacha_unrounds};
 use nanorand::{Blocks, ChaCha};
 
-/// Blocks of no rounds, of 8 and of the most rounds that there are, one of another.
+/// Chains blocks of 0, 8 and 254 rounds; 254 is the greatest even number of rounds.
 ///
-/// It promises nothing, so that only the condition on the rounds can refuse an odd number.
+/// It has no clause, so that only the precondition on the rounds can refuse an odd number.
 pub fn blocks_of_even_rounds(input: [u32; 16]) -> [u32; 16] {
     let first = chacha_block::<0>(input);
     let second = chacha_block::<8>(first);
     chacha_block::<254>(second)
 }
 
-/// A generator of 8 rounds.
+/// The first block of a generator with 8 rounds.
 ///
-/// It promises nothing, so that only the condition on the rounds can refuse an odd number.
+/// It has no clause, so that only the precondition on the rounds can refuse an odd number.
 pub fn first_block_of_eight_rounds(key: [u8; 32], nonce: [u8; 8]) -> [u8; 64] {
     let mut generator = ChaCha::<8>::new_key(key, nonce);
     generator.rand()
 }
 
-/// The second block of a generator. That its rounds are even is a fact of its type.
+/// The second block of a generator. It has no precondition: the type `ChaCha` says that the rounds
+/// are even.
 pub fn second_block<const ROUNDS: u8>(generator: &mut ChaCha<ROUNDS>) -> [u8; 64]
     ensures { result ≡ chacha_block ROUNDS (next_state generator.old) }
 {
@@ -30,7 +31,7 @@ pub fn second_block<const ROUNDS: u8>(generator: &mut ChaCha<ROUNDS>) -> [u8; 64
     generator.rand()
 }
 
-/// The rounds done, and then undone.
+/// The rounds, and then their inverse.
 pub fn there_and_back<const ROUNDS: u8>(input: [u32; 16]) -> [u32; 16]
     requires { ROUNDS % 2 ≡ 0 }
     ensures { result ≡ input }
@@ -38,7 +39,7 @@ pub fn there_and_back<const ROUNDS: u8>(input: [u32; 16]) -> [u32; 16]
     chacha_unrounds::<ROUNDS>(chacha_rounds::<ROUNDS>(input))
 }
 
-/// The rounds undone, and then done.
+/// The inverse of the rounds, and then the rounds.
 pub fn back_and_there<const ROUNDS: u8>(output: [u32; 16]) -> [u32; 16]
     requires { ROUNDS % 2 ≡ 0 }
     ensures { result ≡ output }

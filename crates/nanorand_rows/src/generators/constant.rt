@@ -1,4 +1,4 @@
-//! Blocks of eight equal bytes.
+//! A generator of one byte.
 ghost use Rattle.std.specs.Prelude.{◌≡◌, ⊤, refl, replicate};
 ghost use Rattle.std.proofs.Common.{rules};
 ghost use Rattle.nanorand.specs.generators.Blocks.{plain_after};
@@ -8,7 +8,7 @@ use nanorand::rand::fill_by_blocks;
 use nanorand::{Blocks, Rng};
 use std::alloc::AllocError;
 
-/// Gives one byte for ever.
+/// A generator whose bytes are all equal.
 #[derive(Drop)]
 pub struct Constant {
     pub byte: u8,
@@ -16,7 +16,7 @@ pub struct Constant {
 }
 
 impl Constant {
-    /// A fresh generator of this byte.
+    /// A new generator of this byte.
     pub fn new(byte: u8) -> Self
         ensures { result ≡ record { byte = byte; drawn = 0 } }
     {

@@ -1,4 +1,4 @@
-//! Numbered streams, of which a clone begins another one.
+//! A generator of numbered streams, whose clone is another stream.
 ghost use Rattle.std.specs.Prelude.{◌≡◌, ◌<◌, refl, length, OnOk, IfOk, IsOk};
 ghost use Rattle.std.proofs.Common.{rules};
 ghost use Rattle.nanorand.specs.generators.Blocks.{plain_after};
@@ -11,10 +11,11 @@ use nanorand::rand::fill_by_blocks;
 use nanorand::{Blocks, BufferedRng, Rng};
 use std::alloc::AllocError;
 
-/// Gives as each block the number of its stream and the block's own number, in turns.
+/// A generator whose blocks hold, alternating, the number of the stream and the number of the block
+/// modulo 256.
 ///
-/// A clone is not equal: it is the next stream, at the same block. Behind stream 255 there is none,
-/// and the clone is refused.
+/// A clone is not equal to its original: it is the next stream, at the same block. After stream 255
+/// there is none, and `clone` fails.
 #[derive(Drop)]
 pub struct Forking {
     pub stream: u8,
@@ -22,7 +23,7 @@ pub struct Forking {
 }
 
 impl Forking {
-    /// A fresh generator of this stream.
+    /// A new generator of this stream.
     pub fn new(stream: u8) -> Self
         ensures { result ≡ record { stream = stream; drawn = 0 } }
     {
@@ -75,12 +76,13 @@ impl Rng<8> for Forking {
     ghost after_block = { λ _. refl };
 }
 
-/// No block of one stream is a block of another.
+/// A block belongs to one stream alone.
 pub fn streams_differ()
     ensures { (g h : Forking) → forking_block g ≡ forking_block h → g.stream ≡ h.stream }
 {}
 
-/// What a clone of a buffer holds: as many bytes as the buffer keeps, and a clone of its generator.
+/// The parts of a clone of a buffer: the number of its buffered bytes, which is the original's, and
+/// its inner generator, which is a clone of the original's.
 pub fn parts_of_clone<G: Rng<OUTPUT> + Drop, const OUTPUT: usize>(
     rng: &BufferedRng<G, OUTPUT>,
 ) -> Result<(usize, G), AllocError>
@@ -93,8 +95,8 @@ pub fn parts_of_clone<G: Rng<OUTPUT> + Drop, const OUTPUT: usize>(
     Ok((kept, copy.into_inner()))
 }
 
-/// Fills the slice from a clone: first the bytes that the buffer keeps, then those of the next
-/// stream.
+/// Fills the slice from a clone of the buffer: first the buffered bytes, then those of the next
+/// stream. Fails if the inner generator is stream 255.
 pub fn fill_from_clone(rng: &BufferedRng<Forking, 8>, out: &mut [u8]) -> Result<(), AllocError>
     ensures bytes { OnOk result (out.new ≡ buffered_taken forking_block forking_step 8
         (buffer_of rng.now.rest (forked rng.now.inner)) (length out.old)) }

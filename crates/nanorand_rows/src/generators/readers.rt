@@ -1,9 +1,9 @@
-//! Readers of known bytes, which give them in pieces, end early, or fail.
+//! A reader of known bytes, which gives them in pieces, ends early, or fails.
 
 use std::io;
 use std::io::{ErrorKind, Read};
 
-/// Gives the bytes at most so many at a time. At the end it gives none.
+/// A reader that gives its bytes, at most `piece` of them at a read, and then 0 bytes.
 ///
 /// `fault` is the number of a read that fails, counted from 0, and the kind of its error.
 #[derive(Drop)]
@@ -15,7 +15,7 @@ pub struct Pieces<'a> {
 }
 
 impl<'a> Pieces<'a> {
-    /// Gives the bytes at most so many at a time.
+    /// A reader of these bytes, at most `piece` at a read.
     pub fn of(bytes: &'a [u8], piece: usize) -> Pieces<'a> {
         Pieces {
             bytes,
@@ -25,7 +25,7 @@ impl<'a> Pieces<'a> {
         }
     }
 
-    /// The same, but the read of that number fails, counted from 0.
+    /// A reader of these bytes whose read of that number, counted from 0, fails.
     pub fn failing(bytes: &'a [u8], piece: usize, read: u64, kind: ErrorKind) -> Pieces<'a> {
         Pieces {
             bytes,
@@ -35,12 +35,12 @@ impl<'a> Pieces<'a> {
         }
     }
 
-    /// How many bytes are left.
+    /// The number of bytes not yet read.
     pub fn left(&self) -> usize {
         self.bytes.len()
     }
 
-    /// How many reads were made.
+    /// The number of reads so far.
     pub fn reads(&self) -> u64 {
         self.reads
     }

@@ -1,4 +1,4 @@
-//! The bytes 0, 1, 2, .. in blocks of one byte and of 64.
+//! Generators of the bytes 0, 1, 2, .. in blocks of one byte and of 64.
 ghost use Rattle.std.specs.Prelude.{◌≡◌, ◌^◌, ◌<◌, ⊤, refl};
 ghost use Rattle.std.proofs.Common.{rules};
 ghost use Rattle.nanorand.specs.generators.Blocks.{plain_after};
@@ -11,13 +11,13 @@ use nanorand::{Blocks, Rng};
 use std::alloc::AllocError;
 use std::marker::Model;
 
-/// Gives the bytes 0, 1, 2, .. modulo 256, each as a block of its own.
+/// A generator of the bytes 0, 1, 2, .. modulo 256, in blocks of one byte.
 #[derive(Drop)]
 pub struct Bytes1 {
     drawn: u64,
 }
 
-/// Gives the bytes 0, 1, 2, .. modulo 256, in blocks of 64.
+/// A generator of the bytes 0, 1, 2, .. modulo 256, in blocks of 64 bytes.
 #[derive(Drop)]
 pub struct Bytes64 {
     drawn: u64,
@@ -40,14 +40,14 @@ impl Model for Bytes64 {
 }
 
 impl Bytes1 {
-    /// A fresh generator.
+    /// A new generator.
     pub fn new() -> Self
         ensures { result ≡ 0 }
     {
         Bytes1 { drawn: 0 }
     }
 
-    /// How many blocks were drawn, modulo 2^64.
+    /// The number of blocks drawn so far, modulo 2^64.
     pub fn drawn(&self) -> u64
         ensures { result ≡ self.now }
     {
@@ -56,14 +56,14 @@ impl Bytes1 {
 }
 
 impl Bytes64 {
-    /// A fresh generator.
+    /// A new generator.
     pub fn new() -> Self
         ensures { result ≡ 0 }
     {
         Bytes64 { drawn: 0 }
     }
 
-    /// How many blocks were drawn, modulo 2^64.
+    /// The number of blocks drawn so far, modulo 2^64.
     pub fn drawn(&self) -> u64
         ensures { result ≡ self.now }
     {
@@ -151,7 +151,7 @@ impl Rng<64> for Bytes64 {
     ghost after_block = { λ _. refl };
 }
 
-// Block number `drawn` of so many bytes.
+// Block number `drawn`, of SIZE bytes.
 fn rising<const SIZE: usize>(drawn: u64) -> [u8; SIZE]
     requires { SIZE < 2 ^ 63 }
     ensures { result ≡ rising_block SIZE drawn }

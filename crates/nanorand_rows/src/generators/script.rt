@@ -1,4 +1,4 @@
-//! Blocks of eight equal bytes, by a list.
+//! A generator of the bytes of a list.
 ghost use Rattle.std.specs.Prelude.{◌≡◌, ⊤, refl};
 ghost use Rattle.std.proofs.Common.{rules};
 ghost use Rattle.nanorand.specs.generators.Blocks.{plain_after};
@@ -9,14 +9,14 @@ use nanorand::{Blocks, Rng};
 use std::alloc::AllocError;
 use std::marker::Model;
 
-/// Gives as block n eight bytes equal to number n of a list, and blocks of zeros after the list.
+/// A generator whose block n is item n of a list, eight times. After the list its blocks are zeros.
 #[derive(Drop)]
 pub struct Script<'a> {
     bytes: &'a [u8],
     drawn: u64,
 }
 
-// A generator is its list and the number of its blocks so far, modulo 2^64.
+// The model is the list and the number of blocks drawn so far, modulo 2^64.
 impl<'a> Model for Script<'a> {
     ghost use Rattle.std.specs.Prelude.{ℕ, List};
 
@@ -26,14 +26,14 @@ impl<'a> Model for Script<'a> {
 }
 
 impl<'a> Script<'a> {
-    /// A fresh generator of these bytes.
+    /// A new generator of these bytes.
     pub fn new(bytes: &'a [u8]) -> Self
         ensures { result ≡ (bytes.now, 0) }
     {
         Script { bytes, drawn: 0 }
     }
 
-    /// How many blocks were drawn, modulo 2^64.
+    /// The number of blocks drawn so far, modulo 2^64.
     pub fn drawn(&self) -> u64
         ensures { result ≡ self.now.1 }
     {

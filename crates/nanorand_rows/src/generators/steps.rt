@@ -1,4 +1,4 @@
-//! The bytes 0, 1, 2, .. in blocks of eight.
+//! A generator of the bytes 0, 1, 2, .. in blocks of eight.
 ghost use Rattle.std.specs.Prelude.{◌≡◌, ⊤, refl};
 ghost use Rattle.std.proofs.Common.{rules};
 ghost use Rattle.nanorand.specs.generators.Blocks.{plain_after};
@@ -9,13 +9,13 @@ use nanorand::{Blocks, Rng};
 use std::alloc::AllocError;
 use std::marker::Model;
 
-/// Gives the bytes 0, 1, 2, .. modulo 256, by the number of the blocks that it has given.
+/// A generator of the bytes 0, 1, 2, .. modulo 256, in blocks of eight bytes.
 #[derive(Drop)]
 pub struct Steps {
     drawn: u64,
 }
 
-// A generator is the number of its blocks so far, modulo 2^64.
+// The model is the number of blocks drawn so far, modulo 2^64.
 impl Model for Steps {
     ghost use Rattle.std.specs.Prelude.{ℕ};
 
@@ -25,14 +25,14 @@ impl Model for Steps {
 }
 
 impl Steps {
-    /// A fresh generator.
+    /// A new generator.
     pub fn new() -> Self
         ensures { result ≡ 0 }
     {
         Steps { drawn: 0 }
     }
 
-    /// How many blocks were drawn, modulo 2^64.
+    /// The number of blocks drawn so far, modulo 2^64.
     pub fn drawn(&self) -> u64
         ensures { result ≡ self.now }
     {

@@ -1,4 +1,4 @@
-//! The bytes 0, 1, 2, .. with a block dropped at most requests.
+//! A generator that drops a block after most requests.
 ghost use Rattle.std.specs.Prelude.{◌≡◌, ⊤, refl};
 ghost use Rattle.std.proofs.Common.{rules};
 ghost use Rattle.nanorand_rows.specs.Steps.{next_count, steps_block};
@@ -10,14 +10,14 @@ use nanorand::{Blocks, RandomGen, Rng};
 use std::alloc::AllocError;
 use std::marker::Model;
 
-/// Gives the blocks of `Steps`. A request of another size than 0 or 8 draws one block more than a
-/// plain generator does, and drops it.
+/// A generator with the blocks of `Steps`. A request of any number of bytes but 0 and 8 draws one
+/// block more than a plain generator does, and drops it.
 #[derive(Drop)]
 pub struct Waste {
     steps: Steps,
 }
 
-// A generator is the number of its blocks so far, modulo 2^64.
+// The model is the number of blocks drawn so far, modulo 2^64.
 impl Model for Waste {
     ghost use Rattle.std.specs.Prelude.{ℕ};
 
@@ -27,7 +27,7 @@ impl Model for Waste {
 }
 
 impl Waste {
-    /// A fresh generator.
+    /// A new generator.
     pub fn new() -> Self
         ensures { result ≡ 0 }
     {
@@ -36,7 +36,7 @@ impl Waste {
         }
     }
 
-    /// How many blocks were drawn, modulo 2^64.
+    /// The number of blocks drawn so far, modulo 2^64.
     pub fn drawn(&self) -> u64
         ensures { result ≡ self.now }
     {
@@ -83,7 +83,7 @@ impl Rng<8> for Waste {
         }
     }
 
-    // A body in the place of the trait's is held to the same clauses.
+    // An override of a provided method has to keep the trait's clauses.
     fn generate<T: RandomGen<Waste, 8>>(&mut self) -> T {
         T::random(self)
     }

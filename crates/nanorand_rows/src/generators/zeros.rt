@@ -1,4 +1,4 @@
-//! Zeros for ever, whose words name nothing unless the size of a range divides their number.
+//! A generator of zeros. The word 0 is rejected by every range whose size is no power of two.
 ghost use Rattle.std.specs.Prelude.{◌≡◌, ⊤, refl};
 ghost use Rattle.std.proofs.Common.{rules};
 ghost use Rattle.nanorand.specs.generators.Blocks.{plain_after};
@@ -10,13 +10,13 @@ use nanorand::{Blocks, Rng};
 use std::alloc::AllocError;
 use std::marker::Model;
 
-/// Gives zeros for ever, and counts its blocks.
+/// A generator of zeros that counts its blocks.
 #[derive(Drop)]
 pub struct Zeros {
     drawn: u64,
 }
 
-// A generator is the number of its blocks so far, modulo 2^64.
+// The model is the number of blocks drawn so far, modulo 2^64.
 impl Model for Zeros {
     ghost use Rattle.std.specs.Prelude.{ℕ};
 
@@ -26,14 +26,14 @@ impl Model for Zeros {
 }
 
 impl Zeros {
-    /// A fresh generator.
+    /// A new generator.
     pub fn new() -> Self
         ensures { result ≡ 0 }
     {
         Zeros { drawn: 0 }
     }
 
-    /// How many blocks were drawn, modulo 2^64.
+    /// The number of blocks drawn so far, modulo 2^64.
     pub fn drawn(&self) -> u64
         ensures { result ≡ self.now }
     {

@@ -1,23 +1,23 @@
-//! Arrangements, told by counting.
+//! Permutations, recognized by counting: each number below the length occurs once.
 ghost use Rattle.std.specs.Prelude.{◌≡◌, ◌≤◌};
 ghost use Rattle.nanorand.specs.shuffles.Arrangements.{copies};
 
 use nanorand::shuffles::choices_of;
 use std::process::Abort;
 
-// How often a number stands in a list.
+// The number of times that a number occurs in a list.
 fn copies_of(number: usize, numbers: &[usize]) -> usize
     ensures { result ≡ copies number numbers.now }
 {
     numbers.iter().filter(|other| **other == number).count()
 }
 
-// Whether each number below the length stands in the list once.
+// Whether each number below the length occurs once.
 fn holds_each_once(numbers: &[usize]) -> bool {
     (0..numbers.len()).all(|number| copies_of(number, numbers) == 1)
 }
 
-// The last digits of a number to the base, which is one more than there are digits.
+// The last digits of a number in base n + 1, where n is the number of digits, least digit first.
 fn write_digits(number: usize, digits: &mut [usize]) {
     let base = digits.len().wrapping_add(1).max(1);
     let mut left = number;
@@ -27,9 +27,9 @@ fn write_digits(number: usize, digits: &mut [usize]) {
     }
 }
 
-// Each of the lists of N numbers from 0 to N has choices exactly if it holds each number below N
-// once, and so many do.
-fn told_by_counting<const N: usize>(rt: &impl Abort, lists: usize, arrangements: usize)
+// Checks all lists of N numbers from 0 to N: `choices_of` succeeds exactly if each number below N
+// occurs once. `permutations` is the number of such lists.
+fn check_by_counting<const N: usize>(rt: &impl Abort, lists: usize, permutations: usize)
     requires { N ≤ 4 }
 {
     let mut found = 0usize;
@@ -43,16 +43,16 @@ fn told_by_counting<const N: usize>(rt: &impl Abort, lists: usize, arrangements:
             found = found.wrapping_add(1);
         }
     }
-    assert_eq!(rt; found, arrangements);
+    assert_eq!(rt; found, permutations);
 }
 
 #[test]
-fn arrangements_told_by_counting(rt: HostRuntime) {
-    told_by_counting::<0>(&rt, 1, 1);
-    told_by_counting::<1>(&rt, 2, 1);
-    told_by_counting::<2>(&rt, 9, 2);
-    told_by_counting::<3>(&rt, 64, 6);
-    told_by_counting::<4>(&rt, 625, 24);
+fn permutations_by_counting(rt: HostRuntime) {
+    check_by_counting::<0>(&rt, 1, 1);
+    check_by_counting::<1>(&rt, 2, 1);
+    check_by_counting::<2>(&rt, 9, 2);
+    check_by_counting::<3>(&rt, 64, 6);
+    check_by_counting::<4>(&rt, 625, 24);
 }
 
 #[test]

@@ -1,4 +1,4 @@
-//! ChaCha's rounds and block worked in place, word by word: a second opinion on those of the library.
+//! ChaCha's rounds and block computed in place, one 32-bit word at a time.
 ghost use Rattle.std.specs.Prelude.{◌<◌};
 
 /// The rounds alone, without the final addition of the input.
@@ -11,7 +11,7 @@ pub fn rounds_in_place<const ROUNDS: u8>(input: [u32; 16]) -> [u32; 16] {
     x
 }
 
-/// The rounds, and then the input added word by word.
+/// The rounds, and then the input added to each word.
 pub fn block_in_place<const ROUNDS: u8>(input: [u32; 16]) -> [u32; 16] {
     let mut x = rounds_in_place::<ROUNDS>(input);
     for i in 0..16 {
@@ -20,7 +20,7 @@ pub fn block_in_place<const ROUNDS: u8>(input: [u32; 16]) -> [u32; 16] {
     x
 }
 
-// The quarter round of each column.
+// A quarter round on each column.
 #[inline(always)]
 fn mix_columns(x: &mut [u32; 16]) {
     mix_line(x, 0, 4, 8, 12);
@@ -29,7 +29,7 @@ fn mix_columns(x: &mut [u32; 16]) {
     mix_line(x, 3, 7, 11, 15);
 }
 
-// The quarter round of each diagonal.
+// A quarter round on each diagonal.
 #[inline(always)]
 fn mix_diagonals(x: &mut [u32; 16]) {
     mix_line(x, 0, 5, 10, 15);
@@ -38,7 +38,7 @@ fn mix_diagonals(x: &mut [u32; 16]) {
     mix_line(x, 3, 4, 9, 14);
 }
 
-// The quarter round of the words on a line of the matrix, in place.
+// A quarter round on the words at four indices, in place.
 #[inline(always)]
 fn mix_line(x: &mut [u32; 16], a: usize, b: usize, c: usize, d: usize)
     requires { (a < 16) × (b < 16) × (c < 16) × (d < 16) }

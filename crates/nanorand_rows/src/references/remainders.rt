@@ -1,4 +1,5 @@
-//! The number that a word names, with a remainder each time: a second opinion of `pick_word`.
+//! The number that a word of N bits names, by a remainder for each word. `pick_word` is compared
+//! with it.
 ghost use Rattle.std.specs.Prelude.{◌^◌, ◌<◌, ◌≤◌};
 ghost use Rattle.nanorand.specs.values.Runs.{IsWordWidth};
 

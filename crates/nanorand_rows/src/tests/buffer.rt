@@ -1,4 +1,4 @@
-//! Buffered generators.
+//! Buffered generators: requests, reads, reseeding, clones and replays.
 
 use super::replays::calls;
 use crate::{Steps, Zeros};
@@ -10,7 +10,7 @@ use std::io::Read;
 use std::process::Abort;
 use std::test::Fail;
 
-// A buffer over Steps after five bytes.
+// A buffer around `Steps` that has given five bytes.
 fn after_five() -> BufferedRng<Steps, 8> {
     let mut rng = BufferedRng::new(Steps::new());
     let mut five = [0u8; 5];
@@ -31,7 +31,7 @@ fn requests_go_on(rt: HostRuntime) {
 }
 
 #[test]
-fn what_is_left_stays(rt: HostRuntime) {
+fn unused_bytes_stay_buffered(rt: HostRuntime) {
     let mut wyrand = BufferedRng::new(WyRand::new_seed(42));
     let mut five = [0u8; 5];
     wyrand.fill(&mut five);
@@ -124,7 +124,7 @@ fn a_replay_goes_on(rt: HostRuntime) {
     assert_eq!(rt; rng.into_inner().drawn(), 4);
 }
 
-// A clone that was taken after five bytes goes on as its original does.
+// A clone made after five bytes continues as its original does.
 fn clone_goes_on<G: Rng<OUTPUT> + Drop, const OUTPUT: usize>(
     rt: &impl Abort,
     mut rng: BufferedRng<G, OUTPUT>,

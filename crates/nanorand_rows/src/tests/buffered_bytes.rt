@@ -1,11 +1,11 @@
-//! A buffer that keeps the end of its last block: the bytes of one request after another.
+//! The number of buffered bytes after one request and another.
 
 use crate::Steps;
 use nanorand::{BufferedRng, Rng};
 use std::test::Fail;
 
 #[test]
-fn requests_and_what_is_kept(rt: HostRuntime) -> Result<(), Fail> {
+fn requests_and_buffered_bytes(rt: HostRuntime) -> Result<(), Fail> {
     let mut buffer = BufferedRng::new(Steps::new());
     assert_eq!(rt; buffer.buffered(), 0);
     assert_eq!(rt; buffer.generate::<u8>(), 0);
@@ -28,17 +28,18 @@ fn requests_and_what_is_kept(rt: HostRuntime) -> Result<(), Fail> {
     assert_eq!(rt; buffer.buffered(), 2);
     assert_eq!(rt; buffer.clone()?.into_inner().drawn(), 3);
 
-    let mut kept = Vec::new(rt.alloc());
-    assert_eq!(rt; buffer.read_to_end(&mut kept), Ok(2));
-    assert_eq!(rt; kept.as_slice(), [22, 23].as_slice());
+    let mut rest = Vec::new(rt.alloc());
+    assert_eq!(rt; buffer.read_to_end(&mut rest), Ok(2));
+    assert_eq!(rt; rest.as_slice(), [22, 23].as_slice());
     assert_eq!(rt; buffer.buffered(), 0);
     assert_eq!(rt; buffer.into_inner().drawn(), 3);
     Ok(())
 }
 
-// A request that ends with a block keeps nothing, and one of nothing draws nothing.
+// A request that ends with its last block leaves no buffered bytes. A request of 0 bytes draws no
+// block.
 #[test]
-fn whole_blocks_keep_nothing(rt: HostRuntime) {
+fn whole_blocks_leave_nothing_buffered(rt: HostRuntime) {
     let mut buffer = BufferedRng::new(Steps::new());
     let mut bytes = [0; 16];
     buffer.fill_bytes(&mut bytes);

@@ -1,4 +1,4 @@
-//! Rows of ChaCha: published vectors, the counter and the texts.
+//! Known-answer tests of ChaCha: published vectors, the counter and the texts.
 
 ghost use Rattle.std.specs.Prelude.{◌≡◌, ◌%◌};
 
@@ -19,7 +19,7 @@ const KEY: &str = "000102030405060708090a0b0c0d0e0f101112131415161718191a1b1c1d1
 
 const NONCE: &str = "0001020304050607";
 
-// A key, a nonce, and the blocks of 20 rounds from the counter 0 on.
+// A key, a nonce, and the blocks of 20 rounds from counter 0 on.
 const VECTORS: [(&str, &str, &[&str]); 4] = [
     (
         "0000000000000000000000000000000000000000000000000000000000000000",
@@ -54,23 +54,23 @@ const VECTORS: [(&str, &str, &[&str]); 4] = [
     ),
 ];
 
-// A vector of which only the first 60 bytes are given.
+// A vector with only the first 60 bytes of its block.
 const SHORT_NONCE: [u8; 8] = [0, 0, 0, 0, 0, 0, 0, 1];
 
 const SHORT_BLOCK: &str =
     "de9cba7bf3d69ef5e786dc63973f653a0b49e015adbff7134fcb7df137821031e85a050278a7084527214f73efc7fa5b5277062eb7a0433e445f41e3";
 
-// The words of a block as bytes, least byte first.
+// The bytes of 32-bit words, little-endian.
 fn bytes_of(words: &[u32; 16]) -> [u8; 64] {
     let mut bytes = [0; 64];
-    for place in 0..64 {
-        bytes[place] = words[place / 4].to_le_bytes()[place % 4];
+    for i in 0..64 {
+        bytes[i] = words[i / 4].to_le_bytes()[i % 4];
     }
     bytes
 }
 
-// The published vectors. Here the generator gives them too, where the Rust crate's test has them of the
-// block function alone.
+// The published vectors, from the block function and from the generator. The test of the same name
+// in the Rust crate has them from the block function alone.
 #[test]
 fn test_ietf_chacha20_test_vectors(rt: HostRuntime) -> Result<(), Fail> {
     for (key, nonce, blocks) in VECTORS {
@@ -109,7 +109,8 @@ fn rounds_and_blocks(rt: HostRuntime) -> Result<(), Fail> {
     Ok(())
 }
 
-// The rounds and the block are those of the second opinion, and the rounds undone are the state again.
+// The rounds and the block equal those computed in place, and the inverse of the rounds gives the
+// state back.
 fn check_rounds<const ROUNDS: u8>(rt: &impl Abort, state: [u32; 16])
     requires { ROUNDS % 2 ≡ 0 }
 {
@@ -189,8 +190,8 @@ fn jumps(rt: HostRuntime) -> Result<(), Fail> {
     Ok(())
 }
 
-// After the last block of the counter's low half its high half is one more, and after the last block of all the first
-// one comes again.
+// When the low half of the counter overflows, the high half grows by one. After the greatest
+// counter the stream starts again.
 #[test]
 fn ends_of_the_counter(rt: HostRuntime) {
     let start = chacha_init([0; 32], [0; 8]);
@@ -205,7 +206,7 @@ fn ends_of_the_counter(rt: HostRuntime) {
     }
 }
 
-// The first published block comes again after the last block of all, through a buffer too.
+// After the block of the greatest counter, the first published block comes again, also in a buffer.
 #[test]
 fn a_buffer_over_the_end_of_the_counter(rt: HostRuntime) -> Result<(), Fail> {
     let first = <[u8; 64] as FromHex>::from_hex(VECTORS[0].2[0])?;
@@ -221,7 +222,7 @@ fn a_buffer_over_the_end_of_the_counter(rt: HostRuntime) -> Result<(), Fail> {
     Ok(())
 }
 
-// A clone, a reseeded generator and a generator of the same key and nonce give the same numbers.
+// A generator, its clone, and one reseeded with the same key and nonce give the same numbers.
 #[test]
 fn equal_keys_give_equal_numbers(rt: HostRuntime) -> Result<(), Fail> {
     let seed = <[u8; 40] as FromHex>::from_hex(

@@ -1,4 +1,4 @@
-//! Choices and the arrangements that they make.
+//! Choices, and the permutations that they make.
 ghost use Rattle.std.specs.Prelude.{◌≤◌};
 
 use nanorand::shuffles::{NotArrangement, apply_choices, choices_of};
@@ -20,7 +20,7 @@ fn lists_and_their_choices(rt: HostRuntime) {
     assert_eq!(rt; choices_of(&[], &mut [], &mut []), Ok(()));
 }
 
-// The six valid lists of three choices, and the arrangements of 0, 1, 2 that they make.
+// The six valid lists of three choices, and the permutations of 0, 1, 2 that they make.
 #[test]
 fn three_choices(rt: HostRuntime) {
     let rows = [
@@ -45,7 +45,7 @@ fn three_choices(rt: HostRuntime) {
     }
 }
 
-// The last digits of a number to the base five.
+// The last digits of a number in base five, least digit first.
 fn write_digits(number: usize, digits: &mut [usize]) {
     let mut left = number;
     for digit in digits.iter_mut() {
@@ -54,16 +54,16 @@ fn write_digits(number: usize, digits: &mut [usize]) {
     }
 }
 
-// 0, 1, 2 and so on.
-fn write_places(items: &mut [usize]) {
-    for (place, item) in items.iter_mut().enumerate() {
-        *item = place;
+// Writes 0, 1, 2, ..
+fn write_indices(items: &mut [usize]) {
+    for (index, item) in items.iter_mut().enumerate() {
+        *item = index;
     }
 }
 
-// Each of the lists of N numbers from 0 to 4, of which so many are arrangements: their choices make
-// them, and what the choices make has these choices.
-fn undone<const N: usize>(rt: &impl Abort, lists: usize, arrangements: usize)
+// Checks all lists of N numbers from 0 to 4. `choices_of` and `apply_choices` are inverse to each
+// other on those that are permutations of 0, 1, .., N - 1, and `permutations` is their number.
+fn check_inverse<const N: usize>(rt: &impl Abort, lists: usize, permutations: usize)
     requires { N ≤ 5 }
 {
     let mut found = 0usize;
@@ -74,7 +74,7 @@ fn undone<const N: usize>(rt: &impl Abort, lists: usize, arrangements: usize)
         if let Ok(()) = choices_of(&order, &mut choices, &mut [9; N]) {
             found = found.wrapping_add(1);
             let mut items = [0; N];
-            write_places(&mut items);
+            write_indices(&mut items);
             apply_choices(&choices, &mut items);
             assert_eq!(rt; items, order);
             let mut again = [9; N];
@@ -82,17 +82,17 @@ fn undone<const N: usize>(rt: &impl Abort, lists: usize, arrangements: usize)
             assert_eq!(rt; again, choices);
         }
     }
-    assert_eq!(rt; found, arrangements);
+    assert_eq!(rt; found, permutations);
 }
 
 #[test]
 fn each_undoes_the_other(rt: HostRuntime) {
-    undone::<0>(&rt, 1, 1);
-    undone::<1>(&rt, 5, 1);
-    undone::<2>(&rt, 25, 2);
-    undone::<3>(&rt, 125, 6);
-    undone::<4>(&rt, 625, 24);
-    undone::<5>(&rt, 3125, 120);
+    check_inverse::<0>(&rt, 1, 1);
+    check_inverse::<1>(&rt, 5, 1);
+    check_inverse::<2>(&rt, 25, 2);
+    check_inverse::<3>(&rt, 125, 6);
+    check_inverse::<4>(&rt, 625, 24);
+    check_inverse::<5>(&rt, 3125, 120);
 }
 
 #[test]

@@ -1,4 +1,4 @@
-//! What the small types derive: clones, copies, comparisons and the texts of Debug.
+//! The derived `Clone`, `Copy`, `PartialEq` and `Debug` of the small types.
 
 use nanorand::buffer::TextRefused;
 use nanorand::entropy::EntropyError;
@@ -10,7 +10,7 @@ use std::fmt;
 use std::process::Abort;
 use std::test::Fail;
 
-// Each variant of a type with its text.
+// Each variant of `Kind`, with its text.
 const KINDS: [(Kind, &str); 13] = [
     (Kind::I8, "I8"),
     (Kind::I16, "I16"),
@@ -58,25 +58,25 @@ const ENTROPY_ERRORS: [(EntropyError, &str); 3] = [
     (EntropyError::Unavailable, "Unavailable"),
 ];
 
-// The value at a place is equal to no other value of the rows.
-fn is_equal_to_itself_alone<T: Eq>(rt: &impl Abort, rows: &[(T, &str)], place: usize, value: &T) {
-    for (other_place, (other, text)) in rows.iter().enumerate() {
-        assert_eq!(rt; value == other, place == other_place, "{place} and {text}");
-        assert_eq!(rt; value != other, place != other_place, "{place} and {text}");
+// The value at the index equals no other value of the rows.
+fn check_equality<T: Eq>(rt: &impl Abort, rows: &[(T, &str)], index: usize, value: &T) {
+    for (other_index, (other, text)) in rows.iter().enumerate() {
+        assert_eq!(rt; value == other, index == other_index, "{index} and {text}");
+        assert_eq!(rt; value != other, index != other_index, "{index} and {text}");
     }
 }
 
-// Two copies and a clone are equal to the value, which has the text of its row.
+// Two copies and a clone equal the value, and its `Debug` text is that of its row.
 fn check<T: Copy + Eq + fmt::Debug + Drop>(
     rt: &(impl Abort + AllocGlobal),
     rows: &[(T, &str)],
 ) -> Result<(), AllocError> {
-    for (place, (value, text)) in rows.iter().enumerate() {
+    for (index, (value, text)) in rows.iter().enumerate() {
         let (first, second) = (*value, *value);
         assert_eq!(rt; first, second);
         assert_eq!(rt; value.clone()?, first);
         assert_eq!(rt; format!(in rt.alloc(); "{value:?}")?.as_str(), *text);
-        is_equal_to_itself_alone(rt, rows, place, value);
+        check_equality(rt, rows, index, value);
     }
     Ok(())
 }

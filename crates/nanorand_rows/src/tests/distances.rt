@@ -1,4 +1,5 @@
-//! Rows of distances. A body that tries every number of draws would not end on most of them.
+//! Known-answer tests of distances. A body that tries each number of draws would take too long on
+//! most of them.
 
 use nanorand::{Pcg64, WyRand};
 use std::alloc::AllocError;
@@ -7,7 +8,7 @@ use std::test::Fail;
 
 const FIRST: u128 = 0x3b1dd060ff2fd1e09624b94fc0ada4df;
 
-// The seed stands in Debug's text, where it comes first.
+// The generator has this seed, and its `Debug` text begins with it.
 fn is_at_seed(
     rt: &(impl Abort + AllocGlobal),
     pcg64: &Pcg64,
@@ -71,7 +72,7 @@ fn of_pcg64_by_parity(rt: HostRuntime) {
     }
 }
 
-// `state` and `inc` play no part.
+// The distance depends on the seeds alone, not on `state` and `inc`.
 #[test]
 fn of_pcg64_after_draws(rt: HostRuntime) {
     let mut drawn = Pcg64::new_seed(5);
@@ -83,7 +84,7 @@ fn of_pcg64_after_draws(rt: HostRuntime) {
     );
 }
 
-// A jump of the distance leads to the second seed.
+// A jump by the distance leads to the second seed.
 #[test]
 fn jumps_of_distances(rt: HostRuntime) -> Result<(), Fail> {
     for (start, end) in [
@@ -105,7 +106,7 @@ fn jumps_of_distances(rt: HostRuntime) -> Result<(), Fail> {
     Ok(())
 }
 
-// Of the seeds below 8 draws lead from each to itself and to what it lacks of 7.
+// Among the seeds 0 to 7, draws lead from seed s to s and to 7 - s, and to no other.
 #[test]
 fn four_cycles(rt: HostRuntime) -> Result<(), Fail> {
     for start in [0, 1, 2, 3, 4, 5, 6, 7] {

@@ -1,4 +1,4 @@
-//! Rows of the entropy readers, and of generators that are made from them.
+//! Known-answer tests of the entropy readers, and of the generators made from them.
 
 use crate::generators::readers::Pieces;
 use hex::FromHex;
@@ -8,14 +8,14 @@ use std::io::ErrorKind;
 use std::process::Abort;
 use std::test::Fail;
 
-// A key of 32 bytes and a nonce of 8, and the first block of ChaCha with 20 rounds under them.
+// A key of 32 bytes and a nonce of 8 bytes, and their first block of ChaCha with 20 rounds.
 const KEY_AND_NONCE: &str =
     "000102030405060708090a0b0c0d0e0f101112131415161718191a1b1c1d1e1f0001020304050607";
 
 const FIRST_BLOCK: &str =
     "f798a189f195e66982105ffb640bb7757f579da31602fc93ec01ac56f85ac3c134a4547b733b46413042c9440049176905d3be59ea1c53f15916155c2be8241a";
 
-// The kinds of errors that the readers fail with, an interruption among them.
+// The kinds of errors with which the readers fail. `Interrupted` is one of them.
 const FAULTS: [ErrorKind; 3] = [
     ErrorKind::Interrupted,
     ErrorKind::WouldBlock,
@@ -33,7 +33,7 @@ enum Made {
     ChaCha20,
 }
 
-// Each with the number of bytes that it takes.
+// Each of them, with the number of bytes that it takes.
 const MAKERS: [(Made, usize); 6] = [
     (Made::Bytes, 11),
     (Made::WyRand, 8),
@@ -43,7 +43,7 @@ const MAKERS: [(Made, usize); 6] = [
     (Made::ChaCha20, 40),
 ];
 
-// The outcome of making it, without what was made.
+// Whether making it succeeds.
 fn outcome_of(made: Made, source: &mut Pieces) -> Result<(), EntropyError> {
     match made {
         Made::Bytes => system(source, &mut [0; 11]),
@@ -55,11 +55,11 @@ fn outcome_of(made: Made, source: &mut Pieces) -> Result<(), EntropyError> {
     }
 }
 
-// The bytes 1, 2, 3, .. of a source.
+// The bytes 1 to 50.
 fn counted() -> [u8; 50] {
     let mut bytes = [0; 50];
-    for place in 0..50 {
-        bytes[place] = place as u8 + 1;
+    for i in 0..50 {
+        bytes[i] = i as u8 + 1;
     }
     bytes
 }
@@ -113,7 +113,7 @@ fn generators_of_the_next_bytes(rt: HostRuntime) -> Result<(), Fail> {
     Ok(())
 }
 
-// Exactly the bytes that are needed are taken, by one at a time and by seven.
+// Exactly the bytes that are needed are taken from the reader, in pieces of one and of seven.
 #[test]
 fn bytes_taken(rt: HostRuntime) {
     let bytes = counted();
@@ -126,7 +126,7 @@ fn bytes_taken(rt: HostRuntime) {
     }
 }
 
-// A reader that ends after each number of bytes below the full one.
+// A reader that ends after any number of bytes that is too small.
 #[test]
 fn short(rt: HostRuntime) {
     let bytes = counted();
@@ -141,7 +141,8 @@ fn short(rt: HostRuntime) {
     }
 }
 
-// A reader that fails at each of its reads. Where it fails after the last that is made, none is met.
+// A reader that fails at one of its reads. A failure after the last read that is needed is never
+// met.
 #[test]
 fn fault(rt: HostRuntime) {
     let bytes = counted();
@@ -159,7 +160,7 @@ fn fault(rt: HostRuntime) {
 }
 
 #[test]
-fn sources_that_are_not_there(rt: HostRuntime) {
+fn unavailable_sources(rt: HostRuntime) {
     let mut out = [9, 9];
     assert_eq!(rt; rdseed(&mut out), None);
     assert_eq!(rt; out, [9, 9]);

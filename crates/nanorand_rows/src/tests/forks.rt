@@ -1,4 +1,4 @@
-//! Clones that are another stream than their original.
+//! Clones that are not equal to their original, and a buffer around such a generator.
 
 use crate::Forking;
 use crate::generators::forking::{fill_from_clone, parts_of_clone};
@@ -18,7 +18,7 @@ fn a_clone_gives_the_next_stream(rt: HostRuntime) -> Result<(), Fail> {
     Ok(())
 }
 
-// A buffer over the stream 7 after five bytes.
+// A buffer around stream 7 that has given five bytes.
 fn after_five() -> BufferedRng<Forking, 8> {
     let mut rng = BufferedRng::new(Forking::new(7));
     for _ in 0..5 {
@@ -27,7 +27,7 @@ fn after_five() -> BufferedRng<Forking, 8> {
     rng
 }
 
-// The bytes that are kept are the original's in both, and what comes behind them is each one's own.
+// Both have the buffered bytes of the original; after them each continues with its own stream.
 #[test]
 fn a_buffer_keeps_the_bytes_of_its_original(rt: HostRuntime) -> Result<(), Fail> {
     let mut original = after_five();
@@ -46,18 +46,22 @@ fn a_buffer_keeps_the_bytes_of_its_original(rt: HostRuntime) -> Result<(), Fail>
     Ok(())
 }
 
-// The clone of the last stream is refused, and so is that of a buffer over it, whatever it keeps. No
-// other clone is.
+// `clone` fails for the last stream, and for a buffer around it with any number of buffered bytes.
+// It succeeds for all other streams.
 #[test]
 fn a_buffer_is_cloned_where_its_generator_is(rt: HostRuntime) {
     for stream in 0..=255 {
         let mut rng = BufferedRng::new(Forking::new(stream));
-        for kept in [0, 7, 6, 5, 4, 3, 2, 1] {
-            assert_eq!(rt; rng.buffered(), kept);
-            assert_eq!(rt; rng.clone().is_ok(), stream < 255, "{stream} and {kept}");
+        for buffered in [0, 7, 6, 5, 4, 3, 2, 1] {
+            assert_eq!(rt; rng.buffered(), buffered);
+            assert_eq!(rt;
+                rng.clone().is_ok(),
+                stream < 255,
+                "{stream} and {buffered}"
+            );
             assert_eq!(rt;
                 rng.generate::<u8>(),
-                if kept % 2 == 0 { stream } else { 0 }
+                if buffered % 2 == 0 { stream } else { 0 }
             );
         }
     }

@@ -1,4 +1,4 @@
-//! Shuffles with partners from all places.
+//! `shuffle_full`, which draws each partner from all indices.
 
 use crate::{Script, Steps, Zeros};
 use nanorand::shuffles::shuffle_full;
@@ -39,7 +39,7 @@ fn refused_by_zeros(rt: HostRuntime) {
 }
 
 #[test]
-fn refused_at_the_second_place(rt: HostRuntime) {
+fn refused_at_the_second_draw(rt: HostRuntime) {
     let mut script = Script::new(&[255]);
     let mut letters = ['a', 'b', 'c'];
     assert_eq!(rt;
@@ -58,7 +58,7 @@ fn nothing_to_shuffle(rt: HostRuntime) {
     assert_eq!(rt; steps.drawn(), 0);
 }
 
-// A byte, a byte of a small range, a shuffle of all places and a truth value, one by one.
+// A byte, a byte of a small range, a full shuffle and a `bool`, drawn one by one.
 fn one_by_one<G: Rng<OUTPUT>, const OUTPUT: usize>(rt: &impl Abort, rng: &mut G) {
     let mut items = [7, 8, 9];
     assert_eq!(rt; rng.generate::<u8>(), 0);

@@ -1,4 +1,4 @@
-//! Fills of ChaCha, which work four blocks side by side, against its blocks one at a time.
+//! Fills of ChaCha, which compute four blocks at a time, compared with its blocks one at a time.
 
 use nanorand::rand::fill_by_blocks;
 use nanorand::{Blocks, ChaCha8, ChaCha20, Rng};
@@ -6,7 +6,7 @@ use std::test::Fail;
 
 const LENGTHS: [usize; 9] = [0, 1, 64, 255, 256, 257, 511, 512, 600];
 
-// Places before which a group has no carry, a carry into the high word, and a counter that ends.
+// Counters from which four blocks have no carry, a carry into the high half, or an overflow.
 const STARTS: [u64; 5] = [0, 0xffff_fffd, 0xffff_ffff, u64::MAX - 2, u64::MAX];
 
 #[test]

@@ -1,4 +1,4 @@
-//! Generators that keep the contract and little else, and a value type of a user's own.
+//! Unusual generators that keep the contract, and a user's own value type.
 ghost use Rattle.std.specs.Prelude.{◌≤◌};
 
 use crate::{Bytes1, Bytes64, Constant, Die, Script, Steps, Waste, Zeros};
@@ -7,7 +7,7 @@ use nanorand::{BufferedRng, RangeError, Rng};
 use std::ops::Bound;
 use std::test::Fail;
 
-// The list of 128 zeros and a one.
+// 128 zeros and a one.
 fn late_one() -> [u8; 129] {
     let mut list = [0; 129];
     list[128] = 1;
@@ -38,7 +38,7 @@ fn a_refused_range_and_a_byte(rt: HostRuntime) {
 }
 
 #[test]
-fn a_refused_shuffle_and_a_truth_value(rt: HostRuntime) {
+fn a_refused_shuffle_and_a_bool(rt: HostRuntime) {
     let mut zeros = Zeros::new();
     let mut items = [7, 8, 9];
     let mut answers = [Answer::Empty; 2];
@@ -109,7 +109,7 @@ fn throws_of_a_die(rt: HostRuntime) -> Result<(), Fail> {
     Ok(())
 }
 
-// What the range of two dice gives by a byte.
+// The die drawn from the range between two dice by a word of this byte.
 fn die_between(low: u8, high: u8, byte: u8) -> Result<u8, RangeError>
     requires low { (1 ≤ low) × (low ≤ 6) }
     requires high { (1 ≤ high) × (high ≤ 6) }
@@ -119,7 +119,7 @@ fn die_between(low: u8, high: u8, byte: u8) -> Result<u8, RangeError>
     drawn.map(|die: Die| die.pips())
 }
 
-// The byte 1 names the least number of each range, and the greatest byte the greatest.
+// The byte 1 names the least number of each range, and the byte 255 the greatest.
 #[test]
 fn ranges_of_dice(rt: HostRuntime) {
     for low in 1..7u8 {
@@ -135,8 +135,8 @@ fn ranges_of_dice(rt: HostRuntime) {
     }
 }
 
-// The number that each word names, by counting: number k has the words from
-// ceil((256 k + t) / size) on, q of them.
+// The number that a word of 8 bits names, by a search: number k has the `quota` words from
+// ceil((256 k + rejected) / size) on.
 fn named_by_counting(size: u32, word: u32) -> Option<u8> {
     let quota = 256 / size.max(1);
     let rejected = 256 % size.max(1);

@@ -1,9 +1,9 @@
-//! Rows of jumps.
+//! Known-answer tests of jumps.
 
 use nanorand::{Blocks, Pcg64, WyRand};
 use std::test::Fail;
 
-// All sums of two of these fit in 64 bits.
+// Each sum of two of these fits in 64 bits.
 const LENGTHS: [u64; 5] = [0, 1, 2, 999, (1 << 63) - 1];
 
 #[test]
@@ -20,7 +20,7 @@ fn wyrand_lands(rt: HostRuntime) -> Result<(), Fail> {
     Ok(())
 }
 
-// With n draws one by one the first two of these would never end.
+// One by one, the draws of the first two jumps would never end.
 #[test]
 fn pcg64_lands(rt: HostRuntime) -> Result<(), Fail> {
     let mut pcg64 = Pcg64::new_seed(5);

@@ -1,4 +1,4 @@
-//! Requests of many lengths, of plain and of buffered generators, against blocks drawn one by one.
+//! Requests of many lengths to plain and buffered generators, compared with single blocks.
 ghost use Rattle.std.specs.Prelude.{◌≤◌};
 
 use super::makers::counted;
@@ -11,41 +11,41 @@ use std::test::Fail;
 
 const LENGTHS: [usize; 13] = [0, 1, 7, 8, 9, 63, 64, 65, 255, 256, 257, 4096, 70_000];
 
-// The blocks of a generator, one after another, until they have so many bytes.
-fn row_of<G: Rng<OUTPUT> + Drop, const OUTPUT: usize>(
+// The blocks of a generator, one after another, until they have at least `count` bytes.
+fn stream_of<G: Rng<OUTPUT> + Drop, const OUTPUT: usize>(
     rt: &impl AllocGlobal,
     mut rng: G,
     count: usize,
 ) -> Result<Vec<u8>, AllocError> {
-    let mut row = Vec::new(rt.alloc());
+    let mut stream = Vec::new(rt.alloc());
     for _ in 0..count {
-        if count <= row.len() {
+        if count <= stream.len() {
             break;
         }
-        row.extend_from_slice(&rng.rand())?;
+        stream.extend_from_slice(&rng.rand())?;
     }
-    Ok(row)
+    Ok(stream)
 }
 
-// One request of a plain generator, and two of a buffered one, the second by `read`.
-fn gives_the_row<G: Rng<OUTPUT> + Drop, const OUTPUT: usize>(
+// One request to a plain generator, and two to a buffered one, the second by `read`.
+fn gives_the_stream<G: Rng<OUTPUT> + Drop, const OUTPUT: usize>(
     rt: &(impl Abort + AllocGlobal),
     fresh: &BufferedRng<G, OUTPUT>,
-    row: &[u8],
+    stream: &[u8],
     length: usize,
 ) -> io::Result<()> {
     let mut bytes = vec![in rt.alloc(); 0xee; length]?;
     let mut plain = fresh.clone()?.into_inner();
     plain.fill_bytes(&mut bytes);
-    assert!(rt; row.starts_with(bytes.as_slice()), "{length}");
+    assert!(rt; stream.starts_with(bytes.as_slice()), "{length}");
 
     let mut buffered = fresh.clone()?;
     bytes.fill(0xee);
     buffered.fill_bytes(&mut bytes);
-    assert!(rt; row.starts_with(bytes.as_slice()), "{length}");
+    assert!(rt; stream.starts_with(bytes.as_slice()), "{length}");
     assert_eq!(rt; buffered.read(&mut bytes)?, length);
-    assert!(rt; length <= row.len());
-    assert!(rt; row[length..].starts_with(bytes.as_slice()), "{length}");
+    assert!(rt; length <= stream.len());
+    assert!(rt; stream[length..].starts_with(bytes.as_slice()), "{length}");
     Ok(())
 }
 
@@ -53,9 +53,9 @@ fn gives_its_blocks<G: Rng<OUTPUT> + Drop, const OUTPUT: usize>(
     rt: &(impl Abort + AllocGlobal),
     fresh: BufferedRng<G, OUTPUT>,
 ) -> io::Result<()> {
-    let row = row_of(rt, fresh.clone()?.into_inner(), 140_000)?;
+    let stream = stream_of(rt, fresh.clone()?.into_inner(), 140_000)?;
     for length in LENGTHS {
-        gives_the_row(rt, &fresh, &row, length)?;
+        gives_the_stream(rt, &fresh, &stream, length)?;
     }
     Ok(())
 }
@@ -76,8 +76,9 @@ fn requests_give_the_blocks(rt: HostRuntime) -> Result<(), Fail> {
     Ok(())
 }
 
-// After five bytes the rest of a block goes behind what a vector holds, with room for it or not.
-fn goes_behind<G: Rng<OUTPUT> + Drop, const OUTPUT: usize>(
+// After five bytes, `read_to_end` appends the rest of the block to a vector, with and without spare
+// capacity.
+fn appends_its_rest<G: Rng<OUTPUT> + Drop, const OUTPUT: usize>(
     rt: &(impl Abort + AllocGlobal),
     fresh: &BufferedRng<G, OUTPUT>,
     held: &[u8],
@@ -109,14 +110,14 @@ fn reads_to_its_end<G: Rng<OUTPUT> + Drop, const OUTPUT: usize>(
     for count in [0, 1, 1000, 70_000] {
         let held = counted(rt.alloc(), count)?;
         for room in [0, 1, 64, 4096] {
-            goes_behind(rt, &fresh, &held, room)?;
+            appends_its_rest(rt, &fresh, &held, room)?;
         }
     }
     Ok(())
 }
 
 #[test]
-fn kept_bytes_go_behind_a_vector(rt: HostRuntime) -> Result<(), Fail> {
+fn buffered_bytes_are_appended_to_a_vector(rt: HostRuntime) -> Result<(), Fail> {
     reads_to_its_end(&rt, BufferedRng::new(Bytes64::new()))?;
     reads_to_its_end(&rt, BufferedRng::new(WyRand::new_seed(42)))?;
     reads_to_its_end(&rt, BufferedRng::new(Pcg64::new_seed(0)))?;

@@ -10,23 +10,23 @@ use std::test::Fail;
 
 const CALLS: usize = 20_000;
 
-// The numbers 0, 1, 2 and so on.
-fn places(alloc: Global, count: usize) -> Result<Vec<usize>, AllocError> {
+// The numbers 0, 1, 2, ..
+fn identity(alloc: Global, count: usize) -> Result<Vec<usize>, AllocError> {
     let mut items = Vec::with_capacity(alloc, count)?;
-    for place in 0..count {
-        items.push(place)?;
+    for index in 0..count {
+        items.push(index)?;
     }
     Ok(items)
 }
 
-// Both shuffles succeed, and lose and make no item.
+// Both shuffles succeed, and their results are permutations of the items.
 fn shuffles<G: Rng<OUTPUT> + Drop, const OUTPUT: usize>(
     rt: &(impl Abort + AllocGlobal),
     mut rng: G,
 ) -> Result<(), AllocError> {
     for count in [0, 1, 2, 1000] {
-        let sorted = places(rt.alloc(), count)?;
-        let mut items = places(rt.alloc(), count)?;
+        let sorted = identity(rt.alloc(), count)?;
+        let mut items = identity(rt.alloc(), count)?;
         assert_eq!(rt; rng.shuffle(&mut items), Ok(()), "{count}");
         assert!(rt; count < 1000 || items != sorted, "{count}");
         assert_eq!(rt; shuffle_full(&mut rng, &mut items), Ok(()), "{count}");
@@ -48,11 +48,11 @@ fn shuffles_of_many_items(rt: HostRuntime) -> Result<(), Fail> {
     Ok(())
 }
 
-// Bytes, bytes of a small range, shuffles and truth values, in turns.
+// Bytes, bytes of a small range, shuffles and `bool`s, in turn.
 fn calls(alloc: Global) -> Result<Vec<Call>, AllocError> {
     let mut calls = Vec::with_capacity(alloc, CALLS)?;
-    for place in 0..CALLS {
-        calls.push(match place % 4 {
+    for index in 0..CALLS {
+        calls.push(match index % 4 {
             0 => Call::Gen(Kind::U8),
             1 => Call::Range(Span::U8(Bound::Included(10), Bound::Included(12))),
             2 => Call::Shuffle,
@@ -62,13 +62,13 @@ fn calls(alloc: Global) -> Result<Vec<Call>, AllocError> {
     Ok(calls)
 }
 
-// The answer of one call, by the generator's own methods.
+// The answer to call `index`, by the generator's own methods.
 fn answer<G: Rng<OUTPUT>, const OUTPUT: usize>(
     rng: &mut G,
-    place: usize,
+    index: usize,
     items: &mut [u64],
 ) -> Answer {
-    match place % 4 {
+    match index % 4 {
         0 => Answer::Unsigned(u128::from(rng.generate::<u8>())),
         1 => rng
             .generate_range::<u8>(Bound::Included(10), Bound::Included(12))
@@ -82,7 +82,7 @@ fn answer<G: Rng<OUTPUT>, const OUTPUT: usize>(
     }
 }
 
-// A replay gives what the calls give one by one, and leaves the same.
+// A replay gives the answers of the single calls, and leaves the same items and generator.
 fn replays<G: Rng<OUTPUT> + Drop, const OUTPUT: usize>(
     rt: &(impl Abort + AllocGlobal),
     mut rng: G,
@@ -93,8 +93,8 @@ fn replays<G: Rng<OUTPUT> + Drop, const OUTPUT: usize>(
     assert_eq!(rt; calls.len(), answers.len());
     let (mut items, mut others) = ([7, 8, 9], [7, 8, 9]);
     replay(&mut rng, &calls, &mut items, &mut answers);
-    for (place, given) in answers.iter().enumerate() {
-        assert_eq!(rt; answer(&mut again, place, &mut others), *given, "{place}");
+    for (index, given) in answers.iter().enumerate() {
+        assert_eq!(rt; answer(&mut again, index, &mut others), *given, "{index}");
     }
     assert_eq!(rt; items, others);
     assert_eq!(rt; rng.rand(), again.rand());

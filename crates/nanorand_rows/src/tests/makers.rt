@@ -1,4 +1,4 @@
-//! Entropy readers where they cannot fail: slices of many sizes, and each generator that is made.
+//! Entropy readers with enough bytes: slices of many sizes, and each generator made from them.
 ghost use Rattle.std.specs.Prelude.{◌≡◌, ◌%◌};
 
 use crate::generators::readers::Pieces;
@@ -10,16 +10,16 @@ use std::test::Fail;
 
 const SIZES: [usize; 10] = [0, 1, 2, 7, 8, 63, 64, 65, 4096, 70_000];
 
-// The bytes 0, 1, .., 250 over and over.
+// The first `count` of the bytes 0, 1, .., 250, 0, 1, ..
 pub fn counted(alloc: Global, count: usize) -> Result<Vec<u8>, AllocError> {
     let mut bytes = Vec::with_capacity(alloc, count)?;
-    for place in 0..count {
-        bytes.push((place % 251) as u8)?;
+    for i in 0..count {
+        bytes.push((i % 251) as u8)?;
     }
     Ok(bytes)
 }
 
-// A slice of the size holds the next bytes, of which no more are taken.
+// A slice of this size is filled with the next bytes, and no more are taken.
 fn fills(
     rt: &(impl Abort + AllocGlobal),
     bytes: &[u8],
@@ -58,7 +58,7 @@ fn slices_of_all_small_sizes(rt: HostRuntime) -> Result<(), Fail> {
 }
 
 // Both give the same next blocks.
-fn go_on_equally<A: Blocks<OUTPUT>, const OUTPUT: usize>(
+fn check_equal<A: Blocks<OUTPUT>, const OUTPUT: usize>(
     rt: &impl Abort,
     first: &mut A,
     second: &mut A,
@@ -74,7 +74,7 @@ fn makes_wyrand(rt: &impl Abort, bytes: &[u8; 50], piece: usize) -> Result<(), E
     assert_eq!(rt; source.left(), 42);
     let mut seed = [0; 8];
     seed.copy_from_slice(&bytes[..8]);
-    go_on_equally(
+    check_equal(
         rt,
         &mut made,
         &mut WyRand::new_seed(u64::from_le_bytes(seed)),
@@ -88,7 +88,7 @@ fn makes_pcg64(rt: &impl Abort, bytes: &[u8; 50], piece: usize) -> Result<(), En
     assert_eq!(rt; source.left(), 34);
     let mut seed = [0; 16];
     seed.copy_from_slice(&bytes[..16]);
-    go_on_equally(
+    check_equal(
         rt,
         &mut made,
         &mut Pcg64::new_seed(u128::from_le_bytes(seed)),
@@ -109,11 +109,11 @@ fn makes_chacha<const ROUNDS: u8>(
     let (mut key, mut nonce) = ([0; 32], [0; 8]);
     key.copy_from_slice(&bytes[..32]);
     nonce.copy_from_slice(&bytes[32..40]);
-    go_on_equally(rt, &mut made, &mut ChaCha::<ROUNDS>::new_key(key, nonce));
+    check_equal(rt, &mut made, &mut ChaCha::<ROUNDS>::new_key(key, nonce));
     Ok(())
 }
 
-// Each maker makes what its constructor makes of the next bytes.
+// Each `new` makes the generator that its constructor makes from the next bytes of the reader.
 fn makes_each(rt: &impl Abort, bytes: &[u8; 50]) -> Result<(), EntropyError> {
     for piece in [1, 7, 50] {
         makes_wyrand(rt, bytes, piece)?;
@@ -128,8 +128,8 @@ fn makes_each(rt: &impl Abort, bytes: &[u8; 50]) -> Result<(), EntropyError> {
 #[test]
 fn generators_of_any_seed(rt: HostRuntime) -> Result<(), Fail> {
     let mut rising = [0; 50];
-    for place in 0..50 {
-        rising[place] = place as u8 + 1;
+    for i in 0..50 {
+        rising[i] = i as u8 + 1;
     }
     makes_each(&rt, &rising)?;
     makes_each(&rt, &[0; 50])?;

@@ -1,4 +1,4 @@
-//! Rows of Pcg64.
+//! Known-answer tests of Pcg64.
 
 use nanorand::{Blocks, Pcg64, Rng, SeedableRng};
 use std::test::Fail;
@@ -52,7 +52,7 @@ fn texts(rt: HostRuntime) -> Result<(), Fail> {
     Ok(())
 }
 
-// A clone and a generator with the same seed give the same numbers.
+// A generator, its clone, and one reseeded with the same seed give the same first number.
 #[test]
 fn equal_seeds_give_equal_numbers(rt: HostRuntime) -> Result<(), Fail> {
     let mut pcg64 = Pcg64::new_seed(0);

@@ -1,4 +1,4 @@
-//! Ranges of unsigned numbers, and words that name numbers.
+//! Ranges of unsigned numbers, and the numbers that words name.
 
 use crate::{Constant, Script, Steps, Zeros};
 use nanorand::replay::{Answer, Call, Kind, Span, replay};

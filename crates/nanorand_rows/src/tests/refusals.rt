@@ -1,4 +1,4 @@
-//! Memory that is refused.
+//! Allocations that are refused.
 
 use super::makers::counted;
 use crate::Steps;
@@ -8,14 +8,14 @@ use std::alloc::{AllocError, Allocator};
 use std::process::Abort;
 use std::test::Fail;
 
-// A vector with so many bytes and no room for more.
+// A vector with these bytes and no spare capacity.
 fn full<A: Allocator>(alloc: A, bytes: &[u8]) -> Result<Vec<u8, A>, AllocError> {
     let mut out = Vec::with_capacity(alloc, bytes.len())?;
     out.extend_from_slice(bytes)?;
     Ok(out)
 }
 
-// A buffer after five bytes, and the bytes that are left of its block.
+// A buffer that has given five bytes, and the rest of its block.
 fn after_five<G: Rng<OUTPUT> + Drop, const OUTPUT: usize>(
     rt: &(impl Abort + AllocGlobal),
     fresh: &BufferedRng<G, OUTPUT>,
@@ -32,9 +32,9 @@ fn after_five<G: Rng<OUTPUT> + Drop, const OUTPUT: usize>(
     Ok((rng, left))
 }
 
-// The request of that number is refused while the bytes that are left go behind a full vector. It
-// changes neither the vector nor the buffer, which goes on as if nothing had been asked. The answer
-// is whether that request was made.
+// Calls `read_to_end` on a full vector, with allocation `number` of the call refused. A refusal
+// changes neither the vector nor the buffer, and the next call succeeds. Returns whether that
+// allocation was requested.
 fn is_refused_once<G: Rng<OUTPUT> + Drop, const OUTPUT: usize>(
     rt: &(impl Abort + AllocGlobal),
     fresh: &BufferedRng<G, OUTPUT>,
@@ -66,7 +66,7 @@ fn is_refused_once<G: Rng<OUTPUT> + Drop, const OUTPUT: usize>(
     Ok(refused)
 }
 
-// Each request for memory is refused in turn, until none is met: there is one.
+// The first allocation can be refused, and there is no second.
 fn is_refused_in_turn<G: Rng<OUTPUT> + Drop, const OUTPUT: usize>(
     rt: &(impl Abort + AllocGlobal),
     fresh: BufferedRng<G, OUTPUT>,
@@ -89,7 +89,7 @@ fn read_to_end(rt: HostRuntime) -> Result<(), Fail> {
     Ok(())
 }
 
-// Where a vector has room, no memory is asked for, so that none can be refused.
+// With enough spare capacity there is no allocation to refuse.
 #[test]
 fn read_to_end_into_room(rt: HostRuntime) -> Result<(), Fail> {
     let heap = Refusing::from_nth(rt.alloc(), 2);
@@ -102,7 +102,7 @@ fn read_to_end_into_room(rt: HostRuntime) -> Result<(), Fail> {
     Ok(())
 }
 
-// An empty buffer asks for no memory, so that none can be refused.
+// With an empty buffer there is no allocation to refuse.
 #[test]
 fn read_to_end_of_an_empty_buffer(rt: HostRuntime) {
     let heap = Refusing::from_nth(rt.alloc(), 1);

@@ -4,7 +4,7 @@ use crate::Steps;
 use nanorand::replay::{Answer, Call, Kind, Span, replay};
 use std::ops::Bound;
 
-// A byte, a byte of a small range, a shuffle and a truth value.
+// A byte, a byte of a small range, a shuffle and a `bool`.
 pub fn calls() -> [Call; 4] {
     [
         Call::Gen(Kind::U8),

@@ -1,4 +1,4 @@
-//! Filled slices and shuffles.
+//! `fill` and `shuffle`.
 
 use crate::{Script, Steps, Zeros};
 use nanorand::values::RangeError;

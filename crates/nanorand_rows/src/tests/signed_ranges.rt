@@ -50,7 +50,7 @@ fn empty_ranges_draw_nothing(rt: HostRuntime) {
     assert_eq!(rt; zeros.drawn(), 0);
 }
 
-// Whether a range gives this by the least word and that by the greatest.
+// Whether a range gives these results on the least word and on the greatest.
 fn gives<T: RandomRange<Constant, 8> + Copy + PartialEq + Drop>(
     low: Bound<T>,
     high: Bound<T>,
@@ -70,7 +70,7 @@ fn is_empty<T: RandomRange<Constant, 8> + Copy + PartialEq + Drop>(
 }
 
 // The nine pairs of bounds at the least number, and the range below it. The least word is rejected
-// where all numbers but one are left.
+// if the range has all numbers but one.
 fn hold_at_the_least<T: RandomRange<Constant, 8> + Copy + PartialEq + Drop>(
     least: T,
     second: T,
@@ -157,7 +157,7 @@ fn ensure_signed_in_range(rt: HostRuntime) {
     }
 }
 
-// A range that has no number is refused here, where it ended the program before.
+// An empty range is an error here. In the Rust crate, whose test has this name, it panics.
 #[test]
 fn ensure_invalid_range_panics(rt: HostRuntime) {
     assert_eq!(rt;

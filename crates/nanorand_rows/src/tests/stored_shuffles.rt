@@ -1,4 +1,4 @@
-//! Shuffles that record the choices that they draw.
+//! `shuffle_and_record`, which records the choices that it draws.
 ghost use Rattle.std.specs.Prelude.{◌≤◌};
 
 use crate::{Constant, Script, Steps, Zeros};
@@ -34,7 +34,7 @@ fn middle_then_itself(rt: HostRuntime) {
     assert_eq!(rt; letters, ['b', 'a', 'c']);
 }
 
-// What stood in the record before is gone, also behind the refused draw.
+// All earlier contents of the record are overwritten, also after the draw that failed.
 #[test]
 fn refused_by_zeros(rt: HostRuntime) {
     let mut zeros = Zeros::new();
@@ -49,9 +49,9 @@ fn refused_by_zeros(rt: HostRuntime) {
     assert_eq!(rt; zeros.drawn(), 128);
 }
 
-// The second draw is from three places, and the words behind the list are zeros.
+// The second draw is from three indices, and the words after the list are zeros.
 #[test]
-fn refused_at_the_second_place(rt: HostRuntime) {
+fn refused_at_the_second_draw(rt: HostRuntime) {
     let mut script = Script::new(&[255]);
     let mut letters = ['a', 'b', 'c', 'd'];
     let mut choices = [9; 4];
@@ -64,16 +64,16 @@ fn refused_at_the_second_place(rt: HostRuntime) {
     assert_eq!(rt; script.drawn(), 129);
 }
 
-// 0, 1, 2 and so on.
-fn places<const N: usize>() -> [usize; N] {
-    let mut places = [0; N];
-    for (place, slot) in places.iter_mut().enumerate() {
-        *slot = place;
+// 0, 1, 2, ..
+fn identity<const N: usize>() -> [usize; N] {
+    let mut items = [0; N];
+    for (index, item) in items.iter_mut().enumerate() {
+        *item = index;
     }
-    places
+    items
 }
 
-// It shuffles as `shuffle` does, and its record deals the same again.
+// It shuffles as `shuffle` does, and applying the recorded choices gives the same permutation.
 fn shuffled_alike<G: Rng<OUTPUT> + Drop, const OUTPUT: usize, const N: usize>(
     rt: &impl Abort,
     mut rng: G,
@@ -81,9 +81,9 @@ fn shuffled_alike<G: Rng<OUTPUT> + Drop, const OUTPUT: usize, const N: usize>(
 )
     requires { N ≤ 50 }
 {
-    let mut items = places::<N>();
-    let mut others = places::<N>();
-    let mut again = places::<N>();
+    let mut items = identity::<N>();
+    let mut others = identity::<N>();
+    let mut again = identity::<N>();
     let mut choices = [9; N];
     let answer = shuffle_and_record(&mut rng, &mut items, &mut choices);
     assert_eq!(rt; answer, other.shuffle(&mut others));
@@ -93,7 +93,7 @@ fn shuffled_alike<G: Rng<OUTPUT> + Drop, const OUTPUT: usize, const N: usize>(
     assert_eq!(rt; rng.generate::<u64>(), other.generate::<u64>());
 }
 
-// Slices of several lengths.
+// The same, for slices of several lengths.
 fn lengths_alike<G: Rng<OUTPUT> + Drop, F: Fn() -> G, const OUTPUT: usize>(
     rt: &impl Abort,
     make: &F,

@@ -1,4 +1,4 @@
-//! Texts of Debug and Display at the ends of the seeds and of the counter.
+//! The `Debug` and `Display` texts of generators, at the least and greatest seeds and counters.
 
 use nanorand::{Blocks, ChaCha, ChaCha8, ChaCha12, ChaCha20, Pcg64, WyRand};
 use std::alloc::AllocError;
@@ -6,7 +6,8 @@ use std::fmt;
 use std::process::Abort;
 use std::test::Fail;
 
-// The texts, which no option changes: an alternate form, a sign, a width, a fill, a precision.
+// The value has these texts. No format option changes them: alternate form, sign, width, fill or
+// precision.
 fn has_texts<T: fmt::Debug + fmt::Display>(
     rt: &(impl Abort + AllocGlobal),
     value: &T,
@@ -61,7 +62,7 @@ fn of_pcg64(rt: HostRuntime) -> Result<(), Fail> {
     Ok(())
 }
 
-// A generator at a counter. No text tells its key or its nonce.
+// A generator at a counter. Its texts do not show the key or the nonce.
 fn chacha_has_texts<const ROUNDS: u8>(
     rt: &(impl Abort + AllocGlobal),
     mut generator: ChaCha<ROUNDS>,

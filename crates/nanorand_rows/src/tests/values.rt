@@ -13,7 +13,7 @@ fn each_request_begins_a_block(rt: HostRuntime) {
 }
 
 #[test]
-fn a_wide_value_takes_two_blocks(rt: HostRuntime) {
+fn a_value_of_16_bytes_takes_two_blocks(rt: HostRuntime) {
     let mut steps = Steps::new();
     assert_eq!(rt;
         steps.generate::<u128>(),

@@ -1,9 +1,9 @@
-//! Rows of wyrand.
+//! Known-answer tests of WyRand.
 
 use nanorand::{Blocks, Rng, SeedableRng, WyRand};
 use std::test::Fail;
 
-// Each seed with the block that it gives first.
+// A seed, and its first block.
 const BLOCKS: [(u64, [u8; 8]); 5] = [
     (0x5f89e29b87429bd1, [0; 8]),
     (
@@ -53,7 +53,7 @@ fn texts(rt: HostRuntime) -> Result<(), Fail> {
     Ok(())
 }
 
-// The first number from an initialized generator, and an equal one from a clone and from a reseeded generator.
+// A generator, its clone, and one reseeded with the same seed give the same first number.
 #[test]
 fn equal_seeds_give_equal_numbers(rt: HostRuntime) -> Result<(), Fail> {
     let mut wyrand = WyRand::new_seed(0x5f89e29b87429bd2);
