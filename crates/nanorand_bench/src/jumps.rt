@@ -1,10 +1,10 @@
-//! Places in a stream.
+//! Jumps and distances.
 
 use nanorand::{Pcg64, Rng};
 
-// Jumps of all widths, each by a number that the last one gave.
+// Jumps by random 128-bit numbers, each drawn after the jump before it.
 #[unsafe(no_mangle)]
-pub extern "C" fn nanorand_pcg64_jump(seed: u64, count: u64) -> u64 {
+pub extern "C" fn nanorand_bench_pcg64_jump(seed: u64, count: u64) -> u64 {
     let mut rng = Pcg64::new_seed(u128::from(seed));
     let mut all = 0u64;
     for _ in 0..count {
@@ -16,9 +16,9 @@ pub extern "C" fn nanorand_pcg64_jump(seed: u64, count: u64) -> u64 {
     all
 }
 
-// Distances to one far place of the cycle, each from a draw nearer.
+// Distances to one seed far ahead, each from one draw further on.
 #[unsafe(no_mangle)]
-pub extern "C" fn nanorand_pcg64_distance(seed: u64, count: u64) -> u64 {
+pub extern "C" fn nanorand_bench_pcg64_distance(seed: u64, count: u64) -> u64 {
     let mut rng = Pcg64::new_seed(u128::from(seed));
     let mut far = Pcg64::new_seed(u128::from(seed));
     far.jump(u128::MAX / 5);
