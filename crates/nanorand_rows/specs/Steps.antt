@@ -8,4 +8,6 @@ next_count n = (n + 1) % 2 ^ 64
 
 -- Block n: the bytes from 8 n on, modulo 256.
 abbrev pub steps_block : ℕ → List ℕ
-steps_block n = (8 * n) % 256 ∷ (8 * n + 1) % 256 ∷ (8 * n + 2) % 256 ∷ (8 * n + 3) % 256 ∷ (8 * n + 4) % 256 ∷ (8 * n + 5) % 256 ∷ (8 * n + 6) % 256 ∷ (8 * n + 7) % 256 ∷ []
+steps_block n =
+    (8 * n) % 256 ∷ (8 * n + 1) % 256 ∷ (8 * n + 2) % 256 ∷ (8 * n + 3) % 256
+    ∷ (8 * n + 4) % 256 ∷ (8 * n + 5) % 256 ∷ (8 * n + 6) % 256 ∷ (8 * n + 7) % 256 ∷ []
