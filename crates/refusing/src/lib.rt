@@ -35,8 +35,8 @@ impl Turns {
 
 /// An allocator that passes requests on to an inner one, except for those that it refuses.
 ///
-/// A test refuses the first request, then the second, and so on, until a run meets no refusal. Which
-/// requests are refused is tested, not proved, since a cell has no contract.
+/// A test refuses the first request, then the second, and so on, until a run meets no refusal.
+/// Which requests are refused is tested, not proved, since a cell has no contract.
 #[derive(Drop)]
 pub struct Refusing<B: Allocator> {
     inner: B,
