@@ -44,7 +44,7 @@ fn check_texts(rt: &impl Abort, alloc: Global, rows: &[(&str, &str)]) -> Result<
 }
 
 // For each line `run` returns `BadWord` with that number, and does not call the writer.
-fn check_bad_words(rt: &impl Abort, alloc: Global, rows: &[(&str, usize)]) -> Result<(), Fail> {
+fn check_bad_arguments(rt: &impl Abort, alloc: Global, rows: &[(&str, usize)]) -> Result<(), Fail> {
     for (line, number) in rows {
         let arguments = arguments(alloc, line)?;
         let mut out = Pieces::honest(alloc, usize::MAX);
@@ -157,13 +157,13 @@ fn long_seeds_of_chacha(rt: HostRuntime) -> Result<(), Fail> {
     let alloc = rt.alloc();
     for generator in ["chacha8", "chacha12", "chacha20"] {
         let line = format!(in alloc; "{generator} {COUNTED}00 plain 0")?;
-        check_bad_words(&rt, alloc, &[(line.as_str(), 2)])?;
+        check_bad_arguments(&rt, alloc, &[(line.as_str(), 2)])?;
     }
     Ok(())
 }
 
 #[test]
-fn bad_words(rt: HostRuntime) -> Result<(), Fail> {
+fn bad_arguments(rt: HostRuntime) -> Result<(), Fail> {
     let rows = [
         ("", 1),
         ("WyRand d29b42879be2895f plain 0", 1),
@@ -185,7 +185,7 @@ fn bad_words(rt: HostRuntime) -> Result<(), Fail> {
         ("wyrand d29b42879be2895f plain 0 shuffle:..", 5),
         ("wyrand d29b42879be2895f plain 0 bool:..", 5),
     ];
-    check_bad_words(&rt, rt.alloc(), &rows)
+    check_bad_arguments(&rt, rt.alloc(), &rows)
 }
 
 #[test]
@@ -205,7 +205,7 @@ fn bad_ranges(rt: HostRuntime) -> Result<(), Fail> {
         ("wyrand d29b42879be2895f plain 0 u8:..=+1", 5),
         ("wyrand d29b42879be2895f plain 0 u8:a..b", 5),
     ];
-    check_bad_words(&rt, rt.alloc(), &rows)
+    check_bad_arguments(&rt, rt.alloc(), &rows)
 }
 
 #[test]
@@ -220,7 +220,7 @@ fn bad_signed_ranges(rt: HostRuntime) -> Result<(), Fail> {
         ("wyrand d29b42879be2895f plain 0 i8:1..=", 5),
         ("wyrand d29b42879be2895f plain 0 i128:..", 5),
     ];
-    check_bad_words(&rt, rt.alloc(), &rows)
+    check_bad_arguments(&rt, rt.alloc(), &rows)
 }
 
 // Each of the thirteen names of a type is read.

@@ -79,7 +79,7 @@ fn memory(rt: HostRuntime) -> Result<(), Fail> {
 // With a bad fifth or later argument, `Memory` is returned only if an allocation was refused before
 // that argument was read.
 #[test]
-fn memory_before_a_bad_word(rt: HostRuntime) -> Result<(), Fail> {
+fn memory_before_a_bad_argument(rt: HostRuntime) -> Result<(), Fail> {
     let alloc = rt.alloc();
     let arguments = arguments(alloc, "wyrand d29b42879be2895f plain 0 u8 u9")?;
     let mut met = [false; 2];

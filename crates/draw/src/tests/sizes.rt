@@ -249,16 +249,16 @@ fn more_than_a_megabyte(rt: HostRuntime) -> Result<(), Fail> {
 
 // A bad argument far back is reported by its number, whatever follows it.
 #[test]
-fn bad_words_far_behind(rt: HostRuntime) -> Result<(), Fail> {
+fn bad_arguments_far_back(rt: HostRuntime) -> Result<(), Fail> {
     let alloc = rt.alloc();
     for number in [5, 6, 9, 64, 500, 5000, 100_000] {
-        for behind in ["", " u8", " u9"] {
+        for after in ["", " u8", " u9"] {
             let mut line = String::from_str(alloc, "pcg64 ")?;
             push_times(&mut line, "ff", 16)?;
             line.push_str(" buffered 1000")?;
             push_times(&mut line, " u8", number - 5)?;
             line.push_str(" u9")?;
-            push_times(&mut line, behind, 5000)?;
+            push_times(&mut line, after, 5000)?;
             let arguments = arguments(alloc, line.as_str())?;
             let mut out = Pieces::honest(alloc, 7);
             let outcome = run(alloc, &arguments, &mut out);
