@@ -9,8 +9,8 @@ pub extern "C" fn nanorand_bench_pcg64_jump(seed: u64, count: u64) -> u64 {
     let mut all = 0u64;
     for _ in 0..count {
         let high = u128::from(rng.generate::<u64>()) << 64;
-        let places = high + u128::from(rng.generate::<u64>());
-        rng.jump(places);
+        let draws = high + u128::from(rng.generate::<u64>());
+        rng.jump(draws);
         all = all.rotate_left(1) ^ rng.generate::<u64>();
     }
     all

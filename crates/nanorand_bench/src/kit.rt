@@ -139,8 +139,8 @@ pub extern "C" fn nanorand_bench_kit_pcg64_jump(seed: u64, count: u64) -> u64 {
     let mut all = 0u64;
     for _ in 0..count {
         let high = u128::from(rng.next_u64()) << 64;
-        let places = high + u128::from(rng.next_u64());
-        rng.advance(places);
+        let draws = high + u128::from(rng.next_u64());
+        rng.advance(draws);
         all = all.rotate_left(1) ^ rng.next_u64();
     }
     all

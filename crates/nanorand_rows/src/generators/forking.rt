@@ -86,13 +86,13 @@ pub fn streams_differ()
 pub fn parts_of_clone<G: Rng<OUTPUT> + Drop, const OUTPUT: usize>(
     rng: &BufferedRng<G, OUTPUT>,
 ) -> Result<(usize, G), AllocError>
-    ensures kept { IfOk result (λ parts. parts.0 ≡ length rng.now.rest) }
+    ensures buffered { IfOk result (λ parts. parts.0 ≡ length rng.now.rest) }
     ensures inner { IfOk result (λ parts. G.is_clone rng.now.inner parts.1) }
     ensures cause { G.is_infallible rng.now.inner → IsOk result }
 {
     let copy = rng.clone()?;
-    let kept = copy.buffered();
-    Ok((kept, copy.into_inner()))
+    let buffered = copy.buffered();
+    Ok((buffered, copy.into_inner()))
 }
 
 /// Fills the slice from a clone of the buffer: first the buffered bytes, then those of the next

@@ -70,8 +70,8 @@ fn a_buffer_is_cloned_where_its_generator_is(rt: HostRuntime) {
 #[test]
 fn callers_of_a_clone(rt: HostRuntime) -> Result<(), Fail> {
     let rng = after_five();
-    let (kept, inner) = parts_of_clone(&rng)?;
-    assert_eq!(rt; kept, 3);
+    let (buffered, inner) = parts_of_clone(&rng)?;
+    assert_eq!(rt; buffered, 3);
     assert_eq!(rt; inner.stream, 8);
     assert_eq!(rt; inner.drawn, 1);
     let mut bytes = [9; 6];
