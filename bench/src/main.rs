@@ -1,4 +1,4 @@
-//! Times nanorand, the kit's generators, and the old Rust crate where `run` names it.
+//! Times nanorand, the kit's generators, and the old Rust crate if `run` is given its folder.
 
 mod calls;
 #[cfg(feature = "original")]
@@ -8,7 +8,7 @@ mod table;
 use calls::*;
 use table::{Row, Work};
 
-// The work of the old crate, where it is there.
+// The work of the old crate, if it is there.
 macro_rules! old {
     ($kind:ty: $work:expr) => {{
         #[cfg(feature = "original")]
@@ -28,40 +28,44 @@ const SHUFFLES: u32 = 100;
 
 fn words(rows: &mut Vec<Row>) {
     rows.push(
-        Row::new("WyRand, a word", WORDS, || nanorand_wyrand_u64(42, WORDS))
-            .original(old!(Work: Box::new(|| original::wyrand_u64(42, WORDS)))),
+        Row::new("WyRand, a word", WORDS, || {
+            nanorand_bench_wyrand_u64(42, WORDS)
+        })
+        .original(old!(Work: Box::new(|| original::wyrand_u64(42, WORDS)))),
     );
     rows.push(
-        Row::new("Pcg64, a word", WORDS, || nanorand_pcg64_u64(42, WORDS))
-            .original(old!(Work: Box::new(|| original::pcg64_u64(42, WORDS))))
-            .kit(|| kit_pcg64_u64(42, WORDS)),
+        Row::new("Pcg64, a word", WORDS, || {
+            nanorand_bench_pcg64_u64(42, WORDS)
+        })
+        .original(old!(Work: Box::new(|| original::pcg64_u64(42, WORDS))))
+        .kit(|| nanorand_bench_kit_pcg64_u64(42, WORDS)),
     );
     rows.push(
         Row::new("ChaCha8, a block", BLOCKS, || {
-            nanorand_chacha8_blocks(7, BLOCKS)
+            nanorand_bench_chacha8_blocks(7, BLOCKS)
         })
         .original(old!(Work: Box::new(|| original::chacha_blocks::<8>(7, BLOCKS))))
-        .kit(|| kit_chacha8_blocks(7, BLOCKS)),
+        .kit(|| nanorand_bench_kit_chacha8_blocks(7, BLOCKS)),
     );
     rows.push(
         Row::new("ChaCha12, a block", BLOCKS, || {
-            nanorand_chacha12_blocks(7, BLOCKS)
+            nanorand_bench_chacha12_blocks(7, BLOCKS)
         })
         .original(old!(Work: Box::new(|| original::chacha_blocks::<12>(7, BLOCKS))))
-        .kit(|| kit_chacha12_blocks(7, BLOCKS)),
+        .kit(|| nanorand_bench_kit_chacha12_blocks(7, BLOCKS)),
     );
     rows.push(
         Row::new("ChaCha20, a block", BLOCKS, || {
-            nanorand_chacha20_blocks(7, BLOCKS)
+            nanorand_bench_chacha20_blocks(7, BLOCKS)
         })
         .original(old!(Work: Box::new(|| original::chacha_blocks::<20>(7, BLOCKS))))
-        .kit(|| kit_chacha20_blocks(7, BLOCKS)),
+        .kit(|| nanorand_bench_kit_chacha20_blocks(7, BLOCKS)),
     );
 }
 
 type Fill = fn(&mut [u8], u32);
 
-// Fills of a slice, and a number of the last one.
+// Fills a slice again and again, and returns a number that depends on the last fill.
 fn filled(length: u64, fill: Fill) -> impl FnMut() -> u64 {
     let mut bytes = vec![0; length as usize];
     let times = (BYTES / length) as u32;
@@ -116,15 +120,19 @@ fn fills(rows: &mut Vec<Row>) {
 
 fn ranges(rows: &mut Vec<Row>) {
     rows.push(
-        Row::new("u8 below 6", WORDS, || nanorand_range_u8(42, 6, WORDS))
-            .original(old!(Work: Box::new(|| original::range_u8(42, 6, WORDS))))
-            .kit(|| kit_range_u8(42, 6, WORDS)),
+        Row::new("u8 below 6", WORDS, || {
+            nanorand_bench_range_u8(42, 6, WORDS)
+        })
+        .original(old!(Work: Box::new(|| original::range_u8(42, 6, WORDS))))
+        .kit(|| nanorand_bench_kit_range_u8(42, 6, WORDS)),
     );
     for (name, size) in [("u32 below 6", 6), ("u32 below 1000", 1000)] {
         rows.push(
-            Row::new(name, WORDS, move || nanorand_range_u32(42, size, WORDS))
-                .original(old!(Work: Box::new(move || original::range_u32(42, size, WORDS))))
-                .kit(move || kit_range_u32(42, size, WORDS)),
+            Row::new(name, WORDS, move || {
+                nanorand_bench_range_u32(42, size, WORDS)
+            })
+            .original(old!(Work: Box::new(move || original::range_u32(42, size, WORDS))))
+            .kit(move || nanorand_bench_kit_range_u32(42, size, WORDS)),
         );
     }
     for (name, size) in [
@@ -133,14 +141,16 @@ fn ranges(rows: &mut Vec<Row>) {
         ("u64 below 2^63 + 1", (1 << 63) + 1),
     ] {
         rows.push(
-            Row::new(name, WORDS, move || nanorand_range_u64(42, size, WORDS))
-                .original(old!(Work: Box::new(move || original::range_u64(42, size, WORDS))))
-                .kit(move || kit_range_u64(42, size, WORDS)),
+            Row::new(name, WORDS, move || {
+                nanorand_bench_range_u64(42, size, WORDS)
+            })
+            .original(old!(Work: Box::new(move || original::range_u64(42, size, WORDS))))
+            .kit(move || nanorand_bench_kit_range_u64(42, size, WORDS)),
         );
     }
 }
 
-// Shuffles of 1000 numbers, one after another, and one of the numbers.
+// Shuffles 1000 numbers again and again, and returns one of them.
 fn shuffled(shuffle: impl Fn(&mut [u64])) -> impl FnMut() -> u64 {
     let mut items: Vec<u64> = (0..ITEMS).collect();
     move || {
@@ -173,24 +183,26 @@ fn shuffles(rows: &mut Vec<Row>) {
 fn others(rows: &mut Vec<Row>) {
     rows.push(
         Row::new("buffered WyRand, a u8", WORDS, || {
-            nanorand_buffered_wyrand(42, WORDS)
+            nanorand_bench_buffered_wyrand(42, WORDS)
         })
         .original(old!(Work: Box::new(|| original::buffered_wyrand(42, WORDS))))
-        .kit(|| kit_pcg64_u8(42, WORDS)),
+        .kit(|| nanorand_bench_kit_pcg64_u8(42, WORDS)),
     );
     rows.push(
         Row::new("buffered ChaCha20, a u8", WORDS, || {
-            nanorand_buffered_chacha20(7, WORDS)
+            nanorand_bench_buffered_chacha20(7, WORDS)
         })
         .original(old!(Work: Box::new(|| original::buffered_chacha20(7, WORDS))))
-        .kit(|| kit_chacha20_u8(7, WORDS)),
+        .kit(|| nanorand_bench_kit_chacha20_u8(7, WORDS)),
     );
     rows.push(
-        Row::new("Pcg64, a jump", JUMPS, || nanorand_pcg64_jump(42, JUMPS))
-            .kit(|| kit_pcg64_jump(42, JUMPS)),
+        Row::new("Pcg64, a jump", JUMPS, || {
+            nanorand_bench_pcg64_jump(42, JUMPS)
+        })
+        .kit(|| nanorand_bench_kit_pcg64_jump(42, JUMPS)),
     );
     rows.push(Row::new("Pcg64, a distance", JUMPS, || {
-        nanorand_pcg64_distance(42, JUMPS)
+        nanorand_bench_pcg64_distance(42, JUMPS)
     }));
 }
 

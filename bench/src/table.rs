@@ -1,15 +1,15 @@
-//! Rows that are timed by turns, and the table of their means.
+//! The rows of the table, their timing by turns, and the table of means.
 
 use std::hint::black_box;
 use std::time::Instant;
 
-// The mean of so many runs, each the best of so many turns.
+// The mean of RUNS runs, each the best of TURNS turns.
 const RUNS: usize = 5;
 const TURNS: usize = 9;
 
 pub type Work = Box<dyn FnMut() -> u64>;
 
-/// One line: how many items a turn makes, and the works that make them.
+/// One row: the number of items that a turn makes, and the work of each library that makes them.
 pub struct Row {
     name: &'static str,
     items: u64,
@@ -35,7 +35,7 @@ impl Row {
         self
     }
 
-    // The mean of the runs, in nanoseconds an item, and whether the old crate gave the same.
+    // The means, in nanoseconds an item, and whether the old crate's result was the same.
     fn timed(&mut self) -> ([Option<f64>; 3], bool) {
         let mut totals = [0.0; 3];
         let mut answers = [0; 3];

@@ -27,27 +27,30 @@ name_of kinds.U128 = codes "u128"
 name_of kinds.Usize = codes "usize"
 name_of kinds.Bool = codes "bool"
 
--- The text in front of the dots: nothing, or the least number. `is_text` says which texts stand for a number.
+-- The text before the dots: nothing, or the least number. `is_text` relates a text to its number.
 abbrev pub IsLow : {N : Type 0} → (List ℕ → N → Type 0) → List ℕ → Bound N → Type 0
 IsLow is_text text Unbounded = text ≡ []
 IsLow is_text text (Included n) = is_text text n
 IsLow is_text text (Excluded n) = ⊥
 
--- The text behind the dots: nothing, or the number that ends the range, or `=` and the greatest number.
+-- The text after the dots: nothing, or the number that ends the range and is not in it, or `=` and
+-- the greatest number.
 abbrev pub IsHigh : {N : Type 0} → (List ℕ → N → Type 0) → List ℕ → Bound N → Type 0
 IsHigh is_text text Unbounded = text ≡ []
 IsHigh is_text text (Excluded n) = is_text text n
-IsHigh is_text text (Included n) = (digits : List ℕ) × (text ≡ codes "=" ++ digits) × is_text digits n
+IsHigh is_text text (Included n) =
+    (digits : List ℕ) × (text ≡ codes "=" ++ digits) × is_text digits n
 
 -- LOW..HIGH or LOW..=HIGH.
-pub record IsRange {N : Type 0} (is_text : List ℕ → N → Type 0) (text : List ℕ) (low high : Bound N) : Type 0 where
+pub record IsRange {N : Type 0} (is_text : List ℕ → N → Type 0) (text : List ℕ) (low high : Bound N)
+    : Type 0 where
   pub before : List ℕ
   pub after : List ℕ
   pub whole : text ≡ before ++ codes ".." ++ after
   pub is_low : IsLow is_text before low
   pub is_high : IsHigh is_text after high
 
--- The type of a span's numbers.
+-- The type of the numbers in a span.
 abbrev pub kind_of_span : Span → Kind
 kind_of_span (spans.I8 low high) = kinds.I8
 kind_of_span (spans.I16 low high) = kinds.I16
@@ -73,8 +76,11 @@ IsBounds text (spans.U32 low high) = IsRange (IsUnsigned 32) text low high
 IsBounds text (spans.U64 low high) = IsRange (IsUnsigned 64) text low high
 IsBounds text (spans.Usize low high) = IsRange (IsUnsigned 64) text low high
 
--- The request asks for the call: the name of a type, or of a type whose range stands behind a colon, or `shuffle`.
+-- The request asks for the call: the name of a type, or a type, a colon and a range of it, or
+-- `shuffle`.
 abbrev pub IsRequest : List ℕ → Call → Type 0
 IsRequest text (Gen kind) = text ≡ name_of kind
-IsRequest text (Range span) = (range : List ℕ) × (text ≡ name_of (kind_of_span span) ++ codes ":" ++ range) × IsBounds range span
+IsRequest text (Range span) =
+    (range : List ℕ) × (text ≡ name_of (kind_of_span span) ++ codes ":" ++ range)
+    × IsBounds range span
 IsRequest text Shuffle = text ≡ codes "shuffle"

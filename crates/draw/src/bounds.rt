@@ -4,20 +4,21 @@ ghost use Rattle.std.specs.Prelude.{◌≡◌, IfSome, Some};
 ghost use Rattle.std.specs.declared.ops.Bound.{Bound as ABound};
 ghost use Rattle.draw.specs.Requests.{IsLow, IsHigh, IsRange};
 
-use crate::numbers::Number;
+use crate::numbers::ReadNumber;
 use std::ops::Bound;
 
-/// The bounds that the text gives. A missing one is unbounded.
-pub fn bounds<N: Number>(text: &str) -> Option<(Bound<N>, Bound<N>)>
+/// The bounds that the text gives. A missing bound is unbounded.
+pub fn bounds<N: ReadNumber>(text: &str) -> Option<(Bound<N>, Bound<N>)>
     ensures found { IfSome result (λ pair. IsRange N.is_text text.now pair.0 pair.1) }
-    ensures only { (low high : ABound N) → IsRange N.is_text text.now low high → result ≡ Some (low, high) }
+    ensures only { (low high : ABound N) → IsRange N.is_text text.now low high →
+        result ≡ Some (low, high) }
 {
     let (low, high) = text.split_once("..")?;
     Some((low_bound(low)?, high_bound(high)?))
 }
 
-/// The low bound, of the text in front of the dots. It is included.
-fn low_bound<N: Number>(text: &str) -> Option<Bound<N>>
+/// The low bound, from the text before the dots. It is included.
+fn low_bound<N: ReadNumber>(text: &str) -> Option<Bound<N>>
     ensures found { IfSome result (IsLow N.is_text text.now) }
     ensures only { (low : ABound N) → IsLow N.is_text text.now low → result ≡ Some low }
 {
@@ -27,8 +28,9 @@ fn low_bound<N: Number>(text: &str) -> Option<Bound<N>>
     Some(Bound::Included(N::read(text)?))
 }
 
-/// The high bound, of the text behind the dots. It is included behind `=`, and else excluded.
-fn high_bound<N: Number>(text: &str) -> Option<Bound<N>>
+/// The high bound, from the text after the dots. It is included if the text begins with `=`, and
+/// excluded otherwise.
+fn high_bound<N: ReadNumber>(text: &str) -> Option<Bound<N>>
     ensures found { IfSome result (IsHigh N.is_text text.now) }
     ensures only { (high : ABound N) → IsHigh N.is_text text.now high → result ≡ Some high }
 {

@@ -1,4 +1,4 @@
-//! Why a text was not written.
+//! The ways in which a run fails.
 
 ghost use Rattle.std.specs.Prelude.{◌≡◌};
 ghost use Rattle.draw.specs.declared.error.DrawError.TheVariants.{Memory};
@@ -6,19 +6,19 @@ ghost use Rattle.draw.specs.declared.error.DrawError.TheVariants.{Memory};
 use std::alloc::{AllocError, AllocFailed};
 use thiserror::Error;
 
-/// Why `run` did not write its text.
+/// Why `run` failed.
 #[derive(Clone, Copy, Debug, PartialEq, Eq, Error)]
 pub enum DrawError {
-    /// The number of the first word that cannot be read, counted from 1. A missing one of the
-    /// first four counts as such a word. Nothing was written.
+    /// The number, counted from 1, of the first argument that cannot be read. A missing one of the
+    /// first four is such an argument. Nothing was written.
     #[error("bad word {0}")]
     BadWord(usize),
 
-    /// A growth was refused. Nothing was written.
+    /// Out of memory: an allocation was refused. Nothing was written.
     #[error("no memory")]
     Memory,
 
-    /// The writer answered an error or took nothing. What went out is open.
+    /// The writer returned an error, or took no bytes. How much of the text it took is unspecified.
     #[error("write failed")]
     Write,
 }

@@ -1,69 +1,89 @@
-//! From a seed and a mode to the generator that answers the calls.
+//! Runs calls on the generator of a seed and a mode.
 
 ghost use Rattle.std.specs.Prelude.{◌≡◌, ◌%◌, length};
 ghost use Rattle.nanorand.specs.generators.ChaCha.{seeded_state};
 ghost use Rattle.nanorand.specs.replay.Replay.{replayed};
 ghost use Rattle.nanorand.specs.values.Values.{number_of};
-ghost use Rattle.draw.specs.Text.{from_source};
-ghost use Rattle.draw.specs.declared.order.Mode.TheVariants.{Plain, Buffered};
+ghost use Rattle.draw.specs.Text.{from_seeded};
+ghost use Rattle.draw.specs.declared.command.Mode.TheVariants.{Plain, Buffered};
 
-use crate::order::{Mode, Source};
+use crate::command::{Mode, SeededGenerator};
 use nanorand::replay::{Answer, Call, replay};
 use nanorand::{BufferedRng, ChaCha, Pcg64, Rng, SeedableRng, WyRand};
 
-/// Makes the calls on the generator of that seed, or on a buffer around it.
-pub fn replay_source(
-    source: Source,
+/// Runs the calls on the generator with its seed, or on a buffer around it in buffered mode.
+pub fn replay_seeded(
+    generator: SeededGenerator,
     mode: Mode,
     calls: &[Call],
     items: &mut [u64],
     answers: &mut [Answer],
 )
     requires { length answers.old ≡ length calls.now }
-    ensures answers { answers.new ≡ (from_source source mode calls.now items.old).answers }
-    ensures items { items.new ≡ (from_source source mode calls.now items.old).items }
+    ensures answers { answers.new ≡ (from_seeded generator mode calls.now items.old).answers }
+    ensures items { items.new ≡ (from_seeded generator mode calls.now items.old).items }
 {
     match mode {
-        Mode::Plain => replay_plain(source, calls, items, answers),
-        Mode::Buffered => replay_buffered(source, calls, items, answers),
+        Mode::Plain => replay_plain(generator, calls, items, answers),
+        Mode::Buffered => replay_buffered(generator, calls, items, answers),
     }
 }
 
-fn replay_plain(source: Source, calls: &[Call], items: &mut [u64], answers: &mut [Answer])
+fn replay_plain(
+    generator: SeededGenerator,
+    calls: &[Call],
+    items: &mut [u64],
+    answers: &mut [Answer],
+)
     requires { length answers.old ≡ length calls.now }
-    ensures answers { answers.new ≡ (from_source source Plain calls.now items.old).answers }
-    ensures items { items.new ≡ (from_source source Plain calls.now items.old).items }
+    ensures answers { answers.new ≡ (from_seeded generator Plain calls.now items.old).answers }
+    ensures items { items.new ≡ (from_seeded generator Plain calls.now items.old).items }
 {
-    match source {
-        Source::WyRand(seed) => replay_with(wyrand(seed), calls, items, answers),
-        Source::Pcg64(seed) => replay_with(pcg64(seed), calls, items, answers),
-        Source::ChaCha8(seed) => replay_with(chacha::<8>(seed), calls, items, answers),
-        Source::ChaCha12(seed) => replay_with(chacha::<12>(seed), calls, items, answers),
-        Source::ChaCha20(seed) => replay_with(chacha::<20>(seed), calls, items, answers),
+    match generator {
+        SeededGenerator::WyRand(seed) => replay_with(wyrand(seed), calls, items, answers),
+        SeededGenerator::Pcg64(seed) => replay_with(pcg64(seed), calls, items, answers),
+        SeededGenerator::ChaCha8(seed) => replay_with(chacha::<8>(seed), calls, items, answers),
+        SeededGenerator::ChaCha12(seed) => replay_with(chacha::<12>(seed), calls, items, answers),
+        SeededGenerator::ChaCha20(seed) => replay_with(chacha::<20>(seed), calls, items, answers),
     }
 }
 
-fn replay_buffered(source: Source, calls: &[Call], items: &mut [u64], answers: &mut [Answer])
+fn replay_buffered(
+    generator: SeededGenerator,
+    calls: &[Call],
+    items: &mut [u64],
+    answers: &mut [Answer],
+)
     requires { length answers.old ≡ length calls.now }
-    ensures answers { answers.new ≡ (from_source source Buffered calls.now items.old).answers }
-    ensures items { items.new ≡ (from_source source Buffered calls.now items.old).items }
+    ensures answers { answers.new ≡ (from_seeded generator Buffered calls.now items.old).answers }
+    ensures items { items.new ≡ (from_seeded generator Buffered calls.now items.old).items }
 {
-    match source {
-        Source::WyRand(seed) => replay_with(BufferedRng::new(wyrand(seed)), calls, items, answers),
-        Source::Pcg64(seed) => replay_with(BufferedRng::new(pcg64(seed)), calls, items, answers),
-        Source::ChaCha8(seed) => replay_with(
+    match generator {
+        SeededGenerator::WyRand(seed) => replay_with(
+            BufferedRng::new(wyrand(seed)),
+            calls,
+            items,
+            answers,
+        ),
+        SeededGenerator::Pcg64(seed) => replay_with(
+            BufferedRng::new(pcg64(seed)),
+            calls,
+            items,
+            answers,
+        ),
+        SeededGenerator::ChaCha8(seed) => replay_with(
             BufferedRng::new(chacha::<8>(seed)),
             calls,
             items,
             answers,
         ),
-        Source::ChaCha12(seed) => replay_with(
+        SeededGenerator::ChaCha12(seed) => replay_with(
             BufferedRng::new(chacha::<12>(seed)),
             calls,
             items,
             answers,
         ),
-        Source::ChaCha20(seed) => replay_with(
+        SeededGenerator::ChaCha20(seed) => replay_with(
             BufferedRng::new(chacha::<20>(seed)),
             calls,
             items,
@@ -72,7 +92,7 @@ fn replay_buffered(source: Source, calls: &[Call], items: &mut [u64], answers: &
     }
 }
 
-/// Makes the calls on this generator, and drops it.
+/// Runs the calls on this generator, and drops it.
 fn replay_with<G: Rng<OUTPUT> + Drop, const OUTPUT: usize>(
     mut rng: G,
     calls: &[Call],

@@ -1,4 +1,4 @@
-//! The names of types.
+//! The names of the number types.
 
 ghost use Rattle.std.specs.Prelude.{◌≡◌, IfSome, Some};
 ghost use Rattle.nanorand.specs.declared.replay.Kind.{Kind as AKind};

@@ -2,11 +2,11 @@
 #![tactic(auto)]
 
 mod bounds;
+mod command;
 mod error;
 mod generators;
 mod kinds;
 mod numbers;
-mod order;
 mod requests;
 mod run;
 #[cfg(test)]
@@ -22,10 +22,10 @@ fn main(rt: HostRuntime) -> ExitCode {
     let alloc = rt.alloc();
     let outcome = match env::args(&rt) {
         Ok(args) => match args.skip(1).collect::<Vec<String>>(alloc) {
-            Ok(words) => run(alloc, words.as_slice(), &mut rt.stdout()),
+            Ok(arguments) => run(alloc, arguments.as_slice(), &mut rt.stdout()),
             Err(_) => Err(DrawError::Memory),
         },
-        // Arguments that can't be taken in are reported as a want of memory.
+        // Arguments that cannot be fetched are reported as out of memory.
         Err(_) => Err(DrawError::Memory),
     };
     ExitCode::from(report(outcome, &mut rt.stderr()))

@@ -1,4 +1,4 @@
-//! Numbers in the words of the command line.
+//! Numbers in the arguments of the command line.
 
 ghost use Rattle.std.specs.Prelude.{◌≡◌, ℕ, ℤ, List, IfSome, Some};
 ghost use Rattle.std.specs.Int.{w64};
@@ -7,20 +7,21 @@ ghost use Rattle.draw.specs.Numbers.{IsUnsigned, IsSigned, IsPlain};
 mod signed;
 mod unsigned;
 
-/// A number type of which there are ranges.
-pub trait Number: Sized + Drop {
-    // The text stands for the number.
+/// A number type that has ranges, whose numbers are read from text.
+pub trait ReadNumber: Sized + Drop {
+    // The text is a decimal numeral of the number.
     ghost is_text: { List ℕ → Self → Type 0 };
 
-    /// The number that the text stands for.
+    /// The number that the text gives, or `None` if it gives none of this type.
     fn read(text: &str) -> Option<Self>
         ensures found { IfSome result (is_text text.now) }
         ensures only { (n : Self) → is_text text.now n → result ≡ Some n };
 
+    // Texts of numbers cannot be mistaken for a part of a range.
     ghost is_plain: { (text : List ℕ) (n : Self) → is_text text n → IsPlain text };
 }
 
-/// The number that the decimal digits stand for. Leading zeros are allowed, a plus is not.
+/// The number that the text gives: decimal digits. Leading zeros are allowed, a plus is not.
 pub fn read_unsigned(text: &str) -> Option<u64>
     ensures found { IfSome result (IsUnsigned 64 text.now) }
     ensures only { (n : ℕ) → IsUnsigned 64 text.now n → result ≡ Some n }
@@ -31,7 +32,7 @@ pub fn read_unsigned(text: &str) -> Option<u64>
     text.parse().ok()
 }
 
-/// The number that the decimal digits stand for, with at most one minus in front. Leading zeros are
+/// The number that the text gives: decimal digits, after at most one minus. Leading zeros are
 /// allowed, a plus is not.
 pub fn read_signed(text: &str) -> Option<i64>
     ensures found { IfSome result (IsSigned w64 text.now) }

@@ -1,20 +1,20 @@
-//! From the words of the command line to the text that is written.
+//! The whole run: from the arguments of the command line to the text that is written.
 
 ghost use Rattle.std.specs.Prelude.{◌≡◌, ◌≢◌, ◌≤◌, ℕ, length, IfOk, IfErr, OnOk, string_bytes};
 ghost use Rattle.std.specs.List.{range_with_len};
 ghost use Rattle.std.specs.Io.KnownBytes.{Appends};
 ghost use Rattle.draw.specs.Text.{text_asked, status_of};
-ghost use Rattle.draw.specs.Arguments.{Asked, Says, IsFirstUnreadable, asked_of, texts};
+ghost use Rattle.draw.specs.Arguments.{Asked, AsksFor, IsFirstUnreadable, asked_by, texts};
 
+use crate::command::{Command, read};
 use crate::error::DrawError;
-use crate::generators::replay_source;
-use crate::order::{Order, read};
+use crate::generators::replay_seeded;
 use crate::text::text_of;
 use nanorand::replay::Answer;
 use std::alloc::{AllocError, Allocator};
 use std::io::Write;
 
-/// The numbers below the count.
+/// The items at the start: the numbers 0, 1, .. below the count.
 fn items_below<A: Allocator>(alloc: A, count: u64) -> Result<Vec<u64, A>, AllocError>
     ensures { IfOk result (λ items. items.items ≡ range_with_len 0 count) }
 {
@@ -25,58 +25,79 @@ fn items_below<A: Allocator>(alloc: A, count: u64) -> Result<Vec<u64, A>, AllocE
     Ok(items)
 }
 
-/// The text of what is drawn.
-fn text_drawn<'a, A: Allocator>(
+/// The text that the command asks for.
+fn text_of_command<'a, A: Allocator>(
     alloc: &'a A,
-    order: &Order<&'a A>,
+    command: &Command<&'a A>,
 ) -> Result<String<&'a A>, AllocError>
-    ensures { IfOk result (λ text. string_bytes text ≡ text_asked (asked_of order.now)) }
+    ensures { IfOk result (λ text. string_bytes text ≡ text_asked (asked_by command.now)) }
 {
-    let mut items = items_below(alloc, order.count)?;
-    let calls = order.calls.as_slice();
+    let mut items = items_below(alloc, command.count)?;
+    let calls = command.calls.as_slice();
     let mut answers = vec![in alloc; Answer::Truth(false); calls.len()]?;
-    replay_source(order.source, order.mode, calls, &mut items, &mut answers);
+    replay_seeded(
+        command.generator,
+        command.mode,
+        calls,
+        &mut items,
+        &mut answers,
+    );
     text_of(alloc, &answers, &items)
 }
 
-/// The whole text that the words ask for.
-fn text_said<'a, A: Allocator>(alloc: &'a A, words: &[String]) -> Result<String<&'a A>, DrawError>
-    ensures said { OnOk result ((asked : Asked) × Says (texts words.now) asked) }
-    ensures text { IfOk result (λ text. (asked : Asked) → Says (texts words.now) asked → string_bytes text ≡ text_asked asked) }
+/// The text that the arguments ask for. Fails with `BadWord` or `Memory`.
+fn text_for_arguments<'a, A: Allocator>(
+    alloc: &'a A,
+    arguments: &[String],
+) -> Result<String<&'a A>, DrawError>
+    ensures said { OnOk result ((asked : Asked) × AsksFor (texts arguments.now) asked) }
+    ensures text { IfOk result (λ text. (asked : Asked) → AsksFor (texts arguments.now) asked →
+        string_bytes text ≡ text_asked asked) }
     ensures not_write { result ≢ Err DrawError.Write }
-    ensures bad_word { (k : ℕ) → result ≡ Err (DrawError.BadWord k) → IsFirstUnreadable (texts words.now) k }
-    ensures early { (k : ℕ) → k ≤ 4 → IsFirstUnreadable (texts words.now) k →
+    ensures bad_word { (k : ℕ) → result ≡ Err (DrawError.BadWord k) →
+        IsFirstUnreadable (texts arguments.now) k }
+    ensures early { (k : ℕ) → k ≤ 4 → IsFirstUnreadable (texts arguments.now) k →
         result ≡ Err (DrawError.BadWord k) }
 {
-    let order = read(alloc, words)?;
-    Ok(text_drawn(alloc, &order)?)
+    let command = read(alloc, arguments)?;
+    Ok(text_of_command(alloc, &command)?)
 }
 
-/// Writes what the words ask for, all of it at once. What went out before a failed write is open.
-pub fn run<A: Allocator, W: Write>(alloc: A, words: &[String], out: &mut W) -> Result<(), DrawError>
-    // At Ok the words ask for something, and its text was written.
-    ensures readable { OnOk result ((asked : Asked) × Says (texts words.now) asked) }
-    ensures written { OnOk result ((asked : Asked) → Says (texts words.now) asked →
+/// Writes the text that the arguments ask for, all of it at once, and then flushes. After a failed
+/// write, how much of the text `out` took is unspecified.
+pub fn run<A: Allocator, W: Write>(
+    alloc: A,
+    arguments: &[String],
+    out: &mut W,
+) -> Result<(), DrawError>
+    // On success the arguments can be read, and `out` has taken the text that they ask for.
+    ensures readable { OnOk result ((asked : Asked) × AsksFor (texts arguments.now) asked) }
+    ensures written { OnOk result ((asked : Asked) → AsksFor (texts arguments.now) asked →
         Appends (W.contents out.old) (W.contents out.new) (text_asked asked)) }
 
-    // A bad word is the first that says nothing, and a write is tried only where all words say something.
-    ensures bad_word { (k : ℕ) → result ≡ Err (DrawError.BadWord k) → IsFirstUnreadable (texts words.now) k }
-    ensures write { result ≡ Err DrawError.Write → (asked : Asked) × Says (texts words.now) asked }
+    // `BadWord` has the number of the first argument that cannot be read. `Write` is returned only
+    // if all arguments can be read.
+    ensures bad_word { (k : ℕ) → result ≡ Err (DrawError.BadWord k) →
+        IsFirstUnreadable (texts arguments.now) k }
+    ensures write { result ≡ Err DrawError.Write →
+        (asked : Asked) × AsksFor (texts arguments.now) asked }
 
-    // A bad word of the first four is told, whatever memory there is.
-    ensures early { (k : ℕ) → k ≤ 4 → IsFirstUnreadable (texts words.now) k →
+    // If one of the first four arguments cannot be read, `BadWord` is returned, also when no memory
+    // is left.
+    ensures early { (k : ℕ) → k ≤ 4 → IsFirstUnreadable (texts arguments.now) k →
         result ≡ Err (DrawError.BadWord k) }
 
-    // No other error comes after a write.
+    // With any error but `Write`, nothing was written.
     ensures untouched { IfErr result (λ error. error ≢ DrawError.Write → out.new ≡ out.old) }
 {
-    let text = text_said(&alloc, words)?;
+    let text = text_for_arguments(&alloc, arguments)?;
     out.write_all(text.as_bytes())
         .map_err(|_| DrawError::Write)?;
     out.flush().map_err(|_| DrawError::Write)
 }
 
-/// The status of an outcome, and on `err` the line that tells it. A fault of `err` is ignored.
+/// Returns the exit status of an outcome, and writes an error as one line to `err`. A failure to
+/// write that line is ignored.
 pub fn report<W: Write>(outcome: Result<(), DrawError>, err: &mut W) -> u8
     ensures { result ≡ status_of outcome }
 {

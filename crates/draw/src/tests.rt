@@ -1,4 +1,4 @@
-//! Worked rows of the program: words go in, and text or a refusal comes out.
+//! Known-answer tests of the program: its arguments, and the text or the error that they give.
 
 mod derives;
 mod refusals;
@@ -14,42 +14,42 @@ use std::process::Abort;
 use std::test::Fail;
 use writers::{Pieces, check_flushed, check_untouched};
 
-// The words of a line that spaces separate.
-fn words(alloc: Global, line: &str) -> Result<Vec<String>, AllocError> {
-    let mut words = Vec::new(alloc);
-    for word in line.split_whitespace() {
-        words.push(String::from_str(alloc, word)?)?;
+// The arguments on a line, separated by spaces.
+fn arguments(alloc: Global, line: &str) -> Result<Vec<String>, AllocError> {
+    let mut arguments = Vec::new(alloc);
+    for argument in line.split_whitespace() {
+        arguments.push(String::from_str(alloc, argument)?)?;
     }
-    Ok(words)
+    Ok(arguments)
 }
 
-// What `run` answers, and what it wrote.
+// The result of `run`, and what it wrote.
 fn drawn(alloc: Global, line: &str) -> Result<(Result<(), DrawError>, Vec<u8>), AllocError> {
-    let words = words(alloc, line)?;
+    let arguments = arguments(alloc, line)?;
     let mut out = Vec::new(alloc);
-    let outcome = run(alloc, &words, &mut out);
+    let outcome = run(alloc, &arguments, &mut out);
     Ok((outcome, out))
 }
 
-// Each line is read whole, and its text is written and flushed.
+// For each line `run` writes exactly the text, and then flushes once.
 fn check_texts(rt: &impl Abort, alloc: Global, rows: &[(&str, &str)]) -> Result<(), Fail> {
     for (line, text) in rows {
-        let words = words(alloc, line)?;
+        let arguments = arguments(alloc, line)?;
         let mut out = Pieces::honest(alloc, usize::MAX);
-        assert_eq!(rt; run(alloc, &words, &mut out), Ok(()), "{line}");
+        assert_eq!(rt; run(alloc, &arguments, &mut out), Ok(()), "{line}");
         assert_eq!(rt; out.kept.as_slice(), text.as_bytes(), "{line}");
         check_flushed(rt, &out, text.as_bytes(), line);
     }
     Ok(())
 }
 
-// Of each line the word of that number is the first bad one, and the writer is not called.
-fn check_bad_words(rt: &impl Abort, alloc: Global, rows: &[(&str, usize)]) -> Result<(), Fail> {
-    for (line, word) in rows {
-        let words = words(alloc, line)?;
+// For each line `run` returns `BadWord` with that number, and does not call the writer.
+fn check_bad_arguments(rt: &impl Abort, alloc: Global, rows: &[(&str, usize)]) -> Result<(), Fail> {
+    for (line, number) in rows {
+        let arguments = arguments(alloc, line)?;
         let mut out = Pieces::honest(alloc, usize::MAX);
-        let outcome = run(alloc, &words, &mut out);
-        assert_eq!(rt; outcome, Err(DrawError::BadWord(*word)), "{line}");
+        let outcome = run(alloc, &arguments, &mut out);
+        assert_eq!(rt; outcome, Err(DrawError::BadWord(*number)), "{line}");
         check_untouched(rt, &out, line);
     }
     Ok(())
@@ -151,19 +151,19 @@ fn texts_of_chacha(rt: HostRuntime) -> Result<(), Fail> {
     check_texts(&rt, alloc, &rows)
 }
 
-// A byte too many in the seed.
+// A seed of 41 bytes.
 #[test]
 fn long_seeds_of_chacha(rt: HostRuntime) -> Result<(), Fail> {
     let alloc = rt.alloc();
     for generator in ["chacha8", "chacha12", "chacha20"] {
         let line = format!(in alloc; "{generator} {COUNTED}00 plain 0")?;
-        check_bad_words(&rt, alloc, &[(line.as_str(), 2)])?;
+        check_bad_arguments(&rt, alloc, &[(line.as_str(), 2)])?;
     }
     Ok(())
 }
 
 #[test]
-fn bad_words(rt: HostRuntime) -> Result<(), Fail> {
+fn bad_arguments(rt: HostRuntime) -> Result<(), Fail> {
     let rows = [
         ("", 1),
         ("WyRand d29b42879be2895f plain 0", 1),
@@ -185,7 +185,7 @@ fn bad_words(rt: HostRuntime) -> Result<(), Fail> {
         ("wyrand d29b42879be2895f plain 0 shuffle:..", 5),
         ("wyrand d29b42879be2895f plain 0 bool:..", 5),
     ];
-    check_bad_words(&rt, rt.alloc(), &rows)
+    check_bad_arguments(&rt, rt.alloc(), &rows)
 }
 
 #[test]
@@ -205,7 +205,7 @@ fn bad_ranges(rt: HostRuntime) -> Result<(), Fail> {
         ("wyrand d29b42879be2895f plain 0 u8:..=+1", 5),
         ("wyrand d29b42879be2895f plain 0 u8:a..b", 5),
     ];
-    check_bad_words(&rt, rt.alloc(), &rows)
+    check_bad_arguments(&rt, rt.alloc(), &rows)
 }
 
 #[test]
@@ -220,10 +220,10 @@ fn bad_signed_ranges(rt: HostRuntime) -> Result<(), Fail> {
         ("wyrand d29b42879be2895f plain 0 i8:1..=", 5),
         ("wyrand d29b42879be2895f plain 0 i128:..", 5),
     ];
-    check_bad_words(&rt, rt.alloc(), &rows)
+    check_bad_arguments(&rt, rt.alloc(), &rows)
 }
 
-// Each of the thirteen types by its name.
+// Each of the thirteen names of a type is read.
 #[test]
 fn every_type(rt: HostRuntime) -> Result<(), Fail> {
     let names = "i8 i16 i32 i64 i128 isize u8 u16 u32 u64 u128 usize bool";
@@ -260,7 +260,7 @@ fn reports(rt: HostRuntime) -> Result<(), Fail> {
     Ok(())
 }
 
-// Takes nothing.
+// A writer that takes no bytes.
 #[derive(Drop)]
 struct Stuck;
 

@@ -1,4 +1,4 @@
-//! The text of what was drawn.
+//! The text of the answers and the items.
 
 ghost use Rattle.std.specs.Prelude.{◌≡◌, ◌++◌, ◌∷◌, [], codes, IfOk, OnOk, string_bytes};
 ghost use Rattle.std.specs.List.{flat_map};
@@ -7,7 +7,7 @@ ghost use Rattle.draw.specs.Text.{line_of, item_text, text_of};
 use nanorand::replay::Answer;
 use std::alloc::{AllocError, Allocator};
 
-/// Appends an answer on a line of its own.
+/// Appends an answer and a line feed.
 fn push_answer<A: Allocator>(text: &mut String<A>, answer: &Answer) -> Result<(), AllocError>
     ensures { OnOk result (string_bytes text.new ≡ string_bytes text.old ++ line_of answer.now) }
 {
@@ -23,7 +23,8 @@ fn push_answer<A: Allocator>(text: &mut String<A>, answer: &Answer) -> Result<()
 
 /// Appends a line for each answer.
 fn push_answers<A: Allocator>(text: &mut String<A>, answers: &[Answer]) -> Result<(), AllocError>
-    ensures { OnOk result (string_bytes text.new ≡ string_bytes text.old ++ flat_map line_of answers.now) }
+    ensures { OnOk result
+        (string_bytes text.new ≡ string_bytes text.old ++ flat_map line_of answers.now) }
 {
     for answer in answers {
         push_answer(text, answer)?;
@@ -33,7 +34,8 @@ fn push_answers<A: Allocator>(text: &mut String<A>, answers: &[Answer]) -> Resul
 
 /// Appends each item after a space.
 fn push_items<A: Allocator>(text: &mut String<A>, items: &[u64]) -> Result<(), AllocError>
-    ensures { OnOk result (string_bytes text.new ≡ string_bytes text.old ++ flat_map item_text items.now) }
+    ensures { OnOk result
+        (string_bytes text.new ≡ string_bytes text.old ++ flat_map item_text items.now) }
 {
     for item in items {
         write!(text, " {item}")?;
@@ -41,13 +43,14 @@ fn push_items<A: Allocator>(text: &mut String<A>, items: &[u64]) -> Result<(), A
     Ok(())
 }
 
-/// A line for each answer, and one for the items if there are any.
+/// The text of answers and items: a line for each answer, and one for the items if there are any.
 pub fn text_of<A: Allocator>(
     alloc: A,
     answers: &[Answer],
     items: &[u64],
 ) -> Result<String<A>, AllocError>
-    ensures { IfOk result (λ text. string_bytes text ≡ text_of (record { answers = answers.now; items = items.now })) }
+    ensures { IfOk result (λ text.
+        string_bytes text ≡ text_of (record { answers = answers.now; items = items.now })) }
 {
     let mut text = String::new(alloc);
     push_answers(&mut text, answers)?;

@@ -1,9 +1,9 @@
-//! Single bytes through a buffer.
+//! Single bytes from a buffered generator.
 
 use nanorand::{BufferedRng, ChaCha20, Rng, WyRand};
 
 #[unsafe(no_mangle)]
-pub extern "C" fn nanorand_buffered_wyrand(seed: u64, count: u64) -> u64 {
+pub extern "C" fn nanorand_bench_buffered_wyrand(seed: u64, count: u64) -> u64 {
     let mut rng = BufferedRng::new(WyRand::new_seed(seed));
     let mut all = 0u64;
     for _ in 0..count {
@@ -13,7 +13,7 @@ pub extern "C" fn nanorand_buffered_wyrand(seed: u64, count: u64) -> u64 {
 }
 
 #[unsafe(no_mangle)]
-pub extern "C" fn nanorand_buffered_chacha20(seed: u8, count: u64) -> u64 {
+pub extern "C" fn nanorand_bench_buffered_chacha20(seed: u8, count: u64) -> u64 {
     let mut rng = BufferedRng::new(ChaCha20::new_key([seed; 32], [seed; 8]));
     let mut all = 0u64;
     for _ in 0..count {

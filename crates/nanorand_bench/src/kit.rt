@@ -1,5 +1,5 @@
-//! The same work by the kit's `rand`, `rand_pcg` and `rand_chacha`. Ranges and shuffles draw from
-//! its Pcg64.
+//! The same work with the kit's `rand`, `rand_pcg` and `rand_chacha`. Ranges and shuffles draw from
+//! its `Pcg64`.
 
 use crate::words::mixed;
 use rand::seq::SliceRandom;
@@ -8,7 +8,7 @@ use rand_chacha::{ChaCha8Rng, ChaCha12Rng, ChaCha20Rng};
 use rand_pcg::Pcg64;
 
 #[unsafe(no_mangle)]
-pub extern "C" fn kit_pcg64_u64(seed: u64, count: u64) -> u64 {
+pub extern "C" fn nanorand_bench_kit_pcg64_u64(seed: u64, count: u64) -> u64 {
     let mut rng = Pcg64::new(u128::from(seed), 1);
     let mut all = 0u64;
     for _ in 0..count {
@@ -18,7 +18,7 @@ pub extern "C" fn kit_pcg64_u64(seed: u64, count: u64) -> u64 {
 }
 
 #[unsafe(no_mangle)]
-pub extern "C" fn kit_pcg64_u8(seed: u64, count: u64) -> u64 {
+pub extern "C" fn nanorand_bench_kit_pcg64_u8(seed: u64, count: u64) -> u64 {
     let mut rng = Pcg64::new(u128::from(seed), 1);
     let mut all = 0u64;
     for _ in 0..count {
@@ -28,7 +28,7 @@ pub extern "C" fn kit_pcg64_u8(seed: u64, count: u64) -> u64 {
 }
 
 #[unsafe(no_mangle)]
-pub extern "C" fn kit_chacha20_u8(seed: u8, count: u64) -> u64 {
+pub extern "C" fn nanorand_bench_kit_chacha20_u8(seed: u8, count: u64) -> u64 {
     let mut rng = ChaCha20Rng::from_seed([seed; 32]);
     let mut all = 0u64;
     for _ in 0..count {
@@ -38,7 +38,7 @@ pub extern "C" fn kit_chacha20_u8(seed: u8, count: u64) -> u64 {
 }
 
 #[unsafe(no_mangle)]
-pub extern "C" fn kit_chacha8_blocks(seed: u8, count: u64) -> u64 {
+pub extern "C" fn nanorand_bench_kit_chacha8_blocks(seed: u8, count: u64) -> u64 {
     let mut rng = ChaCha8Rng::from_seed([seed; 32]);
     let mut all = 0u64;
     let mut block = [0; 64];
@@ -50,7 +50,7 @@ pub extern "C" fn kit_chacha8_blocks(seed: u8, count: u64) -> u64 {
 }
 
 #[unsafe(no_mangle)]
-pub extern "C" fn kit_chacha12_blocks(seed: u8, count: u64) -> u64 {
+pub extern "C" fn nanorand_bench_kit_chacha12_blocks(seed: u8, count: u64) -> u64 {
     let mut rng = ChaCha12Rng::from_seed([seed; 32]);
     let mut all = 0u64;
     let mut block = [0; 64];
@@ -62,7 +62,7 @@ pub extern "C" fn kit_chacha12_blocks(seed: u8, count: u64) -> u64 {
 }
 
 #[unsafe(no_mangle)]
-pub extern "C" fn kit_chacha20_blocks(seed: u8, count: u64) -> u64 {
+pub extern "C" fn nanorand_bench_kit_chacha20_blocks(seed: u8, count: u64) -> u64 {
     let mut rng = ChaCha20Rng::from_seed([seed; 32]);
     let mut all = 0u64;
     let mut block = [0; 64];
@@ -74,7 +74,7 @@ pub extern "C" fn kit_chacha20_blocks(seed: u8, count: u64) -> u64 {
 }
 
 #[unsafe(no_mangle)]
-pub extern "C" fn kit_pcg64_fill(seed: u64, out: &mut [u8], times: u32) {
+pub extern "C" fn nanorand_bench_kit_pcg64_fill(seed: u64, out: &mut [u8], times: u32) {
     let mut rng = Pcg64::new(u128::from(seed), 1);
     for _ in 0..times {
         rng.fill_bytes(out);
@@ -82,7 +82,7 @@ pub extern "C" fn kit_pcg64_fill(seed: u64, out: &mut [u8], times: u32) {
 }
 
 #[unsafe(no_mangle)]
-pub extern "C" fn kit_chacha20_fill(seed: u8, out: &mut [u8], times: u32) {
+pub extern "C" fn nanorand_bench_kit_chacha20_fill(seed: u8, out: &mut [u8], times: u32) {
     let mut rng = ChaCha20Rng::from_seed([seed; 32]);
     for _ in 0..times {
         rng.fill_bytes(out);
@@ -90,7 +90,7 @@ pub extern "C" fn kit_chacha20_fill(seed: u8, out: &mut [u8], times: u32) {
 }
 
 #[unsafe(no_mangle)]
-pub extern "C" fn kit_range_u8(seed: u64, size: u8, count: u64) -> u64 {
+pub extern "C" fn nanorand_bench_kit_range_u8(seed: u64, size: u8, count: u64) -> u64 {
     let mut rng = Pcg64::new(u128::from(seed), 1);
     let mut all = 0u64;
     for _ in 0..count {
@@ -102,7 +102,7 @@ pub extern "C" fn kit_range_u8(seed: u64, size: u8, count: u64) -> u64 {
 }
 
 #[unsafe(no_mangle)]
-pub extern "C" fn kit_range_u32(seed: u64, size: u32, count: u64) -> u64 {
+pub extern "C" fn nanorand_bench_kit_range_u32(seed: u64, size: u32, count: u64) -> u64 {
     let mut rng = Pcg64::new(u128::from(seed), 1);
     let mut all = 0u64;
     for _ in 0..count {
@@ -114,7 +114,7 @@ pub extern "C" fn kit_range_u32(seed: u64, size: u32, count: u64) -> u64 {
 }
 
 #[unsafe(no_mangle)]
-pub extern "C" fn kit_range_u64(seed: u64, size: u64, count: u64) -> u64 {
+pub extern "C" fn nanorand_bench_kit_range_u64(seed: u64, size: u64, count: u64) -> u64 {
     let mut rng = Pcg64::new(u128::from(seed), 1);
     let mut all = 0u64;
     for _ in 0..count {
@@ -126,7 +126,7 @@ pub extern "C" fn kit_range_u64(seed: u64, size: u64, count: u64) -> u64 {
 }
 
 #[unsafe(no_mangle)]
-pub extern "C" fn kit_shuffle(seed: u64, items: &mut [u64], times: u32) {
+pub extern "C" fn nanorand_bench_kit_shuffle(seed: u64, items: &mut [u64], times: u32) {
     let mut rng = Pcg64::new(u128::from(seed), 1);
     for _ in 0..times {
         items.shuffle(&mut rng);
@@ -134,13 +134,13 @@ pub extern "C" fn kit_shuffle(seed: u64, items: &mut [u64], times: u32) {
 }
 
 #[unsafe(no_mangle)]
-pub extern "C" fn kit_pcg64_jump(seed: u64, count: u64) -> u64 {
+pub extern "C" fn nanorand_bench_kit_pcg64_jump(seed: u64, count: u64) -> u64 {
     let mut rng = Pcg64::new(u128::from(seed), 1);
     let mut all = 0u64;
     for _ in 0..count {
         let high = u128::from(rng.next_u64()) << 64;
-        let places = high + u128::from(rng.next_u64());
-        rng.advance(places);
+        let draws = high + u128::from(rng.next_u64());
+        rng.advance(draws);
         all = all.rotate_left(1) ^ rng.next_u64();
     }
     all

@@ -1,9 +1,12 @@
-//! Calls that `bench/` times: those of `nanorand`, and the like of them over the kit's `rand`.
+//! The functions that `bench/` times: calls of `nanorand`, and the same work with the kit's `rand`.
+//!
+//! Those that fill or shuffle a slice leave their result in it. Each of the others returns a number
+//! that depends on all its results, so that no work can be left out.
 #![tactic(auto)]
 
 pub mod buffers;
 pub mod fills;
+pub mod jumps;
 pub mod kit;
-pub mod places;
 pub mod ranges;
 pub mod words;

@@ -4,7 +4,7 @@ use nanorand::{Rng, WyRand, shuffles};
 use std::ops::Bound::{Excluded, Included};
 
 #[unsafe(no_mangle)]
-pub extern "C" fn nanorand_range_u8(seed: u64, size: u8, count: u64) -> u64 {
+pub extern "C" fn nanorand_bench_range_u8(seed: u64, size: u8, count: u64) -> u64 {
     let mut rng = WyRand::new_seed(seed);
     let mut all = 0u64;
     for _ in 0..count {
@@ -16,7 +16,7 @@ pub extern "C" fn nanorand_range_u8(seed: u64, size: u8, count: u64) -> u64 {
 }
 
 #[unsafe(no_mangle)]
-pub extern "C" fn nanorand_range_u32(seed: u64, size: u32, count: u64) -> u64 {
+pub extern "C" fn nanorand_bench_range_u32(seed: u64, size: u32, count: u64) -> u64 {
     let mut rng = WyRand::new_seed(seed);
     let mut all = 0u64;
     for _ in 0..count {
@@ -28,7 +28,7 @@ pub extern "C" fn nanorand_range_u32(seed: u64, size: u32, count: u64) -> u64 {
 }
 
 #[unsafe(no_mangle)]
-pub extern "C" fn nanorand_range_u64(seed: u64, size: u64, count: u64) -> u64 {
+pub extern "C" fn nanorand_bench_range_u64(seed: u64, size: u64, count: u64) -> u64 {
     let mut rng = WyRand::new_seed(seed);
     let mut all = 0u64;
     for _ in 0..count {
@@ -40,7 +40,7 @@ pub extern "C" fn nanorand_range_u64(seed: u64, size: u64, count: u64) -> u64 {
 }
 
 #[unsafe(no_mangle)]
-pub extern "C" fn nanorand_shuffle(seed: u64, items: &mut [u64], times: u32) {
+pub extern "C" fn nanorand_bench_shuffle(seed: u64, items: &mut [u64], times: u32) {
     let mut rng = WyRand::new_seed(seed);
     for _ in 0..times {
         let _ = rng.shuffle(items);
@@ -48,7 +48,7 @@ pub extern "C" fn nanorand_shuffle(seed: u64, items: &mut [u64], times: u32) {
 }
 
 #[unsafe(no_mangle)]
-pub extern "C" fn nanorand_shuffle_full(seed: u64, items: &mut [u64], times: u32) {
+pub extern "C" fn nanorand_bench_shuffle_full(seed: u64, items: &mut [u64], times: u32) {
     let mut rng = WyRand::new_seed(seed);
     for _ in 0..times {
         let _ = shuffles::shuffle_full(&mut rng, items);

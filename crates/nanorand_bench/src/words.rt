@@ -1,10 +1,10 @@
-//! Words and blocks.
+//! Single words and blocks.
 ghost use Rattle.std.specs.Prelude.{◌+◌, ◌≤◌};
 
 use nanorand::{Blocks, ChaCha8, ChaCha12, ChaCha20, Pcg64, Rng, WyRand};
 
 #[unsafe(no_mangle)]
-pub extern "C" fn nanorand_wyrand_u64(seed: u64, count: u64) -> u64 {
+pub extern "C" fn nanorand_bench_wyrand_u64(seed: u64, count: u64) -> u64 {
     let mut rng = WyRand::new_seed(seed);
     let mut all = 0u64;
     for _ in 0..count {
@@ -14,7 +14,7 @@ pub extern "C" fn nanorand_wyrand_u64(seed: u64, count: u64) -> u64 {
 }
 
 #[unsafe(no_mangle)]
-pub extern "C" fn nanorand_pcg64_u64(seed: u64, count: u64) -> u64 {
+pub extern "C" fn nanorand_bench_pcg64_u64(seed: u64, count: u64) -> u64 {
     let mut rng = Pcg64::new_seed(u128::from(seed));
     let mut all = 0u64;
     for _ in 0..count {
@@ -24,7 +24,7 @@ pub extern "C" fn nanorand_pcg64_u64(seed: u64, count: u64) -> u64 {
 }
 
 #[unsafe(no_mangle)]
-pub extern "C" fn nanorand_chacha8_blocks(seed: u8, count: u64) -> u64 {
+pub extern "C" fn nanorand_bench_chacha8_blocks(seed: u8, count: u64) -> u64 {
     let mut rng = ChaCha8::new_key([seed; 32], [seed; 8]);
     let mut all = 0u64;
     for _ in 0..count {
@@ -34,7 +34,7 @@ pub extern "C" fn nanorand_chacha8_blocks(seed: u8, count: u64) -> u64 {
 }
 
 #[unsafe(no_mangle)]
-pub extern "C" fn nanorand_chacha12_blocks(seed: u8, count: u64) -> u64 {
+pub extern "C" fn nanorand_bench_chacha12_blocks(seed: u8, count: u64) -> u64 {
     let mut rng = ChaCha12::new_key([seed; 32], [seed; 8]);
     let mut all = 0u64;
     for _ in 0..count {
@@ -44,7 +44,7 @@ pub extern "C" fn nanorand_chacha12_blocks(seed: u8, count: u64) -> u64 {
 }
 
 #[unsafe(no_mangle)]
-pub extern "C" fn nanorand_chacha20_blocks(seed: u8, count: u64) -> u64 {
+pub extern "C" fn nanorand_bench_chacha20_blocks(seed: u8, count: u64) -> u64 {
     let mut rng = ChaCha20::new_key([seed; 32], [seed; 8]);
     let mut all = 0u64;
     for _ in 0..count {
@@ -53,16 +53,17 @@ pub extern "C" fn nanorand_chacha20_blocks(seed: u8, count: u64) -> u64 {
     all
 }
 
-/// The eight words of a block, one after another, so that no word of it is left unused.
+/// Mixes the eight 64-bit words of a block into one, so that none is left unused.
 pub fn mixed(block: &[u8; 64]) -> u64 {
     let mut all = 0u64;
     for i in 0..8 {
-        all = all.rotate_left(1) ^ word_at(block, 8 * i);
+        all = all.rotate_left(1) ^ u64_at(block, 8 * i);
     }
     all
 }
 
-fn word_at(block: &[u8; 64], at: usize) -> u64
+// The eight bytes from index `at` on, little-endian.
+fn u64_at(block: &[u8; 64], at: usize) -> u64
     requires { at + 8 ≤ 64 }
 {
     u64::from_le_bytes([

@@ -1,9 +1,8 @@
--- A generator of one byte.
+-- The generator `Constant`: blocks of one byte, eight times.
 use Rattle.std.specs.Prelude.{ℕ, List, replicate}
-use Rattle.nanorand_rows.specs.declared.constant.Constant.{Constant}
+use Rattle.nanorand_rows.specs.declared.generators.constant.Constant.{Constant}
 use Rattle.nanorand_rows.specs.Steps.{next_count}
 
--- Each block is that byte, eight times.
 abbrev pub constant_block : Constant → List ℕ
 constant_block g = replicate 8 g.byte
 

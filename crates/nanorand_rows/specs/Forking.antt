@@ -1,9 +1,9 @@
--- A generator of numbered streams, whose clone is another stream.
+-- The generator `Forking`: numbered streams, whose clone is another stream.
 use Rattle.std.specs.Prelude.{ℕ, ◌+◌, ◌%◌, List, [], ◌∷◌}
-use Rattle.nanorand_rows.specs.declared.forking.Forking.{Forking}
+use Rattle.nanorand_rows.specs.declared.generators.forking.Forking.{Forking}
 use Rattle.nanorand_rows.specs.Steps.{next_count}
 
--- A block has the number of its stream and its own number, in turns.
+-- A block alternates the number of the stream and the number of the block modulo 256.
 abbrev pub forking_block : Forking → List ℕ
 forking_block g =
     let count = g.drawn % 256 in
@@ -12,6 +12,6 @@ forking_block g =
 abbrev pub forking_step : Forking → Forking
 forking_step g = record { stream = g.stream; drawn = next_count g.drawn }
 
--- What a clone is: the next stream, at the same block. Behind the last one, 255, there is none.
+-- A clone: the next stream, at the same block. After stream 255 there is none.
 abbrev pub forked : Forking → Forking
 forked g = record { stream = g.stream + 1; drawn = g.drawn }

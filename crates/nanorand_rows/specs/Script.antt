@@ -1,8 +1,9 @@
--- A generator of the bytes of a list, a block each. Its state is the list and the number of its blocks so far.
+-- The generator `Script`: the bytes of a list, one for each block. The state is the list and the
+-- number of blocks drawn.
 use Rattle.std.specs.Prelude.{ℕ, List, replicate, slice_index_or}
 use Rattle.nanorand_rows.specs.Steps.{next_count}
 
--- Block n is number n of the list, eight times, and zeros after the list.
+-- Block n is item n of the list, eight times; after the list, zeros.
 abbrev pub script_block : List ℕ × ℕ → List ℕ
 script_block g = replicate 8 (slice_index_or g.0 g.1 0)
 

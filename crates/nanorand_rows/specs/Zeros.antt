@@ -1,4 +1,4 @@
--- A generator of zeros. Its state is the number of its blocks.
+-- The generator `Zeros`: blocks of zeros. The state is the number of blocks drawn.
 use Rattle.std.specs.Prelude.{ℕ, List, replicate}
 
 abbrev pub zeros_block : ℕ → List ℕ

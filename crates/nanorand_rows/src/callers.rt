@@ -1,4 +1,5 @@
-//! Proved callers, one for each use. The page `CALLING.md` of the library quotes them.
+//! Proved callers of the library, one for each use; they need no proof of their own. `CALLING.md`
+//! quotes them. Larger callers have a module each.
 ghost use Rattle.std.specs.Prelude.{◌≡◌, ◌≤◌, ◌+◌, ◌++◌, [], length, MatchResult, IsPermutation};
 ghost use Rattle.std.specs.declared.ops.Bound.TheVariants.{Included};
 ghost use Rattle.nanorand.specs.generators.Blocks.{taken};
@@ -10,13 +11,18 @@ ghost use Rattle.nanorand.specs.shuffles.Shuffles.{from_itself, shuffle_answer};
 ghost use Rattle.nanorand.specs.values.Values.{number_of};
 ghost use Rattle.nanorand.specs.generators.WyRand.{next_seed, wyrand_block, wyrand_requests};
 
+pub mod die;
+pub mod examples;
+pub mod nested;
+pub mod rounds;
+
 use nanorand::laws::{pcg64_cycles, unbroken_delivery};
 use nanorand::replay::{Answer, Call, replay};
 use nanorand::values::range::draw_number;
 use nanorand::{BufferedRng, Pcg64, RangeError, Rng, WyRand};
 use std::ops::Bound;
 
-/// The first word of a seed.
+/// The first `u64` of a seed of WyRand.
 pub fn ticket(seed: u64) -> u64
     ensures { result ≡ number_of (taken wyrand_block next_seed seed 8) }
 {
@@ -24,7 +30,7 @@ pub fn ticket(seed: u64) -> u64
     rng.generate::<u64>()
 }
 
-/// A throw of a die, from any generator. It is 1 where 128 words in a row were rejected.
+/// A throw of a die, from any generator: a number from 1 to 6, and 1 if the range draw fails.
 pub fn throw<G: Rng<OUTPUT>, const OUTPUT: usize>(rng: &mut G) -> u8
     ensures face { (1 ≤ result) × (result ≤ 6) }
     ensures thrown { let outcome = unsigned_outcome G.requests 8 rng.old (Included 1) (Included 6) in
@@ -36,7 +42,7 @@ pub fn throw<G: Rng<OUTPUT>, const OUTPUT: usize>(rng: &mut G) -> u8
     }
 }
 
-/// Shuffles a pack of cards. None is lost and none is made, also where the shuffle is refused.
+/// Shuffles a pack of cards. The result is a permutation of the cards, also if the shuffle fails.
 pub fn shuffle_cards(seed: u64, cards: &mut [u8]) -> Result<(), RangeError>
     ensures pack { IsPermutation cards.old cards.new }
     ensures answer { result ≡ shuffle_answer wyrand_requests from_itself (length cards.old) seed }
@@ -45,7 +51,7 @@ pub fn shuffle_cards(seed: u64, cards: &mut [u8]) -> Result<(), RangeError>
     rng.shuffle(cards)
 }
 
-/// Fills two slices from a buffer. Together they hold what one request of both sizes gives.
+/// Fills two slices from a buffer. Together they hold what one request of both lengths gives.
 pub fn fill_two<G: Rng<OUTPUT>, const OUTPUT: usize>(
     rng: &mut BufferedRng<G, OUTPUT>,
     first: &mut [u8],
@@ -59,7 +65,7 @@ pub fn fill_two<G: Rng<OUTPUT>, const OUTPUT: usize>(
     rng.fill_bytes(second);
 }
 
-/// Makes the calls twice from one seed, with no items: the answers are equal.
+/// Replays the calls twice from one seed, with no items. The answers are equal.
 pub fn play_twice(seed: u64, calls: &[Call], first: &mut [Answer], second: &mut [Answer])
     requires first { length first.old ≡ length calls.now }
     requires second { length second.old ≡ length calls.now }
@@ -72,7 +78,7 @@ pub fn play_twice(seed: u64, calls: &[Call], first: &mut [Answer], second: &mut 
     replay(&mut rng, calls, &mut [], second);
 }
 
-/// Jumps twice. One jump of the sum would leave the same.
+/// Jumps twice, with the result of one jump by the sum.
 pub fn skip_twice(rng: &mut Pcg64, first: u64, second: u64)
     ensures { rng.new ≡ pcg64_after (first + second) rng.old }
 {
@@ -81,7 +87,7 @@ pub fn skip_twice(rng: &mut Pcg64, first: u64, second: u64)
     rng.jump(u128::from(second));
 }
 
-/// Leads a generator to the seed of another one.
+/// Advances a generator to the seed of another.
 pub fn catch_up(rng: &mut WyRand, other: &WyRand)
     ensures { rng.new ≡ other.now }
 {

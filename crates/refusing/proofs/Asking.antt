@@ -1,4 +1,4 @@
--- `is_refused` at a call: what it takes, and what a caller has of its answer. Assumes `Logic`.
+-- A call of `is_refused`: what it takes, and what the caller has after it. Assumes `Logic`.
 use Rattle.std.proofs.Common.{◌≡◌, ℕ, Bool, List, [], ◌∷◌, refl, ap}
 use seplogic.Ra.Ura.{Ura}
 use mir.Val.{Val, vbool, vptr}
@@ -22,14 +22,14 @@ module _ {M : Type 1} {𝓤 : Ura M} (𝓛 : Logic 𝓤) (mem : Memory → SProp
   abbrev pub Asks : Contract 𝓤
   Asks = triple_of 𝓛 f.signature (f.spec 𝓛 mem run)
 
-  -- the counter at a place, lent for a time
+  -- The counter at an address, borrowed for a lifetime.
   abbrev pub asked : Lft → Share → ℕ × ℕ → Turns → Asks.Ghost
   asked κ q p t = (((κ, tt), (q, tt), tt, (record { ref_ptr = p; now = t }, tt), (vptr p.0 p.1 ∷ [], tt)), tt)
 
   module _ (κ : Lft) (q : Share) (p : ℕ × ℕ) (t : Turns) where
     open 𝓛 use {H, A}
 
-    -- [the `&` to the counter; its lifetime's token]
+    -- [the `&` to the counter; the token of its lifetime]
     pub asks : ent 𝓤 (sep 𝓤 (sem 𝓛 (hidden_shr T.the_row κ t p.0 p.1)) (A.lft κ q)) (Asks.pre (asked κ q p t))
     asks =
         let place : List Val = vptr p.0 p.1 ∷ [] in
@@ -38,7 +38,7 @@ module _ {M : Type 1} {𝓤 : Ura M} (𝓛 : Logic 𝓤) (mem : Memory → SProp
         -- [the parameter; the token]
         nothing ! $ move ! (2 ∷ 0 ∷ []) $ join ! $ join ! $ nothing ! $ move ! (1 ∷ 0 ∷ []) $ join ! $ done !
 
-    -- the answer is a truth value, and the token comes back
+    -- The result is a `bool`, and the token comes back.
     pub answered : (v : Val) → ent 𝓤 (Asks.post (asked κ q p t) v) (H.⇛ (ex 𝓤 (λ (yes : Bool). guard 𝓤 (v ≡ vbool yes) (A.lft κ q))))
     answered v =
         let Answer = λ (yes : Bool). guard 𝓤 (v ≡ vbool yes) (A.lft κ q) in

@@ -1,4 +1,4 @@
-//! An allocator for tests: it counts the requests for memory, and refuses those that it is told to.
+//! An allocator for tests, which counts the allocations requested and refuses chosen ones.
 #![tactic(auto)]
 
 ghost use Rattle.std.specs.Prelude.{◌≡◌, ◌-◌, ◌^◌};
@@ -6,7 +6,7 @@ ghost use Rattle.std.specs.Prelude.{◌≡◌, ◌-◌, ◌^◌};
 use std::alloc::{AllocError, Allocator};
 use std::cell::Cell;
 
-// Counts the requests. Those from `first` to `last`, counted from 1, are refused.
+// Counts the requests. Those numbered `first` to `last`, counted from 1, are refused.
 #[derive(Drop)]
 struct Turns {
     counted: Cell<u64>,
@@ -25,7 +25,7 @@ impl Turns {
         }
     }
 
-    // Counts a request, and answers whether it is refused.
+    // Counts a request, and returns whether it is refused.
     fn is_refused(&self) -> bool {
         let turn = self.counted.get().saturating_add(1);
         self.counted.set(turn);
@@ -33,10 +33,10 @@ impl Turns {
     }
 }
 
-/// Hands the requests on to another allocator, but for those that it refuses.
+/// An allocator that passes requests on to an inner one, except for those that it refuses.
 ///
-/// A test counts up: the first request is refused, then the second, until a run meets no refusal.
-/// That a request is refused is shown by tests, since a cell has no contract.
+/// A test refuses the first request, then the second, and so on, until a run meets no refusal.
+/// Which requests are refused is tested, not proved, since a cell has no contract.
 #[derive(Drop)]
 pub struct Refusing<B: Allocator> {
     inner: B,
@@ -44,7 +44,7 @@ pub struct Refusing<B: Allocator> {
 }
 
 impl<B: Allocator> Refusing<B> {
-    /// Refuses the request of that number alone, counted from 1. At 0 it refuses none.
+    /// Refuses only request `number`, counted from 1. With 0 it refuses none.
     pub fn nth(inner: B, number: u64) -> Refusing<B>
         ensures inner { result.inner ≡ inner }
         ensures turns { (result.turns.first ≡ number) × (result.turns.last ≡ number) }
@@ -55,7 +55,7 @@ impl<B: Allocator> Refusing<B> {
         }
     }
 
-    /// Refuses the request of that number, counted from 1, and each later one.
+    /// Refuses request `number`, counted from 1, and all later ones.
     pub fn from_nth(inner: B, number: u64) -> Refusing<B>
         ensures inner { result.inner ≡ inner }
         ensures turns { (result.turns.first ≡ number) × (result.turns.last ≡ 2 ^ 64 - 1) }
@@ -66,13 +66,13 @@ impl<B: Allocator> Refusing<B> {
         }
     }
 
-    /// How many requests were made, refused ones too.
+    /// The number of requests so far, refused ones included.
     pub fn requests(&self) -> u64 {
         self.turns.counted.get()
     }
 }
 
-// A block goes back by the right that the inner allocator gave.
+// A block is given back with the inner allocator's right to do so.
 unsafe impl<B: Allocator> Allocator for Refusing<B> {
     ghost dealloc_token = { λ heap ty ptr. B.dealloc_token heap.inner ty ptr };
 

@@ -1,4 +1,5 @@
--- Worked rows, computed from the definitions alone: what words say, what seeds draw, and the lines of it.
+-- Known answers, computed from the definitions alone: what arguments ask for, what seeds draw, and
+-- the lines that are written.
 use Rattle.std.specs.Prelude.{◌≡◌, ℕ, List, [], ◌∷◌, ◌++◌, codes, negsuc, true, false, Ok, Err, refl}
 use Rattle.std.proofs.Common.{arith}
 use Rattle.std.proofs.lemmas.Fmt.{decimal_digit}
@@ -11,24 +12,24 @@ use Rattle.nanorand.specs.declared.replay.Kind.{Kind}
 use Rattle.nanorand.specs.declared.replay.Kind.TheVariants as kinds
 use Rattle.nanorand.specs.declared.replay.Span.TheVariants as spans
 use Rattle.nanorand.specs.declared.replay.Call.TheVariants.{Gen, Range}
-use Rattle.draw.specs.declared.order.Mode.TheVariants.{Plain}
-use Rattle.draw.specs.declared.order.Source.TheVariants.{WyRand}
+use Rattle.draw.specs.declared.command.Mode.TheVariants.{Plain}
+use Rattle.draw.specs.declared.command.SeededGenerator.TheVariants.{WyRand}
 use Rattle.draw.specs.declared.error.DrawError.TheVariants.{BadWord, Memory, Write}
 use Rattle.draw.specs.Numbers.{IsUnsigned}
 use Rattle.draw.specs.Requests.{IsRequest}
-use Rattle.draw.specs.Arguments.{Asked, Says}
-use Rattle.draw.specs.Text.{from_source, text_of, text_asked, status_of}
+use Rattle.draw.specs.Arguments.{Asked, AsksFor}
+use Rattle.draw.specs.Text.{from_seeded, text_of, text_asked, status_of}
 
--- the seeds d29b42879be2895f and d19b42879be2895f
+-- The seeds d29b42879be2895f and d19b42879be2895f of wyrand.
 abbrev seed_of_one : List ℕ
 seed_of_one = 0xd2 ∷ 0x9b ∷ 0x42 ∷ 0x87 ∷ 0x9b ∷ 0xe2 ∷ 0x89 ∷ 0x5f ∷ []
 
 abbrev seed_of_zero : List ℕ
 seed_of_zero = 0xd1 ∷ 0x9b ∷ 0x42 ∷ 0x87 ∷ 0x9b ∷ 0xe2 ∷ 0x89 ∷ 0x5f ∷ []
 
--- the answer to one request
+-- The answer to one request.
 abbrev answers : List ℕ → Kind → List Answer
-answers seed kind = (from_source (WyRand seed) Plain (Gen kind ∷ []) []).answers
+answers seed kind = (from_seeded (WyRand seed) Plain (Gen kind ∷ []) []).answers
 
 u64_of_one : answers seed_of_one kinds.U64 ≡ Unsigned 16646288086500911322 ∷ []
 unfolding taken
@@ -54,11 +55,11 @@ bool_of_zero : answers seed_of_zero kinds.Bool ≡ Truth true ∷ []
 unfolding taken
 bool_of_zero = refl
 
--- a line a request, and no line of items where there are none
+-- A line for each answer, and no line of items if there are none.
 lines_of_truths : text_of (record { answers = Truth true ∷ Truth false ∷ []; items = [] }) ≡ codes "true" ++ 10 ∷ codes "false" ++ 10 ∷ []
 lines_of_truths = refl
 
--- refusals, a shuffle, a number below 0, and the items on a last line
+-- Refusals, a shuffle, a negative number, and the items on the last line.
 lines_of_all_kinds : text_of (record { answers = Unsigned 7 ∷ Signed (negsuc 0) ∷ Empty ∷ Exhausted ∷ Shuffled ∷ []; items = 1 ∷ 0 ∷ 2 ∷ [] })
     ≡ codes "7" ++ 10 ∷ codes "-1" ++ 10 ∷ codes "empty" ++ 10 ∷ codes "exhausted" ++ 10 ∷ codes "shuffled" ++ 10 ∷ codes "items: 1 0 2" ++ 10 ∷ []
 lines_of_all_kinds =
@@ -67,13 +68,13 @@ lines_of_all_kinds =
 nothing_asked : text_of (record { answers = []; items = [] }) ≡ []
 nothing_asked = refl
 
--- the words `wyrand d19b42879be2895f plain 3 u8`, and the whole text that they ask for
+-- The arguments `wyrand d19b42879be2895f plain 3 u8`, and the whole text that they ask for.
 abbrev zero_and_items : Asked
-zero_and_items = record { source = WyRand seed_of_zero; mode = Plain; count = 3; calls = Gen kinds.U8 ∷ [] }
+zero_and_items = record { generator = WyRand seed_of_zero; mode = Plain; count = 3; calls = Gen kinds.U8 ∷ [] }
 
-words_of_zero : Says (codes "wyrand" ∷ codes "d19b42879be2895f" ∷ codes "plain" ∷ codes "3" ∷ codes "u8" ∷ []) zero_and_items
+asks_for_zero : AsksFor (codes "wyrand" ∷ codes "d19b42879be2895f" ∷ codes "plain" ∷ codes "3" ∷ codes "u8" ∷ []) zero_and_items
 unfolding decode_pairs
-words_of_zero = record {
+asks_for_zero = record {
   generator = refl;
   seed = refl;
   mode = refl;
@@ -85,11 +86,11 @@ text_of_zero : text_asked zero_and_items ≡ codes "0" ++ 10 ∷ codes "items: 0
 unfolding taken
 text_of_zero = rw (decimal_digit 0 (omega arith), decimal_digit 1 (omega arith), decimal_digit 2 (omega arith)) refl
 
--- leading zeros
+-- Leading zeros.
 leading_zeros : IsUnsigned 8 (codes "007") 7
 leading_zeros = record { digits = (omega arith, (omega arith, (omega arith, (omega arith, tt)))); value = refl; fits = omega arith }
 
--- a range with both bounds, and one with none
+-- A range with both bounds, and one with none.
 closed_request : IsRequest (codes "u8:1..=6") (Range (spans.U8 (Included 1) (Included 6)))
 closed_request = (
   codes "1..=6",
@@ -106,7 +107,7 @@ closed_request = (
 unbounded_request : IsRequest (codes "i8:..") (Range (spans.I8 Unbounded Unbounded))
 unbounded_request = (codes "..", refl, record { before = []; after = []; whole = refl; is_low = refl; is_high = refl })
 
--- the status of each outcome
+-- The status of each outcome.
 status_of_ok : status_of (Ok tt) ≡ 0
 status_of_ok = refl
 

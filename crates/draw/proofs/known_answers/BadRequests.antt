@@ -1,5 +1,5 @@
--- Worked rows of requests that cannot be read: a type that is none, a range of a type that has none, a bound that does not
--- fit, and one that is missing.
+-- Known answers: requests that cannot be read. One names no type, one asks for a range of a type
+-- that has none, one has a bound that does not fit, and one lacks a bound.
 use Rattle.std.specs.Prelude.{◌≡◌, ◌≢◌, ℕ, ◌<◌, List, [], ◌∷◌, ◌++◌, codes, drop, length, slice_index, refl}
 use Rattle.std.proofs.Common.{ap, arith, subst, sym}
 use Rattle.std.specs.declared.ops.Bound.{Bound}
@@ -12,11 +12,11 @@ use Rattle.draw.specs.Numbers.{IsUnsigned}
 use Rattle.draw.specs.support.PlainTexts.{unsigned_plain}
 use Rattle.draw.specs.Requests.{IsLow, IsHigh, IsRange, IsRequest}
 
--- texts with other bytes in one place
-differ : (place : ℕ) {text other : List ℕ} → text ≡ other → slice_index text place ≢ slice_index other place → ⊥
-differ place same apart = apart (ap (λ t. slice_index t place) same)
+-- Texts that differ at an index are not equal.
+differ : (index : ℕ) {text other : List ℕ} → text ≡ other → slice_index text index ≢ slice_index other index → ⊥
+differ index same apart = apart (ap (λ t. slice_index t index) same)
 
--- no type is named `u9`, and `u128` has no ranges
+-- No type is named `u9`, and `u128` has no ranges.
 pub no_u9 : (call : Call) → IsRequest (codes "u9") call → ⊥
 no_u9 (Gen kinds.I8) said = differ 0 said (omega arith)
 no_u9 (Gen kinds.I16) said = differ 0 said (omega arith)
@@ -69,7 +69,7 @@ no_range_of_u128 (Range (spans.U64 low high)) (range, text, bounds) = differ 1 t
 no_range_of_u128 (Range (spans.Usize low high)) (range, text, bounds) = differ 1 text (omega arith)
 no_range_of_u128 Shuffle said = differ 0 said (omega arith)
 
--- what stands behind `u8:` is a range of that type
+-- The text after `u8:` is a range of that type.
 range_of_u8 : (range : List ℕ) (call : Call) → IsRequest (codes "u8:" ++ range) call → (low : Bound ℕ) × (high : Bound ℕ) × IsRange (IsUnsigned 8) range low high
 range_of_u8 range (Gen kinds.I8) said = absurd (differ 0 said (omega arith))
 range_of_u8 range (Gen kinds.I16) said = absurd (differ 0 said (omega arith))
@@ -96,7 +96,7 @@ range_of_u8 range (Range (spans.U64 low high)) (other, text, bounds) = absurd (d
 range_of_u8 range (Range (spans.Usize low high)) (other, text, bounds) = absurd (differ 1 text (omega arith))
 range_of_u8 range Shuffle said = absurd (differ 0 said (omega arith))
 
--- a low bound of one digit ends where the dots begin
+-- A low bound of one digit ends where the dots begin.
 low_of_one_digit : (digit : ℕ) (rest before after : List ℕ) (low : Bound ℕ) → digit ≢ 46 → IsLow (IsUnsigned 8) before low
     → digit ∷ 46 ∷ 46 ∷ rest ≡ before ++ codes ".." ++ after → rest ≡ after
 low_of_one_digit digit rest [] after low no_dot is_low whole = absurd (no_dot (ap (λ t. slice_index t 0) whole))
@@ -106,13 +106,13 @@ low_of_one_digit digit rest (d ∷ e ∷ before) after (Included n) no_dot is_lo
 low_of_one_digit digit rest (d ∷ e ∷ before) after (Excluded n) no_dot is_low whole = absurd is_low
 low_of_one_digit digit rest (d ∷ e ∷ before) after Unbounded no_dot is_low whole = absurd (let none = ap length is_low in omega (arith, none))
 
--- 300 is no number of 8 bits
+-- 300 does not fit in 8 bits.
 no_300 : (high : Bound ℕ) → IsHigh (IsUnsigned 8) (codes "300") high → ⊥
 no_300 (Included n) (digits, text, said) = differ 0 text (omega arith)
 no_300 (Excluded n) said = omega (arith, said.value, said.fits)
 no_300 Unbounded said = differ 0 said (omega arith)
 
--- behind the `=` a number is missing
+-- After the `=` a number is missing.
 no_end : (high : Bound ℕ) → IsHigh (IsUnsigned 8) (codes "=") high → ⊥
 no_end (Included n) (digits, text, said) = let none : [] ≡ digits = ap (drop 1) text in let some : 0 < length digits = said.digits.0 in omega (arith, some, ap length none)
 no_end (Excluded n) said = (unsigned_plain 8 (codes "=") n said).no_equals refl

@@ -1,4 +1,4 @@
--- Worked rows of requests for ranges, and of long seeds: what their texts say.
+-- Known answers: what the texts of ranges and of long seeds ask for.
 use Rattle.std.specs.Prelude.{[], ◌++◌, codes, replicate, pos, negsuc, refl}
 use Rattle.std.proofs.Common.{arith}
 use Rattle.std.specs.List.{range_with_len}
@@ -6,7 +6,7 @@ use Rattle.hex.specs.Hex.{decode_pairs}
 use Rattle.std.specs.declared.ops.Bound.TheVariants.{Included, Excluded, Unbounded}
 use Rattle.nanorand.specs.declared.replay.Span.TheVariants as spans
 use Rattle.nanorand.specs.declared.replay.Call.TheVariants.{Range, Shuffle}
-use Rattle.draw.specs.declared.order.Source.TheVariants.{Pcg64, ChaCha20}
+use Rattle.draw.specs.declared.command.SeededGenerator.TheVariants.{Pcg64, ChaCha20}
 use Rattle.draw.specs.Requests.{IsRequest}
 use Rattle.draw.specs.Arguments.{IsSeed}
 
@@ -94,7 +94,7 @@ u8_empty = (
 shuffle_asked : IsRequest (codes "shuffle") Shuffle
 shuffle_asked = refl
 
--- seeds of 32 and of 80 digits
+-- Seeds of 32 and of 80 digits.
 pub seed_of_pcg64 : IsSeed (codes "00000000000000000000000000000000") (Pcg64 (replicate 16 0))
 unfolding decode_pairs
 seed_of_pcg64 = refl

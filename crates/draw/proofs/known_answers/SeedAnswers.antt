@@ -1,4 +1,4 @@
--- Worked rows of what seeds answer, computed from the definitions alone.
+-- Known answers to calls on a seed, computed from the definitions alone.
 use Rattle.std.specs.Prelude.{◌≡◌, ℕ, List, [], ◌∷◌, ◌++◌, replicate, pos, negsuc, false, refl}
 use Rattle.std.specs.List.{range_with_len}
 use Rattle.std.specs.declared.ops.Bound.TheVariants.{Included, Excluded, Unbounded}
@@ -16,16 +16,16 @@ use Rattle.nanorand.specs.declared.replay.Span.{Span}
 use Rattle.nanorand.specs.declared.replay.Span.TheVariants as spans
 use Rattle.nanorand.specs.declared.replay.Call.{Call}
 use Rattle.nanorand.specs.declared.replay.Call.TheVariants.{Gen, Range}
-use Rattle.draw.specs.declared.order.Mode.{Mode}
-use Rattle.draw.specs.declared.order.Mode.TheVariants.{Plain, Buffered}
-use Rattle.draw.specs.declared.order.Source.{Source}
-use Rattle.draw.specs.declared.order.Source.TheVariants.{WyRand, Pcg64, ChaCha20}
-use Rattle.draw.specs.Text.{from_source}
+use Rattle.draw.specs.declared.command.Mode.{Mode}
+use Rattle.draw.specs.declared.command.Mode.TheVariants.{Plain, Buffered}
+use Rattle.draw.specs.declared.command.SeededGenerator.{SeededGenerator}
+use Rattle.draw.specs.declared.command.SeededGenerator.TheVariants.{WyRand, Pcg64, ChaCha20}
+use Rattle.draw.specs.Text.{from_seeded}
 
-abbrev answers : Source → Mode → List Call → List Answer
-answers source mode calls = (from_source source mode calls []).answers
+abbrev answers : SeededGenerator → Mode → List Call → List Answer
+answers generator mode calls = (from_seeded generator mode calls []).answers
 
--- the seed d29b42879be2895f, asked for one range
+-- One range from the seed d29b42879be2895f of wyrand.
 abbrev of_range : Span → List Answer
 of_range span = answers (WyRand (0xd2 ∷ 0x9b ∷ 0x42 ∷ 0x87 ∷ 0x9b ∷ 0xe2 ∷ 0x89 ∷ 0x5f ∷ [])) Plain (Range span ∷ [])
 
@@ -61,24 +61,25 @@ i8_empty : of_range (spans.I8 (Included (negsuc 127)) (Excluded (negsuc 127))) �
 unfolding named range_within words_from value_drawn left_by left_after taken
 i8_empty = refl
 
--- two bytes and a word, buffered
+-- Two bytes and a `u16`, buffered.
 unbroken : answers (WyRand (0xd2 ∷ 0x9b ∷ 0x42 ∷ 0x87 ∷ 0x9b ∷ 0xe2 ∷ 0x89 ∷ 0x5f ∷ [])) Buffered (Gen kinds.U8 ∷ Gen kinds.U8 ∷ Gen kinds.U16 ∷ [])
     ≡ Unsigned 218 ∷ Unsigned 40 ∷ Unsigned 41140 ∷ []
 unfolding taken buffered_taken buffered_after
 unbroken = refl
 
--- the seed of zeros of pcg64
+-- The zero seed of pcg64.
 u8_of_pcg64 : answers (Pcg64 (replicate 16 0)) Plain (Gen kinds.U8 ∷ []) ≡ Unsigned 63 ∷ []
 unfolding taken
 u8_of_pcg64 = refl
 
--- the seed of zeros of chacha20, buffered: four requests of one block
+-- The zero seed of chacha20, buffered: four requests from one block.
 four_of_one_block : answers (ChaCha20 (replicate 40 0)) Buffered (Gen kinds.U8 ∷ Range (spans.U8 (Included 10) (Included 12)) ∷ Gen kinds.U16 ∷ Gen kinds.Bool ∷ [])
     ≡ Unsigned 118 ∷ Unsigned 12 ∷ Unsigned 44512 ∷ Truth false ∷ []
 unfolding quarter_round on_columns on_diagonals rounds block initial_state named range_within words_from value_drawn left_by left_after taken buffered_taken buffered_after
 four_of_one_block = refl
 
--- the key and the nonce in order, plain: the first bytes of four blocks
+-- chacha20 with the key 00 01 .. 1f and the nonce 00 01 .. 07, plain: the first bytes of four
+-- blocks.
 abbrev in_order : List ℕ
 in_order = range_with_len 0 32 ++ range_with_len 0 8
 

@@ -1,4 +1,4 @@
--- Worked rows of whole texts with shuffles, whose partners come from ranges of 64 bits.
+-- Known answers: whole texts with shuffles, whose choices are drawn from ranges of `u64`.
 use Rattle.std.proofs.Common.{◌≡◌, ℕ, zero, suc, ◌+◌, ◌-◌, ◌^◌, ◌≤◌, List, [], ◌∷◌, ◌++◌, Ok, codes, filter, map, nat_le, nat_lt, replicate, refl, ap, ◌∙◌, arith}
 use Rattle.std.specs.Prelude.{◌&&◌, drop}
 use Rattle.std.specs.Fmt.{digits}
@@ -6,9 +6,9 @@ use Rattle.std.specs.List.{range_with_len}
 use Rattle.std.proofs.lemmas.Bool.{le-ltb, and_right}
 use Rattle.std.specs.declared.ops.Bound.TheVariants.{Included, Excluded}
 use Rattle.nanorand.specs.generators.Blocks.{taken, plain_after, Requests, plain}
-use Rattle.nanorand.specs.generators.Buffered.{Buffered, buffer_of, buffered_block, buffered_step, buffered_taken, buffered_after}
+use Rattle.nanorand.specs.generators.Buffered.{buffered, Buffered, buffer_of, buffered_block, buffered_step, buffered_taken, buffered_after}
 use Rattle.nanorand.specs.generators.ChaChaRounds.{quarter_round, on_columns, on_diagonals, rounds, block}
-use Rattle.nanorand.specs.generators.ChaCha.{chacha_block, next_state, initial_state, seeded_state}
+use Rattle.nanorand.specs.generators.ChaCha.{chacha_requests, chacha_block, next_state, initial_state, seeded_state}
 use Rattle.nanorand.specs.generators.WyRand.{next_seed, wyrand_block}
 use Rattle.nanorand.specs.values.Runs.{named}
 use Rattle.nanorand.specs.values.Range.{unsigned_number, unsigned_range, range_within}
@@ -19,7 +19,7 @@ use Rattle.nanorand.specs.declared.replay.Answer.TheVariants.{Empty}
 use Rattle.draw.specs.Text.{text_of, text_asked}
 use Rattle.draw.proofs.known_answers.CommandLines.{empty_and_shuffle, shuffle_in_order, shuffle_of_zeros, in_order}
 
--- past the high bound a range has no numbers, so it ends without a walk through all of them
+-- Past its high bound a range has no numbers, so it is computed without listing all 2^64.
 none_past : (low end a n : ℕ) → end ≤ a → filter (λ x. nat_le low x && nat_lt x end) (map unsigned_number (range_with_len a n)) ≡ []
 none_past low end a zero past = refl
 none_past low end a (suc n) past = rw (and_right (nat_le low a) (nat_lt a end) (le-ltb a end past)) (none_past low end (a + 1) n (omega arith))
@@ -82,7 +82,7 @@ module _ {G : Type 0} (requests : Requests G) (g0 g1 g2 g3 : G) (a b c : ℕ)
   three_answer : shuffle_answer requests from_itself 3 g0 ≡ Ok tt
   three_answer = rw three_choices refl
 
--- the key and the nonce in order, a block a partner
+-- The key 00 01 .. 1f and the nonce 00 01 .. 07, plain: each choice takes a block.
 abbrev ordered : List ℕ
 ordered = seeded_state in_order
 
@@ -100,12 +100,9 @@ unfolding digits
 text_of_shuffle_in_order =
     (λ i. text_of (record { answers = shuffle_call_answer (ordered_choices.1 i) ∷ []; items = arranged (ordered_choices.0 i) (0 ∷ 1 ∷ 2 ∷ []) })) ∙ refl
 
--- the zero key and nonce, buffered: three partners of one block
-abbrev kept_taken : Buffered (List ℕ) → ℕ → List ℕ
-kept_taken = taken (buffered_block (chacha_block 20) next_state 64) (buffered_step (chacha_block 20) next_state 64)
-
-abbrev kept_after : Buffered (List ℕ) → ℕ → Buffered (List ℕ)
-kept_after = buffered_after (chacha_block 20) next_state 64
+-- The zero key and nonce, buffered: one block gives all three choices.
+abbrev buffered_requests : Requests (Buffered (List ℕ))
+buffered_requests = buffered (chacha_block 20) next_state 64
 
 abbrev of_zeros : List ℕ
 of_zeros = seeded_state (replicate 40 0)
@@ -113,12 +110,12 @@ of_zeros = seeded_state (replicate 40 0)
 abbrev zeros_from : ℕ → Buffered (List ℕ)
 zeros_from n = buffer_of (drop n (chacha_block 20 of_zeros)) (next_state of_zeros)
 
-choices_of_zeros : (shuffle_choices (record { bytes = kept_taken; after = kept_after }) from_itself 3 (buffer_of [] of_zeros) ≡ 1 ∷ 1 ∷ 2 ∷ [])
-    × (shuffle_answer (record { bytes = kept_taken; after = kept_after }) from_itself 3 (buffer_of [] of_zeros) ≡ Ok tt)
+choices_of_zeros : (shuffle_choices buffered_requests from_itself 3 (buffer_of [] of_zeros) ≡ 1 ∷ 1 ∷ 2 ∷ [])
+    × (shuffle_answer buffered_requests from_itself 3 (buffer_of [] of_zeros) ≡ Ok tt)
 unfolding quarter_round on_columns on_diagonals rounds block initial_state named words_from value_drawn left_by left_after taken buffered_taken buffered_after
 choices_of_zeros = (
-  three_choices (record { bytes = kept_taken; after = kept_after }) (buffer_of [] of_zeros) (zeros_from 8) (zeros_from 16) (zeros_from 24) 1 1 2 refl refl refl,
-  three_answer (record { bytes = kept_taken; after = kept_after }) (buffer_of [] of_zeros) (zeros_from 8) (zeros_from 16) (zeros_from 24) 1 1 2 refl refl refl,
+  three_choices buffered_requests (buffer_of [] of_zeros) (zeros_from 8) (zeros_from 16) (zeros_from 24) 1 1 2 refl refl refl,
+  three_answer buffered_requests (buffer_of [] of_zeros) (zeros_from 8) (zeros_from 16) (zeros_from 24) 1 1 2 refl refl refl,
 )
 
 text_of_shuffle_of_zeros : text_asked shuffle_of_zeros ≡ codes "shuffled" ++ 10 ∷ codes "items: 1 0 2" ++ 10 ∷ []

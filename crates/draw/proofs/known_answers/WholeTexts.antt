@@ -1,4 +1,4 @@
--- Worked rows of the words of the program and the whole texts that they ask for.
+-- Known answers: arguments of the program, and the whole text that they ask for.
 use Rattle.std.specs.Prelude.{◌≡◌, ℕ, List, [], ◌∷◌, ◌++◌, codes, pos, negsuc, refl}
 use Rattle.std.specs.Fmt.{digits}
 use Rattle.std.proofs.Common.{arith}
@@ -13,59 +13,59 @@ use Rattle.nanorand.specs.declared.replay.Kind.TheVariants as kinds
 use Rattle.nanorand.specs.declared.replay.Span.TheVariants as spans
 use Rattle.nanorand.specs.declared.replay.Call.{Call}
 use Rattle.nanorand.specs.declared.replay.Call.TheVariants.{Gen, Range}
-use Rattle.draw.specs.declared.order.Mode.{Mode}
-use Rattle.draw.specs.declared.order.Mode.TheVariants.{Plain, Buffered}
-use Rattle.draw.specs.declared.order.Source.TheVariants.{WyRand}
+use Rattle.draw.specs.declared.command.Mode.{Mode}
+use Rattle.draw.specs.declared.command.Mode.TheVariants.{Plain, Buffered}
+use Rattle.draw.specs.declared.command.SeededGenerator.TheVariants.{WyRand}
 use Rattle.draw.specs.Requests.{IsRequest}
-use Rattle.draw.specs.Arguments.{Asked, Says, IsCount, IsSeed}
+use Rattle.draw.specs.Arguments.{Asked, AsksFor, IsCount, IsSeed}
 use Rattle.draw.specs.Text.{text_asked}
 
 no_items : IsCount (codes "0") 0
 no_items = record { number = record { digits = (omega arith, (omega arith, tt)); value = refl; fits = omega arith }; small = omega arith }
 
 abbrev of_one : Mode → List Call → Asked
-of_one mode calls = record { source = WyRand (0xd2 ∷ 0x9b ∷ 0x42 ∷ 0x87 ∷ 0x9b ∷ 0xe2 ∷ 0x89 ∷ 0x5f ∷ []); mode = mode; count = 0; calls = calls }
+of_one mode calls = record { generator = WyRand (0xd2 ∷ 0x9b ∷ 0x42 ∷ 0x87 ∷ 0x9b ∷ 0xe2 ∷ 0x89 ∷ 0x5f ∷ []); mode = mode; count = 0; calls = calls }
 
 -- `wyrand d29b42879be2895f plain 0 u8`
-words_of_u8 : Says (codes "wyrand" ∷ codes "d29b42879be2895f" ∷ codes "plain" ∷ codes "0" ∷ codes "u8" ∷ []) (of_one Plain (Gen kinds.U8 ∷ []))
+asks_for_u8 : AsksFor (codes "wyrand" ∷ codes "d29b42879be2895f" ∷ codes "plain" ∷ codes "0" ∷ codes "u8" ∷ []) (of_one Plain (Gen kinds.U8 ∷ []))
 unfolding decode_pairs
-words_of_u8 = record { generator = refl; seed = refl; mode = refl; count = no_items; requests = (refl, tt) }
+asks_for_u8 = record { generator = refl; seed = refl; mode = refl; count = no_items; requests = (refl, tt) }
 
 text_of_u8 : text_asked (of_one Plain (Gen kinds.U8 ∷ [])) ≡ codes "218" ++ 10 ∷ []
 unfolding taken digits
 text_of_u8 = refl
 
--- with another last word
+-- Another last argument.
 abbrev first_four : List (List ℕ)
 first_four = codes "wyrand" ∷ codes "d29b42879be2895f" ∷ codes "plain" ∷ codes "0" ∷ []
 
-says_request : (word : List ℕ) (call : Call) → IsRequest word call → Says (first_four ++ word ∷ []) (of_one Plain (call ∷ []))
+asks_for_request : (argument : List ℕ) (call : Call) → IsRequest argument call → AsksFor (first_four ++ argument ∷ []) (of_one Plain (call ∷ []))
 unfolding decode_pairs
-says_request word call is = record { generator = refl; seed = refl; mode = refl; count = no_items; requests = (is, tt) }
+asks_for_request argument call is = record { generator = refl; seed = refl; mode = refl; count = no_items; requests = (is, tt) }
 
-words_of_u64 : Says (first_four ++ codes "u64" ∷ []) (of_one Plain (Gen kinds.U64 ∷ []))
-words_of_u64 = says_request (codes "u64") (Gen kinds.U64) refl
+asks_for_u64 : AsksFor (first_four ++ codes "u64" ∷ []) (of_one Plain (Gen kinds.U64 ∷ []))
+asks_for_u64 = asks_for_request (codes "u64") (Gen kinds.U64) refl
 
 text_of_u64 : text_asked (of_one Plain (Gen kinds.U64 ∷ [])) ≡ codes "16646288086500911322" ++ 10 ∷ []
 unfolding taken digits
 text_of_u64 = refl
 
-words_of_i64 : Says (first_four ++ codes "i64" ∷ []) (of_one Plain (Gen kinds.I64 ∷ []))
-words_of_i64 = says_request (codes "i64") (Gen kinds.I64) refl
+asks_for_i64 : AsksFor (first_four ++ codes "i64" ∷ []) (of_one Plain (Gen kinds.I64 ∷ []))
+asks_for_i64 = asks_for_request (codes "i64") (Gen kinds.I64) refl
 
 text_of_i64 : text_asked (of_one Plain (Gen kinds.I64 ∷ [])) ≡ codes "-1800455987208640294" ++ 10 ∷ []
 unfolding taken digits
 text_of_i64 = refl
 
-words_of_bool : Says (first_four ++ codes "bool" ∷ []) (of_one Plain (Gen kinds.Bool ∷ []))
-words_of_bool = says_request (codes "bool") (Gen kinds.Bool) refl
+asks_for_bool : AsksFor (first_four ++ codes "bool" ∷ []) (of_one Plain (Gen kinds.Bool ∷ []))
+asks_for_bool = asks_for_request (codes "bool") (Gen kinds.Bool) refl
 
 text_of_bool : text_asked (of_one Plain (Gen kinds.Bool ∷ [])) ≡ codes "false" ++ 10 ∷ []
 unfolding taken
 text_of_bool = refl
 
-words_of_i8 : Says (first_four ++ codes "i8" ∷ []) (of_one Plain (Gen kinds.I8 ∷ []))
-words_of_i8 = says_request (codes "i8") (Gen kinds.I8) refl
+asks_for_i8 : AsksFor (first_four ++ codes "i8" ∷ []) (of_one Plain (Gen kinds.I8 ∷ []))
+asks_for_i8 = asks_for_request (codes "i8") (Gen kinds.I8) refl
 
 text_of_i8 : text_asked (of_one Plain (Gen kinds.I8 ∷ [])) ≡ codes "-38" ++ 10 ∷ []
 unfolding taken digits
@@ -75,9 +75,9 @@ text_of_i8 = refl
 abbrev about_zero : Call
 about_zero = Range (spans.I8 (Included (negsuc 0)) (Included (pos 1)))
 
-words_about_zero : Says (first_four ++ codes "i8:-1..=1" ∷ []) (of_one Plain (about_zero ∷ []))
-words_about_zero =
-    says_request (codes "i8:-1..=1") about_zero (
+asks_about_zero : AsksFor (first_four ++ codes "i8:-1..=1" ∷ []) (of_one Plain (about_zero ∷ []))
+asks_about_zero =
+    asks_for_request (codes "i8:-1..=1") about_zero (
       codes "-1..=1",
       refl,
       record {
@@ -97,23 +97,23 @@ text_about_zero = refl
 abbrev two_bytes_and_a_word : List Call
 two_bytes_and_a_word = Gen kinds.U8 ∷ Gen kinds.U8 ∷ Gen kinds.U16 ∷ []
 
-words_of_buffered : Says (codes "wyrand" ∷ codes "d29b42879be2895f" ∷ codes "buffered" ∷ codes "0" ∷ codes "u8" ∷ codes "u8" ∷ codes "u16" ∷ []) (of_one Buffered two_bytes_and_a_word)
+asks_for_buffered : AsksFor (codes "wyrand" ∷ codes "d29b42879be2895f" ∷ codes "buffered" ∷ codes "0" ∷ codes "u8" ∷ codes "u8" ∷ codes "u16" ∷ []) (of_one Buffered two_bytes_and_a_word)
 unfolding decode_pairs
-words_of_buffered = record { generator = refl; seed = refl; mode = refl; count = no_items; requests = (refl, (refl, (refl, tt))) }
+asks_for_buffered = record { generator = refl; seed = refl; mode = refl; count = no_items; requests = (refl, (refl, (refl, tt))) }
 
 text_of_buffered : text_asked (of_one Buffered two_bytes_and_a_word) ≡ codes "218" ++ 10 ∷ codes "40" ++ 10 ∷ codes "41140" ++ 10 ∷ []
 unfolding taken buffered_taken buffered_after digits
 text_of_buffered = refl
 
--- no request, and nothing to write
-words_of_nothing : Says first_four (of_one Plain [])
+-- No requests and no items: no text.
+asks_for_nothing : AsksFor first_four (of_one Plain [])
 unfolding decode_pairs
-words_of_nothing = record { generator = refl; seed = refl; mode = refl; count = no_items; requests = tt }
+asks_for_nothing = record { generator = refl; seed = refl; mode = refl; count = no_items; requests = tt }
 
 text_of_nothing : text_asked (of_one Plain []) ≡ []
 text_of_nothing = refl
 
--- a seed in capitals
+-- A seed in capitals.
 seed_in_capitals : IsSeed (codes "D19B42879BE2895F") (WyRand (0xd1 ∷ 0x9b ∷ 0x42 ∷ 0x87 ∷ 0x9b ∷ 0xe2 ∷ 0x89 ∷ 0x5f ∷ []))
 unfolding decode_pairs
 seed_in_capitals = refl

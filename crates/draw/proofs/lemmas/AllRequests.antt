@@ -1,38 +1,38 @@
--- Reading the requests one by one.
+-- The requests, read one by one.
 use Rattle.std.proofs.Common.{◌≡◌, ℕ, ◌+◌, ◌<◌, ◌≤◌, ◌-◌, take, take_all, length-drop, Some, List, [], ◌∷◌, ◌++◌, length, drop, get_or, sym, ap, subst, ◌∙◌, append_assoc, drop-cons, add-one, arith, append-nil}
 use Rattle.std.proofs.lemmas.List.{get_or-map, drop_all, drop-map}
 use Rattle.std.specs.Prelude.{String, string_bytes}
 use Rattle.nanorand.specs.declared.replay.Call.{Call}
 use Rattle.draw.specs.Requests.{IsRequest}
-use Rattle.draw.specs.Arguments.{AreRequests, word_at, texts}
+use Rattle.draw.specs.Arguments.{AreRequests, argument_at, texts}
 
--- the text of the word in a place
-pub text_at : {A : Type 0} (words : List (String A)) (place : ℕ) (word : String A) → place < length words → word ≡ get_or words place word → word_at (texts words) place ≡ string_bytes word
-text_at words place word within is = get_or-map string_bytes words place word [] within ∙ ap string_bytes (sym is)
+-- The bytes of the argument at an index.
+pub text_at : {A : Type 0} (arguments : List (String A)) (index : ℕ) (argument : String A) → index < length arguments → argument ≡ get_or arguments index argument → argument_at (texts arguments) index ≡ string_bytes argument
+text_at arguments index argument within is = get_or-map string_bytes arguments index argument [] within ∙ ap string_bytes (sym is)
 
--- no word stands behind the last
-pub said_all : (words : List (List ℕ)) (calls : List Call) (place : ℕ) → length words ≤ place → ((rest : List Call) → AreRequests (drop place words) rest → AreRequests words (calls ++ rest)) → AreRequests words calls
-said_all words calls place end said = subst (AreRequests words) (append-nil calls) (said [] (subst (λ ws. AreRequests ws []) (sym (drop_all place words end)) tt))
+-- After the last index nothing is left to read.
+pub said_all : (arguments : List (List ℕ)) (calls : List Call) (index : ℕ) → length arguments ≤ index → ((rest : List Call) → AreRequests (drop index arguments) rest → AreRequests arguments (calls ++ rest)) → AreRequests arguments calls
+said_all arguments calls index end said = subst (AreRequests arguments) (append-nil calls) (said [] (subst (λ ws. AreRequests ws []) (sym (drop_all index arguments end)) tt))
 
--- from a place on stands the word in the place, and then what stands behind it
-next_word : (words : List (List ℕ)) (place : ℕ) → place < length words → drop place words ≡ word_at words place ∷ drop (place + 1) words
-next_word words place within = rw (drop-cons words place []) (ap (λ n. word_at words place ∷ drop n words) (sym (add-one place)))
+-- The arguments from an index on are the one at the index and those after it.
+next_word : (arguments : List (List ℕ)) (index : ℕ) → index < length arguments → drop index arguments ≡ argument_at arguments index ∷ drop (index + 1) arguments
+next_word arguments index within = rw (drop-cons arguments index []) (ap (λ n. argument_at arguments index ∷ drop n arguments) (sym (add-one index)))
 
-module _ (words : List (List ℕ)) (calls : List Call) (place : ℕ) (within : place < length words) (call : Call) where
-  pub said_more : ((rest : List Call) → AreRequests (drop place words) rest → AreRequests words (calls ++ rest)) → IsRequest (word_at words place) call → (rest : List Call) → AreRequests (drop (place + 1) words) rest → AreRequests words ((calls ++ call ∷ []) ++ rest)
+module _ (arguments : List (List ℕ)) (calls : List Call) (index : ℕ) (within : index < length arguments) (call : Call) where
+  pub said_more : ((rest : List Call) → AreRequests (drop index arguments) rest → AreRequests arguments (calls ++ rest)) → IsRequest (argument_at arguments index) call → (rest : List Call) → AreRequests (drop (index + 1) arguments) rest → AreRequests arguments ((calls ++ call ∷ []) ++ rest)
   said_more said here rest behind =
-      subst (AreRequests words) (sym (append_assoc calls (call ∷ []) rest)) (said (call ∷ rest) (subst (λ ws. AreRequests ws (call ∷ rest)) (sym (next_word words place within)) (here, behind)))
+      subst (AreRequests arguments) (sym (append_assoc calls (call ∷ []) rest)) (said (call ∷ rest) (subst (λ ws. AreRequests ws (call ∷ rest)) (sym (next_word arguments index within)) (here, behind)))
 
-  first_is : (rest : List Call) → ((other : Call) → IsRequest (word_at words place) other → Some call ≡ Some other) → AreRequests (word_at words place ∷ drop (place + 1) words) rest → (more : List Call) × (rest ≡ call ∷ more) × AreRequests (drop (place + 1) words) more
+  first_is : (rest : List Call) → ((other : Call) → IsRequest (argument_at arguments index) other → Some call ≡ Some other) → AreRequests (argument_at arguments index ∷ drop (index + 1) arguments) rest → (more : List Call) × (rest ≡ call ∷ more) × AreRequests (drop (index + 1) arguments) more
   first_is [] one behind = absurd behind
   first_is (other ∷ more) one behind = let same = one other behind.0 in (more, cc, behind.1)
 
-  pub only_more : ((others : List Call) → AreRequests words others → (rest : List Call) × (others ≡ calls ++ rest) × AreRequests (drop place words) rest) → ((other : Call) → IsRequest (word_at words place) other → Some call ≡ Some other) → (others : List Call) → AreRequests words others → (rest : List Call) × (others ≡ (calls ++ call ∷ []) ++ rest) × AreRequests (drop (place + 1) words) rest
+  pub only_more : ((others : List Call) → AreRequests arguments others → (rest : List Call) × (others ≡ calls ++ rest) × AreRequests (drop index arguments) rest) → ((other : Call) → IsRequest (argument_at arguments index) other → Some call ≡ Some other) → (others : List Call) → AreRequests arguments others → (rest : List Call) × (others ≡ (calls ++ call ∷ []) ++ rest) × AreRequests (drop (index + 1) arguments) rest
   only_more only one others all =
       let old = only others all in
-      let next = first_is old.0 one (subst (λ ws. AreRequests ws old.0) (next_word words place within) old.2) in
+      let next = first_is old.0 one (subst (λ ws. AreRequests ws old.0) (next_word arguments index within) old.2) in
       (next.0, old.1 ∙ ap (λ rest. calls ++ rest) next.1 ∙ sym (append_assoc calls (call ∷ []) next.0), next.2)
 
--- the texts of the words from the fifth on
-pub texts_from : {A : Type 0} (n : ℕ) (words : List (String A)) → texts (take (length words - n) (drop n words)) ≡ drop n (texts words)
-texts_from n words = ap texts (take_all (length words - n) (drop n words) (omega (arith, length-drop n words))) ∙ sym (drop-map string_bytes n words)
+-- Dropping arguments and taking their bytes commute.
+pub texts_from : {A : Type 0} (n : ℕ) (arguments : List (String A)) → texts (take (length arguments - n) (drop n arguments)) ≡ drop n (texts arguments)
+texts_from n arguments = ap texts (take_all (length arguments - n) (drop n arguments) (omega (arith, length-drop n arguments))) ∙ sym (drop-map string_bytes n arguments)

@@ -1,5 +1,4 @@
--- The texts of numbers are plain. Nothing in this file needs to be believed: it stands in specs/ since the laws of
--- impls cite it.
+-- The texts of numbers are plain. Lemmas that laws of impls cite: nobody has to believe them.
 use Rattle.std.proofs.Common.{◌≡◌, ◌≢◌, ℕ, ◌<◌, Bool, true, false, if◌then◌else◌, eqb-true, refl, zero, suc, List, [], ◌∷◌, length, drop, get_or, arith}
 use Rattle.std.proofs.lemmas.Str.Parse.{digit_at}
 use Rattle.std.specs.Int.{Width}
@@ -7,23 +6,23 @@ use Rattle.std.specs.Prelude.{ℤ}
 use Rattle.std.specs.Str.Parse.{IsNumeral}
 use Rattle.draw.specs.Numbers.{IsUnsigned, IsSigned, IsPlain, is_negative, magnitude}
 
--- digits are plain
+-- A numeral is plain.
 digits_plain : (text : List ℕ) → IsNumeral 10 text → IsPlain text
 digits_plain text digits = record {
   some = digits.0;
-  no_dot = λ place within. let digit = digit_at text place digits.1 within in λ e. omega (arith, digit, e);
+  no_dot = λ index within. let digit = digit_at text index digits.1 within in λ e. omega (arith, digit, e);
   no_equals = let digit = digit_at text 0 digits.1 digits.0 in λ e. omega (arith, digit, e);
 }
 
 pub unsigned_plain : (bits : ℕ) (text : List ℕ) (n : ℕ) → IsUnsigned bits text n → IsPlain text
 unsigned_plain bits text n said = digits_plain text said.digits
 
--- a byte in front that is no dot
-no_dot_behind : (c : ℕ) (text : List ℕ) → c ≢ 46 → ((place : ℕ) → place < length text → get_or text place 0 ≢ 46) → (place : ℕ) → place < length (c ∷ text) → get_or (c ∷ text) place 0 ≢ 46
+-- A byte other than a dot in front of a text without dots.
+no_dot_behind : (c : ℕ) (text : List ℕ) → c ≢ 46 → ((index : ℕ) → index < length text → get_or text index 0 ≢ 46) → (index : ℕ) → index < length (c ∷ text) → get_or (c ∷ text) index 0 ≢ 46
 no_dot_behind c text first others zero within = first
-no_dot_behind c text first others (suc place) within = others place (omega arith)
+no_dot_behind c text first others (suc index) within = others index (omega arith)
 
--- a minus before plain text keeps it plain
+-- A minus in front of a plain text leaves it plain.
 minus_plain : (text : List ℕ) → get_or text 0 0 ≡ 45 → IsPlain (drop 1 text) → IsPlain text
 minus_plain [] minus plain = absurd (omega (arith, plain.some))
 minus_plain (c ∷ text) minus plain = record {

@@ -1,12 +1,12 @@
-//! The signed numbers: decimal digits with at most one minus in front, whose value fits the type.
+//! Signed numbers: decimal digits after at most one minus, with a value that fits the type.
 
 ghost use Rattle.std.specs.Int.{w8, w16, w32, w64};
 ghost use Rattle.draw.specs.Numbers.{IsSigned};
 ghost use Rattle.draw.specs.support.PlainTexts.{signed_plain};
 
-use super::{Number, read_signed};
+use super::{ReadNumber, read_signed};
 
-impl Number for i8 {
+impl ReadNumber for i8 {
     ghost is_text = { IsSigned w8 };
 
     ghost is_plain = { signed_plain w8 };
@@ -16,7 +16,7 @@ impl Number for i8 {
     }
 }
 
-impl Number for i16 {
+impl ReadNumber for i16 {
     ghost is_text = { IsSigned w16 };
 
     ghost is_plain = { signed_plain w16 };
@@ -26,7 +26,7 @@ impl Number for i16 {
     }
 }
 
-impl Number for i32 {
+impl ReadNumber for i32 {
     ghost is_text = { IsSigned w32 };
 
     ghost is_plain = { signed_plain w32 };
@@ -36,7 +36,7 @@ impl Number for i32 {
     }
 }
 
-impl Number for i64 {
+impl ReadNumber for i64 {
     ghost is_text = { IsSigned w64 };
 
     ghost is_plain = { signed_plain w64 };
@@ -46,7 +46,7 @@ impl Number for i64 {
     }
 }
 
-impl Number for isize {
+impl ReadNumber for isize {
     ghost is_text = { IsSigned w64 };
 
     ghost is_plain = { signed_plain w64 };

@@ -1,11 +1,11 @@
-//! The unsigned numbers: decimal digits whose value fits the type.
+//! Unsigned numbers: decimal digits with a value that fits the type.
 
 ghost use Rattle.draw.specs.Numbers.{IsUnsigned};
 ghost use Rattle.draw.specs.support.PlainTexts.{unsigned_plain};
 
-use super::{Number, read_unsigned};
+use super::{ReadNumber, read_unsigned};
 
-impl Number for u8 {
+impl ReadNumber for u8 {
     ghost is_text = { IsUnsigned 8 };
 
     ghost is_plain = { unsigned_plain 8 };
@@ -15,7 +15,7 @@ impl Number for u8 {
     }
 }
 
-impl Number for u16 {
+impl ReadNumber for u16 {
     ghost is_text = { IsUnsigned 16 };
 
     ghost is_plain = { unsigned_plain 16 };
@@ -25,7 +25,7 @@ impl Number for u16 {
     }
 }
 
-impl Number for u32 {
+impl ReadNumber for u32 {
     ghost is_text = { IsUnsigned 32 };
 
     ghost is_plain = { unsigned_plain 32 };
@@ -35,7 +35,7 @@ impl Number for u32 {
     }
 }
 
-impl Number for u64 {
+impl ReadNumber for u64 {
     ghost is_text = { IsUnsigned 64 };
 
     ghost is_plain = { unsigned_plain 64 };
@@ -45,7 +45,7 @@ impl Number for u64 {
     }
 }
 
-impl Number for usize {
+impl ReadNumber for usize {
     ghost is_text = { IsUnsigned 64 };
 
     ghost is_plain = { unsigned_plain 64 };

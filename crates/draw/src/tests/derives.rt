@@ -1,13 +1,13 @@
-//! What the derives of the crate's types give.
+//! The derived `Clone`, `Copy`, `Debug` and `PartialEq` of the crate's types.
 
+use crate::command::{Generator, Mode, SeededGenerator};
 use crate::error::DrawError;
-use crate::order::{Generator, Mode, Source};
 use std::alloc::Global;
 use std::fmt::Debug;
 use std::process::Abort;
 use std::test::Fail;
 
-// A value, two copies of it and a clone are written alike.
+// A value, two copies of it and a clone have the same `Debug` text.
 fn check_copies<T: Copy + Debug>(
     rt: &impl Abort,
     alloc: Global,
@@ -23,7 +23,7 @@ fn check_copies<T: Copy + Debug>(
     Ok(())
 }
 
-// Each value is equal to itself alone.
+// Each value equals itself and no other.
 fn check_equality<T: Copy + Eq + Debug>(rt: &impl Abort, rows: &[(T, &str)]) -> Result<(), Fail> {
     for (i, (one, _)) in rows.iter().enumerate() {
         for (j, (other, _)) in rows.iter().enumerate() {
@@ -73,7 +73,7 @@ fn modes(rt: HostRuntime) -> Result<(), Fail> {
 }
 
 #[test]
-fn sources(rt: HostRuntime) -> Result<(), Fail> {
+fn seeded_generators(rt: HostRuntime) -> Result<(), Fail> {
     let eight = "WyRand([1, 2, 3, 4, 5, 6, 7, 8])";
     let sixteen = "Pcg64([9, 9, 9, 9, 9, 9, 9, 9, 9, 9, 9, 9, 9, 9, 9, 9])";
     let forty =
@@ -83,11 +83,11 @@ fn sources(rt: HostRuntime) -> Result<(), Fail> {
     let of_12 = format!(in alloc; "ChaCha12({forty})")?;
     let of_20 = format!(in alloc; "ChaCha20({forty})")?;
     let rows = [
-        (Source::WyRand([1, 2, 3, 4, 5, 6, 7, 8]), eight),
-        (Source::Pcg64([9; 16]), sixteen),
-        (Source::ChaCha8([0; 40]), of_8.as_str()),
-        (Source::ChaCha12([0; 40]), of_12.as_str()),
-        (Source::ChaCha20([0; 40]), of_20.as_str()),
+        (SeededGenerator::WyRand([1, 2, 3, 4, 5, 6, 7, 8]), eight),
+        (SeededGenerator::Pcg64([9; 16]), sixteen),
+        (SeededGenerator::ChaCha8([0; 40]), of_8.as_str()),
+        (SeededGenerator::ChaCha12([0; 40]), of_12.as_str()),
+        (SeededGenerator::ChaCha20([0; 40]), of_20.as_str()),
     ];
     check_copies(&rt, alloc, &rows)
 }

@@ -1,7 +1,7 @@
-//! Memory that is refused.
+//! Runs whose allocations are refused.
 
 use super::writers::{Pieces, check_flushed, check_untouched};
-use super::{drawn, words};
+use super::{arguments, drawn};
 use crate::error::DrawError;
 use crate::run::run;
 use refusing::Refusing;
@@ -9,13 +9,13 @@ use std::alloc::{AllocError, Global};
 use std::process::Abort;
 use std::test::Fail;
 
-/// The longest line of the worked rows, and its text.
+/// The longest line of the known-answer tests, and its text.
 pub const LONGEST: &str =
     "chacha20 00000000000000000000000000000000000000000000000000000000000000000000000000000000 buffered 0 u8 u8:10..=12 u16 bool";
 
 pub const LONGEST_TEXT: &str = "118\n12\n44512\nfalse\n";
 
-/// A line of 200 requests, with as many items as there may be.
+/// A line of 200 requests on 1000 items.
 pub fn two_hundred_requests(alloc: Global) -> Result<String, AllocError> {
     let mut line = String::from_str(alloc, "wyrand d29b42879be2895f plain 1000")?;
     for _ in 0..50u64 {
@@ -24,11 +24,11 @@ pub fn two_hundred_requests(alloc: Global) -> Result<String, AllocError> {
     Ok(line)
 }
 
-// Without memory nothing is written, and nothing is flushed.
-fn check_no_memory(rt: &impl Abort, alloc: Global, heap: &Refusing<Global>, words: &[String]) {
+// A run on this heap is out of memory, and does not call the writer.
+fn check_no_memory(rt: &impl Abort, alloc: Global, heap: &Refusing<Global>, arguments: &[String]) {
     let mut out = Pieces::honest(alloc, usize::MAX);
     assert_eq!(rt;
-        run(heap, words, &mut out),
+        run(heap, arguments, &mut out),
         Err(DrawError::Memory),
         "{}",
         heap.requests()
@@ -36,18 +36,19 @@ fn check_no_memory(rt: &impl Abort, alloc: Global, heap: &Refusing<Global>, word
     check_untouched(rt, &out, "a run without memory");
 }
 
-// Each request for memory is refused in turn, until a run meets no refusal: that one writes the text.
+// Refuses the first allocation, then the second, and so on, until a run meets no refusal; that run
+// writes the text. Returns the number of allocations of a run.
 fn each_request_refused(
     rt: &impl Abort,
     alloc: Global,
     line: &str,
     text: &[u8],
 ) -> Result<u64, Fail> {
-    let words = words(alloc, line)?;
+    let arguments = arguments(alloc, line)?;
     for number in 1..1000u64 {
         let mut out = Pieces::honest(alloc, usize::MAX);
         let heap = Refusing::nth(alloc, number);
-        let outcome = run(&heap, &words, &mut out);
+        let outcome = run(&heap, &arguments, &mut out);
         if heap.requests() < number {
             assert_eq!(rt; outcome, Ok(()), "{number}");
             check_flushed(rt, &out, text, line);
@@ -55,7 +56,7 @@ fn each_request_refused(
         }
         assert_eq!(rt; outcome, Err(DrawError::Memory), "{number}");
         check_untouched(rt, &out, line);
-        check_no_memory(rt, alloc, &Refusing::from_nth(alloc, number), &words);
+        check_no_memory(rt, alloc, &Refusing::from_nth(alloc, number), &arguments);
     }
     Err(Fail::from("each run met a refusal"))
 }
@@ -75,16 +76,17 @@ fn memory(rt: HostRuntime) -> Result<(), Fail> {
     Ok(())
 }
 
-// Memory is answered in the place of a bad word only where the growth was refused before it.
+// With a bad fifth or later argument, `Memory` is returned only if an allocation was refused before
+// that argument was read.
 #[test]
-fn memory_before_a_bad_word(rt: HostRuntime) -> Result<(), Fail> {
+fn memory_before_a_bad_argument(rt: HostRuntime) -> Result<(), Fail> {
     let alloc = rt.alloc();
-    let words = words(alloc, "wyrand d29b42879be2895f plain 0 u8 u9")?;
+    let arguments = arguments(alloc, "wyrand d29b42879be2895f plain 0 u8 u9")?;
     let mut met = [false; 2];
     for number in 1..9 {
         let mut out = Pieces::honest(alloc, usize::MAX);
         let heap = Refusing::nth(alloc, number);
-        let outcome = run(&heap, &words, &mut out);
+        let outcome = run(&heap, &arguments, &mut out);
         let refused = number <= heap.requests();
         let error = if refused {
             DrawError::Memory
@@ -92,29 +94,30 @@ fn memory_before_a_bad_word(rt: HostRuntime) -> Result<(), Fail> {
             DrawError::BadWord(6)
         };
         assert_eq!(rt; outcome, Err(error), "{number}");
-        check_untouched(&rt, &out, "a bad word");
+        check_untouched(&rt, &out, "a bad argument");
         met[usize::from(refused)] = true;
     }
     assert_eq!(rt; met, [true, true]);
     Ok(())
 }
 
-// Of the first four words none needs memory, and so a bad one is told where there is none at all.
+// The first four arguments are read without allocating, so a bad one is reported even if every
+// allocation would be refused.
 #[test]
-fn first_words_without_memory(rt: HostRuntime) -> Result<(), Fail> {
+fn first_arguments_without_memory(rt: HostRuntime) -> Result<(), Fail> {
     let alloc = rt.alloc();
-    for (line, word) in [
+    for (line, number) in [
         ("", 1),
         ("wyrand d2 plain 0 u8", 2),
         ("wyrand d29b42879be2895f neither 0 u8", 3),
         ("wyrand d29b42879be2895f plain 1001 u8", 4),
     ] {
-        let words = words(alloc, line)?;
+        let arguments = arguments(alloc, line)?;
         let heap = Refusing::from_nth(alloc, 1);
         let mut out = Pieces::honest(alloc, usize::MAX);
         assert_eq!(rt;
-            run(&heap, &words, &mut out),
-            Err(DrawError::BadWord(word)),
+            run(&heap, &arguments, &mut out),
+            Err(DrawError::BadWord(number)),
             "{line}"
         );
         assert_eq!(rt; heap.requests(), 0, "{line}");

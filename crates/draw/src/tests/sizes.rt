@@ -1,9 +1,9 @@
-//! Runs of all sizes: words that can be read are never refused, and the text is that of the
-//! generator's own calls.
+//! Runs of all sizes: arguments that can be read are never refused, and the text is what direct
+//! calls of the generator give.
 
 ghost use Rattle.std.specs.Prelude.{◌≡◌, ◌%◌};
 
-use super::words;
+use super::arguments;
 use super::writers::{Pieces, check_flushed, check_untouched};
 use crate::error::DrawError;
 use crate::run::run;
@@ -13,8 +13,8 @@ use std::ops::Bound;
 use std::process::Abort;
 use std::test::Fail;
 
-// The first word and the third, and the bytes of a seed.
-const SOURCES: [(&str, &str, u64); 10] = [
+// A generator, a mode, and the number of bytes in a seed.
+const GENERATORS: [(&str, &str, u64); 10] = [
     ("wyrand", "plain", 8),
     ("wyrand", "buffered", 8),
     ("pcg64", "plain", 16),
@@ -27,10 +27,10 @@ const SOURCES: [(&str, &str, u64); 10] = [
     ("chacha20", "buffered", 40),
 ];
 
-// A round of requests.
+// The requests of a round.
 const ROUND: &str = " u8 i16:-300..=300 bool shuffle u64 i128 u32:..10 usize:5..5";
 
-// What a line asks for: rounds of requests, from a seed that is one byte again and again.
+// What a line asks for: a seed that repeats one byte, a count of items, and rounds of requests.
 #[derive(Clone, Copy)]
 struct Size {
     byte: u8,
@@ -38,7 +38,7 @@ struct Size {
     rounds: u64,
 }
 
-// Appends a text again and again.
+// Appends a text this many times.
 fn push_times(line: &mut String, text: &str, times: u64) -> Result<(), AllocError> {
     for _ in 0..times {
         line.push_str(text)?;
@@ -61,7 +61,7 @@ fn line_of(
     Ok(line)
 }
 
-// Appends the lines of a round, by the generator's own calls.
+// Appends the lines of a round, from direct calls of the generator.
 fn push_round<G: Rng<OUTPUT>, const OUTPUT: usize>(
     text: &mut String,
     rng: &mut G,
@@ -140,10 +140,10 @@ fn buffered_text(alloc: Global, generator: &str, size: Size) -> Result<String, F
     }
 }
 
-// The most bytes that writers take at a time.
+// The most bytes that a writer takes at a time.
 const PIECES: [usize; 4] = [1, 7, 4096, usize::MAX];
 
-// The run is Ok for a writer of each of these pieces. Answers how long the text is.
+// The run succeeds for a writer of each of these pieces. Returns the length of the text.
 fn check_size(
     rt: &impl Abort,
     alloc: Global,
@@ -152,25 +152,25 @@ fn check_size(
     pieces: &[usize],
 ) -> Result<usize, Fail> {
     let line = line_of(alloc, generator, mode, seed, size)?;
-    let words = words(alloc, line.as_str())?;
+    let arguments = arguments(alloc, line.as_str())?;
     let text = if mode == "plain" {
         plain_text(alloc, generator, size)?
     } else {
         buffered_text(alloc, generator, size)?
     };
-    let row = format!(in alloc; "{generator} {mode} {} {}", size.byte, size.count)?;
+    let name = format!(in alloc; "{generator} {mode} {} {}", size.byte, size.count)?;
     for piece in pieces {
         let mut out = Pieces::honest(alloc, *piece);
-        assert_eq!(rt; run(alloc, &words, &mut out), Ok(()), "{row}");
-        check_flushed(rt, &out, text.as_bytes(), row.as_str());
+        assert_eq!(rt; run(alloc, &arguments, &mut out), Ok(()), "{name}");
+        check_flushed(rt, &out, text.as_bytes(), name.as_str());
     }
     Ok(text.len())
 }
 
-// Seeds of zeros and of ones, with no item, with a few, and with as many as there may be.
+// Seeds of zero bits and of one bits, and 0 to 1000 items.
 #[test]
 fn every_count(rt: HostRuntime) -> Result<(), Fail> {
-    for source in SOURCES {
+    for generator in GENERATORS {
         for count in [0, 1, 2, 999, 1000] {
             for byte in [0, 255] {
                 let size = Size {
@@ -178,14 +178,14 @@ fn every_count(rt: HostRuntime) -> Result<(), Fail> {
                     count,
                     rounds: 3,
                 };
-                check_size(&rt, rt.alloc(), source, size, &PIECES)?;
+                check_size(&rt, rt.alloc(), generator, size, &PIECES)?;
             }
         }
     }
     Ok(())
 }
 
-// Each count that can be read, with as many rounds as there are below 9 in turn.
+// Each count from 0 to 1000, with 0 to 8 rounds.
 #[test]
 fn all_counts(rt: HostRuntime) -> Result<(), Fail> {
     for count in 0..=1000 {
@@ -207,14 +207,14 @@ fn all_counts(rt: HostRuntime) -> Result<(), Fail> {
 
 #[test]
 fn no_requests(rt: HostRuntime) -> Result<(), Fail> {
-    for source in SOURCES {
+    for generator in GENERATORS {
         for count in [0, 1, 1000] {
             let size = Size {
                 byte: 0,
                 count,
                 rounds: 0,
             };
-            check_size(&rt, rt.alloc(), source, size, &PIECES)?;
+            check_size(&rt, rt.alloc(), generator, size, &PIECES)?;
         }
     }
     Ok(())
@@ -222,48 +222,48 @@ fn no_requests(rt: HostRuntime) -> Result<(), Fail> {
 
 #[test]
 fn ten_thousand_requests(rt: HostRuntime) -> Result<(), Fail> {
-    for source in SOURCES {
+    for generator in GENERATORS {
         let size = Size {
             byte: 255,
             count: 2,
             rounds: 1250,
         };
-        check_size(&rt, rt.alloc(), source, size, &[4096])?;
+        check_size(&rt, rt.alloc(), generator, size, &[4096])?;
     }
     Ok(())
 }
 
 #[test]
 fn more_than_a_megabyte(rt: HostRuntime) -> Result<(), Fail> {
-    for source in [("wyrand", "buffered", 8), ("chacha20", "plain", 40)] {
+    for generator in [("wyrand", "buffered", 8), ("chacha20", "plain", 40)] {
         let size = Size {
             byte: 0,
             count: 3,
             rounds: 12_500,
         };
-        let length = check_size(&rt, rt.alloc(), source, size, &PIECES)?;
+        let length = check_size(&rt, rt.alloc(), generator, size, &PIECES)?;
         assert!(rt; length > 1_000_000, "{length}");
     }
     Ok(())
 }
 
-// A bad word far behind is told by its number, whatever stands behind it.
+// A bad argument far back is reported by its number, whatever follows it.
 #[test]
-fn bad_words_far_behind(rt: HostRuntime) -> Result<(), Fail> {
+fn bad_arguments_far_back(rt: HostRuntime) -> Result<(), Fail> {
     let alloc = rt.alloc();
-    for word in [5, 6, 9, 64, 500, 5000, 100_000] {
-        for behind in ["", " u8", " u9"] {
+    for number in [5, 6, 9, 64, 500, 5000, 100_000] {
+        for after in ["", " u8", " u9"] {
             let mut line = String::from_str(alloc, "pcg64 ")?;
             push_times(&mut line, "ff", 16)?;
             line.push_str(" buffered 1000")?;
-            push_times(&mut line, " u8", word - 5)?;
+            push_times(&mut line, " u8", number - 5)?;
             line.push_str(" u9")?;
-            push_times(&mut line, behind, 5000)?;
-            let words = words(alloc, line.as_str())?;
+            push_times(&mut line, after, 5000)?;
+            let arguments = arguments(alloc, line.as_str())?;
             let mut out = Pieces::honest(alloc, 7);
-            let outcome = run(alloc, &words, &mut out);
-            assert_eq!(rt; outcome, Err(DrawError::BadWord(word as usize)));
-            check_untouched(&rt, &out, "a bad word far behind");
+            let outcome = run(alloc, &arguments, &mut out);
+            assert_eq!(rt; outcome, Err(DrawError::BadWord(number as usize)));
+            check_untouched(&rt, &out, "a bad argument far back");
         }
     }
     Ok(())

@@ -1,7 +1,8 @@
-//! Writers that take pieces, fail or count: what is written, when it is flushed, and how often.
+//! Writers that take a few bytes at a time, fail, or count their calls: what `run` writes to them,
+//! when it flushes, and how often.
 
 use super::refusals::{LONGEST, LONGEST_TEXT, two_hundred_requests};
-use super::{drawn, words};
+use super::{arguments, drawn};
 use crate::error::DrawError;
 use crate::run::run;
 use std::alloc::Global;
@@ -10,14 +11,14 @@ use std::io::{ErrorKind, Write};
 use std::process::Abort;
 use std::test::Fail;
 
-/// Takes at most so many bytes at a time, keeps them, and counts the calls. The write of one
-/// number fails, counted from 0, and the flush may fail.
+/// A writer that takes at most `piece` bytes at a time, keeps them, and counts its calls. Write
+/// number `failing`, counted from 0, fails, and so does each flush unless `can_flush`.
 #[derive(Drop)]
 pub struct Pieces {
     pub kept: Vec<u8>,
     pub writes: u64,
     pub flushes: u64,
-    // The writes that no flush came after.
+    // The writes since the last flush.
     pub writes_since_flush: u64,
     piece: usize,
     failing: u64,
@@ -27,7 +28,7 @@ pub struct Pieces {
 const NEVER: u64 = u64::MAX;
 
 impl Pieces {
-    /// Takes so many bytes at a time, and never fails.
+    /// Takes at most `piece` bytes at a time, and never fails.
     pub fn honest(alloc: Global, piece: usize) -> Pieces {
         Pieces::failing(alloc, piece, NEVER, true)
     }
@@ -68,37 +69,37 @@ impl Write for Pieces {
     }
 }
 
-/// The writer has got the text, and then one flush.
-pub fn check_flushed(rt: &impl Abort, out: &Pieces, text: &[u8], row: &str) {
-    assert_eq!(rt; out.kept.len(), text.len(), "bytes of {row}");
-    assert!(rt; out.kept.as_slice() == text, "text of {row}");
+/// The writer took the text, and then was flushed once.
+pub fn check_flushed(rt: &impl Abort, out: &Pieces, text: &[u8], name: &str) {
+    assert_eq!(rt; out.kept.len(), text.len(), "bytes of {name}");
+    assert!(rt; out.kept.as_slice() == text, "text of {name}");
     assert_eq!(rt;
         out.writes_since_flush,
         0,
-        "writes that no flush came after in {row}"
+        "writes after the last flush of {name}"
     );
-    assert_eq!(rt; out.flushes, 1, "flushes of {row}");
+    assert_eq!(rt; out.flushes, 1, "flushes of {name}");
 }
 
 /// The writer was not called.
-pub fn check_untouched(rt: &impl Abort, out: &Pieces, row: &str) {
-    assert_eq!(rt; out.writes, 0, "writes of {row}");
-    assert_eq!(rt; out.flushes, 0, "flushes of {row}");
-    assert!(rt; out.kept.is_empty(), "text of {row}");
+pub fn check_untouched(rt: &impl Abort, out: &Pieces, name: &str) {
+    assert_eq!(rt; out.writes, 0, "writes of {name}");
+    assert_eq!(rt; out.flushes, 0, "flushes of {name}");
+    assert!(rt; out.kept.is_empty(), "text of {name}");
 }
 
 #[test]
 fn one_byte_at_a_time(rt: HostRuntime) -> Result<(), Fail> {
-    let words = words(rt.alloc(), LONGEST)?;
+    let arguments = arguments(rt.alloc(), LONGEST)?;
     let mut out = Pieces::honest(rt.alloc(), 1);
-    assert_eq!(rt; run(rt.alloc(), &words, &mut out), Ok(()));
+    assert_eq!(rt; run(rt.alloc(), &arguments, &mut out), Ok(()));
     assert_eq!(rt; out.kept.as_slice(), LONGEST_TEXT.as_bytes());
     assert_eq!(rt; out.writes, LONGEST_TEXT.len() as u64);
     Ok(())
 }
 
-// A run that succeeds flushes once, after the last byte, however many writes that takes. The text is
-// that of a run into a vector, which the worked rows check.
+// A run that succeeds flushes once, after the last byte, however many writes that takes. The text
+// is that of a run into a vector, which the known-answer tests check.
 #[test]
 fn one_flush_at_the_end(rt: HostRuntime) -> Result<(), Fail> {
     let alloc = rt.alloc();
@@ -109,29 +110,29 @@ fn one_flush_at_the_end(rt: HostRuntime) -> Result<(), Fail> {
         LONGEST,
         many.as_str(),
     ] {
-        let words = words(alloc, line)?;
+        let arguments = arguments(alloc, line)?;
         let (outcome, text) = drawn(alloc, line)?;
         assert_eq!(rt; outcome, Ok(()), "{line}");
         for piece in [1, 2, 7, 4096, usize::MAX] {
             let mut out = Pieces::honest(alloc, piece);
-            assert_eq!(rt; run(alloc, &words, &mut out), Ok(()), "{line}");
+            assert_eq!(rt; run(alloc, &arguments, &mut out), Ok(()), "{line}");
             check_flushed(&rt, &out, text.as_slice(), line);
         }
     }
     Ok(())
 }
 
-// Where the flush alone fails, all of the text went out before it.
+// If only the flush fails, the whole text was written before it.
 #[test]
 fn failed_flush(rt: HostRuntime) -> Result<(), Fail> {
     let alloc = rt.alloc();
     for line in ["wyrand d29b42879be2895f plain 0", LONGEST] {
-        let words = words(alloc, line)?;
+        let arguments = arguments(alloc, line)?;
         let (outcome, text) = drawn(alloc, line)?;
         assert_eq!(rt; outcome, Ok(()), "{line}");
         for piece in [1, 7, 4096] {
             let mut out = Pieces::failing(alloc, piece, NEVER, false);
-            let outcome = run(alloc, &words, &mut out);
+            let outcome = run(alloc, &arguments, &mut out);
             assert_eq!(rt; outcome, Err(DrawError::Write), "{line}");
             check_flushed(&rt, &out, text.as_slice(), line);
         }
@@ -139,14 +140,14 @@ fn failed_flush(rt: HostRuntime) -> Result<(), Fail> {
     Ok(())
 }
 
-// Each write fails in turn. Neither a write nor a flush comes after it.
+// Each write fails in turn. After a failed write, `run` neither writes nor flushes.
 #[test]
 fn failed_writes(rt: HostRuntime) -> Result<(), Fail> {
     let alloc = rt.alloc();
-    let words = words(alloc, LONGEST)?;
+    let arguments = arguments(alloc, LONGEST)?;
     for failing in 0..LONGEST_TEXT.len() as u64 {
         let mut out = Pieces::failing(alloc, 1, failing, true);
-        let outcome = run(alloc, &words, &mut out);
+        let outcome = run(alloc, &arguments, &mut out);
         assert_eq!(rt; outcome, Err(DrawError::Write), "{failing}");
         assert_eq!(rt; out.writes, failing + 1);
         assert_eq!(rt; out.flushes, 0, "{failing}");
@@ -156,14 +157,14 @@ fn failed_writes(rt: HostRuntime) -> Result<(), Fail> {
     Ok(())
 }
 
-// A writer that takes nothing is no better than one that fails.
+// A writer that takes no bytes counts as one that fails.
 #[test]
 fn nothing_taken(rt: HostRuntime) -> Result<(), Fail> {
     let alloc = rt.alloc();
-    let words = words(alloc, LONGEST)?;
+    let arguments = arguments(alloc, LONGEST)?;
     for can_flush in [true, false] {
         let mut out = Pieces::failing(alloc, 0, NEVER, can_flush);
-        let outcome = run(alloc, &words, &mut out);
+        let outcome = run(alloc, &arguments, &mut out);
         assert_eq!(rt; outcome, Err(DrawError::Write));
     }
     Ok(())

@@ -1,9 +1,9 @@
--- Worked rows of the test generators and of the die, computed from the definitions alone.
+-- Known answers of the test generators and of the die, computed from the definitions alone.
 use Rattle.std.specs.Prelude.{◌≡◌, ℕ, ◌-◌, ◌^◌, List, [], ◌∷◌, ◌++◌, replicate, Ok, refl}
 use Rattle.std.specs.List.{range_with_len}
 use Rattle.std.specs.declared.ops.Bound.TheVariants.{Included, Unbounded}
 use Rattle.nanorand.specs.generators.Blocks.{taken, plain_after, plain}
-use Rattle.nanorand.specs.generators.Buffered.{Buffered, buffer_of, buffered_block, buffered_step, buffered_taken, buffered_after}
+use Rattle.nanorand.specs.generators.Buffered.{Buffered, buffered, buffer_of, buffered_block, buffered_step, buffered_taken, buffered_after}
 use Rattle.nanorand.specs.values.Runs.{named}
 use Rattle.nanorand.specs.values.Range.{range_within}
 use Rattle.nanorand.specs.values.Draws.{unsigned_outcome, words_from, value_drawn, left_by, left_after}
@@ -16,11 +16,11 @@ use Rattle.nanorand_rows.specs.Steps.{next_count, steps_block}
 use Rattle.nanorand_rows.specs.Rising.{rising_block}
 use Rattle.nanorand_rows.specs.Constant.{constant_block, constant_step}
 use Rattle.nanorand_rows.specs.Script.{script_block, script_step}
-use Rattle.nanorand_rows.specs.Waste.{waste_after}
+use Rattle.nanorand_rows.specs.Waste.{waste_after, waste_requests}
 use Rattle.nanorand_rows.specs.Zeros.{zeros_block}
 use Rattle.nanorand_rows.specs.Die.{die_value, die_after, die_bound}
 
--- the first, the second and the last block of rising bytes, and what comes behind the last
+-- `Steps`: the first, the second and the last block, and the count after the last.
 steps_from_0 : steps_block 0 ≡ range_with_len 0 8
 steps_from_0 = refl
 
@@ -37,7 +37,7 @@ steps_are_rising : rising_block 8 31 ≡ steps_block 31
 steps_are_rising = refl
 
 -- a generator that wastes a block at a byte, and none at a whole block
-wasted_replay : replayed (taken steps_block next_count) waste_after 0 [] (Gen kinds.U8 ∷ Gen kinds.U64 ∷ Gen kinds.U8 ∷ [])
+wasted_replay : replayed waste_requests 0 [] (Gen kinds.U8 ∷ Gen kinds.U64 ∷ Gen kinds.U8 ∷ [])
     ≡ record { answers = Unsigned 0 ∷ Unsigned 0x1716151413121110 ∷ Unsigned 24 ∷ []; items = []; state = 5 }
 unfolding taken
 wasted_replay = refl
@@ -46,10 +46,7 @@ nothing_wasted : waste_after 7 0 ≡ 7
 nothing_wasted = refl
 
 -- a buffer around it draws whole blocks, and so it wastes none
-abbrev kept_taken : Buffered ℕ → ℕ → List ℕ
-kept_taken = taken (buffered_block steps_block next_count 8) (buffered_step steps_block next_count 8)
-
-kept_replay : replayed kept_taken (buffered_after steps_block next_count 8) (buffer_of [] 0) [] (Gen kinds.U8 ∷ Gen kinds.U8 ∷ [])
+kept_replay : replayed (buffered steps_block next_count 8) (buffer_of [] 0) [] (Gen kinds.U8 ∷ Gen kinds.U8 ∷ [])
     ≡ record { answers = Unsigned 0 ∷ Unsigned 1 ∷ []; items = []; state = buffer_of (range_with_len 2 6) 1 }
 unfolding taken buffered_taken buffered_after
 kept_replay = refl
@@ -63,7 +60,7 @@ byte_of_each_64 : replayed (plain (rising_block 64) next_count 64) 0 [] (Gen kin
 unfolding taken
 byte_of_each_64 = refl
 
--- a script of 128 zeros and a one, whose range is refused
+-- A script of 128 zeros and a one. The range draw fails.
 abbrev late_one : List ℕ
 late_one = replicate 128 0 ++ 1 ∷ []
 

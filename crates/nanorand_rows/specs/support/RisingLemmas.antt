@@ -1,5 +1,4 @@
--- The length of a rising block. Nothing in this file needs to be believed: it stands in specs/ since the laws of impls
--- cite it.
+-- The length of a rising block: a lemma that laws of impls cite. Nobody has to believe it.
 use Rattle.std.proofs.Common.{◌≡◌, ℕ, ◌+◌, ◌*◌, ◌%◌, length}
 use Rattle.std.proofs.lemmas.List.FromFn.{length-map-range_with_len}
 use Rattle.nanorand_rows.specs.Rising.{rising_block}

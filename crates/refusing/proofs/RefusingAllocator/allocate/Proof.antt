@@ -1,4 +1,4 @@
--- A refused request is answered here, and any other by the inner allocator. Assumes `Logic`.
+-- A refused request fails here; any other is passed on to the inner allocator. Assumes `Logic`.
 use Rattle.std.proofs.Common.{◌≡◌, ℕ, ◌+◌, ◌^◌, ◌<◌, true, false, Bool, List, [], ◌∷◌, Ok, Err, refl, w64, Bor}
 use seplogic.Ra.Ura.{Ura}
 use mir.Syntax.{Ty, Args, Fn, a_type, dnil, dcons}
@@ -45,7 +45,7 @@ use Rattle.refusing.specs.contracts.RefusingAllocator.allocate.Key as key
 use Rattle.refusing.proofs.RefusingAllocator.allocate.Statement.{statement}
 use Rattle.refusing.proofs.RefusingAllocator.allocate.Code as code
 
--- the function over an inner allocator
+-- The function, for an inner allocator.
 module _ (Z : Al) where
   abbrev args : Args
   args = bounded (a_type ∷ []) (Z.row, tt) (dcons Z.d (dcons Z.drops dnil))
@@ -65,7 +65,7 @@ module _ (Z : Al) where
   abbrev stayed : Stays ended.signature.params ended.kept
   stayed = (stay_dropped self yes, (stay_dropped number yes, (stay_dropped number yes, tt)))
 
-  -- where the fields are
+  -- The addresses of the fields.
   abbrev inner_at : ℕ × ℕ → ℕ × ℕ
   inner_at p = (p.0, p.1 + up (align (α Z)) 0)
 
@@ -79,7 +79,7 @@ module _ (Z : Al) {M : Type 1} {𝓤 : Ura M} (𝓛 : Logic 𝓤) (mem : Memory 
   abbrev held : Clauses 𝓤 (ended Z)
   held = F.clauses Z.row Z.g Z.d Z.drops 𝓛 mem run
 
-  -- `κ` is the lifetime of the `&`, and `ρ` lasts longer
+  -- `κ` is the lifetime of the `&`, and `ρ` outlives it.
   module _ (κ ρ : Lft) (q r : Share) (within : κ ⊑ ρ) (handle : Bor (R.the_row Z.row).Denot) (n a : ℕ) (τ : Ty) where
     abbrev bound : (walk_of 𝓛 (ended Z) (stayed Z) held).Ghost
     bound = (((κ, (ρ, tt)), (q, (r, tt)), (within, tt), (handle, (n, (a, tt))), (shr_vals handle, (vint w64 n ∷ [], (vint w64 a ∷ [], tt)))), τ)
@@ -90,14 +90,14 @@ module _ (Z : Al) {M : Type 1} {𝓤 : Ura M} (𝓛 : Logic 𝓤) (mem : Memory 
     abbrev Done : Val → SProp 𝓤
     Done = (walk_of 𝓛 (ended Z) (stayed Z) held).post bound
 
-    -- the end that hands out the inner allocator's block, with the right to give it back
+    -- The exit that returns the inner allocator's block, with the right to give it back.
     handed : (b o : ℕ) → Sq 𝓛 (‵ (fsep (froom τ b o) (token Z handle.now.inner τ (block_ptr b o))) ∷ ‵ (flft κ q) ∷ (‵ (flft ρ r) ⊛ ‵ ftrue) ∷ []) (prop (Done (answer_val true b o)))
     handed b o =
         suffices ! _ (ends_at 𝓛 (ended Z) (stayed Z) held bound (answer_val true b o) (Ok (block_ptr b o)) (tt, (tt, (tt, tt))) (tt, (tt, (tt, tt)))) $
         use0 𝓛 (‵ (Answer.own_val (Ok (block_ptr b o)) (answer_val true b o ∷ []))) (Answer-Ok 𝓛 b o) $
         nothing ! $ nothing ! $ fjoin ! $ nothing ! $ fjoin ! $ nothing ! $ fjoin ! $ join ! $ move ! (2 ∷ 3 ∷ []) $ join ! $ join ! $ done !
 
-    -- both ends that answer an error
+    -- Both exits that return an error.
     refused : Sq 𝓛 (‵ ftrue ∷ ‵ (flft κ q) ∷ (‵ (flft ρ r) ⊛ ‵ ftrue) ∷ []) (prop (Done (answer_val false 0 0)))
     refused =
         suffices ! _ (ends_at 𝓛 (ended Z) (stayed Z) held bound (answer_val false 0 0) (Err (record {})) (tt, (tt, (tt, tt))) (tt, (tt, (tt, tt)))) $

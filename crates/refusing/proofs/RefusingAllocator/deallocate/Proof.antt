@@ -1,4 +1,4 @@
--- A block goes back to the inner allocator, which gave it. Assumes `Logic`.
+-- A block is given back to the inner allocator, which allocated it. Assumes `Logic`.
 use Rattle.std.proofs.Common.{◌≡◌, ℕ, ◌+◌, ◌^◌, ◌<◌, List, [], ◌∷◌, refl, w64, Bor}
 use seplogic.Ra.Ura.{Ura}
 use mir.Syntax.{Ty, Args, Fn, a_type, dnil, dcons}
@@ -40,7 +40,7 @@ use Rattle.refusing.specs.contracts.RefusingAllocator.deallocate.Key as key
 use Rattle.refusing.proofs.RefusingAllocator.deallocate.Statement.{statement}
 use Rattle.refusing.proofs.RefusingAllocator.deallocate.Code as code
 
--- the function over an inner allocator
+-- The function, for an inner allocator.
 module _ (Z : Al) where
   abbrev args : Args
   args = bounded (a_type ∷ []) (Z.row, tt) (dcons Z.d (dcons Z.drops dnil))
@@ -70,7 +70,7 @@ module _ (Z : Al) {M : Type 1} {𝓤 : Ura M} (𝓛 : Logic 𝓤) (mem : Memory 
   abbrev held : Clauses 𝓤 (ended Z)
   held = F.clauses Z.row Z.g Z.d Z.drops 𝓛 mem run
 
-  -- `κ` is the lifetime of the `&`, and `ρ` lasts longer
+  -- `κ` is the lifetime of the `&`, and `ρ` outlives it.
   module _ (κ ρ : Lft) (q r : Share) (within : κ ⊑ ρ) (handle : Bor (R.the_row Z.row).Denot) (n a : ℕ) (τ : Ty) where
     abbrev bound : Ptr → (walk_of 𝓛 (ended Z) (stayed Z) held).Ghost
     bound x = (((κ, (ρ, tt)), (q, (r, tt)), (within, tt), (handle, (x, (n, (a, tt)))), (shr_vals handle, (rawptr_vals x, (vint w64 n ∷ [], (vint w64 a ∷ [], tt))))), τ)
@@ -84,7 +84,7 @@ module _ (Z : Al) {M : Type 1} {𝓤 : Ura M} (𝓛 : Logic 𝓤) (mem : Memory 
     abbrev Asked : Type 0
     Asked = (capped (size τ) ≡ n) × (capped (align τ) ≡ a)
 
-    -- the tokens and the parameters
+    -- The tokens and the parameters.
     abbrev parameters : Ptr → Item 𝓤
     parameters x = (‵ (flft κ q) ⊛ ‵ (flft ρ r) ⊛ ‵ ftrue) ⊛ ‵ (owns (types_at (ended Z).signature.params (bound x).0.0) (bound x).0.3 (bound x).0.4)
 
@@ -95,7 +95,7 @@ module _ (Z : Al) {M : Type 1} {𝓤 : Ura M} (𝓛 : Logic 𝓤) (mem : Memory 
         nothing ! $ nothing ! $ fjoin ! $ nothing ! $ fjoin ! $ nothing ! $ fjoin ! $ nothing ! $ fjoin ! $ join ! $ move ! (2 ∷ 3 ∷ []) $ join ! $ join ! $ done !
 
     walk : n < 2 ^ 64 → a < 2 ^ 64 → (x : Ptr) → ent 𝓤 ((walk_of 𝓛 (ended Z) (stayed Z) held).pre (bound x)) (WpFn 𝓤 H 𝓣.C 𝓣.Λ (body Z) (given_values x) (Done x))
-    -- no block lies at null
+    -- No block is at null.
     walk n_fits a_fits null_ptr =
         qed 𝓛 (parameters null_ptr ∷ (raw (fact 𝓤 (ρ ⊑ Z.row.lives)) ⊛ raw (fact 𝓤 Asked) ⊛ ‵ (fsep ffalse (token Z handle.now.inner τ null_ptr))) ∷ []) ∵
         move ! (1 ∷ []) $ split3 ! $ move ! (2 ∷ []) $ fsplit ! $ keep ! (0 ∷ []) $ by ! (never_e 𝓤 _)

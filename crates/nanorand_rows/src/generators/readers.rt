@@ -1,0 +1,64 @@
+//! A reader of known bytes, which gives them in pieces, ends early, or fails.
+
+use std::io;
+use std::io::{ErrorKind, Read};
+
+/// A reader that gives its bytes, at most `piece` of them at a read, and then 0 bytes.
+///
+/// `fault` is the number of a read that fails, counted from 0, and the kind of its error.
+#[derive(Drop)]
+pub struct Pieces<'a> {
+    bytes: &'a [u8],
+    piece: usize,
+    fault: Option<(u64, ErrorKind)>,
+    reads: u64,
+}
+
+impl<'a> Pieces<'a> {
+    /// A reader of these bytes, at most `piece` at a read.
+    pub fn of(bytes: &'a [u8], piece: usize) -> Pieces<'a> {
+        Pieces {
+            bytes,
+            piece,
+            fault: None,
+            reads: 0,
+        }
+    }
+
+    /// A reader of these bytes whose read of that number, counted from 0, fails.
+    pub fn failing(bytes: &'a [u8], piece: usize, read: u64, kind: ErrorKind) -> Pieces<'a> {
+        Pieces {
+            bytes,
+            piece,
+            fault: Some((read, kind)),
+            reads: 0,
+        }
+    }
+
+    /// The number of bytes not yet read.
+    pub fn left(&self) -> usize {
+        self.bytes.len()
+    }
+
+    /// The number of reads so far.
+    pub fn reads(&self) -> u64 {
+        self.reads
+    }
+}
+
+impl Read for Pieces<'_> {
+    fn read(&mut self, buf: &mut [u8]) -> io::Result<usize> {
+        let read = self.reads;
+        self.reads = read.wrapping_add(1);
+        if let Some((number, kind)) = self.fault {
+            if number == read {
+                return Err(io::Error::from(kind));
+            }
+        }
+        let count = self.piece.min(self.bytes.len()).min(buf.len());
+        let (given, left) = self.bytes.split_at(count);
+        buf[..count].copy_from_slice(given);
+        self.bytes = left;
+        Ok(count)
+    }
+}

@@ -1,0 +1,115 @@
+//! Known-answer tests of jumps.
+
+use nanorand::{Blocks, Pcg64, WyRand};
+use std::test::Fail;
+
+// Each sum of two of these fits in 64 bits.
+const LENGTHS: [u64; 5] = [0, 1, 2, 999, (1 << 63) - 1];
+
+#[test]
+fn wyrand_lands(rt: HostRuntime) -> Result<(), Fail> {
+    for (draws, text) in [
+        (1, "WyRand { seed: 0xa0761d6478bd642f }"),
+        (1 << 63, "WyRand { seed: 0x8000000000000000 }"),
+        (u64::MAX, "WyRand { seed: 0x5f89e29b87429bd1 }"),
+    ] {
+        let mut wyrand = WyRand::new_seed(0);
+        wyrand.jump(draws);
+        assert_eq!(rt; format!(in rt.alloc(); "{wyrand:?}")?.as_str(), text);
+    }
+    Ok(())
+}
+
+// One by one, the draws of the first two jumps would never end.
+#[test]
+fn pcg64_lands(rt: HostRuntime) -> Result<(), Fail> {
+    let mut pcg64 = Pcg64::new_seed(5);
+    pcg64.jump(1 << 125);
+    assert_eq!(rt; pcg64.seed(), (1 << 127) + 5);
+    let text = format!(in rt.alloc(); "{pcg64:?}")?;
+    let seed = "Pcg64 { seed: 0x80000000000000000000000000000005, state: ";
+    assert!(rt; text.as_str().starts_with(seed));
+    let mut round = Pcg64::new_seed(5);
+    round.jump(1 << 126);
+    assert_eq!(rt; round.seed(), 5);
+    let text = format!(in rt.alloc(); "{round:?}")?;
+    assert!(rt; text.as_str().starts_with("Pcg64 { seed: 0x5, state: "));
+    let mut still = Pcg64::new_seed(5);
+    still.jump(0);
+    assert_eq!(rt;
+        format!(in rt.alloc(); "{still:?}")?.as_str(),
+        "Pcg64 { seed: 0x5, state: 0x0, inc: 0x0 }"
+    );
+    let mut next = Pcg64::new_seed(0);
+    next.jump(1);
+    assert_eq!(rt;
+        format!(in rt.alloc(); "{next:?}")?.as_str(),
+        "Pcg64 { seed: 0x3b1dd060ff2fd1e09624b94fc0ada4df, state: 0x3b1dd060ff2fd1e09624b94fc0ada4df, inc: 0x1 }"
+    );
+    Ok(())
+}
+
+#[test]
+fn one_draw_is_a_jump_of_one(rt: HostRuntime) -> Result<(), Fail> {
+    for seed in [0, 1 << 127] {
+        let mut drawn = Pcg64::new_seed(seed);
+        let _ = drawn.rand();
+        let mut jumped = Pcg64::new_seed(seed);
+        jumped.jump(1);
+        assert_eq!(rt;
+            format!(in rt.alloc(); "{jumped:?}")?.as_str(),
+            format!(in rt.alloc(); "{drawn:?}")?.as_str()
+        );
+    }
+    Ok(())
+}
+
+#[test]
+fn a_jump_is_its_draws(rt: HostRuntime) -> Result<(), Fail> {
+    let (mut wyrand, mut pcg64) = (WyRand::new_seed(42), Pcg64::new_seed(42));
+    for _ in 0..1000u32 {
+        let _ = wyrand.rand();
+        let _ = pcg64.rand();
+    }
+    let (mut wyrand_jumped, mut pcg64_jumped) = (WyRand::new_seed(42), Pcg64::new_seed(42));
+    wyrand_jumped.jump(1000);
+    pcg64_jumped.jump(1000);
+    assert_eq!(rt; wyrand_jumped.seed(), wyrand.seed());
+    assert_eq!(rt;
+        format!(in rt.alloc(); "{wyrand_jumped:?}")?.as_str(),
+        format!(in rt.alloc(); "{wyrand:?}")?.as_str()
+    );
+    assert_eq!(rt;
+        format!(in rt.alloc(); "{pcg64_jumped:?}")?.as_str(),
+        format!(in rt.alloc(); "{pcg64:?}")?.as_str()
+    );
+    Ok(())
+}
+
+#[test]
+fn jumps_add(rt: HostRuntime) -> Result<(), Fail> {
+    for first in LENGTHS {
+        for second in LENGTHS {
+            let (mut wyrand, mut wyrand_once) = (WyRand::new_seed(42), WyRand::new_seed(42));
+            wyrand.jump(first);
+            wyrand.jump(second);
+            wyrand_once.jump(first + second);
+            assert_eq!(rt; wyrand.seed(), wyrand_once.seed(), "{first} and {second}");
+            assert_eq!(rt;
+                format!(in rt.alloc(); "{wyrand:?}")?.as_str(),
+                format!(in rt.alloc(); "{wyrand_once:?}")?.as_str(),
+                "{first} and {second}"
+            );
+            let (mut pcg64, mut pcg64_once) = (Pcg64::new_seed(42), Pcg64::new_seed(42));
+            pcg64.jump(u128::from(first));
+            pcg64.jump(u128::from(second));
+            pcg64_once.jump(u128::from(first) + u128::from(second));
+            assert_eq!(rt;
+                format!(in rt.alloc(); "{pcg64:?}")?.as_str(),
+                format!(in rt.alloc(); "{pcg64_once:?}")?.as_str(),
+                "{first} and {second}"
+            );
+        }
+    }
+    Ok(())
+}
