@@ -9,8 +9,8 @@ unfoldable pub after_draws : {G : Type 0} → (G → G) → ℕ → G → G
 after_draws step draws g = iterate step draws g
 
 -- The word of draw number n, counted from 0: the number of the eight bytes that a request gives after n draws.
-abbrev pub word_at : {G : Type 0} → (G → List ℕ) → (G → G) → G → ℕ → ℕ
-word_at block step g n = number_of (taken block step (after_draws step n g) 8)
+abbrev pub word_of_draw : {G : Type 0} → (G → List ℕ) → (G → G) → G → ℕ → ℕ
+word_of_draw block step g n = number_of (taken block step (after_draws step n g) 8)
 
 -- Parts of `share` draws that together stay within the period do not meet: where `seen` tells the same of draw j of
 -- worker i and of draw l of worker k, worker and draw are the same.

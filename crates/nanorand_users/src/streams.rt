@@ -8,7 +8,7 @@ ghost use Rattle.nanorand.specs.generators.ChaCha.{next_state};
 ghost use Rattle.nanorand.specs.generators.ChaChaRounds.{IsMatrix};
 ghost use Rattle.nanorand.specs.generators.Pcg64.{Generator, next};
 ghost use Rattle.nanorand.specs.generators.WyRand.{next_seed};
-ghost use Rattle.nanorand_users.specs.Streams.{after_draws, word_at, PartsAreApart};
+ghost use Rattle.nanorand_users.specs.Streams.{after_draws, word_of_draw, PartsAreApart};
 
 use nanorand::laws::{chacha_counter, pcg64_cycles, wyrand_cycle};
 use nanorand::{Blocks, ChaCha, Pcg64, Rng, WyRand};
@@ -71,7 +71,7 @@ pub fn worker<G: Skip<OUTPUT>, const OUTPUT: usize>(stream: G, index: u64, share
 /// The part of one worker: as many words as the slice has, behind as many for each worker before it.
 pub fn part<G: Skip<OUTPUT> + Drop, const OUTPUT: usize>(stream: G, index: u64, words: &mut [u64])
     ensures { (j : ℕ) → j < length words.old
-        → slice_index words.new j ≡ word_at G.block G.step stream (index * length words.old + j) }
+        → slice_index words.new j ≡ word_of_draw G.block G.step stream (index * length words.old + j) }
 {
     let mut own = worker(stream, index, words.len() as u64);
     own.fill(words);

@@ -46,9 +46,9 @@ module _ {G : Type 0} (word : G → ℕ) (after : G → G) (limit bits size : �
     pub reached : now ≡ iterate after i g
     pub passed : (j : ℕ) → j < i → named bits size (word (iterate after j g)) ≡ None
 
-  word_at : (i d : ℕ) → i < limit → get_or (words_from word after limit g) i d ≡ word (iterate after i g)
+  nth_word : (i d : ℕ) → i < limit → get_or (words_from word after limit g) i d ≡ word (iterate after i g)
   unfolding words_from
-  word_at i d low = get_or-map-range_with_len (λ j. word (iterate after j g)) 0 limit i i d low (omega arith)
+  nth_word i d low = get_or-map-range_with_len (λ j. word (iterate after j g)) 0 limit i i d low (omega arith)
 
   word_count : length (words_from word after limit g) ≡ limit
   unfolding words_from
@@ -58,13 +58,13 @@ module _ {G : Type 0} (word : G → ℕ) (after : G → G) (limit bits size : �
       → deciding_place bits size (words_from word after limit g) ≡ Some i
   place_found i k now low s hit =
       position-is (λ w. is_some (named bits size w)) (words_from word after limit g) i 0 (omega (arith, word_count))
-      (λ j under. let before : j < limit = omega arith in rw (word_at j 0 before, s.passed j under) refl)
-      (rw (word_at i 0 low, ← s.reached, hit) refl)
+      (λ j under. let before : j < limit = omega arith in rw (nth_word j 0 before, s.passed j under) refl)
+      (rw (nth_word i 0 low, ← s.reached, hit) refl)
 
   place_missing : (i : ℕ) (now : G) → i ≡ limit → Searching i now → deciding_place bits size (words_from word after limit g) ≡ None
   place_missing i now done s =
       position-none (λ w. is_some (named bits size w)) (words_from word after limit g) 0
-      (λ j under. let before : j < limit = omega (arith, word_count) in rw (word_at j 0 before, s.passed j (omega arith)) refl)
+      (λ j under. let before : j < limit = omega (arith, word_count) in rw (nth_word j 0 before, s.passed j (omega arith)) refl)
 
   pub start : Searching 0 g
   start = record { reached = refl; passed = λ j under. absurd (omega arith) }
@@ -83,7 +83,7 @@ module _ {G : Type 0} (word : G → ℕ) (after : G → G) (limit bits size : �
   pub found_number : (i k : ℕ) (now : G) → i < limit → Searching i now → named bits size (word now) ≡ Some k
       → Some k ≡ number_drawn word after limit bits size g
   found_number i k now low s hit =
-      rw (place_found i k now low s hit, word_at i 0 low, ← s.reached) (sym hit)
+      rw (place_found i k now low s hit, nth_word i 0 low, ← s.reached) (sym hit)
 
   pub found_rest : (i k : ℕ) (now : G) → i < limit → Searching i now → named bits size (word now) ≡ Some k
       → after now ≡ left_after word after limit bits size g

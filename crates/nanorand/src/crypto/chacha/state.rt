@@ -16,24 +16,24 @@ pub fn chacha_init(key: [u8; 32], nonce: [u8; 8]) -> [u32; 16]
         0x3320_646e,
         0x7962_2d32,
         0x6b20_6574,
-        word_at(&key, 0),
-        word_at(&key, 4),
-        word_at(&key, 8),
-        word_at(&key, 12),
-        word_at(&key, 16),
-        word_at(&key, 20),
-        word_at(&key, 24),
-        word_at(&key, 28),
+        read_word(&key, 0),
+        read_word(&key, 4),
+        read_word(&key, 8),
+        read_word(&key, 12),
+        read_word(&key, 16),
+        read_word(&key, 20),
+        read_word(&key, 24),
+        read_word(&key, 28),
         0,
         0,
-        word_at(&nonce, 0),
-        word_at(&nonce, 4),
+        read_word(&nonce, 0),
+        read_word(&nonce, 4),
     ]
 }
 
 // The word of four bytes, least first.
 #[inline]
-fn word_at(bytes: &[u8], at: usize) -> u32
+fn read_word(bytes: &[u8], at: usize) -> u32
     requires { at + 4 ≤ length bytes.now }
     ensures { result ≡ from_le_bytes w32 (drop at bytes.now) }
 {
