@@ -1,8 +1,8 @@
-mod ArgumentsAndLines
-mod SeedAnswers
-mod WholeTexts
-mod RangeRequests
-mod CommandLines
-mod ShuffleTexts
-mod BadRequests
-mod BadArguments
+pub mod ArgumentsAndLines
+pub mod SeedAnswers
+pub mod WholeTexts
+pub mod RangeRequests
+pub mod CommandLines
+pub mod ShuffleTexts
+pub mod BadRequests
+pub mod BadArguments

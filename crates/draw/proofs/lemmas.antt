@@ -1,3 +1,3 @@
-mod AllRequests
-mod FirstArguments
-mod RangeText
+pub mod AllRequests
+pub mod FirstArguments
+pub mod RangeText

@@ -1,7 +1,6 @@
 //! From a seed and a mode to the generator that answers the calls.
 
 ghost use Rattle.std.specs.Prelude.{◌≡◌, ◌%◌, length};
-ghost use Rattle.nanorand.specs.generators.Blocks.{taken};
 ghost use Rattle.nanorand.specs.generators.ChaCha.{seeded_state};
 ghost use Rattle.nanorand.specs.replay.Replay.{replayed};
 ghost use Rattle.nanorand.specs.values.Values.{number_of};
@@ -81,8 +80,8 @@ fn replay_with<G: Rng<OUTPUT> + Drop, const OUTPUT: usize>(
     answers: &mut [Answer],
 )
     requires { length answers.old ≡ length calls.now }
-    ensures answers { answers.new ≡ (replayed (taken G.block G.step) G.after rng items.old calls.now).answers }
-    ensures items { items.new ≡ (replayed (taken G.block G.step) G.after rng items.old calls.now).items }
+    ensures answers { answers.new ≡ (replayed G.requests rng items.old calls.now).answers }
+    ensures items { items.new ≡ (replayed G.requests rng items.old calls.now).items }
 {
     replay(&mut rng, calls, items, answers);
 }

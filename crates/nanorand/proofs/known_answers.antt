@@ -1,21 +1,21 @@
-mod Pcg64Words
-mod WyRandWords
-mod Distances
-mod SmallGenerators
-mod BlocksAndValues
-mod RangeNumbers
-mod DecidingWords
-mod RangeBounds
-mod RunsOfWords
-mod WholeTypes
-mod BufferedRequests
-mod ChaChaVectors
-mod ChaChaBlocks
-mod ChaChaCounters
-mod ShuffledItems
-mod ShufflePartners
-mod Replays
-mod ShufflesByKeys
-mod ReplayRefusals
-mod AskedBytes
-mod ChoicesOfThree
+pub mod Pcg64Words
+pub mod WyRandWords
+pub mod Distances
+pub mod SmallGenerators
+pub mod BlocksAndValues
+pub mod RangeNumbers
+pub mod DecidingWords
+pub mod RangeBounds
+pub mod RunsOfWords
+pub mod WholeTypes
+pub mod BufferedRequests
+pub mod ChaChaVectors
+pub mod ChaChaBlocks
+pub mod ChaChaCounters
+pub mod ShuffledItems
+pub mod ShufflePartners
+pub mod Replays
+pub mod ShufflesByKeys
+pub mod ReplayRefusals
+pub mod AskedBytes
+pub mod ChoicesOfThree

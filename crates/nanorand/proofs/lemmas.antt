@@ -1,6 +1,6 @@
-mod cycles
-mod generators
-mod ranges
-mod chacha
-mod shuffles
-mod replay
+pub mod cycles
+pub mod generators
+pub mod ranges
+pub mod chacha
+pub mod shuffles
+pub mod replay

@@ -2,8 +2,8 @@
 ghost use Rattle.std.specs.Prelude.{◌≡◌, ℕ, ◌+◌, ◌++◌, ◌<◌, ◌≤◌, [], length, vec_len, vec_capacity, refl, take, drop, min, IfOk, OnOk, OnErr, IsOk, IsErr, Ok, None};
 ghost use Rattle.std.specs.Io.{ReadsAtMost};
 ghost use Rattle.std.specs.Io.KnownBytes.{ReadConsumes};
-ghost use Rattle.nanorand.specs.generators.Buffered.{buffered_block, buffered_step, buffered_after, buffered_taken, buffer_of};
-ghost use Rattle.nanorand.specs.support.BufferedLemmas.{length-buffered_taken, after_nothing};
+ghost use Rattle.nanorand.specs.generators.Buffered.{buffered, buffered_block, buffered_step, buffered_after, buffered_taken, buffer_of};
+ghost use Rattle.nanorand.specs.support.BufferedLemmas.{length-buffered_taken, after_nothing, delivers};
 
 use crate::rand::{Blocks, Rng, SeedableRng, fill_by_blocks};
 use std::alloc::{AllocError, Allocator};
@@ -157,12 +157,14 @@ impl<G: Rng<OUTPUT>, const OUTPUT: usize> Blocks<OUTPUT> for BufferedRng<G, OUTP
 }
 
 impl<G: Rng<OUTPUT>, const OUTPUT: usize> Rng<OUTPUT> for BufferedRng<G, OUTPUT> {
-    ghost after = { buffered_after G.block G.step OUTPUT };
+    ghost requests = { buffered G.block G.step OUTPUT };
 
     #[inline(always)]
     fn fill_bytes(&mut self, buffer: &mut [u8]) {
         deliver(&mut self.inner, &mut self.block, &mut self.cursor, buffer);
     }
+
+    ghost delivers = { delivers G.block G.step OUTPUT G.positive G.block_length };
 
     ghost after_nothing = { after_nothing G.block G.step OUTPUT G.positive G.block_length };
 

@@ -43,17 +43,17 @@ pub fn fairness()
 /// `generate_range` answers and leaves is the outcome that this law speaks of.
 pub fn range_limits<G: Rng<OUTPUT>, const OUTPUT: usize>()
     ensures unsigned { (bits : ℕ) (g : G) (low high : Bound ℕ) →
-        KeepsLimits nat_le nat_lt bits unsigned_number (after_word G.after bits) low high g
-        (unsigned_outcome (taken G.block G.step) G.after bits g low high) }
+        KeepsLimits nat_le nat_lt bits unsigned_number (after_word G.requests bits) low high g
+        (unsigned_outcome G.requests bits g low high) }
     ensures signed { (bits : ℕ) (g : G) (low high : Bound ℤ) →
-        KeepsLimits int_le int_lt bits (signed_number bits) (after_word G.after bits) low high g
-        (signed_outcome (taken G.block G.step) G.after bits g low high) }
+        KeepsLimits int_le int_lt bits (signed_number bits) (after_word G.requests bits) low high g
+        (signed_outcome G.requests bits g low high) }
 {}
 
 /// Two lists of calls, one after the other, are one list, over every generator: a replay that is
 /// stopped, stored and taken up again gives what the whole replay gives.
 pub fn replays_join<G: Rng<OUTPUT>, const OUTPUT: usize>()
-    ensures { ReplaysJoin (taken G.block G.step) G.after }
+    ensures { ReplaysJoin G.requests }
 {}
 
 /// For every n, valid lists of n choices and arrangements of 0, 1, .., n - 1 correspond one to one: a
@@ -79,12 +79,10 @@ pub fn permutations_by_counting()
 /// and a replay leaves what one request of all the bytes that its calls ask for would leave. Less
 /// than a block stays buffered after each.
 pub fn unbroken_delivery<G: Rng<OUTPUT>, const OUTPUT: usize>()
-    ensures unbroken { IsUnbroken
-        (taken ⟦<BufferedRng<G, OUTPUT> as Blocks<OUTPUT>>⟧.block ⟦<BufferedRng<G, OUTPUT> as Blocks<OUTPUT>>⟧.step)
-        ⟦<BufferedRng<G, OUTPUT> as Rng<OUTPUT>>⟧.after }
+    ensures unbroken { IsUnbroken ⟦<BufferedRng<G, OUTPUT> as Rng<OUTPUT>>⟧.requests }
     ensures row { (b : Buffered G) (n : ℕ) →
-        taken ⟦<BufferedRng<G, OUTPUT> as Blocks<OUTPUT>>⟧.block ⟦<BufferedRng<G, OUTPUT> as Blocks<OUTPUT>>⟧.step b n
-        ≡ buffered_taken G.block G.step OUTPUT b n }
+        let buffer = ⟦<BufferedRng<G, OUTPUT> as Blocks<OUTPUT>>⟧ in
+        taken buffer.block buffer.step b n ≡ buffered_taken G.block G.step OUTPUT b n }
     ensures below { (b : Buffered G) (n : ℕ) → length b.rest < OUTPUT
         → length (buffered_after G.block G.step OUTPUT b n).rest < OUTPUT }
 {}

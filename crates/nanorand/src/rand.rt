@@ -2,8 +2,8 @@
 ghost use Rattle.std.specs.Prelude.{◌≡◌, ℕ, ◌^◌, ◌<◌, List, length, OnOk, IsPermutation};
 ghost use Rattle.std.specs.Fn.{iterate};
 ghost use Rattle.nanorand.specs.shuffles.Arrangements.{IsValid};
-ghost use Rattle.nanorand.specs.generators.Blocks.{taken, plain_after};
-ghost use Rattle.nanorand.specs.shuffles.Shuffles.{arranged, from_itself, shuffle_answer, shuffle_choices, shuffle_state};
+ghost use Rattle.nanorand.specs.generators.Blocks.{Requests, taken, plain_after};
+ghost use Rattle.nanorand.specs.shuffles.Shuffles.{from_itself, shuffled};
 ghost use Rattle.nanorand.specs.values.Values.{values_from};
 
 pub mod chacha;
@@ -46,13 +46,13 @@ pub trait Blocks<const OUTPUT: usize> {
 /// A user's generator writes `rand` and `fill_bytes`, and names its next block, the state after
 /// it, and the state that a request of n bytes leaves. Everything else follows from these.
 pub trait Rng<const OUTPUT: usize>: Clone + Blocks<OUTPUT> {
-    // The state after a request of so many bytes.
-    ghost after: { Self → ℕ → Self };
+    // The bytes that requests take, and the states that they leave.
+    ghost requests: { Requests Self };
 
     /// Fills the slice with the next bytes, by one request. An empty slice draws nothing.
     fn fill_bytes(&mut self, buffer: &mut [u8])
-        ensures bytes { buffer.new ≡ taken Self.block Self.step self.old (length buffer.old) }
-        ensures state { self.new ≡ after self.old (length buffer.old) };
+        ensures bytes { buffer.new ≡ requests.bytes self.old (length buffer.old) }
+        ensures state { self.new ≡ requests.after self.old (length buffer.old) };
 
     /// Draws a value.
     #[inline]
@@ -94,12 +94,14 @@ pub trait Rng<const OUTPUT: usize>: Clone + Blocks<OUTPUT> {
     /// answers to exactly one list of choices. `Exhausted` comes where 128 words in a row were
     /// rejected for one partner; what was swapped before it stays so. An empty slice draws nothing.
     final fn shuffle<T>(&mut self, target: &mut [T]) -> Result<(), RangeError>
-        ensures answer { result ≡ shuffle_answer (taken Self.block Self.step) after from_itself (length target.old) self.old }
-        ensures items { target.new ≡ arranged (shuffle_choices (taken Self.block Self.step) after from_itself (length target.old) self.old) target.old }
-        ensures state { self.new ≡ shuffle_state (taken Self.block Self.step) after from_itself (length target.old) self.old }
+        ensures answer { result ≡ (shuffled requests from_itself self.old target.old).answer }
+        ensures items { target.new ≡ (shuffled requests from_itself self.old target.old).items }
+        ensures state { self.new ≡ (shuffled requests from_itself self.old target.old).state }
         ensures arrangement { IsPermutation target.old target.new }
-        ensures whole { OnOk result (length (shuffle_choices (taken Self.block Self.step) after from_itself (length target.old) self.old) ≡ length target.old) }
-        ensures valid { OnOk result (IsValid (shuffle_choices (taken Self.block Self.step) after from_itself (length target.old) self.old)) }
+        ensures whole { let shuffle = shuffled requests from_itself self.old target.old in
+            OnOk result (length shuffle.choices ≡ length target.old) }
+        ensures valid { let shuffle = shuffled requests from_itself self.old target.old in
+            OnOk result (IsValid shuffle.choices) }
     {
         let count = target.len();
         for place in 0..count {
@@ -109,9 +111,12 @@ pub trait Rng<const OUTPUT: usize>: Clone + Blocks<OUTPUT> {
         Ok(())
     }
 
-    ghost after_nothing: { (g : Self) → after g 0 ≡ g };
+    // A request of n takes the first n bytes of the blocks.
+    ghost delivers: { (g : Self) (n : ℕ) → requests.bytes g n ≡ taken Self.block Self.step g n };
 
-    ghost after_block: { (g : Self) → after g OUTPUT ≡ Self.step g };
+    ghost after_nothing: { (g : Self) → requests.after g 0 ≡ g };
+
+    ghost after_block: { (g : Self) → requests.after g OUTPUT ≡ Self.step g };
 }
 
 /// A generator that can be seeded anew.

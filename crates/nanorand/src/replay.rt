@@ -1,6 +1,5 @@
 //! Lists of calls, made in order, with one answer each.
 ghost use Rattle.std.specs.Prelude.{◌≡◌, length};
-ghost use Rattle.nanorand.specs.generators.Blocks.{taken};
 ghost use Rattle.nanorand.specs.replay.Replay.{outcome, replayed, size_of, value_of, span_outcome, unsigned_answer, signed_answer, refusal_answer};
 
 use crate::rand::Rng;
@@ -77,9 +76,9 @@ pub fn replay<G: Rng<OUTPUT>, const OUTPUT: usize>(
     answers: &mut [Answer],
 )
     requires { length answers.old ≡ length calls.now }
-    ensures answers { answers.new ≡ (replayed (taken G.block G.step) G.after rng.old items.old calls.now).answers }
-    ensures items { items.new ≡ (replayed (taken G.block G.step) G.after rng.old items.old calls.now).items }
-    ensures state { rng.new ≡ (replayed (taken G.block G.step) G.after rng.old items.old calls.now).state }
+    ensures answers { answers.new ≡ (replayed G.requests rng.old items.old calls.now).answers }
+    ensures items { items.new ≡ (replayed G.requests rng.old items.old calls.now).items }
+    ensures state { rng.new ≡ (replayed G.requests rng.old items.old calls.now).state }
 {
     for (place, call) in calls.iter().enumerate() {
         answers[place] = make_call(rng, call, items);
@@ -92,9 +91,9 @@ fn make_call<G: Rng<OUTPUT>, const OUTPUT: usize>(
     call: &Call,
     items: &mut [u64],
 ) -> Answer
-    ensures answer { result ≡ (outcome (taken G.block G.step) G.after rng.old items.old call.now).answer }
-    ensures items { items.new ≡ (outcome (taken G.block G.step) G.after rng.old items.old call.now).items }
-    ensures state { rng.new ≡ (outcome (taken G.block G.step) G.after rng.old items.old call.now).state }
+    ensures answer { result ≡ (outcome G.requests rng.old items.old call.now).answer }
+    ensures items { items.new ≡ (outcome G.requests rng.old items.old call.now).items }
+    ensures state { rng.new ≡ (outcome G.requests rng.old items.old call.now).state }
 {
     match call {
         Call::Gen(kind) => draw(rng, *kind),
@@ -108,8 +107,8 @@ fn make_call<G: Rng<OUTPUT>, const OUTPUT: usize>(
 
 // Draws a value whole.
 fn draw<G: Rng<OUTPUT>, const OUTPUT: usize>(rng: &mut G, kind: Kind) -> Answer
-    ensures answer { result ≡ value_of kind (taken G.block G.step rng.old (size_of kind)) }
-    ensures state { rng.new ≡ G.after rng.old (size_of kind) }
+    ensures answer { result ≡ value_of kind (G.requests.bytes rng.old (size_of kind)) }
+    ensures state { rng.new ≡ G.requests.after rng.old (size_of kind) }
 {
     match kind {
         Kind::I8 => Answer::Signed(i128::from(rng.generate::<i8>())),
@@ -130,8 +129,8 @@ fn draw<G: Rng<OUTPUT>, const OUTPUT: usize>(rng: &mut G, kind: Kind) -> Answer
 
 // Draws a number of a range.
 fn draw_within<G: Rng<OUTPUT>, const OUTPUT: usize>(rng: &mut G, span: &Span) -> Answer
-    ensures answer { result ≡ (span_outcome (taken G.block G.step) G.after rng.old span.now).0 }
-    ensures state { rng.new ≡ (span_outcome (taken G.block G.step) G.after rng.old span.now).1 }
+    ensures answer { result ≡ (span_outcome G.requests rng.old span.now).0 }
+    ensures state { rng.new ≡ (span_outcome G.requests rng.old span.now).1 }
 {
     match span {
         Span::I8(low, high) => signed_answer(rng.generate_range::<i8>(*low, *high).map(i128::from)),

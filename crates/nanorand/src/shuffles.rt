@@ -1,8 +1,7 @@
 //! Shuffles as lists of choices, and the shuffle that draws from all places.
 ghost use Rattle.std.specs.Prelude.{◌≡◌, ◌≢◌, ℕ, ◌<◌, ◌≤◌, length, slice_index, MatchOption, OnOk, OnErr, List, IsPermutation};
 ghost use Rattle.nanorand.specs.shuffles.Arrangements.{completed, rising, IsValid, IsArrangement};
-ghost use Rattle.nanorand.specs.generators.Blocks.{taken};
-ghost use Rattle.nanorand.specs.shuffles.Shuffles.{arranged, from_all, from_itself, shuffle_answer, shuffle_choices, shuffle_state};
+ghost use Rattle.nanorand.specs.shuffles.Shuffles.{arranged, from_all, from_itself, shuffled};
 
 use crate::rand::Rng;
 use crate::values::RangeError;
@@ -99,19 +98,14 @@ pub fn shuffle_and_record<G: Rng<OUTPUT>, T, const OUTPUT: usize>(
     choices: &mut [usize],
 ) -> Result<(), RangeError>
     requires { length choices.old ≡ length target.old }
-    ensures answer { result
-        ≡ shuffle_answer (taken G.block G.step) G.after from_itself (length target.old) rng.old }
-    ensures items { let count = length target.old in
-        let drawn = shuffle_choices (taken G.block G.step) G.after from_itself count rng.old in
-        target.new ≡ arranged drawn target.old }
-    ensures state { rng.new
-        ≡ shuffle_state (taken G.block G.step) G.after from_itself (length target.old) rng.old }
+    ensures answer { result ≡ (shuffled G.requests from_itself rng.old target.old).answer }
+    ensures items { target.new ≡ (shuffled G.requests from_itself rng.old target.old).items }
+    ensures state { rng.new ≡ (shuffled G.requests from_itself rng.old target.old).state }
     ensures arrangement { IsPermutation target.old target.new }
-    ensures drawn { OnOk result (choices.new
-        ≡ shuffle_choices (taken G.block G.step) G.after from_itself (length target.old) rng.old) }
-    ensures recorded { let count = length target.old in
-        let drawn = shuffle_choices (taken G.block G.step) G.after from_itself count rng.old in
-        choices.new ≡ completed count drawn }
+    ensures drawn { let shuffle = shuffled G.requests from_itself rng.old target.old in
+        OnOk result (choices.new ≡ shuffle.choices) }
+    ensures recorded { let shuffle = shuffled G.requests from_itself rng.old target.old in
+        choices.new ≡ completed (length target.old) shuffle.choices }
     ensures valid { IsValid choices.new }
     ensures makes { arranged choices.new target.old ≡ target.new }
 {
@@ -135,9 +129,9 @@ pub fn shuffle_full<G: Rng<OUTPUT>, T, const OUTPUT: usize>(
     rng: &mut G,
     target: &mut [T],
 ) -> Result<(), RangeError>
-    ensures answer { result ≡ shuffle_answer (taken G.block G.step) G.after from_all (length target.old) rng.old }
-    ensures items { target.new ≡ arranged (shuffle_choices (taken G.block G.step) G.after from_all (length target.old) rng.old) target.old }
-    ensures state { rng.new ≡ shuffle_state (taken G.block G.step) G.after from_all (length target.old) rng.old }
+    ensures answer { result ≡ (shuffled G.requests from_all rng.old target.old).answer }
+    ensures items { target.new ≡ (shuffled G.requests from_all rng.old target.old).items }
+    ensures state { rng.new ≡ (shuffled G.requests from_all rng.old target.old).state }
     ensures arrangement { IsPermutation target.old target.new }
 {
     let count = target.len();

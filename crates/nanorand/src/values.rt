@@ -1,6 +1,5 @@
 //! The values that a generator draws.
 ghost use Rattle.std.specs.Prelude.{◌≡◌, ◌^◌, ◌<◌};
-ghost use Rattle.nanorand.specs.generators.Blocks.{taken};
 ghost use Rattle.nanorand.specs.values.Values.{truth_of};
 
 pub mod number;
@@ -32,9 +31,9 @@ pub trait RandomGen<G: Rng<OUTPUT>, const OUTPUT: usize> {
 
 /// True if one byte is below 128.
 impl<G: Rng<OUTPUT>, const OUTPUT: usize> RandomGen<G, OUTPUT> for bool {
-    ghost value = { λ g. truth_of (taken G.block G.step g 1) };
+    ghost value = { λ g. truth_of (G.requests.bytes g 1) };
 
-    ghost state_after = { λ g. G.after g 1 };
+    ghost state_after = { λ g. G.requests.after g 1 };
 
     #[inline]
     fn random(rng: &mut G) -> bool {
@@ -46,8 +45,8 @@ impl<G: Rng<OUTPUT>, const OUTPUT: usize> RandomGen<G, OUTPUT> for bool {
 #[inline]
 fn next_bytes<G: Rng<OUTPUT>, const SIZE: usize, const OUTPUT: usize>(rng: &mut G) -> [u8; SIZE]
     requires { SIZE < 2 ^ 63 }
-    ensures bytes { result ≡ taken G.block G.step rng.old SIZE }
-    ensures state { rng.new ≡ G.after rng.old SIZE }
+    ensures bytes { result ≡ G.requests.bytes rng.old SIZE }
+    ensures state { rng.new ≡ G.requests.after rng.old SIZE }
 {
     let mut bytes = [0; SIZE];
     rng.fill_bytes(&mut bytes);

@@ -1,4 +1,4 @@
 pub mod Status
 pub mod Between
 pub mod ChaChaPlace
-pub mod SeedHalves
+pub mod WideNumber

@@ -6,7 +6,7 @@ ghost use Rattle.nanorand.specs.shuffles.Shuffles.{arranged, from_all, from_itse
 ghost use Rattle.nanorand.specs.values.Values.{number_of};
 ghost use Rattle.nanorand_c.specs.Between.{between};
 ghost use Rattle.nanorand_c.specs.Status.{drawn_or, status};
-ghost use Rattle.nanorand_c.specs.SeedHalves.{at_seed, wide_number};
+ghost use Rattle.nanorand_c.specs.WideNumber.{at_seed, wide_number};
 
 use crate::status::{hand_over, status};
 use crate::wide::{Wide, joined, split};

@@ -1,6 +1,6 @@
 //! Numbers of 128 bits, which do not cross as they are.
 ghost use Rattle.std.specs.Prelude.{◌≡◌};
-ghost use Rattle.nanorand_c.specs.SeedHalves.{wide_number};
+ghost use Rattle.nanorand_c.specs.WideNumber.{wide_number};
 
 /// A number of 128 bits, as two words of 64.
 #[derive(Clone, Copy)]

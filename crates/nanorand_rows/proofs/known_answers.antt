@@ -1,1 +1,1 @@
-mod TestGenerators
+pub mod TestGenerators

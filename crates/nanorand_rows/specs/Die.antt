@@ -2,6 +2,7 @@
 use Rattle.std.specs.Prelude.{ℕ, ◌≤◌, List, Result, Ok, Err}
 use Rattle.std.specs.declared.ops.Bound.{Bound}
 use Rattle.std.specs.declared.ops.Bound.TheVariants.{Included, Excluded, Unbounded}
+use Rattle.nanorand.specs.generators.Blocks.{Requests}
 use Rattle.nanorand.specs.values.Draws.{unsigned_outcome}
 use Rattle.nanorand.specs.declared.values.range.RangeError.{RangeError}
 
@@ -10,13 +11,13 @@ abbrev pub pips_or_one : Result ℕ RangeError → ℕ
 pips_or_one (Ok pips) = pips
 pips_or_one (Err refusal) = 1
 
-module _ {G : Type 0} (bytes : G → ℕ → List ℕ) (after : G → ℕ → G) where
+module _ {G : Type 0} (requests : Requests G) where
   -- A throw is the byte range 1..=6.
   abbrev pub die_value : G → ℕ
-  die_value g = pips_or_one (unsigned_outcome bytes after 8 g (Included 1) (Included 6)).0
+  die_value g = pips_or_one (unsigned_outcome requests 8 g (Included 1) (Included 6)).0
 
   abbrev pub die_after : G → G
-  die_after g = (unsigned_outcome bytes after 8 g (Included 1) (Included 6)).1
+  die_after g = (unsigned_outcome requests 8 g (Included 1) (Included 6)).1
 
 -- A bound in numbers, where an unbounded one is the end of a die.
 abbrev pub die_bound : ℕ → Bound ℕ → Bound ℕ

@@ -27,7 +27,7 @@ pub fn ticket(seed: u64) -> u64
 /// A throw of a die, from any generator. It is 1 where 128 words in a row were rejected.
 pub fn throw<G: Rng<OUTPUT>, const OUTPUT: usize>(rng: &mut G) -> u8
     ensures face { (1 ≤ result) × (result ≤ 6) }
-    ensures thrown { MatchResult (unsigned_outcome (taken G.block G.step) G.after 8 rng.old (Included 1) (Included 6)).0 (λ pips. result ≡ pips) (λ _. result ≡ 1) }
+    ensures thrown { MatchResult (unsigned_outcome G.requests 8 rng.old (Included 1) (Included 6)).0 (λ pips. result ≡ pips) (λ _. result ≡ 1) }
 {
     match draw_number::<u8, G, OUTPUT>(rng, Bound::Included(1), Bound::Included(6)) {
         Ok(pips) => pips,

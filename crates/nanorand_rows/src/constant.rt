@@ -1,7 +1,7 @@
 //! Blocks of eight equal bytes.
 ghost use Rattle.std.specs.Prelude.{◌≡◌, ⊤, refl, replicate};
 ghost use Rattle.std.proofs.Common.{rules};
-ghost use Rattle.nanorand.specs.generators.Blocks.{plain_after};
+ghost use Rattle.nanorand.specs.generators.Blocks.{plain};
 ghost use Rattle.nanorand_rows.specs.Constant.{constant_block, constant_step};
 
 use nanorand::rand::fill_by_blocks;
@@ -55,11 +55,13 @@ impl Blocks<8> for Constant {
 }
 
 impl Rng<8> for Constant {
-    ghost after = { plain_after constant_step 8 };
+    ghost requests = { plain constant_block constant_step 8 };
 
     fn fill_bytes(&mut self, buffer: &mut [u8]) {
         fill_by_blocks(self, buffer)
     }
+
+    ghost delivers = { λ _ _. refl };
 
     ghost after_nothing = { λ _. refl };
 

@@ -1,6 +1,5 @@
 //! A value type of a user's own.
 ghost use Rattle.std.specs.Prelude.{◌≡◌, ◌≤◌};
-ghost use Rattle.nanorand.specs.generators.Blocks.{taken};
 ghost use Rattle.nanorand.specs.values.Draws.{unsigned_outcome};
 ghost use Rattle.nanorand_rows.specs.Die.{HasPips, die_after, die_bound, die_value};
 
@@ -46,9 +45,9 @@ impl Die {
 
 /// A throw: the byte range 1..=6, and 1 where 128 words in a row were rejected.
 impl<G: Rng<OUTPUT>, const OUTPUT: usize> RandomGen<G, OUTPUT> for Die {
-    ghost value = { die_value (taken G.block G.step) G.after };
+    ghost value = { die_value G.requests };
 
-    ghost state_after = { die_after (taken G.block G.step) G.after };
+    ghost state_after = { die_after G.requests };
 
     fn random(rng: &mut G) -> Die {
         match draw_number(rng, Bound::Included(1), Bound::Included(6)) {
@@ -60,11 +59,11 @@ impl<G: Rng<OUTPUT>, const OUTPUT: usize> RandomGen<G, OUTPUT> for Die {
 
 /// The byte range of the bounds' numbers. Unbounded ends are 1 and 6.
 impl<G: Rng<OUTPUT>, const OUTPUT: usize> RandomRange<G, OUTPUT> for Die {
-    ghost outcome = { λ g low high. unsigned_outcome (taken G.block G.step) G.after 8 g (die_bound 1 low) (die_bound 6 high) };
+    ghost outcome = { λ g low high. unsigned_outcome G.requests 8 g (die_bound 1 low) (die_bound 6 high) };
 
     fn random_range(rng: &mut G, low: Bound<Die>, high: Bound<Die>) -> Result<Die, RangeError>
-        ensures value { result ≡ (unsigned_outcome (taken G.block G.step) G.after 8 rng.old (die_bound 1 low) (die_bound 6 high)).0 }
-        ensures state { rng.new ≡ (unsigned_outcome (taken G.block G.step) G.after 8 rng.old (die_bound 1 low) (die_bound 6 high)).1 }
+        ensures value { result ≡ (unsigned_outcome G.requests 8 rng.old (die_bound 1 low) (die_bound 6 high)).0 }
+        ensures state { rng.new ≡ (unsigned_outcome G.requests 8 rng.old (die_bound 1 low) (die_bound 6 high)).1 }
     {
         match draw_number(rng, pips_bound(low, 1), pips_bound(high, 6)) {
             Ok(pips) => Ok(Die { pips }),

@@ -1,7 +1,7 @@
 //! Numbered streams, of which a clone begins another one.
 ghost use Rattle.std.specs.Prelude.{◌≡◌, ◌<◌, refl, length, OnOk, IfOk, IsOk};
 ghost use Rattle.std.proofs.Common.{rules};
-ghost use Rattle.nanorand.specs.generators.Blocks.{plain_after};
+ghost use Rattle.nanorand.specs.generators.Blocks.{plain};
 ghost use Rattle.nanorand.specs.generators.Buffered.{buffer_of, buffered_taken};
 ghost use Rattle.nanorand_rows.specs.declared.forking.Forking.{Forking};
 ghost use Rattle.nanorand_rows.specs.Forking.{forked, forking_block, forking_step};
@@ -64,11 +64,13 @@ impl Blocks<8> for Forking {
 }
 
 impl Rng<8> for Forking {
-    ghost after = { plain_after forking_step 8 };
+    ghost requests = { plain forking_block forking_step 8 };
 
     fn fill_bytes(&mut self, buffer: &mut [u8]) {
         fill_by_blocks(self, buffer)
     }
+
+    ghost delivers = { λ _ _. refl };
 
     ghost after_nothing = { λ _. refl };
 

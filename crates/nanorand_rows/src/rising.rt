@@ -1,7 +1,7 @@
 //! The bytes 0, 1, 2, .. in blocks of one byte and of 64.
 ghost use Rattle.std.specs.Prelude.{◌≡◌, ◌^◌, ◌<◌, ⊤, refl};
 ghost use Rattle.std.proofs.Common.{rules};
-ghost use Rattle.nanorand.specs.generators.Blocks.{plain_after};
+ghost use Rattle.nanorand.specs.generators.Blocks.{plain};
 ghost use Rattle.nanorand_rows.specs.Rising.{rising_block};
 ghost use Rattle.nanorand_rows.specs.support.RisingLemmas.{length-rising_block};
 ghost use Rattle.nanorand_rows.specs.Steps.{next_count};
@@ -128,11 +128,13 @@ impl Blocks<64> for Bytes64 {
 }
 
 impl Rng<1> for Bytes1 {
-    ghost after = { plain_after next_count 1 };
+    ghost requests = { plain (rising_block 1) next_count 1 };
 
     fn fill_bytes(&mut self, buffer: &mut [u8]) {
         fill_by_blocks(self, buffer)
     }
+
+    ghost delivers = { λ _ _. refl };
 
     ghost after_nothing = { λ _. refl };
 
@@ -140,11 +142,13 @@ impl Rng<1> for Bytes1 {
 }
 
 impl Rng<64> for Bytes64 {
-    ghost after = { plain_after next_count 64 };
+    ghost requests = { plain (rising_block 64) next_count 64 };
 
     fn fill_bytes(&mut self, buffer: &mut [u8]) {
         fill_by_blocks(self, buffer)
     }
+
+    ghost delivers = { λ _ _. refl };
 
     ghost after_nothing = { λ _. refl };
 

@@ -1,7 +1,7 @@
 //! Blocks of eight equal bytes, by a list.
 ghost use Rattle.std.specs.Prelude.{◌≡◌, ⊤, refl};
 ghost use Rattle.std.proofs.Common.{rules};
-ghost use Rattle.nanorand.specs.generators.Blocks.{plain_after};
+ghost use Rattle.nanorand.specs.generators.Blocks.{plain};
 ghost use Rattle.nanorand_rows.specs.Script.{script_block, script_step};
 
 use nanorand::rand::fill_by_blocks;
@@ -73,11 +73,13 @@ impl Blocks<8> for Script<'_> {
 }
 
 impl Rng<8> for Script<'_> {
-    ghost after = { plain_after script_step 8 };
+    ghost requests = { plain script_block script_step 8 };
 
     fn fill_bytes(&mut self, buffer: &mut [u8]) {
         fill_by_blocks(self, buffer)
     }
+
+    ghost delivers = { λ _ _. refl };
 
     ghost after_nothing = { λ _. refl };
 

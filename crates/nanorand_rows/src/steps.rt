@@ -1,7 +1,7 @@
 //! The bytes 0, 1, 2, .. in blocks of eight.
 ghost use Rattle.std.specs.Prelude.{◌≡◌, ⊤, refl};
 ghost use Rattle.std.proofs.Common.{rules};
-ghost use Rattle.nanorand.specs.generators.Blocks.{plain_after};
+ghost use Rattle.nanorand.specs.generators.Blocks.{plain};
 ghost use Rattle.nanorand_rows.specs.Steps.{next_count, steps_block};
 
 use nanorand::rand::fill_by_blocks;
@@ -86,11 +86,13 @@ impl Blocks<8> for Steps {
 }
 
 impl Rng<8> for Steps {
-    ghost after = { plain_after next_count 8 };
+    ghost requests = { plain steps_block next_count 8 };
 
     fn fill_bytes(&mut self, buffer: &mut [u8]) {
         fill_by_blocks(self, buffer)
     }
+
+    ghost delivers = { λ _ _. refl };
 
     ghost after_nothing = { λ _. refl };
 

@@ -2,6 +2,7 @@
 ghost use Rattle.std.specs.Prelude.{◌≡◌, ⊤, refl};
 ghost use Rattle.std.proofs.Common.{rules};
 ghost use Rattle.nanorand_rows.specs.Steps.{next_count, steps_block};
+ghost use Rattle.nanorand.specs.generators.Blocks.{taken};
 ghost use Rattle.nanorand_rows.specs.Waste.{waste_after};
 
 use crate::Steps;
@@ -73,7 +74,7 @@ impl Blocks<8> for Waste {
 }
 
 impl Rng<8> for Waste {
-    ghost after = { waste_after };
+    ghost requests = { record { bytes = taken steps_block next_count; after = waste_after } };
 
     fn fill_bytes(&mut self, buffer: &mut [u8]) {
         let wasteful = buffer.len() != 0 && buffer.len() != 8;
@@ -87,6 +88,8 @@ impl Rng<8> for Waste {
     fn generate<T: RandomGen<Waste, 8>>(&mut self) -> T {
         T::random(self)
     }
+
+    ghost delivers = { λ _ _. refl };
 
     ghost after_nothing = { λ _. refl };
 

@@ -1,7 +1,7 @@
 //! Zeros for ever, whose words name nothing unless the size of a range divides their number.
 ghost use Rattle.std.specs.Prelude.{◌≡◌, ⊤, refl};
 ghost use Rattle.std.proofs.Common.{rules};
-ghost use Rattle.nanorand.specs.generators.Blocks.{plain_after};
+ghost use Rattle.nanorand.specs.generators.Blocks.{plain};
 ghost use Rattle.nanorand_rows.specs.Steps.{next_count};
 ghost use Rattle.nanorand_rows.specs.Zeros.{zeros_block};
 
@@ -69,11 +69,13 @@ impl Blocks<8> for Zeros {
 }
 
 impl Rng<8> for Zeros {
-    ghost after = { plain_after next_count 8 };
+    ghost requests = { plain zeros_block next_count 8 };
 
     fn fill_bytes(&mut self, buffer: &mut [u8]) {
         fill_by_blocks(self, buffer)
     }
+
+    ghost delivers = { λ _ _. refl };
 
     ghost after_nothing = { λ _. refl };
 

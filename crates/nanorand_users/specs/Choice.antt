@@ -1,6 +1,7 @@
 -- Choices by weight: the numbers below the sum of the weights are shared out among the items, each having in turn as
 -- many of them as its weight.
 use Rattle.std.specs.Prelude.{◌≡◌, ℕ, suc, ◌+◌, ◌-◌, ◌*◌, ◌<◌, ◌≤◌, ◌^◌, ◌==◌, List, [], ◌∷◌, length, Option, Result, Ok, Err, sum, take, slice_index, nat_le, nat_lt, ok_or, is_ok, option_map, if◌then◌else◌}
+use Rattle.nanorand.specs.generators.Blocks.{Requests}
 use Rattle.nanorand.specs.values.Runs.{IsWordWidth, named, quota, words_that}
 use Rattle.nanorand.specs.values.Draws.{after_word, left_after, next_word, number_drawn, word_limit}
 use Rattle.nanorand.specs.values.Fairness.{passes}
@@ -24,10 +25,10 @@ total_of weights =
     else if nat_le (2 ^ 64) (sum weights) then Err TooHeavy
     else Ok (sum weights)
 
-module _ {G : Type 0} (bytes : G → ℕ → List ℕ) (after : G → ℕ → G) where
+module _ {G : Type 0} (requests : Requests G) where
   -- The number below the sum of the weights that the next words decide, if they decide one.
   abbrev pub number_for : List ℕ → G → Option ℕ
-  number_for weights g = number_drawn (next_word bytes 64) (after_word after 64) word_limit 64 (sum weights) g
+  number_for weights g = number_drawn (next_word requests 64) (after_word requests 64) word_limit 64 (sum weights) g
 
   -- What a choice answers: the item in whose share that number stands.
   abbrev pub choice_answer : List ℕ → G → Result ℕ ChoiceError
@@ -39,7 +40,7 @@ module _ {G : Type 0} (bytes : G → ℕ → List ℕ) (after : G → ℕ → G)
   -- The state that it leaves: after the deciding word, or after all 128. Where no number can be drawn, it stays.
   abbrev pub choice_state : List ℕ → G → G
   choice_state weights g =
-      if is_ok (total_of weights) then left_after (next_word bytes 64) (after_word after 64) word_limit 64 (sum weights) g
+      if is_ok (total_of weights) then left_after (next_word requests 64) (after_word requests 64) word_limit 64 (sum weights) g
       else g
 
 -- The item that a word of so many bits names, if it names one.

@@ -2,6 +2,7 @@
 use Rattle.std.specs.Prelude.{◌≡◌, ℕ, zero, suc, ◌+◌, ◌-◌, ◌*◌, ◌<◌, ◌≤◌, ◌==◌, Bool, true, List, length, Result, Ok, Err, nat_lt, slice_set, sum_by, if◌then◌else◌}
 use Rattle.std.specs.List.{list_any, range_with_len}
 use Rattle.std.specs.declared.ops.Bound.TheVariants.{Included}
+use Rattle.nanorand.specs.generators.Blocks.{Requests}
 use Rattle.nanorand.specs.values.Draws.{unsigned_outcome}
 use Rattle.nanorand.specs.declared.values.range.RangeError.{RangeError}
 
@@ -15,10 +16,10 @@ pub record Sample (G : Type 0) : Type 0 where
 abbrev pub placed : List ℕ → ℕ → ℕ → List ℕ
 placed chosen i drawn = if nat_lt drawn (length chosen) then slice_set chosen drawn i else chosen
 
-module _ {G : Type 0} (bytes : G → ℕ → List ℕ) (after : G → ℕ → G) where
+module _ {G : Type 0} (requests : Requests G) where
   -- A draw of the places from 0 to i, and the generator after it.
   unfoldable pub place_up_to : ℕ → G → Result ℕ RangeError × G
-  place_up_to i g = unsigned_outcome bytes after 64 g (Included 0) (Included i)
+  place_up_to i g = unsigned_outcome requests 64 g (Included 0) (Included i)
 
   -- The pass goes on from a draw, and a refusal ends it.
   abbrev pub goes_on : Result ℕ RangeError → List ℕ → G → (ℕ → Sample G) → Sample G

@@ -2,6 +2,7 @@
 use Rattle.std.specs.Prelude.{ℕ, zero, suc, ◌+◌, ◌*◌, ◌/◌, ◌^◌, List, [], ◌∷◌, Result, min}
 use Rattle.std.specs.Result.{result_unwrap_or}
 use Rattle.std.specs.declared.ops.Bound.TheVariants.{Included}
+use Rattle.nanorand.specs.generators.Blocks.{Requests}
 use Rattle.nanorand.specs.values.Draws.{unsigned_outcome}
 use Rattle.nanorand.specs.declared.values.range.RangeError.{RangeError}
 
@@ -9,10 +10,10 @@ use Rattle.nanorand.specs.declared.values.range.RangeError.{RangeError}
 abbrev pub ceiling_after : ℕ → ℕ → ℕ → ℕ
 ceiling_after first cap k = min (first * 2 ^ k) cap
 
-module _ {G : Type 0} (bytes : G → ℕ → List ℕ) (after : G → ℕ → G) where
+module _ {G : Type 0} (requests : Requests G) where
   -- A draw of the numbers from half the ceiling to the ceiling, and the generator after it.
   unfoldable pub delay_drawn : ℕ → G → Result ℕ RangeError × G
-  delay_drawn ceiling g = unsigned_outcome bytes after 64 g (Included (ceiling / 2)) (Included ceiling)
+  delay_drawn ceiling g = unsigned_outcome requests 64 g (Included (ceiling / 2)) (Included ceiling)
 
   module _ (first cap : ℕ) where
     -- The delays of n more tries after k of them. Where no number is drawn, the delay is the ceiling.

@@ -2,7 +2,6 @@
 //! them: an item is chosen by its weight, exactly and without floats.
 ghost use Rattle.std.specs.Prelude.{◌≡◌, ℕ, ◌^◌, ◌<◌, ◌≤◌, ◌↔◌, ◌⊎◌, length, slice_index, sum, Err, IfOk, IfSome};
 ghost use Rattle.std.specs.Fn.{iterate};
-ghost use Rattle.nanorand.specs.generators.Blocks.{taken};
 ghost use Rattle.nanorand.specs.values.Draws.{after_word};
 ghost use Rattle.nanorand_users.specs.declared.choice.ChoiceError.TheVariants.{NoWeight, TooHeavy, Exhausted};
 ghost use Rattle.nanorand_users.specs.Choice.{ChoicesAreFair, IsInShare, choice_answer, choice_state, item_at, number_for, total_of};
@@ -36,11 +35,11 @@ pub fn choose<G: Rng<OUTPUT>, const OUTPUT: usize>(
     rng: &mut G,
     weights: &[u64],
 ) -> Result<usize, ChoiceError>
-    ensures answer { result ≡ choice_answer (taken G.block G.step) G.after weights.now rng.old }
-    ensures state { rng.new ≡ choice_state (taken G.block G.step) G.after weights.now rng.old }
+    ensures answer { result ≡ choice_answer G.requests weights.now rng.old }
+    ensures state { rng.new ≡ choice_state G.requests weights.now rng.old }
 
     // What is chosen.
-    ensures share { IfOk result (λ i. IfSome (number_for (taken G.block G.step) G.after weights.now rng.old) (λ k. IsInShare weights.now k i)) }
+    ensures share { IfOk result (λ i. IfSome (number_for G.requests weights.now rng.old) (λ k. IsInShare weights.now k i)) }
     ensures within { IfOk result (λ i. i < length weights.now) }
     ensures weight { IfOk result (λ i. 0 < slice_index weights.now i) }
 
@@ -48,8 +47,8 @@ pub fn choose<G: Rng<OUTPUT>, const OUTPUT: usize>(
     ensures no_weight { (result ≡ Err NoWeight) ↔ (sum weights.now ≡ 0) }
     ensures too_heavy { (result ≡ Err TooHeavy) ↔ (2 ^ 64 ≤ sum weights.now) }
     ensures undrawn { (result ≡ Err NoWeight) ⊎ (result ≡ Err TooHeavy) → rng.new ≡ rng.old }
-    ensures exhausted { result ≡ Err Exhausted → rng.new ≡ iterate (after_word G.after 64) 128 rng.old }
-    ensures words { (n : ℕ) × (n ≤ 128) × (rng.new ≡ iterate (after_word G.after 64) n rng.old) }
+    ensures exhausted { result ≡ Err Exhausted → rng.new ≡ iterate (after_word G.requests 64) 128 rng.old }
+    ensures words { (n : ℕ) × (n ≤ 128) × (rng.new ≡ iterate (after_word G.requests 64) n rng.old) }
 {
     let total = total_weight(weights)?;
     match draw_below(rng, u128::from(total), 64) {

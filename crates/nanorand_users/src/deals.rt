@@ -4,7 +4,6 @@
 //! The cards of a deck of n are the numbers 0, 1, .., n - 1.
 ghost use Rattle.std.specs.Prelude.{◌≡◌, ◌+◌, ◌*◌, ◌≤◌, ◌++◌, ℕ, List, length, drop, OnOk, IfErr};
 ghost use Rattle.nanorand.specs.shuffles.Arrangements.{rising, IsValid, IsArrangement, HoldsEachOnce};
-ghost use Rattle.nanorand.specs.generators.Blocks.{taken};
 ghost use Rattle.nanorand.specs.shuffles.Shuffles.{arranged, from_itself, shuffle_answer, shuffle_choices, shuffle_state};
 ghost use Rattle.nanorand.specs.declared.values.range.RangeError.TheVariants.{Exhausted};
 ghost use Rattle.nanorand_users.specs.Deals.{HoldsNoneTwice, HandsAreApart, hand_of, hands};
@@ -30,13 +29,13 @@ pub fn shuffle_deck<G: Rng<OUTPUT>, const OUTPUT: usize>(
     rng: &mut G,
     deck: &mut [usize],
 ) -> Result<(), RangeError>
-    ensures answer { result ≡ shuffle_answer (taken G.block G.step) G.after from_itself (length deck.old) rng.old }
+    ensures answer { result ≡ shuffle_answer G.requests from_itself (length deck.old) rng.old }
     ensures refusal { IfErr result (λ e. e ≡ Exhausted) }
     ensures drawn { let count = length deck.old in
-        deck.new ≡ arranged (shuffle_choices (taken G.block G.step) G.after from_itself count rng.old) (rising count) }
-    ensures state { rng.new ≡ shuffle_state (taken G.block G.step) G.after from_itself (length deck.old) rng.old }
-    ensures whole { OnOk result (length (shuffle_choices (taken G.block G.step) G.after from_itself (length deck.old) rng.old) ≡ length deck.old) }
-    ensures valid { OnOk result (IsValid (shuffle_choices (taken G.block G.step) G.after from_itself (length deck.old) rng.old)) }
+        deck.new ≡ arranged (shuffle_choices G.requests from_itself count rng.old) (rising count) }
+    ensures state { rng.new ≡ shuffle_state G.requests from_itself (length deck.old) rng.old }
+    ensures whole { OnOk result (length (shuffle_choices G.requests from_itself (length deck.old) rng.old) ≡ length deck.old) }
+    ensures valid { OnOk result (IsValid (shuffle_choices G.requests from_itself (length deck.old) rng.old)) }
     ensures arrangement { IsArrangement deck.new }
     ensures each_once { HoldsEachOnce (length deck.old) deck.new }
     ensures none_twice { HoldsNoneTwice deck.new }
@@ -56,13 +55,13 @@ pub fn shuffle_and_store<G: Rng<OUTPUT>, const OUTPUT: usize>(
     choices: &mut [usize],
 ) -> Result<(), RangeError>
     requires { length choices.old ≡ length deck.old }
-    ensures answer { result ≡ shuffle_answer (taken G.block G.step) G.after from_itself (length deck.old) rng.old }
+    ensures answer { result ≡ shuffle_answer G.requests from_itself (length deck.old) rng.old }
     ensures deck { let count = length deck.old in
-        deck.new ≡ arranged (shuffle_choices (taken G.block G.step) G.after from_itself count rng.old) (rising count) }
-    ensures state { rng.new ≡ shuffle_state (taken G.block G.step) G.after from_itself (length deck.old) rng.old }
+        deck.new ≡ arranged (shuffle_choices G.requests from_itself count rng.old) (rising count) }
+    ensures state { rng.new ≡ shuffle_state G.requests from_itself (length deck.old) rng.old }
     ensures valid { IsValid choices.new }
     ensures stored { arranged choices.new (rising (length deck.old)) ≡ deck.new }
-    ensures drawn { OnOk result (choices.new ≡ shuffle_choices (taken G.block G.step) G.after from_itself (length deck.old) rng.old) }
+    ensures drawn { OnOk result (choices.new ≡ shuffle_choices G.requests from_itself (length deck.old) rng.old) }
 {
     write_deck(deck);
     shuffle_and_record(rng, deck, choices)

@@ -3,7 +3,6 @@
 ghost use Rattle.std.specs.Prelude.{◌≡◌, ◌≢◌, ℕ, ◌-◌, ◌*◌, ◌<◌, ◌≤◌, All, length, IfOk, IfErr};
 ghost use Rattle.std.specs.Fn.{iterate};
 ghost use Rattle.std.specs.List.{AllPairs, range_with_len};
-ghost use Rattle.nanorand.specs.generators.Blocks.{taken};
 ghost use Rattle.nanorand.specs.values.Draws.{after_word};
 ghost use Rattle.nanorand.specs.declared.values.range.RangeError.TheVariants.{Exhausted};
 ghost use Rattle.nanorand_users.specs.Reservoir.{SamplesAreFair, place_up_to, placed, sampled};
@@ -23,15 +22,15 @@ pub fn sample_places<G: Rng<OUTPUT>, const OUTPUT: usize>(
     chosen: &mut [usize],
 ) -> Result<(), RangeError>
     requires { length chosen.old ≤ count }
-    ensures answer { result ≡ (sampled (taken G.block G.step) G.after (length chosen.old) count rng.old).answer }
-    ensures places { chosen.new ≡ (sampled (taken G.block G.step) G.after (length chosen.old) count rng.old).chosen }
-    ensures state { rng.new ≡ (sampled (taken G.block G.step) G.after (length chosen.old) count rng.old).state }
+    ensures answer { result ≡ (sampled G.requests (length chosen.old) count rng.old).answer }
+    ensures places { chosen.new ≡ (sampled G.requests (length chosen.old) count rng.old).chosen }
+    ensures state { rng.new ≡ (sampled G.requests (length chosen.old) count rng.old).state }
 
     // What holds of the sample, after a refusal too.
     ensures below { All (λ place. place < count) chosen.new }
     ensures apart { AllPairs (λ place other. place ≢ other) chosen.new }
     ensures refusal { IfErr result (λ refusal. refusal ≡ Exhausted) }
-    ensures words { (n : ℕ) × (n ≤ 128 * (count - length chosen.old)) × (rng.new ≡ iterate (after_word G.after 64) n rng.old) }
+    ensures words { (n : ℕ) × (n ≤ 128 * (count - length chosen.old)) × (rng.new ≡ iterate (after_word G.requests 64) n rng.old) }
 {
     write_places(chosen);
     for place in chosen.len()..count {
@@ -64,11 +63,11 @@ fn draw_place<G: Rng<OUTPUT>, const OUTPUT: usize>(
     rng: &mut G,
     last: usize,
 ) -> Result<usize, RangeError>
-    ensures value { result ≡ (place_up_to (taken G.block G.step) G.after last rng.old).0 }
-    ensures state { rng.new ≡ (place_up_to (taken G.block G.step) G.after last rng.old).1 }
+    ensures value { result ≡ (place_up_to G.requests last rng.old).0 }
+    ensures state { rng.new ≡ (place_up_to G.requests last rng.old).1 }
     ensures within { IfOk result (λ place. place ≤ last) }
     ensures refusal { IfErr result (λ refusal. refusal ≡ Exhausted) }
-    ensures words { (n : ℕ) × (n ≤ 128) × (rng.new ≡ iterate (after_word G.after 64) n rng.old) }
+    ensures words { (n : ℕ) × (n ≤ 128) × (rng.new ≡ iterate (after_word G.requests 64) n rng.old) }
 {
     range_limits::<G, OUTPUT>();
     rng.generate_range(Bound::Included(0), Bound::Included(last))

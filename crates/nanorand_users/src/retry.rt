@@ -3,7 +3,6 @@
 ghost use Rattle.std.specs.Prelude.{◌≡◌, ℕ, ◌*◌, ◌/◌, ◌≤◌, Err, EachIndex, length, slice_index, IfOk, IfErr};
 ghost use Rattle.std.specs.Fn.{iterate};
 ghost use Rattle.std.specs.Result.{result_unwrap_or};
-ghost use Rattle.nanorand.specs.generators.Blocks.{taken};
 ghost use Rattle.nanorand.specs.values.Draws.{after_word};
 ghost use Rattle.nanorand.specs.declared.values.range.RangeError.TheVariants.{Exhausted};
 ghost use Rattle.nanorand_users.specs.Retry.{ceiling_after, delay_drawn, delays_after, state_after_delays};
@@ -18,13 +17,13 @@ pub fn try_delay<G: Rng<OUTPUT>, const OUTPUT: usize>(
     rng: &mut G,
     ceiling: u64,
 ) -> Result<u64, RangeError>
-    ensures value { result ≡ (delay_drawn (taken G.block G.step) G.after ceiling rng.old).0 }
-    ensures state { rng.new ≡ (delay_drawn (taken G.block G.step) G.after ceiling rng.old).1 }
+    ensures value { result ≡ (delay_drawn G.requests ceiling rng.old).0 }
+    ensures state { rng.new ≡ (delay_drawn G.requests ceiling rng.old).1 }
     ensures half { IfOk result (λ delay. ceiling / 2 ≤ delay) }
     ensures ceiling { IfOk result (λ delay. delay ≤ ceiling) }
     ensures refusal { IfErr result (λ refusal. refusal ≡ Exhausted) }
-    ensures words { (n : ℕ) × (n ≤ 128) × (rng.new ≡ iterate (after_word G.after 64) n rng.old) }
-    ensures exhausted { result ≡ Err Exhausted → rng.new ≡ iterate (after_word G.after 64) 128 rng.old }
+    ensures words { (n : ℕ) × (n ≤ 128) × (rng.new ≡ iterate (after_word G.requests 64) n rng.old) }
+    ensures exhausted { result ≡ Err Exhausted → rng.new ≡ iterate (after_word G.requests 64) 128 rng.old }
 {
     draw_number(rng, Bound::Included(ceiling / 2), Bound::Included(ceiling))
 }
@@ -32,12 +31,12 @@ pub fn try_delay<G: Rng<OUTPUT>, const OUTPUT: usize>(
 /// A delay from half the ceiling to the ceiling, by at most 128 words. Where all of them are rejected
 /// it is the ceiling.
 pub fn delay<G: Rng<OUTPUT>, const OUTPUT: usize>(rng: &mut G, ceiling: u64) -> u64
-    ensures value { result ≡ result_unwrap_or (delay_drawn (taken G.block G.step) G.after ceiling rng.old).0 ceiling }
-    ensures state { rng.new ≡ (delay_drawn (taken G.block G.step) G.after ceiling rng.old).1 }
-    ensures fallback { (delay_drawn (taken G.block G.step) G.after ceiling rng.old).0 ≡ Err Exhausted → result ≡ ceiling }
+    ensures value { result ≡ result_unwrap_or (delay_drawn G.requests ceiling rng.old).0 ceiling }
+    ensures state { rng.new ≡ (delay_drawn G.requests ceiling rng.old).1 }
+    ensures fallback { (delay_drawn G.requests ceiling rng.old).0 ≡ Err Exhausted → result ≡ ceiling }
     ensures half { ceiling / 2 ≤ result }
     ensures ceiling { result ≤ ceiling }
-    ensures words { (n : ℕ) × (n ≤ 128) × (rng.new ≡ iterate (after_word G.after 64) n rng.old) }
+    ensures words { (n : ℕ) × (n ≤ 128) × (rng.new ≡ iterate (after_word G.requests 64) n rng.old) }
 {
     try_delay(rng, ceiling).unwrap_or(ceiling)
 }
@@ -51,11 +50,11 @@ pub fn schedule<G: Rng<OUTPUT>, const OUTPUT: usize>(
     cap: u64,
     delays: &mut [u64],
 )
-    ensures delays { delays.new ≡ delays_after (taken G.block G.step) G.after first cap 0 (length delays.old) rng.old }
-    ensures state { rng.new ≡ state_after_delays (taken G.block G.step) G.after first cap 0 (length delays.old) rng.old }
+    ensures delays { delays.new ≡ delays_after G.requests first cap 0 (length delays.old) rng.old }
+    ensures state { rng.new ≡ state_after_delays G.requests first cap 0 (length delays.old) rng.old }
     ensures half { EachIndex delays.new (λ k. ceiling_after first cap k / 2 ≤ slice_index delays.new k) }
     ensures ceiling { EachIndex delays.new (λ k. slice_index delays.new k ≤ ceiling_after first cap k) }
-    ensures words { (n : ℕ) × (n ≤ 128 * length delays.old) × (rng.new ≡ iterate (after_word G.after 64) n rng.old) }
+    ensures words { (n : ℕ) × (n ≤ 128 * length delays.old) × (rng.new ≡ iterate (after_word G.requests 64) n rng.old) }
 {
     let mut ceiling = first.min(cap);
     for slot in delays.iter_mut() {

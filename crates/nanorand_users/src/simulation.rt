@@ -27,9 +27,9 @@ pub fn replay_twice<G: Rng<OUTPUT>, const OUTPUT: usize>(
     requires items { second_items.old ≡ first_items.old }
     requires first_room { length first_answers.old ≡ length calls.now }
     requires second_room { length second_answers.old ≡ length calls.now }
-    ensures answers { first_answers.new ≡ (replayed (taken G.block G.step) G.after first.old first_items.old calls.now).answers }
-    ensures items { first_items.new ≡ (replayed (taken G.block G.step) G.after first.old first_items.old calls.now).items }
-    ensures state { first.new ≡ (replayed (taken G.block G.step) G.after first.old first_items.old calls.now).state }
+    ensures answers { first_answers.new ≡ (replayed G.requests first.old first_items.old calls.now).answers }
+    ensures items { first_items.new ≡ (replayed G.requests first.old first_items.old calls.now).items }
+    ensures state { first.new ≡ (replayed G.requests first.old first_items.old calls.now).state }
     ensures same_answers { second_answers.new ≡ first_answers.new }
     ensures same_items { second_items.new ≡ first_items.new }
     ensures same_state { second.new ≡ first.new }
@@ -55,9 +55,9 @@ pub fn replay_copy<G: Rng<OUTPUT> + Drop, const OUTPUT: usize>(
     requires items { second_items.old ≡ first_items.old }
     requires first_room { length first_answers.old ≡ length calls.now }
     requires second_room { length second_answers.old ≡ length calls.now }
-    ensures answers { OnOk result (first_answers.new ≡ (replayed (taken G.block G.step) G.after rng.old first_items.old calls.now).answers) }
-    ensures items { OnOk result (first_items.new ≡ (replayed (taken G.block G.step) G.after rng.old first_items.old calls.now).items) }
-    ensures state { OnOk result (rng.new ≡ (replayed (taken G.block G.step) G.after rng.old first_items.old calls.now).state) }
+    ensures answers { OnOk result (first_answers.new ≡ (replayed G.requests rng.old first_items.old calls.now).answers) }
+    ensures items { OnOk result (first_items.new ≡ (replayed G.requests rng.old first_items.old calls.now).items) }
+    ensures state { OnOk result (rng.new ≡ (replayed G.requests rng.old first_items.old calls.now).state) }
     ensures same_answers { OnOk result (second_answers.new ≡ first_answers.new) }
     ensures same_items { OnOk result (second_items.new ≡ first_items.new) }
     ensures same_state { IfOk result (λ copy. copy ≡ rng.new) }
@@ -117,9 +117,9 @@ pub fn replay_in_two<G: Rng<OUTPUT>, const OUTPUT: usize>(
 )
     requires place { place ≤ length calls.now }
     requires room { length answers.old ≡ length calls.now }
-    ensures answers { answers.new ≡ (replayed (taken G.block G.step) G.after rng.old items.old calls.now).answers }
-    ensures items { items.new ≡ (replayed (taken G.block G.step) G.after rng.old items.old calls.now).items }
-    ensures state { rng.new ≡ (replayed (taken G.block G.step) G.after rng.old items.old calls.now).state }
+    ensures answers { answers.new ≡ (replayed G.requests rng.old items.old calls.now).answers }
+    ensures items { items.new ≡ (replayed G.requests rng.old items.old calls.now).items }
+    ensures state { rng.new ≡ (replayed G.requests rng.old items.old calls.now).state }
 {
     replays_join::<G, OUTPUT>();
     let (done, left) = answers.split_at_mut(place);

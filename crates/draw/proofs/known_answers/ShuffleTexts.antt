@@ -5,7 +5,7 @@ use Rattle.std.specs.Fmt.{digits}
 use Rattle.std.specs.List.{range_with_len}
 use Rattle.std.proofs.lemmas.Bool.{le-ltb, and_right}
 use Rattle.std.specs.declared.ops.Bound.TheVariants.{Included, Excluded}
-use Rattle.nanorand.specs.generators.Blocks.{taken, plain_after}
+use Rattle.nanorand.specs.generators.Blocks.{taken, plain_after, Requests, plain}
 use Rattle.nanorand.specs.generators.Buffered.{Buffered, buffer_of, buffered_block, buffered_step, buffered_taken, buffered_after}
 use Rattle.nanorand.specs.generators.ChaChaRounds.{quarter_round, on_columns, on_diagonals, rounds, block}
 use Rattle.nanorand.specs.generators.ChaCha.{chacha_block, next_state, initial_state, seeded_state}
@@ -41,16 +41,16 @@ unfolding range_within
 from_2 bits more size = rw size (ap (λ rest. 2 ∷ rest) (none_past 2 3 3 more (omega arith)))
 
 -- one item of wyrand
-one_partner : partner_drawn (taken wyrand_block next_seed) (plain_after next_seed 8) from_itself 1 0 0x5f89e29b87429bd1 ≡ (Ok 0, next_seed 0x5f89e29b87429bd1)
+one_partner : partner_drawn (record { bytes = taken wyrand_block next_seed; after = plain_after next_seed 8 }) from_itself 1 0 0x5f89e29b87429bd1 ≡ (Ok 0, next_seed 0x5f89e29b87429bd1)
 unfolding partner_drawn named words_from value_drawn left_by left_after taken
 one_partner =
-    ap (λ numbers. range_outcome (taken wyrand_block next_seed) (plain_after next_seed 8) 64 numbers 0x5f89e29b87429bd1) (just_0 64 (2 ^ 64 - 1) refl) ∙ refl
+    ap (λ numbers. range_outcome (record { bytes = taken wyrand_block next_seed; after = plain_after next_seed 8 }) 64 numbers 0x5f89e29b87429bd1) (just_0 64 (2 ^ 64 - 1) refl) ∙ refl
 
-one_choice : shuffle_choices (taken wyrand_block next_seed) (plain_after next_seed 8) from_itself 1 0x5f89e29b87429bd1 ≡ 0 ∷ []
+one_choice : shuffle_choices (record { bytes = taken wyrand_block next_seed; after = plain_after next_seed 8 }) from_itself 1 0x5f89e29b87429bd1 ≡ 0 ∷ []
 unfolding choices_from
 one_choice = rw one_partner refl
 
-one_answer : shuffle_answer (taken wyrand_block next_seed) (plain_after next_seed 8) from_itself 1 0x5f89e29b87429bd1 ≡ Ok tt
+one_answer : shuffle_answer (record { bytes = taken wyrand_block next_seed; after = plain_after next_seed 8 }) from_itself 1 0x5f89e29b87429bd1 ≡ Ok tt
 one_answer = rw one_choice refl
 
 text_of_empty_and_shuffle : text_asked empty_and_shuffle ≡ codes "empty" ++ 10 ∷ codes "shuffled" ++ 10 ∷ codes "items: 0" ++ 10 ∷ []
@@ -59,40 +59,40 @@ text_of_empty_and_shuffle =
     (λ i. text_of (record { answers = Empty ∷ shuffle_call_answer (one_answer i) ∷ []; items = arranged (one_choice i) (0 ∷ []) })) ∙ refl
 
 -- three items by three partners
-module _ {G : Type 0} (bytes : G → ℕ → List ℕ) (after : G → ℕ → G) (g0 g1 g2 g3 : G) (a b c : ℕ)
-    (x : range_outcome bytes after 64 (0 ∷ 1 ∷ 2 ∷ []) g0 ≡ (Ok a, g1))
-    (y : range_outcome bytes after 64 (1 ∷ 2 ∷ []) g1 ≡ (Ok b, g2))
-    (z : range_outcome bytes after 64 (2 ∷ []) g2 ≡ (Ok c, g3)) where
-  first : partner_drawn bytes after from_itself 3 0 g0 ≡ (Ok a, g1)
+module _ {G : Type 0} (requests : Requests G) (g0 g1 g2 g3 : G) (a b c : ℕ)
+    (x : range_outcome requests 64 (0 ∷ 1 ∷ 2 ∷ []) g0 ≡ (Ok a, g1))
+    (y : range_outcome requests 64 (1 ∷ 2 ∷ []) g1 ≡ (Ok b, g2))
+    (z : range_outcome requests 64 (2 ∷ []) g2 ≡ (Ok c, g3)) where
+  first : partner_drawn requests from_itself 3 0 g0 ≡ (Ok a, g1)
   unfolding partner_drawn
-  first = ap (λ numbers. range_outcome bytes after 64 numbers g0) (from_0 64 (2 ^ 64 - 3) refl) ∙ x
+  first = ap (λ numbers. range_outcome requests 64 numbers g0) (from_0 64 (2 ^ 64 - 3) refl) ∙ x
 
-  second : partner_drawn bytes after from_itself 3 1 g1 ≡ (Ok b, g2)
+  second : partner_drawn requests from_itself 3 1 g1 ≡ (Ok b, g2)
   unfolding partner_drawn
-  second = ap (λ numbers. range_outcome bytes after 64 numbers g1) (from_1 64 (2 ^ 64 - 3) refl) ∙ y
+  second = ap (λ numbers. range_outcome requests 64 numbers g1) (from_1 64 (2 ^ 64 - 3) refl) ∙ y
 
-  third : partner_drawn bytes after from_itself 3 2 g2 ≡ (Ok c, g3)
+  third : partner_drawn requests from_itself 3 2 g2 ≡ (Ok c, g3)
   unfolding partner_drawn
-  third = ap (λ numbers. range_outcome bytes after 64 numbers g2) (from_2 64 (2 ^ 64 - 3) refl) ∙ z
+  third = ap (λ numbers. range_outcome requests 64 numbers g2) (from_2 64 (2 ^ 64 - 3) refl) ∙ z
 
-  three_choices : shuffle_choices bytes after from_itself 3 g0 ≡ a ∷ b ∷ c ∷ []
+  three_choices : shuffle_choices requests from_itself 3 g0 ≡ a ∷ b ∷ c ∷ []
   unfolding choices_from
   three_choices = rw (first, second, third) refl
 
-  three_answer : shuffle_answer bytes after from_itself 3 g0 ≡ Ok tt
+  three_answer : shuffle_answer requests from_itself 3 g0 ≡ Ok tt
   three_answer = rw three_choices refl
 
 -- the key and the nonce in order, a block a partner
 abbrev ordered : List ℕ
 ordered = seeded_state in_order
 
-ordered_choices : (shuffle_choices (taken (chacha_block 20) next_state) (plain_after next_state 64) from_itself 3 ordered ≡ 1 ∷ 2 ∷ 2 ∷ [])
-    × (shuffle_answer (taken (chacha_block 20) next_state) (plain_after next_state 64) from_itself 3 ordered ≡ Ok tt)
+ordered_choices : (shuffle_choices (plain (chacha_block 20) next_state 64) from_itself 3 ordered ≡ 1 ∷ 2 ∷ 2 ∷ [])
+    × (shuffle_answer (plain (chacha_block 20) next_state 64) from_itself 3 ordered ≡ Ok tt)
 unfolding quarter_round on_columns on_diagonals rounds block initial_state named words_from value_drawn left_by left_after taken
 ordered_choices =
     let g1 = next_state ordered in let g2 = next_state g1 in let g3 = next_state g2 in (
-      three_choices (taken (chacha_block 20) next_state) (plain_after next_state 64) ordered g1 g2 g3 1 2 2 refl refl refl,
-      three_answer (taken (chacha_block 20) next_state) (plain_after next_state 64) ordered g1 g2 g3 1 2 2 refl refl refl,
+      three_choices (plain (chacha_block 20) next_state 64) ordered g1 g2 g3 1 2 2 refl refl refl,
+      three_answer (plain (chacha_block 20) next_state 64) ordered g1 g2 g3 1 2 2 refl refl refl,
     )
 
 text_of_shuffle_in_order : text_asked shuffle_in_order ≡ codes "shuffled" ++ 10 ∷ codes "items: 1 2 0" ++ 10 ∷ []
@@ -113,12 +113,12 @@ of_zeros = seeded_state (replicate 40 0)
 abbrev zeros_from : ℕ → Buffered (List ℕ)
 zeros_from n = buffer_of (drop n (chacha_block 20 of_zeros)) (next_state of_zeros)
 
-choices_of_zeros : (shuffle_choices kept_taken kept_after from_itself 3 (buffer_of [] of_zeros) ≡ 1 ∷ 1 ∷ 2 ∷ [])
-    × (shuffle_answer kept_taken kept_after from_itself 3 (buffer_of [] of_zeros) ≡ Ok tt)
+choices_of_zeros : (shuffle_choices (record { bytes = kept_taken; after = kept_after }) from_itself 3 (buffer_of [] of_zeros) ≡ 1 ∷ 1 ∷ 2 ∷ [])
+    × (shuffle_answer (record { bytes = kept_taken; after = kept_after }) from_itself 3 (buffer_of [] of_zeros) ≡ Ok tt)
 unfolding quarter_round on_columns on_diagonals rounds block initial_state named words_from value_drawn left_by left_after taken buffered_taken buffered_after
 choices_of_zeros = (
-  three_choices kept_taken kept_after (buffer_of [] of_zeros) (zeros_from 8) (zeros_from 16) (zeros_from 24) 1 1 2 refl refl refl,
-  three_answer kept_taken kept_after (buffer_of [] of_zeros) (zeros_from 8) (zeros_from 16) (zeros_from 24) 1 1 2 refl refl refl,
+  three_choices (record { bytes = kept_taken; after = kept_after }) (buffer_of [] of_zeros) (zeros_from 8) (zeros_from 16) (zeros_from 24) 1 1 2 refl refl refl,
+  three_answer (record { bytes = kept_taken; after = kept_after }) (buffer_of [] of_zeros) (zeros_from 8) (zeros_from 16) (zeros_from 24) 1 1 2 refl refl refl,
 )
 
 text_of_shuffle_of_zeros : text_asked shuffle_of_zeros ≡ codes "shuffled" ++ 10 ∷ codes "items: 1 0 2" ++ 10 ∷ []

@@ -2,7 +2,7 @@
 use Rattle.std.specs.Prelude.{◌≡◌, ℕ, List, [], ◌∷◌, refl}
 use Rattle.std.specs.Int.{w8}
 use Rattle.std.specs.Prelude.{negsuc, true, false}
-use Rattle.nanorand.specs.generators.Blocks.{taken}
+use Rattle.nanorand.specs.generators.Blocks.{taken, plain}
 use Rattle.nanorand.specs.generators.Buffered.{Buffered, buffer_of, buffered_block, buffered_step, buffered_taken, buffered_after}
 use Rattle.nanorand.specs.values.Values.{number_of, signed_number_of, truth_of}
 use Rattle.nanorand.specs.generators.WyRand.{wyrand_block}
@@ -11,7 +11,7 @@ use Rattle.nanorand.specs.declared.replay.Kind.TheVariants as kinds
 use Rattle.nanorand.specs.declared.replay.Call.{Call}
 use Rattle.nanorand.specs.declared.replay.Call.TheVariants.{Gen}
 use Rattle.nanorand.specs.declared.replay.Answer.TheVariants.{Unsigned}
-use Rattle.nanorand.proofs.known_answers.SmallGenerators.{next_count, rising_block, steps_taken, steps_after}
+use Rattle.nanorand.proofs.known_answers.SmallGenerators.{next_count, rising_block, steps, steps_buffered}
 
 -- wyrand's words: the new seed 0 and the new seed that the mask cancels give 0
 word_of_zero : wyrand_block 0x5f89e29b87429bd1 ≡ 0 ∷ 0 ∷ 0 ∷ 0 ∷ 0 ∷ 0 ∷ 0 ∷ 0 ∷ []
@@ -30,32 +30,32 @@ word_of_half : wyrand_block 0xdf89e29b87429bd1 ≡ 0x6d ∷ 0x14 ∷ 0x5a ∷ 0x
 word_of_half = refl
 
 -- a plain generator begins a new block at each request: u8, u8, u16
-two_bytes_and_a_word : (replayed steps_taken steps_after 0 [] (Gen kinds.U8 ∷ Gen kinds.U8 ∷ Gen kinds.U16 ∷ [])).answers ≡ Unsigned 0 ∷ Unsigned 8 ∷ Unsigned 0x1110 ∷ []
+two_bytes_and_a_word : (replayed steps 0 [] (Gen kinds.U8 ∷ Gen kinds.U8 ∷ Gen kinds.U16 ∷ [])).answers ≡ Unsigned 0 ∷ Unsigned 8 ∷ Unsigned 0x1110 ∷ []
 unfolding taken
 two_bytes_and_a_word = refl
 
-one_wide_value : (replayed steps_taken steps_after 0 [] (Gen kinds.U128 ∷ [])).answers ≡ Unsigned 0x0f0e0d0c0b0a09080706050403020100 ∷ []
+one_wide_value : (replayed steps 0 [] (Gen kinds.U128 ∷ [])).answers ≡ Unsigned 0x0f0e0d0c0b0a09080706050403020100 ∷ []
 unfolding taken
 one_wide_value = refl
 
-two_blocks_drawn : steps_after 0 16 ≡ 2
+two_blocks_drawn : steps.after 0 16 ≡ 2
 two_blocks_drawn = refl
 
 -- nine bytes take two blocks, and none takes none
-nine_bytes : steps_taken 0 9 ≡ 0 ∷ 1 ∷ 2 ∷ 3 ∷ 4 ∷ 5 ∷ 6 ∷ 7 ∷ 8 ∷ []
+nine_bytes : steps.bytes 0 9 ≡ 0 ∷ 1 ∷ 2 ∷ 3 ∷ 4 ∷ 5 ∷ 6 ∷ 7 ∷ 8 ∷ []
 unfolding taken
 nine_bytes = refl
 
-blocks_of_nine_bytes : steps_after 0 9 ≡ 2
+blocks_of_nine_bytes : steps.after 0 9 ≡ 2
 blocks_of_nine_bytes = refl
 
-blocks_of_nothing : steps_after 0 0 ≡ 0
+blocks_of_nothing : steps.after 0 0 ≡ 0
 blocks_of_nothing = refl
 
 -- a buffered generator goes on where the last request ended: u8, u8, u16, and four bytes are left of the one block
 abbrev buffered_replay : List Call → Replay (Buffered ℕ)
 buffered_replay calls =
-    replayed (taken (buffered_block (rising_block 8) next_count 8) (buffered_step (rising_block 8) next_count 8)) (buffered_after (rising_block 8) next_count 8) (buffer_of [] 0) [] calls
+    replayed steps_buffered (buffer_of [] 0) [] calls
 
 unbroken_bytes_and_a_word : (buffered_replay (Gen kinds.U8 ∷ Gen kinds.U8 ∷ Gen kinds.U16 ∷ [])).answers ≡ Unsigned 0 ∷ Unsigned 1 ∷ Unsigned 0x0302 ∷ []
 unfolding taken buffered_taken buffered_after

@@ -5,7 +5,7 @@ use Rattle.nanorand.specs.generators.Blocks.{taken, plain_after}
 use Rattle.nanorand.specs.generators.Buffered.{Buffered, buffer_of, buffered_block, buffered_step, buffered_taken, buffered_after}
 use Rattle.nanorand.specs.values.Values.{number_of, values_from}
 use Rattle.nanorand.specs.generators.WyRand.{next_seed, wyrand_block}
-use Rattle.nanorand.proofs.known_answers.SmallGenerators.{next_count, rising_block, steps_taken, steps_after}
+use Rattle.nanorand.proofs.known_answers.SmallGenerators.{next_count, rising_block, steps}
 
 abbrev kept_taken : ℕ → Buffered ℕ → ℕ → List ℕ
 kept_taken size = buffered_taken (rising_block size) next_count size
@@ -17,15 +17,15 @@ abbrev bytes_and : ℕ → ℕ → ℕ → Buffered ℕ
 bytes_and from count drawn = buffer_of (range_with_len from count) drawn
 
 -- three values of a byte each begin a block each, and three bytes of one request are of one block
-three_values : values_from (λ g. number_of (steps_taken g 1)) (λ g. steps_after g 1) 3 0 ≡ 0 ∷ 8 ∷ 16 ∷ []
+three_values : values_from (λ g. number_of (steps.bytes g 1)) (λ g. steps.after g 1) 3 0 ≡ 0 ∷ 8 ∷ 16 ∷ []
 unfolding taken
 three_values = refl
 
-three_bytes : steps_taken 0 3 ≡ 0 ∷ 1 ∷ 2 ∷ []
+three_bytes : steps.bytes 0 3 ≡ 0 ∷ 1 ∷ 2 ∷ []
 unfolding taken
 three_bytes = refl
 
-byte_after_nine : steps_taken (steps_after 0 9) 1 ≡ 16 ∷ []
+byte_after_nine : steps.bytes (steps.after 0 9) 1 ≡ 16 ∷ []
 unfolding taken
 byte_after_nine = refl
 

@@ -11,14 +11,14 @@ use Rattle.nanorand.specs.values.Draws.{unsigned_outcome, signed_outcome, value_
 use Rattle.nanorand.specs.declared.values.range.RangeError.{RangeError}
 use Rattle.nanorand.specs.declared.values.range.RangeError.TheVariants.{Empty, Exhausted}
 use Rattle.nanorand.proofs.lemmas.ranges.RunLemmas.{picks, rejects, names-itself}
-use Rattle.nanorand.proofs.known_answers.SmallGenerators.{script_taken, script_after}
+use Rattle.nanorand.proofs.known_answers.SmallGenerators.{script}
 
 -- the outcome from a list of bytes, a block of eight each, with zeros after the list, and the number of the blocks drawn
 abbrev unsigned_by : ℕ → List ℕ → Bound ℕ → Bound ℕ → Result ℕ RangeError × ℕ
-unsigned_by drawn bytes low high = unsigned_outcome (script_taken bytes) script_after 8 drawn low high
+unsigned_by drawn bytes low high = unsigned_outcome (script bytes) 8 drawn low high
 
 abbrev signed_by : List ℕ → Bound ℤ → Bound ℤ → Result ℤ RangeError × ℕ
-signed_by bytes low high = signed_outcome (script_taken bytes) script_after 8 0 low high
+signed_by bytes low high = signed_outcome (script bytes) 8 0 low high
 
 -- u8: the greatest, a range of four by the word 0, and 10..=12 by the last of 128 words, and by the next 128 words
 greatest_byte : unsigned_by 0 (255 ∷ []) Unbounded Unbounded ≡ (Ok 255, 1)

@@ -1,7 +1,7 @@
 -- Worked rows of ranges, computed from the definitions alone.
 use Rattle.std.specs.Prelude.{◌≡◌, ◌+◌, [], ◌∷◌, true, Some, None, Ok, Err, replicate, pos, negsuc, ◌++◌, map, refl}
 use Rattle.std.specs.declared.ops.Bound.TheVariants.{Included, Excluded, Unbounded}
-use Rattle.nanorand.specs.generators.Blocks.{taken, plain_after}
+use Rattle.nanorand.specs.generators.Blocks.{taken, plain_after, plain}
 use Rattle.nanorand.specs.values.Runs.{named}
 use Rattle.nanorand.specs.values.Range.{unsigned_range, signed_range, range_within}
 use Rattle.nanorand.specs.values.Draws.{unsigned_outcome, signed_outcome, deciding_place, value_drawn, left_by, left_after, words_from}
@@ -11,7 +11,7 @@ use Rattle.nanorand.specs.declared.replay.Kind.TheVariants as kinds
 use Rattle.nanorand.specs.declared.replay.Span.TheVariants as spans
 use Rattle.nanorand.specs.declared.replay.Call.TheVariants.{Gen, Range}
 use Rattle.nanorand.specs.declared.replay.Answer.TheVariants as answers
-use Rattle.nanorand.proofs.known_answers.SmallGenerators.{steps_taken, steps_after}
+use Rattle.nanorand.proofs.known_answers.SmallGenerators.{steps}
 
 -- what words of 8 bits name below 3, below 171 and below 256
 thirds_of_a_byte : map (named 8 3) (0 ∷ 1 ∷ 85 ∷ 86 ∷ 170 ∷ 171 ∷ 255 ∷ []) ≡ None ∷ Some 0 ∷ Some 0 ∷ Some 1 ∷ Some 1 ∷ Some 2 ∷ Some 2 ∷ []
@@ -70,35 +70,35 @@ unfolding named
 no_word_decides = refl
 
 -- u8 10..=12 from the bytes 0, 1, 2, .. in blocks of eight: word 0 is rejected, and word 8 names the first number
-second_word_decides : unsigned_outcome steps_taken steps_after 8 0 (Included 10) (Included 12) ≡ (Ok 10, 2)
+second_word_decides : unsigned_outcome steps 8 0 (Included 10) (Included 12) ≡ (Ok 10, 2)
 unfolding named range_within words_from value_drawn left_by left_after taken
 second_word_decides = refl
 
 -- the same from zeros: 128 words are rejected
-zeros_exhaust : unsigned_outcome (taken (λ n. replicate 8 0) (λ n. n + 1)) (plain_after (λ n. n + 1) 8) 8 0 (Included 10) (Included 12) ≡ (Err Exhausted, 128)
+zeros_exhaust : unsigned_outcome (plain (λ n. replicate 8 0) (λ n. n + 1) 8) 8 0 (Included 10) (Included 12) ≡ (Err Exhausted, 128)
 unfolding named range_within words_from value_drawn left_by left_after taken
 zeros_exhaust = refl
 
-nothing_drawn : unsigned_outcome steps_taken steps_after 8 0 (Included 5) (Excluded 5) ≡ (Err Empty, 0)
+nothing_drawn : unsigned_outcome steps 8 0 (Included 5) (Excluded 5) ≡ (Err Empty, 0)
 unfolding named range_within words_from value_drawn left_by left_after taken
 nothing_drawn = refl
 
 -- i8 -1..=1 by the word 1, which a generator of ones gives
-least_by_one : signed_outcome (taken (λ n. replicate 8 1) (λ n. n + 1)) (plain_after (λ n. n + 1) 8) 8 0 (Included (negsuc 0)) (Included (pos 1)) ≡ (Ok (negsuc 0), 1)
+least_by_one : signed_outcome (plain (λ n. replicate 8 1) (λ n. n + 1) 8) 8 0 (Included (negsuc 0)) (Included (pos 1)) ≡ (Ok (negsuc 0), 1)
 unfolding named range_within words_from value_drawn left_by left_after taken
 least_by_one = refl
 
 -- i8 -1..=1 by the word 8, and the whole of i8 by the word 0
-signed_by_the_word : signed_outcome steps_taken steps_after 8 1 (Included (negsuc 0)) (Included (pos 1)) ≡ (Ok (negsuc 0), 2)
+signed_by_the_word : signed_outcome steps 8 1 (Included (negsuc 0)) (Included (pos 1)) ≡ (Ok (negsuc 0), 2)
 unfolding named range_within words_from value_drawn left_by left_after taken
 signed_by_the_word = refl
 
-least_of_all : signed_outcome steps_taken steps_after 8 0 Unbounded Unbounded ≡ (Ok (negsuc 127), 1)
+least_of_all : signed_outcome steps 8 0 Unbounded Unbounded ≡ (Ok (negsuc 127), 1)
 unfolding named range_within words_from value_drawn left_by left_after taken
 least_of_all = refl
 
 -- a refused call does not end a replay
-refused_call_goes_on : (replayed steps_taken steps_after 0 [] (Gen kinds.U8 ∷ Range (spans.U8 (Included 5) (Excluded 5)) ∷ Range (spans.U8 (Included 10) (Included 12)) ∷ Gen kinds.Bool ∷ [])).answers
+refused_call_goes_on : (replayed steps 0 [] (Gen kinds.U8 ∷ Range (spans.U8 (Included 5) (Excluded 5)) ∷ Range (spans.U8 (Included 10) (Included 12)) ∷ Gen kinds.Bool ∷ [])).answers
     ≡ answers.Unsigned 0 ∷ answers.Empty ∷ answers.Unsigned 10 ∷ answers.Truth true ∷ []
 unfolding named range_within words_from value_drawn left_by left_after taken
 refused_call_goes_on = refl

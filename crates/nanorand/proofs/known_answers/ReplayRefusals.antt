@@ -2,7 +2,7 @@
 use Rattle.std.proofs.Common.{◌≡◌, ℕ, List, [], ◌∷◌, ◌++◌, Err, refl, ap, ◌∙◌, arith}
 use Rattle.std.specs.Prelude.{true, replicate}
 use Rattle.std.specs.declared.ops.Bound.TheVariants.{Included}
-use Rattle.nanorand.specs.generators.Blocks.{taken}
+use Rattle.nanorand.specs.generators.Blocks.{taken, plain}
 use Rattle.nanorand.specs.generators.Buffered.{buffer_of, buffered_taken, buffered_after}
 use Rattle.nanorand.specs.values.Runs.{named}
 use Rattle.nanorand.specs.values.Range.{range_within}
@@ -16,7 +16,7 @@ use Rattle.nanorand.specs.declared.replay.Call.{Call}
 use Rattle.nanorand.specs.declared.replay.Call.TheVariants.{Gen, Range, Shuffle}
 use Rattle.nanorand.specs.declared.replay.Answer.TheVariants.{Unsigned, Truth, Exhausted}
 use Rattle.nanorand.proofs.lemmas.shuffles.PartnerLemmas.{Makes, partner_between, first_refused}
-use Rattle.nanorand.proofs.known_answers.SmallGenerators.{script_taken, script_after, script_kept_taken, script_kept_after}
+use Rattle.nanorand.proofs.known_answers.SmallGenerators.{script, script_buffered}
 use Rattle.nanorand.proofs.known_answers.Replays.{goes_on, refused_shuffle}
 
 abbrev range_and_byte : List Call
@@ -26,11 +26,11 @@ abbrev late_one : List ℕ
 late_one = replicate 128 0 ++ 1 ∷ []
 
 -- the byte behind 128 rejected words: of block 129 where each word takes a block, and of block 17 where they are kept
-byte_of_block_129 : replayed (script_taken late_one) script_after 0 [] range_and_byte ≡ record { answers = Exhausted ∷ Unsigned 1 ∷ []; items = []; state = 129 }
+byte_of_block_129 : replayed (script late_one) 0 [] range_and_byte ≡ record { answers = Exhausted ∷ Unsigned 1 ∷ []; items = []; state = 129 }
 unfolding named range_within words_from value_drawn left_by left_after taken
 byte_of_block_129 = refl
 
-byte_of_block_17 : replayed (script_kept_taken late_one) (script_kept_after late_one) (buffer_of [] 0) [] range_and_byte
+byte_of_block_17 : replayed (script_buffered late_one) (buffer_of [] 0) [] range_and_byte
     ≡ record { answers = Exhausted ∷ Unsigned 0 ∷ []; items = []; state = buffer_of (replicate 7 0) 17 }
 unfolding named range_within words_from value_drawn left_by left_after taken buffered_taken buffered_after
 byte_of_block_17 = refl
@@ -39,28 +39,28 @@ byte_of_block_17 = refl
 abbrev shuffle_and_truth : List Call
 shuffle_and_truth = Shuffle ∷ Gen kinds.Bool ∷ []
 
-zeros_refuse : Makes (script_taken []) script_after from_itself 3 0 (Err refusals.Exhausted) [] 128
+zeros_refuse : Makes (script []) from_itself 3 0 (Err refusals.Exhausted) [] 128
 unfolding named words_from value_drawn left_by left_after taken
 zeros_refuse =
-    first_refused (script_taken []) script_after from_itself 0 128
-    (partner_between (script_taken []) script_after from_itself 3 0 0 (omega arith) (omega arith) ∙ refl)
+    first_refused (script []) from_itself 0 128
+    (partner_between (script []) from_itself 3 0 0 (omega arith) (omega arith) ∙ refl)
 
-truth_of_block_129 : replayed (script_taken []) script_after 0 (7 ∷ 8 ∷ 9 ∷ []) shuffle_and_truth
+truth_of_block_129 : replayed (script []) 0 (7 ∷ 8 ∷ 9 ∷ []) shuffle_and_truth
     ≡ record { answers = Exhausted ∷ Truth true ∷ []; items = 7 ∷ 8 ∷ 9 ∷ []; state = 129 }
 unfolding taken
 truth_of_block_129 =
-    ap (goes_on (script_taken []) script_after [] (Gen kinds.Bool ∷ []))
-    (refused_shuffle (script_taken []) script_after 0 128 [] 7 8 9 zeros_refuse) ∙ refl
+    ap (goes_on (script []) [] (Gen kinds.Bool ∷ []))
+    (refused_shuffle (script []) 0 128 [] 7 8 9 zeros_refuse) ∙ refl
 
-kept_zeros_refuse : Makes (script_kept_taken []) (script_kept_after []) from_itself 3 (buffer_of [] 0) (Err refusals.Exhausted) [] (buffer_of [] 128)
+kept_zeros_refuse : Makes (script_buffered []) from_itself 3 (buffer_of [] 0) (Err refusals.Exhausted) [] (buffer_of [] 128)
 unfolding named words_from value_drawn left_by left_after taken buffered_taken buffered_after
 kept_zeros_refuse =
-    first_refused (script_kept_taken []) (script_kept_after []) from_itself (buffer_of [] 0) (buffer_of [] 128)
-    (partner_between (script_kept_taken []) (script_kept_after []) from_itself 3 0 (buffer_of [] 0) (omega arith) (omega arith) ∙ refl)
+    first_refused (script_buffered []) from_itself (buffer_of [] 0) (buffer_of [] 128)
+    (partner_between (script_buffered []) from_itself 3 0 (buffer_of [] 0) (omega arith) (omega arith) ∙ refl)
 
-kept_truth_of_block_129 : replayed (script_kept_taken []) (script_kept_after []) (buffer_of [] 0) (7 ∷ 8 ∷ 9 ∷ []) shuffle_and_truth
+kept_truth_of_block_129 : replayed (script_buffered []) (buffer_of [] 0) (7 ∷ 8 ∷ 9 ∷ []) shuffle_and_truth
     ≡ record { answers = Exhausted ∷ Truth true ∷ []; items = 7 ∷ 8 ∷ 9 ∷ []; state = buffer_of (replicate 7 0) 129 }
 unfolding taken buffered_taken buffered_after
 kept_truth_of_block_129 =
-    ap (goes_on (script_kept_taken []) (script_kept_after []) [] (Gen kinds.Bool ∷ []))
-    (refused_shuffle (script_kept_taken []) (script_kept_after []) (buffer_of [] 0) (buffer_of [] 128) [] 7 8 9 kept_zeros_refuse) ∙ refl
+    ap (goes_on (script_buffered []) [] (Gen kinds.Bool ∷ []))
+    (refused_shuffle (script_buffered []) (buffer_of [] 0) (buffer_of [] 128) [] 7 8 9 kept_zeros_refuse) ∙ refl

@@ -7,31 +7,31 @@ use Rattle.nanorand.specs.values.Draws.{words_from, value_drawn, left_by, left_a
 use Rattle.nanorand.specs.shuffles.Shuffles.{arranged, from_all, from_itself, partner_drawn, choices_from, shuffle_choices}
 use Rattle.nanorand.specs.declared.values.range.RangeError.TheVariants.{Exhausted}
 use Rattle.nanorand.proofs.lemmas.shuffles.PartnerLemmas.{Makes, partner_between, none_to_shuffle, three_partners, first_refused, second_refused}
-use Rattle.nanorand.proofs.known_answers.SmallGenerators.{steps_taken, steps_after, script_taken, script_after}
+use Rattle.nanorand.proofs.known_answers.SmallGenerators.{steps, script}
 
 -- no items draw nothing
-none_shuffled : Makes steps_taken steps_after from_itself 0 7 (Ok tt) [] 7
-none_shuffled = none_to_shuffle steps_taken steps_after from_itself 7
+none_shuffled : Makes steps from_itself 0 7 (Ok tt) [] 7
+none_shuffled = none_to_shuffle steps from_itself 7
 
-none_shuffled_in_full : Makes steps_taken steps_after from_all 0 7 (Ok tt) [] 7
-none_shuffled_in_full = none_to_shuffle steps_taken steps_after from_all 7
+none_shuffled_in_full : Makes steps from_all 0 7 (Ok tt) [] 7
+none_shuffled_in_full = none_to_shuffle steps from_all 7
 
 -- of the words of rising bytes each partner is the first of its range
-pub rising_bytes_keep : Makes steps_taken steps_after from_itself 3 0 (Ok tt) (0 ∷ 1 ∷ 2 ∷ []) 3
+pub rising_bytes_keep : Makes steps from_itself 3 0 (Ok tt) (0 ∷ 1 ∷ 2 ∷ []) 3
 unfolding named words_from value_drawn left_by left_after taken
 rising_bytes_keep =
-    three_partners steps_taken steps_after from_itself 0 1 2 3 0 1 2
-    (partner_between steps_taken steps_after from_itself 3 0 0 (omega arith) (omega arith) ∙ refl)
-    (partner_between steps_taken steps_after from_itself 3 1 1 (omega arith) (omega arith) ∙ refl)
-    (partner_between steps_taken steps_after from_itself 3 2 2 (omega arith) (omega arith) ∙ refl)
+    three_partners steps from_itself 0 1 2 3 0 1 2
+    (partner_between steps from_itself 3 0 0 (omega arith) (omega arith) ∙ refl)
+    (partner_between steps from_itself 3 1 1 (omega arith) (omega arith) ∙ refl)
+    (partner_between steps from_itself 3 2 2 (omega arith) (omega arith) ∙ refl)
 
-rising_bytes_turn : Makes steps_taken steps_after from_all 3 0 (Ok tt) (0 ∷ 0 ∷ 0 ∷ []) 3
+rising_bytes_turn : Makes steps from_all 3 0 (Ok tt) (0 ∷ 0 ∷ 0 ∷ []) 3
 unfolding named words_from value_drawn left_by left_after taken
 rising_bytes_turn =
-    three_partners steps_taken steps_after from_all 0 1 2 3 0 0 0
-    (partner_between steps_taken steps_after from_all 3 0 0 (omega arith) (omega arith) ∙ refl)
-    (partner_between steps_taken steps_after from_all 3 1 1 (omega arith) (omega arith) ∙ refl)
-    (partner_between steps_taken steps_after from_all 3 2 2 (omega arith) (omega arith) ∙ refl)
+    three_partners steps from_all 0 1 2 3 0 0 0
+    (partner_between steps from_all 3 0 0 (omega arith) (omega arith) ∙ refl)
+    (partner_between steps from_all 3 1 1 (omega arith) (omega arith) ∙ refl)
+    (partner_between steps from_all 3 2 2 (omega arith) (omega arith) ∙ refl)
 
 kept : arranged (0 ∷ 1 ∷ 2 ∷ []) (codes "abc") ≡ codes "abc"
 kept = refl
@@ -40,36 +40,36 @@ turned : arranged (0 ∷ 0 ∷ 0 ∷ []) (codes "abc") ≡ codes "cab"
 turned = refl
 
 -- zeros are refused at the first place, after 128 words, and nothing is moved
-zeros_keep : Makes (script_taken []) script_after from_itself 3 0 (Err Exhausted) [] 128
+zeros_keep : Makes (script []) from_itself 3 0 (Err Exhausted) [] 128
 unfolding named words_from value_drawn left_by left_after taken
 zeros_keep =
-    first_refused (script_taken []) script_after from_itself 0 128
-    (partner_between (script_taken []) script_after from_itself 3 0 0 (omega arith) (omega arith) ∙ refl)
+    first_refused (script []) from_itself 0 128
+    (partner_between (script []) from_itself 3 0 0 (omega arith) (omega arith) ∙ refl)
 
-zeros_keep_in_full : Makes (script_taken []) script_after from_all 3 0 (Err Exhausted) [] 128
+zeros_keep_in_full : Makes (script []) from_all 3 0 (Err Exhausted) [] 128
 unfolding named words_from value_drawn left_by left_after taken
 zeros_keep_in_full =
-    first_refused (script_taken []) script_after from_all 0 128
-    (partner_between (script_taken []) script_after from_all 3 0 0 (omega arith) (omega arith) ∙ refl)
+    first_refused (script []) from_all 0 128
+    (partner_between (script []) from_all 3 0 0 (omega arith) (omega arith) ∙ refl)
 
 nothing_moved : arranged [] (codes "abc") ≡ codes "abc"
 nothing_moved = refl
 
 -- ones and then zeros: the partners from the place on are never refused, and those from all places are at the second
-ones_reverse : Makes (script_taken (255 ∷ [])) script_after from_itself 3 0 (Ok tt) (2 ∷ 1 ∷ 2 ∷ []) 3
+ones_reverse : Makes (script (255 ∷ [])) from_itself 3 0 (Ok tt) (2 ∷ 1 ∷ 2 ∷ []) 3
 unfolding named words_from value_drawn left_by left_after taken
 ones_reverse =
-    three_partners (script_taken (255 ∷ [])) script_after from_itself 0 1 2 3 2 1 2
-    (partner_between (script_taken (255 ∷ [])) script_after from_itself 3 0 0 (omega arith) (omega arith) ∙ refl)
-    (partner_between (script_taken (255 ∷ [])) script_after from_itself 3 1 1 (omega arith) (omega arith) ∙ refl)
-    (partner_between (script_taken (255 ∷ [])) script_after from_itself 3 2 2 (omega arith) (omega arith) ∙ refl)
+    three_partners (script (255 ∷ [])) from_itself 0 1 2 3 2 1 2
+    (partner_between (script (255 ∷ [])) from_itself 3 0 0 (omega arith) (omega arith) ∙ refl)
+    (partner_between (script (255 ∷ [])) from_itself 3 1 1 (omega arith) (omega arith) ∙ refl)
+    (partner_between (script (255 ∷ [])) from_itself 3 2 2 (omega arith) (omega arith) ∙ refl)
 
-ones_refused : Makes (script_taken (255 ∷ [])) script_after from_all 3 0 (Err Exhausted) (2 ∷ []) 129
+ones_refused : Makes (script (255 ∷ [])) from_all 3 0 (Err Exhausted) (2 ∷ []) 129
 unfolding named words_from value_drawn left_by left_after taken
 ones_refused =
-    second_refused (script_taken (255 ∷ [])) script_after from_all 0 1 129 2
-    (partner_between (script_taken (255 ∷ [])) script_after from_all 3 0 0 (omega arith) (omega arith) ∙ refl)
-    (partner_between (script_taken (255 ∷ [])) script_after from_all 3 1 1 (omega arith) (omega arith) ∙ refl)
+    second_refused (script (255 ∷ [])) from_all 0 1 129 2
+    (partner_between (script (255 ∷ [])) from_all 3 0 0 (omega arith) (omega arith) ∙ refl)
+    (partner_between (script (255 ∷ [])) from_all 3 1 1 (omega arith) (omega arith) ∙ refl)
 
 ends_swapped : arranged (2 ∷ 1 ∷ 2 ∷ []) (codes "abc") ≡ codes "cba"
 ends_swapped = refl
@@ -79,19 +79,19 @@ ends_swapped_at_once = refl
 
 -- four items by words of ones: each partner from all places is the last
 abbrev last_of_four : ℕ → ℕ → Type 0
-last_of_four i g = partner_drawn (script_taken (replicate 4 255)) script_after from_all 4 i g ≡ (Ok 3, g + 1)
+last_of_four i g = partner_drawn (script (replicate 4 255)) from_all 4 i g ≡ (Ok 3, g + 1)
 
 four_by_ones : last_of_four 0 0 × last_of_four 1 1 × last_of_four 2 2 × last_of_four 3 3
 unfolding named words_from value_drawn left_by left_after taken
 four_by_ones =
-    let between = partner_between (script_taken (replicate 4 255)) script_after from_all 4 in (
+    let between = partner_between (script (replicate 4 255)) from_all 4 in (
       between 0 0 (omega arith) (omega arith) ∙ refl,
       between 1 1 (omega arith) (omega arith) ∙ refl,
       between 2 2 (omega arith) (omega arith) ∙ refl,
       between 3 3 (omega arith) (omega arith) ∙ refl,
     )
 
-four_choices : shuffle_choices (script_taken (replicate 4 255)) script_after from_all 4 0 ≡ 3 ∷ 3 ∷ 3 ∷ 3 ∷ []
+four_choices : shuffle_choices (script (replicate 4 255)) from_all 4 0 ≡ 3 ∷ 3 ∷ 3 ∷ 3 ∷ []
 unfolding choices_from
 four_choices = rw (four_by_ones.0, four_by_ones.1, four_by_ones.2, four_by_ones.3) refl
 

@@ -1,13 +1,13 @@
 -- Worked rows of shuffles: what choices make of three items, and the choices that three words make.
 use Rattle.std.proofs.Common.{◌≡◌, ℕ, List, [], ◌∷◌, Ok, refl, ap, ◌∙◌, arith}
 use Rattle.std.specs.Prelude.{codes}
-use Rattle.nanorand.specs.generators.Blocks.{taken}
+use Rattle.nanorand.specs.generators.Blocks.{taken, Requests}
 use Rattle.nanorand.specs.values.Runs.{named}
 use Rattle.nanorand.specs.values.Draws.{words_from, value_drawn, left_by, left_after}
 use Rattle.nanorand.specs.shuffles.Shuffles.{arranged, from_all, from_itself, shuffle_choices}
 use Rattle.nanorand.specs.shuffles.Arrangements.{rising}
 use Rattle.nanorand.proofs.lemmas.shuffles.PartnerLemmas.{Makes, partner_between, three_partners}
-use Rattle.nanorand.proofs.known_answers.SmallGenerators.{script_taken, script_after}
+use Rattle.nanorand.proofs.known_answers.SmallGenerators.{script}
 
 -- the six valid lists of three choices, and the arrangements that they make
 nothing_moved : arranged (0 ∷ 1 ∷ 2 ∷ []) (rising 3) ≡ 0 ∷ 1 ∷ 2 ∷ []
@@ -29,31 +29,31 @@ last_goes_first : arranged (2 ∷ 2 ∷ 2 ∷ []) (rising 3) ≡ 2 ∷ 0 ∷ 1 �
 last_goes_first = refl
 
 -- a generator of the bytes 128, 1 and 255, a block of eight each
-abbrev three_blocks : ℕ → ℕ → List ℕ
-three_blocks = script_taken (128 ∷ 1 ∷ 255 ∷ [])
+abbrev three_blocks : Requests ℕ
+three_blocks = script (128 ∷ 1 ∷ 255 ∷ [])
 
 -- the partners from the place on: 1 of 0..3, 1 of 1..3, 2 of 2..3
-three_drawn : Makes three_blocks script_after from_itself 3 0 (Ok tt) (1 ∷ 1 ∷ 2 ∷ []) 3
+three_drawn : Makes three_blocks from_itself 3 0 (Ok tt) (1 ∷ 1 ∷ 2 ∷ []) 3
 unfolding named words_from value_drawn left_by left_after taken
 three_drawn =
-    let between = partner_between three_blocks script_after from_itself 3 in
-    three_partners three_blocks script_after from_itself 0 1 2 3 1 1 2
+    let between = partner_between three_blocks from_itself 3 in
+    three_partners three_blocks from_itself 0 1 2 3 1 1 2
     (between 0 0 (omega arith) (omega arith) ∙ refl)
     (between 1 1 (omega arith) (omega arith) ∙ refl)
     (between 2 2 (omega arith) (omega arith) ∙ refl)
 
-shuffled : arranged (shuffle_choices three_blocks script_after from_itself 3 0) (codes "abc") ≡ codes "bac"
+shuffled : arranged (shuffle_choices three_blocks from_itself 3 0) (codes "abc") ≡ codes "bac"
 shuffled = ap (λ choices. arranged choices (codes "abc")) three_drawn.chosen
 
 -- the partners from all places: 1, 0 and 2 of 0..3
-three_drawn_from_all : Makes three_blocks script_after from_all 3 0 (Ok tt) (1 ∷ 0 ∷ 2 ∷ []) 3
+three_drawn_from_all : Makes three_blocks from_all 3 0 (Ok tt) (1 ∷ 0 ∷ 2 ∷ []) 3
 unfolding named words_from value_drawn left_by left_after taken
 three_drawn_from_all =
-    let between = partner_between three_blocks script_after from_all 3 in
-    three_partners three_blocks script_after from_all 0 1 2 3 1 0 2
+    let between = partner_between three_blocks from_all 3 in
+    three_partners three_blocks from_all 0 1 2 3 1 0 2
     (between 0 0 (omega arith) (omega arith) ∙ refl)
     (between 1 1 (omega arith) (omega arith) ∙ refl)
     (between 2 2 (omega arith) (omega arith) ∙ refl)
 
-shuffled_in_full : arranged (shuffle_choices three_blocks script_after from_all 3 0) (codes "abc") ≡ codes "abc"
+shuffled_in_full : arranged (shuffle_choices three_blocks from_all 3 0) (codes "abc") ≡ codes "abc"
 shuffled_in_full = ap (λ choices. arranged choices (codes "abc")) three_drawn_from_all.chosen

@@ -2,8 +2,8 @@
 use Rattle.std.proofs.Common.{◌≡◌, ℕ, ◌+◌, List, [], ◌∷◌, Ok, length, min, drop, refl, ap, ◌∙◌, arith}
 use Rattle.std.specs.Prelude.{replicate}
 use Rattle.std.specs.List.{range_with_len}
-use Rattle.nanorand.specs.generators.Blocks.{taken, plain_after}
-use Rattle.nanorand.specs.generators.Buffered.{Buffered, buffer_of, buffered_block, buffered_step, buffered_taken, buffered_after}
+use Rattle.nanorand.specs.generators.Blocks.{taken, plain_after, plain, Requests}
+use Rattle.nanorand.specs.generators.Buffered.{Buffered, buffered, buffer_of, buffered_block, buffered_step, buffered_taken, buffered_after}
 use Rattle.nanorand.specs.generators.ChaChaRounds.{quarter_round, on_columns, on_diagonals, rounds, block}
 use Rattle.nanorand.specs.generators.ChaCha.{chacha_block, chacha_after, next_state, initial_state}
 use Rattle.nanorand.specs.generators.WyRand.{next_seed, wyrand_block}
@@ -20,40 +20,34 @@ use Rattle.nanorand.specs.declared.replay.Answer.TheVariants.{Empty, Shuffled}
 use Rattle.nanorand.proofs.lemmas.shuffles.PartnerLemmas.{Makes, partner_between, three_partners}
 use Rattle.nanorand.proofs.known_answers.Replays.{goes_on, whole_shuffle}
 
-abbrev chacha_taken : List ℕ → ℕ → List ℕ
-chacha_taken = taken (chacha_block 20) next_state
-
-abbrev after_requests : List ℕ → ℕ → List ℕ
-after_requests = plain_after next_state 64
+abbrev plain_requests : Requests (List ℕ)
+plain_requests = plain (chacha_block 20) next_state 64
 
 -- the key and the nonce in order, a block a partner
 abbrev in_order : ℕ → List ℕ
 in_order n = chacha_after n (initial_state (range_with_len 0 32) (range_with_len 0 8))
 
-ordered_key : Makes chacha_taken after_requests from_itself 3 (in_order 0) (Ok tt) (1 ∷ 2 ∷ 2 ∷ []) (in_order 3)
+ordered_key : Makes plain_requests from_itself 3 (in_order 0) (Ok tt) (1 ∷ 2 ∷ 2 ∷ []) (in_order 3)
 unfolding quarter_round on_columns on_diagonals rounds block initial_state named words_from value_drawn left_by left_after taken
 ordered_key =
-    let between = partner_between chacha_taken after_requests from_itself 3 in
-    three_partners chacha_taken after_requests from_itself (in_order 0) (in_order 1) (in_order 2) (in_order 3) 1 2 2
+    let between = partner_between plain_requests from_itself 3 in
+    three_partners plain_requests from_itself (in_order 0) (in_order 1) (in_order 2) (in_order 3) 1 2 2
     (between 0 (in_order 0) (omega arith) (omega arith) ∙ refl)
     (between 1 (in_order 1) (omega arith) (omega arith) ∙ refl)
     (between 2 (in_order 2) (omega arith) (omega arith) ∙ refl)
 
-ordered_key_in_full : Makes chacha_taken after_requests from_all 3 (in_order 0) (Ok tt) (1 ∷ 1 ∷ 0 ∷ []) (in_order 3)
+ordered_key_in_full : Makes plain_requests from_all 3 (in_order 0) (Ok tt) (1 ∷ 1 ∷ 0 ∷ []) (in_order 3)
 unfolding quarter_round on_columns on_diagonals rounds block initial_state named words_from value_drawn left_by left_after taken
 ordered_key_in_full =
-    let between = partner_between chacha_taken after_requests from_all 3 in
-    three_partners chacha_taken after_requests from_all (in_order 0) (in_order 1) (in_order 2) (in_order 3) 1 1 0
+    let between = partner_between plain_requests from_all 3 in
+    three_partners plain_requests from_all (in_order 0) (in_order 1) (in_order 2) (in_order 3) 1 1 0
     (between 0 (in_order 0) (omega arith) (omega arith) ∙ refl)
     (between 1 (in_order 1) (omega arith) (omega arith) ∙ refl)
     (between 2 (in_order 2) (omega arith) (omega arith) ∙ refl)
 
 -- the zero key and nonce, buffered: one block
-abbrev kept_taken : Buffered (List ℕ) → ℕ → List ℕ
-kept_taken = taken (buffered_block (chacha_block 20) next_state 64) (buffered_step (chacha_block 20) next_state 64)
-
-abbrev kept_after : Buffered (List ℕ) → ℕ → Buffered (List ℕ)
-kept_after = buffered_after (chacha_block 20) next_state 64
+abbrev buffered_requests : Requests (Buffered (List ℕ))
+buffered_requests = buffered (chacha_block 20) next_state 64
 
 abbrev of_zeros : List ℕ
 of_zeros = initial_state (replicate 32 0) (replicate 8 0)
@@ -61,20 +55,20 @@ of_zeros = initial_state (replicate 32 0) (replicate 8 0)
 abbrev zeros_from : ℕ → Buffered (List ℕ)
 zeros_from n = buffer_of (drop n (chacha_block 20 of_zeros)) (next_state of_zeros)
 
-zero_key : Makes kept_taken kept_after from_itself 3 (buffer_of [] of_zeros) (Ok tt) (1 ∷ 1 ∷ 2 ∷ []) (zeros_from 24)
+zero_key : Makes buffered_requests from_itself 3 (buffer_of [] of_zeros) (Ok tt) (1 ∷ 1 ∷ 2 ∷ []) (zeros_from 24)
 unfolding quarter_round on_columns on_diagonals rounds block initial_state named words_from value_drawn left_by left_after taken buffered_taken buffered_after
 zero_key =
-    let between = partner_between kept_taken kept_after from_itself 3 in
-    three_partners kept_taken kept_after from_itself (buffer_of [] of_zeros) (zeros_from 8) (zeros_from 16) (zeros_from 24) 1 1 2
+    let between = partner_between buffered_requests from_itself 3 in
+    three_partners buffered_requests from_itself (buffer_of [] of_zeros) (zeros_from 8) (zeros_from 16) (zeros_from 24) 1 1 2
     (between 0 (buffer_of [] of_zeros) (omega arith) (omega arith) ∙ refl)
     (between 1 (zeros_from 8) (omega arith) (omega arith) ∙ refl)
     (between 2 (zeros_from 16) (omega arith) (omega arith) ∙ refl)
 
-zero_key_in_full : Makes kept_taken kept_after from_all 3 (buffer_of [] of_zeros) (Ok tt) (1 ∷ 0 ∷ 0 ∷ []) (zeros_from 24)
+zero_key_in_full : Makes buffered_requests from_all 3 (buffer_of [] of_zeros) (Ok tt) (1 ∷ 0 ∷ 0 ∷ []) (zeros_from 24)
 unfolding quarter_round on_columns on_diagonals rounds block initial_state named words_from value_drawn left_by left_after taken buffered_taken buffered_after
 zero_key_in_full =
-    let between = partner_between kept_taken kept_after from_all 3 in
-    three_partners kept_taken kept_after from_all (buffer_of [] of_zeros) (zeros_from 8) (zeros_from 16) (zeros_from 24) 1 0 0
+    let between = partner_between buffered_requests from_all 3 in
+    three_partners buffered_requests from_all (buffer_of [] of_zeros) (zeros_from 8) (zeros_from 16) (zeros_from 24) 1 0 0
     (between 0 (buffer_of [] of_zeros) (omega arith) (omega arith) ∙ refl)
     (between 1 (zeros_from 8) (omega arith) (omega arith) ∙ refl)
     (between 2 (zeros_from 16) (omega arith) (omega arith) ∙ refl)
@@ -93,37 +87,37 @@ zero_key_items_in_full : arranged (1 ∷ 0 ∷ 0 ∷ []) (rising 3) ≡ 2 ∷ 1 
 zero_key_items_in_full = refl
 
 -- the two shuffles as calls
-replay_of_ordered_key : replayed chacha_taken after_requests (in_order 0) (rising 3) (Shuffle ∷ []) ≡ record { answers = Shuffled ∷ []; items = 1 ∷ 2 ∷ 0 ∷ []; state = in_order 3 }
+replay_of_ordered_key : replayed plain_requests (in_order 0) (rising 3) (Shuffle ∷ []) ≡ record { answers = Shuffled ∷ []; items = 1 ∷ 2 ∷ 0 ∷ []; state = in_order 3 }
 replay_of_ordered_key =
-    ap (goes_on chacha_taken after_requests [] []) (whole_shuffle chacha_taken after_requests (in_order 0) (in_order 3) (1 ∷ 2 ∷ 2 ∷ []) 0 1 2 ordered_key)
+    ap (goes_on plain_requests [] []) (whole_shuffle plain_requests (in_order 0) (in_order 3) (1 ∷ 2 ∷ 2 ∷ []) 0 1 2 ordered_key)
 
-replay_of_zero_key : replayed kept_taken kept_after (buffer_of [] of_zeros) (rising 3) (Shuffle ∷ []) ≡ record { answers = Shuffled ∷ []; items = 1 ∷ 0 ∷ 2 ∷ []; state = zeros_from 24 }
+replay_of_zero_key : replayed buffered_requests (buffer_of [] of_zeros) (rising 3) (Shuffle ∷ []) ≡ record { answers = Shuffled ∷ []; items = 1 ∷ 0 ∷ 2 ∷ []; state = zeros_from 24 }
 replay_of_zero_key =
-    ap (goes_on kept_taken kept_after [] []) (whole_shuffle kept_taken kept_after (buffer_of [] of_zeros) (zeros_from 24) (1 ∷ 1 ∷ 2 ∷ []) 0 1 2 zero_key)
+    ap (goes_on buffered_requests [] []) (whole_shuffle buffered_requests (buffer_of [] of_zeros) (zeros_from 24) (1 ∷ 1 ∷ 2 ∷ []) 0 1 2 zero_key)
 
 -- one item stays, by one word
 abbrev seed_of_zero : ℕ
 seed_of_zero = 0x5f89e29b87429bd1
 
-one_partner : partner_drawn (taken wyrand_block next_seed) (plain_after next_seed 8) from_itself 1 0 seed_of_zero ≡ (Ok 0, next_seed seed_of_zero)
+one_partner : partner_drawn (plain wyrand_block next_seed 8) from_itself 1 0 seed_of_zero ≡ (Ok 0, next_seed seed_of_zero)
 unfolding named words_from value_drawn left_by left_after taken
-one_partner = partner_between (taken wyrand_block next_seed) (plain_after next_seed 8) from_itself 1 0 seed_of_zero (omega arith) (omega arith) ∙ refl
+one_partner = partner_between (plain wyrand_block next_seed 8) from_itself 1 0 seed_of_zero (omega arith) (omega arith) ∙ refl
 
-one_choice : shuffle_choices (taken wyrand_block next_seed) (plain_after next_seed 8) from_itself 1 seed_of_zero ≡ 0 ∷ []
+one_choice : shuffle_choices (plain wyrand_block next_seed 8) from_itself 1 seed_of_zero ≡ 0 ∷ []
 unfolding choices_from
 one_choice = rw one_partner refl
 
-one_answered : shuffle_answer (taken wyrand_block next_seed) (plain_after next_seed 8) from_itself 1 seed_of_zero ≡ Ok tt
+one_answered : shuffle_answer (plain wyrand_block next_seed 8) from_itself 1 seed_of_zero ≡ Ok tt
 one_answered = rw one_choice refl
 
-one_word_drawn : shuffle_state (taken wyrand_block next_seed) (plain_after next_seed 8) from_itself 1 seed_of_zero ≡ next_seed seed_of_zero
+one_word_drawn : shuffle_state (plain wyrand_block next_seed 8) from_itself 1 seed_of_zero ≡ next_seed seed_of_zero
 unfolding state_after_places
 one_word_drawn =
-    ap (λ choices. state_after_places (taken wyrand_block next_seed) (plain_after next_seed 8) from_itself 1 0 (min 1 (length choices + 1)) seed_of_zero) one_choice
+    ap (λ choices. state_after_places (plain wyrand_block next_seed 8) from_itself 1 0 (min 1 (length choices + 1)) seed_of_zero) one_choice
     ∙ ap (λ drawn. drawn.1) one_partner
 
 -- an empty range and that shuffle
-empty_and_shuffle : replayed (taken wyrand_block next_seed) (plain_after next_seed 8) seed_of_zero (0 ∷ []) (Range (spans.U8 (Included 5) (Excluded 5)) ∷ Shuffle ∷ [])
+empty_and_shuffle : replayed (plain wyrand_block next_seed 8) seed_of_zero (0 ∷ []) (Range (spans.U8 (Included 5) (Excluded 5)) ∷ Shuffle ∷ [])
     ≡ record { answers = Empty ∷ Shuffled ∷ []; items = 0 ∷ []; state = next_seed seed_of_zero }
 unfolding range_within value_drawn left_by
 empty_and_shuffle = λ i. record {

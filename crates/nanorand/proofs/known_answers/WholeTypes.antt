@@ -6,7 +6,7 @@ use Rattle.std.specs.declared.ops.Bound.TheVariants.{Included, Excluded, Unbound
 use Rattle.std.proofs.lemmas.Bool.{cases_lt, le-leb, lt-leb, lt-ltb, le-ltb}
 use Rattle.std.proofs.lemmas.List.FromFn.{length-map-range_with_len}
 use Rattle.std.proofs.lemmas.Nat.{pow_pos}
-use Rattle.nanorand.specs.generators.Blocks.{taken, plain_after}
+use Rattle.nanorand.specs.generators.Blocks.{taken, plain_after, Requests, plain}
 use Rattle.nanorand.specs.values.Runs.{named}
 use Rattle.nanorand.specs.values.Range.{unsigned_number, signed_number, unsigned_range, signed_range}
 use Rattle.nanorand.specs.support.NumberOrderLemmas.{int_le-signed, int_lt-signed}
@@ -85,19 +85,16 @@ up_to_seven k =
 just_seven : unsigned_range 64 (Included 7) (Included 7) ≡ 7 ∷ []
 just_seven = range-places nat_le nat_lt 64 unsigned_number (Included 7) (Included 7) 7 8 (λ k. refl) (λ k in_type. up_to_seven k) (omega arith) (omega arith)
 
-abbrev constant_taken : ℕ → ℕ → ℕ → List ℕ
-constant_taken byte = taken (λ n. replicate 8 byte) (λ n. n + 1)
+abbrev constant : ℕ → Requests ℕ
+constant byte = plain (λ n. replicate 8 byte) (λ n. n + 1) 8
 
-abbrev constant_after : ℕ → ℕ → ℕ
-constant_after = plain_after (λ n. n + 1) 8
-
-seven_by_zeros : unsigned_outcome (constant_taken 0) constant_after 64 0 (Included 7) (Included 7) ≡ (Ok 7, 1)
+seven_by_zeros : unsigned_outcome (constant 0) 64 0 (Included 7) (Included 7) ≡ (Ok 7, 1)
 unfolding named words_from value_drawn left_by left_after taken
-seven_by_zeros = ap (λ numbers. range_outcome (constant_taken 0) constant_after 64 numbers 0) just_seven ∙ refl
+seven_by_zeros = ap (λ numbers. range_outcome (constant 0) 64 numbers 0) just_seven ∙ refl
 
-seven_by_ones : unsigned_outcome (constant_taken 255) constant_after 64 0 (Included 7) (Included 7) ≡ (Ok 7, 1)
+seven_by_ones : unsigned_outcome (constant 255) 64 0 (Included 7) (Included 7) ≡ (Ok 7, 1)
 unfolding named words_from value_drawn left_by left_after taken
-seven_by_ones = ap (λ numbers. range_outcome (constant_taken 255) constant_after 64 numbers 0) just_seven ∙ refl
+seven_by_ones = ap (λ numbers. range_outcome (constant 255) 64 numbers 0) just_seven ∙ refl
 
 -- i32 10..=5 has no number, in a type that is not walked through
 up_to_five : (k : ℕ) → nat_le k (2 ^ 31 + 5) ≡ nat_lt k (2 ^ 31 + 6)

@@ -1,6 +1,6 @@
-mod MatrixLemmas
-mod QuarterLemmas
-mod InverseLemmas
-mod ChaChaStateLemmas
-mod GroupLemmas
-mod RowLemmas
+pub mod MatrixLemmas
+pub mod QuarterLemmas
+pub mod InverseLemmas
+pub mod ChaChaStateLemmas
+pub mod GroupLemmas
+pub mod RowLemmas

@@ -1,10 +1,10 @@
-mod CycleLemmas
-mod DistanceLemmas
-mod DoublingLemmas
-mod HalvesLemmas
-mod JumpLemmas
-mod ModulusLemmas
-mod Pcg64Lemmas
-mod PeriodLemmas
-mod ReachLemmas
-mod WyRandLemmas
+pub mod CycleLemmas
+pub mod DistanceLemmas
+pub mod DoublingLemmas
+pub mod HalvesLemmas
+pub mod JumpLemmas
+pub mod ModulusLemmas
+pub mod Pcg64Lemmas
+pub mod PeriodLemmas
+pub mod ReachLemmas
+pub mod WyRandLemmas

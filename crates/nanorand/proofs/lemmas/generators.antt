@@ -1,2 +1,2 @@
-mod HexadecimalLemmas
-mod SeedLemmas
+pub mod HexadecimalLemmas
+pub mod SeedLemmas

@@ -1,9 +1,9 @@
-mod CeilingLemmas
-mod RunLemmas
-mod DrawLemmas
-mod RangeLemmas
-mod LimitLemmas
-mod CountLemmas
-mod FairnessLemmas
-mod SwapLemmas
-mod EventLemmas
+pub mod CeilingLemmas
+pub mod RunLemmas
+pub mod DrawLemmas
+pub mod RangeLemmas
+pub mod LimitLemmas
+pub mod CountLemmas
+pub mod FairnessLemmas
+pub mod SwapLemmas
+pub mod EventLemmas

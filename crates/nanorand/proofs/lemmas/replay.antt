@@ -1,2 +1,2 @@
-mod ReplayLemmas
-mod UnbrokenLemmas
+pub mod ReplayLemmas
+pub mod UnbrokenLemmas

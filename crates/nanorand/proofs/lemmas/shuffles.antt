@@ -1,7 +1,7 @@
-mod PlaceLemmas
-mod ChoiceLemmas
-mod CorrespondenceLemmas
-mod CopyLemmas
-mod ShuffleLemmas
-mod RecordLemmas
-mod PartnerLemmas
+pub mod PlaceLemmas
+pub mod ChoiceLemmas
+pub mod CorrespondenceLemmas
+pub mod CopyLemmas
+pub mod ShuffleLemmas
+pub mod RecordLemmas
+pub mod PartnerLemmas

@@ -17,3 +17,12 @@ taken block step g n = take n (blocks block step g n)
 -- rest of the last one.
 abbrev pub plain_after : {G : Type 0} → (G → G) → ℕ → G → ℕ → G
 plain_after step output g n = iterate step (div_ceil n output) g
+
+-- The requests of a generator: the bytes that a request of n takes, and the state that it leaves.
+pub record Requests (G : Type 0) : Type 0 where
+  pub bytes : G → ℕ → List ℕ
+  pub after : G → ℕ → G
+
+-- The requests of a plain generator, whose blocks have `output` bytes.
+abbrev pub plain : {G : Type 0} → (G → List ℕ) → (G → G) → ℕ → Requests G
+plain block step output = record { bytes = taken block step; after = plain_after step output }

@@ -3,7 +3,7 @@ use Rattle.std.specs.Prelude.{ℕ, ◌-◌, List, ◌++◌, length, take, drop, 
 use Rattle.std.specs.Coded.{Coded, code_by, coded×, coded_ℕ, coded_list}
 use Rattle.std.specs.Fn.{iterate}
 use Rattle.std.specs.Int.{div_ceil}
-use Rattle.nanorand.specs.generators.Blocks.{blocks}
+use Rattle.nanorand.specs.generators.Blocks.{Requests, blocks}
 
 pub record Buffered (G : Type 0) : Type 0 where
   pub rest : List ℕ
@@ -40,3 +40,6 @@ module _ {G : Type 0} (block : G → List ℕ) (step : G → G) (output : ℕ) w
 
   abbrev pub buffered_step : Buffered G → Buffered G
   buffered_step b = buffered_after b output
+
+  abbrev pub buffered : Requests (Buffered G)
+  buffered = record { bytes = buffered_taken; after = buffered_after }

@@ -2,6 +2,7 @@
 use Rattle.std.specs.Prelude.{ℕ, zero, suc, ◌+◌, ◌*◌, ◌/◌, ◌==◌, List, [], ◌∷◌, length, min, if◌then◌else◌}
 use Rattle.std.specs.Option.{option_map_or}
 use Rattle.std.specs.declared.ops.Bound.TheVariants.{Included, Excluded}
+use Rattle.nanorand.specs.generators.Blocks.{Requests}
 use Rattle.nanorand.specs.values.Range.{unsigned_range, signed_range}
 use Rattle.nanorand.specs.values.Draws.{word_limit, deciding_place, words_from, next_word, after_word}
 use Rattle.nanorand.specs.replay.Replay.{size_of, outcome}
@@ -17,10 +18,10 @@ words_drawn word after bits numbers g =
     if length numbers == 0 then 0
     else option_map_or (λ i. i + 1) (deciding_place bits (length numbers) (words_from word after word_limit g)) word_limit
 
-module _ {G : Type 0} (bytes : G → ℕ → List ℕ) (after : G → ℕ → G) where
+module _ {G : Type 0} (requests : Requests G) where
   -- The bytes that a range of these numbers, of a type of so many bits, asks for.
   abbrev pub asked_by_range : {T : Type 0} → ℕ → List T → G → ℕ
-  asked_by_range bits numbers g = words_drawn (next_word bytes bits) (after_word after bits) bits numbers g * (bits / 8)
+  asked_by_range bits numbers g = words_drawn (next_word requests bits) (after_word requests bits) bits numbers g * (bits / 8)
 
   abbrev pub asked_by_span : G → Span → ℕ
   asked_by_span g (spans.I8 low high) = asked_by_range 8 (signed_range 8 low high) g
@@ -39,11 +40,11 @@ module _ {G : Type 0} (bytes : G → ℕ → List ℕ) (after : G → ℕ → G)
   asked_by_places first n i zero g = 0
   asked_by_places first n i (suc count) g =
       asked_by_range 64 (unsigned_range 64 (Included (first i)) (Excluded n)) g
-      + asked_by_places first n (i + 1) count (partner_drawn bytes after first n i g).1
+      + asked_by_places first n (i + 1) count (partner_drawn requests first n i g).1
 
   -- The bytes that a shuffle of n items asks for: a partner for each place, up to the refused one.
   abbrev pub asked_by_shuffle : (ℕ → ℕ) → ℕ → G → ℕ
-  asked_by_shuffle first n g = asked_by_places first n 0 (min n (length (shuffle_choices bytes after first n g) + 1)) g
+  asked_by_shuffle first n g = asked_by_places first n 0 (min n (length (shuffle_choices requests first n g) + 1)) g
 
   -- The bytes that a call asks for.
   abbrev pub asked_by_call : G → List ℕ → Call → ℕ
@@ -55,5 +56,5 @@ module _ {G : Type 0} (bytes : G → ℕ → List ℕ) (after : G → ℕ → G)
   abbrev pub asked : G → List ℕ → List Call → ℕ
   asked g items [] = 0
   asked g items (call ∷ calls) =
-      let first = outcome bytes after g items call in
+      let first = outcome requests g items call in
       asked_by_call g items call + asked first.state first.items calls

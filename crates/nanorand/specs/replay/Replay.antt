@@ -3,9 +3,10 @@
 use Rattle.std.specs.Prelude.{◌≡◌, ℕ, ℤ, List, [], ◌∷◌, ◌++◌, length, Result, Ok, Err}
 use Rattle.std.specs.declared.ops.Bound.{Bound}
 use Rattle.std.specs.Int.{w8, w16, w32, w64, w128}
+use Rattle.nanorand.specs.generators.Blocks.{Requests}
 use Rattle.nanorand.specs.values.Values.{number_of, signed_number_of, truth_of}
 use Rattle.nanorand.specs.values.Draws.{unsigned_outcome, signed_outcome}
-use Rattle.nanorand.specs.shuffles.Shuffles.{arranged, from_itself, shuffle_answer, shuffle_choices, shuffle_state}
+use Rattle.nanorand.specs.shuffles.Shuffles.{from_itself, shuffled}
 use Rattle.nanorand.specs.declared.values.range.RangeError.{RangeError}
 use Rattle.nanorand.specs.declared.values.range.RangeError.TheVariants as refusals
 use Rattle.nanorand.specs.declared.replay.Kind.{Kind}
@@ -81,15 +82,15 @@ pub record Replay (G : Type 0) : Type 0 where
   pub items : List ℕ
   pub state : G
 
-module _ {G : Type 0} (bytes : G → ℕ → List ℕ) (after : G → ℕ → G) where
+module _ {G : Type 0} (requests : Requests G) where
   abbrev pub unsigned_span : ℕ → G → Bound ℕ → Bound ℕ → Answer × G
   unsigned_span bits g low high =
-      let drawn = unsigned_outcome bytes after bits g low high in
+      let drawn = unsigned_outcome requests bits g low high in
       (unsigned_answer drawn.0, drawn.1)
 
   abbrev pub signed_span : ℕ → G → Bound ℤ → Bound ℤ → Answer × G
   signed_span bits g low high =
-      let drawn = signed_outcome bytes after bits g low high in
+      let drawn = signed_outcome requests bits g low high in
       (signed_answer drawn.0, drawn.1)
 
   -- What a range answers, and the state that it leaves.
@@ -106,15 +107,11 @@ module _ {G : Type 0} (bytes : G → ℕ → List ℕ) (after : G → ℕ → G)
   span_outcome g (spans.Usize low high) = unsigned_span 64 g low high
 
   abbrev pub outcome : G → List ℕ → Call → Outcome G
-  outcome g items (Gen kind) = record { answer = value_of kind (bytes g (size_of kind)); items = items; state = after g (size_of kind) }
+  outcome g items (Gen kind) = record { answer = value_of kind (requests.bytes g (size_of kind)); items = items; state = requests.after g (size_of kind) }
   outcome g items (Range span) = record { answer = (span_outcome g span).0; items = items; state = (span_outcome g span).1 }
   outcome g items Shuffle =
-      let count = length items in
-      record {
-        answer = shuffle_call_answer (shuffle_answer bytes after from_itself count g);
-        items = arranged (shuffle_choices bytes after from_itself count g) items;
-        state = shuffle_state bytes after from_itself count g;
-      }
+      let shuffle = shuffled requests from_itself g items in
+      record { answer = shuffle_call_answer shuffle.answer; items = shuffle.items; state = shuffle.state }
 
   -- Each call starts from what the one before it left.
   abbrev pub replayed : G → List ℕ → List Call → Replay G

@@ -1,27 +1,28 @@
 -- Requests that are delivered without a break: several take and leave what one of their sum does.
 use Rattle.std.specs.Prelude.{◌≡◌, ℕ, ◌+◌, List, [], ◌∷◌, ◌++◌, sum}
+use Rattle.nanorand.specs.generators.Blocks.{Requests}
 use Rattle.nanorand.specs.replay.Asked.{asked}
 use Rattle.nanorand.specs.replay.Replay.{replayed}
 use Rattle.nanorand.specs.declared.replay.Call.{Call}
 
 -- `bytes g n` is what a request of n takes, and `after g n` the state that it leaves.
-module _ {G : Type 0} (bytes : G → ℕ → List ℕ) (after : G → ℕ → G) where
+module _ {G : Type 0} (requests : Requests G) where
   -- The state after requests of these sizes.
   abbrev pub after_all : G → List ℕ → G
   after_all g [] = g
-  after_all g (n ∷ sizes) = after_all (after g n) sizes
+  after_all g (n ∷ sizes) = after_all (requests.after g n) sizes
 
   -- The bytes that they take, one after another.
   abbrev pub taken_all : G → List ℕ → List ℕ
   taken_all g [] = []
-  taken_all g (n ∷ sizes) = bytes g n ++ taken_all (after g n) sizes
+  taken_all g (n ∷ sizes) = requests.bytes g n ++ taken_all (requests.after g n) sizes
 
   -- Two requests, and any list of them, take and leave what one of their sum does. A list of calls leaves what one request
   -- of all the bytes that it asks for leaves.
   pub record IsUnbroken : Type 0 where
-    pub two_states : (g : G) (m n : ℕ) → after (after g m) n ≡ after g (m + n)
-    pub two_takes : (g : G) (m n : ℕ) → bytes g m ++ bytes (after g m) n ≡ bytes g (m + n)
-    pub all_states : (g : G) (sizes : List ℕ) → after_all g sizes ≡ after g (sum sizes)
-    pub all_takes : (g : G) (sizes : List ℕ) → taken_all g sizes ≡ bytes g (sum sizes)
+    pub two_states : (g : G) (m n : ℕ) → requests.after (requests.after g m) n ≡ requests.after g (m + n)
+    pub two_takes : (g : G) (m n : ℕ) → requests.bytes g m ++ requests.bytes (requests.after g m) n ≡ requests.bytes g (m + n)
+    pub all_states : (g : G) (sizes : List ℕ) → after_all g sizes ≡ requests.after g (sum sizes)
+    pub all_takes : (g : G) (sizes : List ℕ) → taken_all g sizes ≡ requests.bytes g (sum sizes)
     pub call_states : (g : G) (items : List ℕ) (calls : List Call)
-        → (replayed bytes after g items calls).state ≡ after g (asked bytes after g items calls)
+        → (replayed requests g items calls).state ≡ requests.after g (asked requests g items calls)

@@ -2,6 +2,7 @@
 use Rattle.std.specs.Prelude.{ℕ, zero, suc, ◌+◌, ◌==◌, List, [], ◌∷◌, length, min, fold, swap, Result, Ok, Err, if◌then◌else◌}
 use Rattle.std.specs.List.{enumerate_from}
 use Rattle.std.specs.declared.ops.Bound.TheVariants.{Included, Excluded}
+use Rattle.nanorand.specs.generators.Blocks.{Requests}
 use Rattle.nanorand.specs.values.Draws.{unsigned_outcome}
 use Rattle.nanorand.specs.declared.values.range.RangeError.{RangeError}
 use Rattle.nanorand.specs.declared.values.range.RangeError.TheVariants.{Exhausted}
@@ -28,10 +29,10 @@ choice_before (Ok choice) choices = choice ∷ choices
 choice_before (Err refusal) choices = []
 
 -- A shuffle of n items. The partner of place i is drawn from the places `first i` to n - 1.
-module _ {G : Type 0} (bytes : G → ℕ → List ℕ) (after : G → ℕ → G) (first : ℕ → ℕ) (n : ℕ) where
+module _ {G : Type 0} (requests : Requests G) (first : ℕ → ℕ) (n : ℕ) where
   -- What is drawn for place i, and the state after it.
   unfoldable pub partner_drawn : ℕ → G → Result ℕ RangeError × G
-  partner_drawn i g = unsigned_outcome bytes after 64 g (Included (first i)) (Excluded n)
+  partner_drawn i g = unsigned_outcome requests 64 g (Included (first i)) (Excluded n)
 
   -- The choices for `left` places from i on, up to the first draw that is refused.
   unfoldable pub choices_from : ℕ → ℕ → G → List ℕ
@@ -54,3 +55,21 @@ module _ {G : Type 0} (bytes : G → ℕ → List ℕ) (after : G → ℕ → G)
   -- The state after all draws, the refused one too.
   abbrev pub shuffle_state : G → G
   shuffle_state g = state_after_places 0 (min n (length (shuffle_choices g) + 1)) g
+
+-- What a shuffle answers, the choices that it makes, and the items and the state that it leaves.
+pub record Shuffle (G T : Type 0) : Type 0 where
+  pub answer : Result (Unit {0}) RangeError
+  pub choices : List ℕ
+  pub items : List T
+  pub state : G
+
+abbrev pub shuffled : {G T : Type 0} → Requests G → (ℕ → ℕ) → G → List T → Shuffle G T
+shuffled requests first g items =
+    let count = length items in
+    let choices = shuffle_choices requests first count g in
+    record {
+      answer = shuffle_answer requests first count g;
+      choices = choices;
+      items = arranged choices items;
+      state = shuffle_state requests first count g;
+    }

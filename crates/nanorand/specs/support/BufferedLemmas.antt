@@ -61,10 +61,6 @@ iterate_add step (suc m) n g = rw suc-add (iterate_add step m n (step g))
 pub same_buffer : {G : Type 0} {rest other : List ℕ} {inner another : G} → rest ≡ other → inner ≡ another → buffer_of rest inner ≡ buffer_of other another
 same_buffer e f = cc
 
-take_mid : (xs ys zs : List ℕ) (n m : ℕ) → length xs ≡ n → m ≤ length ys → take (n + m) (xs ++ (ys ++ zs)) ≡ xs ++ take m ys
-take_mid xs ys zs n m long fits =
-    ap (λ k. take (k + m) (xs ++ (ys ++ zs))) (sym long) ∙ take-append-add xs (ys ++ zs) m ∙ ap (λ bytes. xs ++ bytes) (take-append-le m ys zs fits)
-
 module _ {G : Type 0} (block : G → List ℕ) (step : G → G) (output : ℕ) (positive : 0 < output) (size : (g : G) → length (block g) ≡ output) where
   length-row : (b : Buffered G) (m : ℕ) → length (row block step output b m) ≡ length b.rest + m * output
   length-row b m = rw length-append (ap (λ n. length b.rest + n) (length-blocks block step output positive size b.inner m))
@@ -140,10 +136,8 @@ module _ {G : Type 0} (block : G → List ℕ) (step : G → G) (output : ℕ) (
   unfolding taken
   taken_unbroken b n = ap (λ bytes. take n bytes) (blocks_of b n) ∙ taken_within b n (n * output) (le-mul_self n output positive)
 
-  -- where nothing is kept, the next block is kept first
-  pub taken_refilled : (g : G) (n : ℕ) → 0 < n → buffered_taken block step output (buffer_of [] g) n ≡ buffered_taken block step output (buffer_of (block g) (step g)) n
-  unfolding buffered_taken
-  taken_refilled g n some = rw (sub-zero, div_ceil_more n output some positive, size g) refl
+  pub delivers : (b : Buffered G) (n : ℕ) → buffered_taken block step output b n ≡ taken (buffered_block block step output) (buffered_step block step output) b n
+  delivers b n = sym (taken_unbroken b n)
 
   pub after_refilled : (g : G) (n : ℕ) → 0 < n → buffered_after block step output (buffer_of [] g) n ≡ buffered_after block step output (buffer_of (block g) (step g)) n
   unfolding buffered_after

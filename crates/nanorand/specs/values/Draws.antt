@@ -4,6 +4,7 @@ use Rattle.std.specs.Fn.{iterate}
 use Rattle.std.specs.List.{range_with_len}
 use Rattle.std.specs.Option.{option_map_or}
 use Rattle.std.specs.declared.ops.Bound.{Bound}
+use Rattle.nanorand.specs.generators.Blocks.{Requests}
 use Rattle.nanorand.specs.values.Values.{number_of}
 use Rattle.nanorand.specs.values.Runs.{named}
 use Rattle.nanorand.specs.values.Range.{unsigned_range, signed_range}
@@ -49,19 +50,31 @@ module _ {G : Type 0} (word : G → ℕ) (after : G → G) where
   left_by bits numbers g = if length numbers == 0 then g else left_after word_limit bits (length numbers) g
 
 -- Words from requests: a word of so many bits is the number of the bytes that one request of bits / 8 delivers, least
--- byte first, for the signed types too. `bytes g n` is what a request of n delivers.
-abbrev pub next_word : {G : Type 0} → (G → ℕ → List ℕ) → ℕ → G → ℕ
-next_word bytes bits g = number_of (bytes g (bits / 8))
+-- byte first, for the signed types too.
+abbrev pub next_word : {G : Type 0} → Requests G → ℕ → G → ℕ
+next_word requests bits g = number_of (requests.bytes g (bits / 8))
 
--- The state after that word. `after g n` is the state after a request of n.
-abbrev pub after_word : {G : Type 0} → (G → ℕ → G) → ℕ → G → G
-after_word after bits g = after g (bits / 8)
+-- The state after that word.
+abbrev pub after_word : {G : Type 0} → Requests G → ℕ → G → G
+after_word requests bits g = requests.after g (bits / 8)
 
-module _ {G : Type 0} (bytes : G → ℕ → List ℕ) (after : G → ℕ → G) where
+-- What a bounded draw gives, and the state that it leaves.
+pub record Draw (G : Type 0) : Type 0 where
+  pub number : Option ℕ
+  pub state : G
+
+module _ {G : Type 0} (requests : Requests G) where
+  -- A bounded draw below the size, by words of so many bits.
+  abbrev pub drawn_below : ℕ → ℕ → G → Draw G
+  drawn_below bits size g =
+      let word = next_word requests bits in
+      let after = after_word requests bits in
+      record { number = number_drawn word after word_limit bits size g; state = left_after word after word_limit bits size g }
+
   -- What a range of these numbers, of a type of so many bits, gives, and the state that it leaves.
   abbrev pub range_outcome : {T : Type 0} → ℕ → List T → G → Result T RangeError × G
   range_outcome bits numbers g =
-      (value_drawn (next_word bytes bits) (after_word after bits) bits numbers g, left_by (next_word bytes bits) (after_word after bits) bits numbers g)
+      (value_drawn (next_word requests bits) (after_word requests bits) bits numbers g, left_by (next_word requests bits) (after_word requests bits) bits numbers g)
 
   -- The same for the unsigned and the signed type of so many bits, by its bounds.
   abbrev pub unsigned_outcome : ℕ → G → Bound ℕ → Bound ℕ → Result ℕ RangeError × G

@@ -8,10 +8,10 @@ mod block;
 mod inverse;
 mod lanes;
 mod state;
-mod wide;
+mod four_blocks;
 
 pub use block::{chacha_block, chacha_rounds};
 pub use inverse::chacha_unrounds;
 pub(crate) use state::{counter, set_counter};
 pub use state::{chacha_increment_counter, chacha_init};
-pub(crate) use wide::four_blocks;
+pub(crate) use four_blocks::four_blocks;

@@ -3,7 +3,7 @@ ghost use Rattle.std.specs.Prelude.{◌≡◌, ℕ, ◌%◌, ◌⊎◌, List, �
 ghost use Rattle.std.specs.Fmt.{decimal};
 ghost use Rattle.std.proofs.Common.{rules};
 ghost use Rattle.std.specs.Fn.{iterate};
-ghost use Rattle.nanorand.specs.generators.Blocks.{taken, plain_after};
+ghost use Rattle.nanorand.specs.generators.Blocks.{taken, plain_after, plain};
 ghost use Rattle.nanorand.specs.generators.ChaCha.{initial_state, seeded_state, bytes, counter, chacha_block, next_state, advanced, chacha_after};
 ghost use Rattle.nanorand.specs.generators.ChaChaRounds.{IsMatrix};
 ghost use Rattle.nanorand.specs.support.ChaChaDrawLemmas.{length-chacha_block};
@@ -177,7 +177,7 @@ impl<const ROUNDS: u8> Blocks<64> for ChaCha<ROUNDS> {
 }
 
 impl<const ROUNDS: u8> Rng<64> for ChaCha<ROUNDS> {
-    ghost after = { plain_after next_state 64 };
+    ghost requests = { plain (chacha_block ROUNDS) next_state 64 };
 
     /// Whole groups of 256 bytes are worked four blocks side by side.
     fn fill_bytes(&mut self, buffer: &mut [u8])
@@ -191,6 +191,8 @@ impl<const ROUNDS: u8> Rng<64> for ChaCha<ROUNDS> {
         }
         fill_by_blocks(self, &mut buffer[filled..])
     }
+
+    ghost delivers = { λ _ _. refl };
 
     ghost after_nothing = { λ _. refl };
 

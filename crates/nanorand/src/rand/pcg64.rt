@@ -1,7 +1,7 @@
 //! Pcg64: 128 bits of seed, and a word of 64 bits a draw.
 ghost use Rattle.std.specs.Prelude.{◌≡◌, length, ◌⊎◌, ⊤, refl, Some, IfOk, IfErr, codes, ℕ, ◌<◌, ◌^◌, ◌↔◌, IsTrue, IsSome, IfSome};
 ghost use Rattle.std.proofs.Common.{rules};
-ghost use Rattle.nanorand.specs.generators.Blocks.{plain_after, taken};
+ghost use Rattle.nanorand.specs.generators.Blocks.{plain_after, taken, plain};
 ghost use Rattle.nanorand.specs.generators.Entropy.{HasFewer, IsMadeOf};
 ghost use Rattle.nanorand.specs.generators.Pcg64.{next, pcg64_after, pcg64_block, reseeded, seed_after, SameCycle};
 ghost use Rattle.nanorand.specs.generators.DebugTexts.{pcg64_debug};
@@ -183,7 +183,7 @@ impl Blocks<8> for Pcg64 {
 }
 
 impl Rng<8> for Pcg64 {
-    ghost after = { plain_after next 8 };
+    ghost requests = { plain pcg64_block next 8 };
 
     #[inline]
     fn fill_bytes(&mut self, buffer: &mut [u8])
@@ -192,6 +192,8 @@ impl Rng<8> for Pcg64 {
     {
         fill_by_blocks(self, buffer)
     }
+
+    ghost delivers = { λ _ _. refl };
 
     ghost after_nothing = { λ _. refl };
 

@@ -1,7 +1,7 @@
 //! Wyrand: 64 bits of seed, and a word of 64 bits a draw.
 ghost use Rattle.std.specs.Prelude.{◌≡◌, length, ◌⊎◌, ⊤, refl, Some, IfOk, IfErr, codes, ℕ, ◌<◌, ◌^◌};
 ghost use Rattle.std.proofs.Common.{rules};
-ghost use Rattle.nanorand.specs.generators.Blocks.{plain_after, taken};
+ghost use Rattle.nanorand.specs.generators.Blocks.{plain_after, taken, plain};
 ghost use Rattle.nanorand.specs.generators.Entropy.{HasFewer, IsMadeOf};
 ghost use Rattle.nanorand.specs.generators.DebugTexts.{wyrand_debug};
 ghost use Rattle.nanorand.specs.values.Values.{number_of};
@@ -148,7 +148,7 @@ impl Blocks<8> for WyRand {
 }
 
 impl Rng<8> for WyRand {
-    ghost after = { plain_after next_seed 8 };
+    ghost requests = { plain wyrand_block next_seed 8 };
 
     #[inline]
     fn fill_bytes(&mut self, buffer: &mut [u8])
@@ -157,6 +157,8 @@ impl Rng<8> for WyRand {
     {
         fill_by_blocks(self, buffer)
     }
+
+    ghost delivers = { λ _ _. refl };
 
     ghost after_nothing = { λ _. refl };
 

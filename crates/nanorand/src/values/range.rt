@@ -2,7 +2,6 @@
 ghost use Rattle.std.specs.Prelude.{◌≡◌, ℕ, ◌^◌, ◌<◌, ◌≤◌, true, Result, Err, IfOk, IfErr, nat_le, nat_lt};
 ghost use Rattle.std.specs.Fn.{iterate};
 ghost use Rattle.std.specs.declared.ops.Bound.{Bound};
-ghost use Rattle.nanorand.specs.generators.Blocks.{taken};
 ghost use Rattle.nanorand.specs.values.Range.{is_above, is_below, range_within};
 ghost use Rattle.nanorand.specs.values.Draws.{word_limit, after_word, range_outcome};
 ghost use Rattle.nanorand.specs.declared.values.range.RangeError.{RangeError};
@@ -55,15 +54,15 @@ pub fn draw_number<T: Number, G: Rng<OUTPUT>, const OUTPUT: usize>(
     high: Bound<T>,
 ) -> Result<T, RangeError>
     ensures value { let numbers = range_within T.le T.lt T.BITS T.number low high in
-        result ≡ (range_outcome (taken G.block G.step) G.after T.BITS numbers rng.old).0 }
+        result ≡ (range_outcome G.requests T.BITS numbers rng.old).0 }
     ensures state { let numbers = range_within T.le T.lt T.BITS T.number low high in
-        rng.new ≡ (range_outcome (taken G.block G.step) G.after T.BITS numbers rng.old).1 }
+        rng.new ≡ (range_outcome G.requests T.BITS numbers rng.old).1 }
     ensures within { IfOk result (λ x. (is_above T.le T.lt low x ≡ true) × (is_below T.le T.lt high x ≡ true)) }
-    ensures words { (n : ℕ) × (n ≤ word_limit) × (rng.new ≡ iterate (after_word G.after T.BITS) n rng.old) }
+    ensures words { (n : ℕ) × (n ≤ word_limit) × (rng.new ≡ iterate (after_word G.requests T.BITS) n rng.old) }
     ensures some { (k : ℕ) → k < 2 ^ T.BITS → is_above T.le T.lt low (T.number k) ≡ true → is_below T.le T.lt high (T.number k) ≡ true
         → IfErr result (λ refusal. refusal ≡ Exhausted) }
     ensures empty { result ≡ Err Empty → rng.new ≡ rng.old }
-    ensures exhausted { result ≡ Err Exhausted → rng.new ≡ iterate (after_word G.after T.BITS) word_limit rng.old }
+    ensures exhausted { result ≡ Err Exhausted → rng.new ≡ iterate (after_word G.requests T.BITS) word_limit rng.old }
 {
     let first = first_place(low);
     let end = end_place(high);

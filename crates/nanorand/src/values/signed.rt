@@ -1,15 +1,14 @@
 //! The signed numbers: one request of their bytes, least byte first, in two's complement.
 ghost use Rattle.std.specs.Int.{w8, w16, w32, w64, w128};
-ghost use Rattle.nanorand.specs.generators.Blocks.{taken};
 ghost use Rattle.nanorand.specs.values.Values.{signed_number_of};
 
 use super::{RandomGen, next_bytes};
 use crate::rand::Rng;
 
 impl<G: Rng<OUTPUT>, const OUTPUT: usize> RandomGen<G, OUTPUT> for i8 {
-    ghost value = { λ g. signed_number_of w8 (taken G.block G.step g 1) };
+    ghost value = { λ g. signed_number_of w8 (G.requests.bytes g 1) };
 
-    ghost state_after = { λ g. G.after g 1 };
+    ghost state_after = { λ g. G.requests.after g 1 };
 
     #[inline]
     fn random(rng: &mut G) -> i8 {
@@ -18,9 +17,9 @@ impl<G: Rng<OUTPUT>, const OUTPUT: usize> RandomGen<G, OUTPUT> for i8 {
 }
 
 impl<G: Rng<OUTPUT>, const OUTPUT: usize> RandomGen<G, OUTPUT> for i16 {
-    ghost value = { λ g. signed_number_of w16 (taken G.block G.step g 2) };
+    ghost value = { λ g. signed_number_of w16 (G.requests.bytes g 2) };
 
-    ghost state_after = { λ g. G.after g 2 };
+    ghost state_after = { λ g. G.requests.after g 2 };
 
     #[inline]
     fn random(rng: &mut G) -> i16 {
@@ -29,9 +28,9 @@ impl<G: Rng<OUTPUT>, const OUTPUT: usize> RandomGen<G, OUTPUT> for i16 {
 }
 
 impl<G: Rng<OUTPUT>, const OUTPUT: usize> RandomGen<G, OUTPUT> for i32 {
-    ghost value = { λ g. signed_number_of w32 (taken G.block G.step g 4) };
+    ghost value = { λ g. signed_number_of w32 (G.requests.bytes g 4) };
 
-    ghost state_after = { λ g. G.after g 4 };
+    ghost state_after = { λ g. G.requests.after g 4 };
 
     #[inline]
     fn random(rng: &mut G) -> i32 {
@@ -40,9 +39,9 @@ impl<G: Rng<OUTPUT>, const OUTPUT: usize> RandomGen<G, OUTPUT> for i32 {
 }
 
 impl<G: Rng<OUTPUT>, const OUTPUT: usize> RandomGen<G, OUTPUT> for i64 {
-    ghost value = { λ g. signed_number_of w64 (taken G.block G.step g 8) };
+    ghost value = { λ g. signed_number_of w64 (G.requests.bytes g 8) };
 
-    ghost state_after = { λ g. G.after g 8 };
+    ghost state_after = { λ g. G.requests.after g 8 };
 
     #[inline]
     fn random(rng: &mut G) -> i64 {
@@ -51,9 +50,9 @@ impl<G: Rng<OUTPUT>, const OUTPUT: usize> RandomGen<G, OUTPUT> for i64 {
 }
 
 impl<G: Rng<OUTPUT>, const OUTPUT: usize> RandomGen<G, OUTPUT> for i128 {
-    ghost value = { λ g. signed_number_of w128 (taken G.block G.step g 16) };
+    ghost value = { λ g. signed_number_of w128 (G.requests.bytes g 16) };
 
-    ghost state_after = { λ g. G.after g 16 };
+    ghost state_after = { λ g. G.requests.after g 16 };
 
     #[inline]
     fn random(rng: &mut G) -> i128 {
@@ -62,9 +61,9 @@ impl<G: Rng<OUTPUT>, const OUTPUT: usize> RandomGen<G, OUTPUT> for i128 {
 }
 
 impl<G: Rng<OUTPUT>, const OUTPUT: usize> RandomGen<G, OUTPUT> for isize {
-    ghost value = { λ g. signed_number_of w64 (taken G.block G.step g 8) };
+    ghost value = { λ g. signed_number_of w64 (G.requests.bytes g 8) };
 
-    ghost state_after = { λ g. G.after g 8 };
+    ghost state_after = { λ g. G.requests.after g 8 };
 
     #[inline]
     fn random(rng: &mut G) -> isize {

@@ -1,14 +1,13 @@
 //! The unsigned numbers: one request of their bytes, least byte first.
-ghost use Rattle.nanorand.specs.generators.Blocks.{taken};
 ghost use Rattle.nanorand.specs.values.Values.{number_of};
 
 use super::{RandomGen, next_bytes};
 use crate::rand::Rng;
 
 impl<G: Rng<OUTPUT>, const OUTPUT: usize> RandomGen<G, OUTPUT> for u8 {
-    ghost value = { λ g. number_of (taken G.block G.step g 1) };
+    ghost value = { λ g. number_of (G.requests.bytes g 1) };
 
-    ghost state_after = { λ g. G.after g 1 };
+    ghost state_after = { λ g. G.requests.after g 1 };
 
     #[inline]
     fn random(rng: &mut G) -> u8 {
@@ -17,9 +16,9 @@ impl<G: Rng<OUTPUT>, const OUTPUT: usize> RandomGen<G, OUTPUT> for u8 {
 }
 
 impl<G: Rng<OUTPUT>, const OUTPUT: usize> RandomGen<G, OUTPUT> for u16 {
-    ghost value = { λ g. number_of (taken G.block G.step g 2) };
+    ghost value = { λ g. number_of (G.requests.bytes g 2) };
 
-    ghost state_after = { λ g. G.after g 2 };
+    ghost state_after = { λ g. G.requests.after g 2 };
 
     #[inline]
     fn random(rng: &mut G) -> u16 {
@@ -28,9 +27,9 @@ impl<G: Rng<OUTPUT>, const OUTPUT: usize> RandomGen<G, OUTPUT> for u16 {
 }
 
 impl<G: Rng<OUTPUT>, const OUTPUT: usize> RandomGen<G, OUTPUT> for u32 {
-    ghost value = { λ g. number_of (taken G.block G.step g 4) };
+    ghost value = { λ g. number_of (G.requests.bytes g 4) };
 
-    ghost state_after = { λ g. G.after g 4 };
+    ghost state_after = { λ g. G.requests.after g 4 };
 
     #[inline]
     fn random(rng: &mut G) -> u32 {
@@ -39,9 +38,9 @@ impl<G: Rng<OUTPUT>, const OUTPUT: usize> RandomGen<G, OUTPUT> for u32 {
 }
 
 impl<G: Rng<OUTPUT>, const OUTPUT: usize> RandomGen<G, OUTPUT> for u64 {
-    ghost value = { λ g. number_of (taken G.block G.step g 8) };
+    ghost value = { λ g. number_of (G.requests.bytes g 8) };
 
-    ghost state_after = { λ g. G.after g 8 };
+    ghost state_after = { λ g. G.requests.after g 8 };
 
     #[inline]
     fn random(rng: &mut G) -> u64 {
@@ -50,9 +49,9 @@ impl<G: Rng<OUTPUT>, const OUTPUT: usize> RandomGen<G, OUTPUT> for u64 {
 }
 
 impl<G: Rng<OUTPUT>, const OUTPUT: usize> RandomGen<G, OUTPUT> for u128 {
-    ghost value = { λ g. number_of (taken G.block G.step g 16) };
+    ghost value = { λ g. number_of (G.requests.bytes g 16) };
 
-    ghost state_after = { λ g. G.after g 16 };
+    ghost state_after = { λ g. G.requests.after g 16 };
 
     #[inline]
     fn random(rng: &mut G) -> u128 {
@@ -61,9 +60,9 @@ impl<G: Rng<OUTPUT>, const OUTPUT: usize> RandomGen<G, OUTPUT> for u128 {
 }
 
 impl<G: Rng<OUTPUT>, const OUTPUT: usize> RandomGen<G, OUTPUT> for usize {
-    ghost value = { λ g. number_of (taken G.block G.step g 8) };
+    ghost value = { λ g. number_of (G.requests.bytes g 8) };
 
-    ghost state_after = { λ g. G.after g 8 };
+    ghost state_after = { λ g. G.requests.after g 8 };
 
     #[inline]
     fn random(rng: &mut G) -> usize {

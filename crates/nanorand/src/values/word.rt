@@ -1,9 +1,8 @@
 //! Words, and the numbers that they name.
 ghost use Rattle.std.specs.Prelude.{◌≡◌, ℕ, ◌^◌, ◌<◌, ◌≤◌, MatchOption, IfSome, IfNone};
 ghost use Rattle.std.specs.Fn.{iterate};
-ghost use Rattle.nanorand.specs.generators.Blocks.{taken};
 ghost use Rattle.nanorand.specs.values.Runs.{IsWordWidth, Names, named, rejected};
-ghost use Rattle.nanorand.specs.values.Draws.{word_limit, next_word, after_word, number_drawn, left_after};
+ghost use Rattle.nanorand.specs.values.Draws.{word_limit, next_word, after_word, drawn_below};
 
 use crate::rand::Rng;
 
@@ -80,10 +79,10 @@ pub fn draw_below<G: Rng<OUTPUT>, const OUTPUT: usize>(
     requires some { 1 ≤ size }
     requires within { size ≤ 2 ^ bits }
     ensures below { IfSome result (λ number. number < size) }
-    ensures number { result ≡ number_drawn (next_word (taken G.block G.step) bits) (after_word G.after bits) word_limit bits size rng.old }
-    ensures state { rng.new ≡ left_after (next_word (taken G.block G.step) bits) (after_word G.after bits) word_limit bits size rng.old }
-    ensures words { (n : ℕ) × (n ≤ word_limit) × (rng.new ≡ iterate (after_word G.after bits) n rng.old) }
-    ensures exhausted { IfNone result (rng.new ≡ iterate (after_word G.after bits) word_limit rng.old) }
+    ensures number { result ≡ (drawn_below G.requests bits size rng.old).number }
+    ensures state { rng.new ≡ (drawn_below G.requests bits size rng.old).state }
+    ensures words { (n : ℕ) × (n ≤ word_limit) × (rng.new ≡ iterate (after_word G.requests bits) n rng.old) }
+    ensures exhausted { IfNone result (rng.new ≡ iterate (after_word G.requests bits) word_limit rng.old) }
 {
     let first = draw_word(rng, bits);
     if let Some(number) = pick_word(size, bits, first) {
@@ -101,9 +100,9 @@ pub fn draw_below<G: Rng<OUTPUT>, const OUTPUT: usize>(
 // The next word, by one request.
 fn draw_word<G: Rng<OUTPUT>, const OUTPUT: usize>(rng: &mut G, bits: u32) -> u64
     requires width { IsWordWidth bits }
-    ensures value { result ≡ next_word (taken G.block G.step) bits rng.old }
+    ensures value { result ≡ next_word G.requests bits rng.old }
     ensures fits { result < 2 ^ bits }
-    ensures state { rng.new ≡ after_word G.after bits rng.old }
+    ensures state { rng.new ≡ after_word G.requests bits rng.old }
 {
     match bits {
         8 => u64::from(rng.generate::<u8>()),

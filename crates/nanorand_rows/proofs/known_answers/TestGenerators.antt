@@ -2,7 +2,7 @@
 use Rattle.std.specs.Prelude.{◌≡◌, ℕ, ◌-◌, ◌^◌, List, [], ◌∷◌, ◌++◌, replicate, Ok, refl}
 use Rattle.std.specs.List.{range_with_len}
 use Rattle.std.specs.declared.ops.Bound.TheVariants.{Included, Unbounded}
-use Rattle.nanorand.specs.generators.Blocks.{taken, plain_after}
+use Rattle.nanorand.specs.generators.Blocks.{taken, plain_after, plain}
 use Rattle.nanorand.specs.generators.Buffered.{Buffered, buffer_of, buffered_block, buffered_step, buffered_taken, buffered_after}
 use Rattle.nanorand.specs.values.Runs.{named}
 use Rattle.nanorand.specs.values.Range.{range_within}
@@ -55,11 +55,11 @@ unfolding taken buffered_taken buffered_after
 kept_replay = refl
 
 -- blocks of one byte and of 64
-byte_and_byte : replayed (taken (rising_block 1) next_count) (plain_after next_count 1) 0 [] (Gen kinds.U16 ∷ []) ≡ record { answers = Unsigned 0x0100 ∷ []; items = []; state = 2 }
+byte_and_byte : replayed (plain (rising_block 1) next_count 1) 0 [] (Gen kinds.U16 ∷ []) ≡ record { answers = Unsigned 0x0100 ∷ []; items = []; state = 2 }
 unfolding taken
 byte_and_byte = refl
 
-byte_of_each_64 : replayed (taken (rising_block 64) next_count) (plain_after next_count 64) 0 [] (Gen kinds.U8 ∷ Gen kinds.U8 ∷ []) ≡ record { answers = Unsigned 0 ∷ Unsigned 64 ∷ []; items = []; state = 2 }
+byte_of_each_64 : replayed (plain (rising_block 64) next_count 64) 0 [] (Gen kinds.U8 ∷ Gen kinds.U8 ∷ []) ≡ record { answers = Unsigned 0 ∷ Unsigned 64 ∷ []; items = []; state = 2 }
 unfolding taken
 byte_of_each_64 = refl
 
@@ -67,36 +67,36 @@ byte_of_each_64 = refl
 abbrev late_one : List ℕ
 late_one = replicate 128 0 ++ 1 ∷ []
 
-byte_of_block_129 : replayed (taken script_block script_step) (plain_after script_step 8) (late_one, 0) [] (Range (spans.U8 (Included 10) (Included 12)) ∷ Gen kinds.U8 ∷ [])
+byte_of_block_129 : replayed (plain script_block script_step 8) (late_one, 0) [] (Range (spans.U8 (Included 10) (Included 12)) ∷ Gen kinds.U8 ∷ [])
     ≡ record { answers = Exhausted ∷ Unsigned 1 ∷ []; items = []; state = (late_one, 129) }
 unfolding named range_within words_from value_drawn left_by left_after taken
 byte_of_block_129 = refl
 
 -- the die: 1 behind 128 rejected words of zeros, and behind one of rising bytes, and 2 where it begins at 2
-throw_of_zeros : die_value (taken constant_block constant_step) (plain_after constant_step 8) (record { byte = 0; drawn = 0 }) ≡ 1
+throw_of_zeros : die_value (plain constant_block constant_step 8) (record { byte = 0; drawn = 0 }) ≡ 1
 unfolding named range_within words_from value_drawn left_by left_after taken
 throw_of_zeros = refl
 
-words_of_a_throw : die_after (taken constant_block constant_step) (plain_after constant_step 8) (record { byte = 0; drawn = 0 }) ≡ record { byte = 0; drawn = 128 }
+words_of_a_throw : die_after (plain constant_block constant_step 8) (record { byte = 0; drawn = 0 }) ≡ record { byte = 0; drawn = 128 }
 unfolding named range_within words_from value_drawn left_by left_after taken
 words_of_a_throw = refl
 
-throw_of_no_words : die_value (taken zeros_block next_count) (plain_after next_count 8) 0 ≡ 1
+throw_of_no_words : die_value (plain zeros_block next_count 8) 0 ≡ 1
 unfolding named range_within words_from value_drawn left_by left_after taken
 throw_of_no_words = refl
 
-zeros_of_a_throw : die_after (taken zeros_block next_count) (plain_after next_count 8) 0 ≡ 128
+zeros_of_a_throw : die_after (plain zeros_block next_count 8) 0 ≡ 128
 unfolding named range_within words_from value_drawn left_by left_after taken
 zeros_of_a_throw = refl
 
-throw_of_steps : die_value (taken steps_block next_count) (plain_after next_count 8) 0 ≡ 1
+throw_of_steps : die_value (plain steps_block next_count 8) 0 ≡ 1
 unfolding named range_within words_from value_drawn left_by left_after taken
 throw_of_steps = refl
 
-blocks_of_a_throw : die_after (taken steps_block next_count) (plain_after next_count 8) 0 ≡ 2
+blocks_of_a_throw : die_after (plain steps_block next_count 8) 0 ≡ 2
 unfolding named range_within words_from value_drawn left_by left_after taken
 blocks_of_a_throw = refl
 
-throw_from_two : unsigned_outcome (taken steps_block next_count) (plain_after next_count 8) 8 0 (die_bound 1 (Included 2)) (die_bound 6 Unbounded) ≡ (Ok 2, 2)
+throw_from_two : unsigned_outcome (plain steps_block next_count 8) 8 0 (die_bound 1 (Included 2)) (die_bound 6 Unbounded) ≡ (Ok 2, 2)
 unfolding named range_within words_from value_drawn left_by left_after taken
 throw_from_two = refl

@@ -5,6 +5,7 @@ use Rattle.std.proofs.lemmas.Bool.{cases_lt, cases_eq, lt-ltb, le-ltb}
 use Rattle.std.proofs.lemmas.List.{get_or-set_same, get_or-set_other, length-set}
 use Rattle.std.proofs.lemmas.List.Elements.{All-set}
 use Rattle.std.proofs.lemmas.List.FromFn.{get_or-range_with_len}
+use Rattle.nanorand.specs.generators.Blocks.{Requests}
 use Rattle.nanorand_users.specs.Reservoir.{Sample, place_up_to, placed, passed}
 use Rattle.nanorand.specs.declared.values.range.RangeError.{RangeError}
 
@@ -55,16 +56,16 @@ module _ (chosen : List ℕ) (place drawn : ℕ) (below : All (λ x. x < place) 
       ]
 
 -- a pass goes on after a number, and ends at a refusal
-module _ {G : Type 0} (bytes : G → ℕ → List ℕ) (after : G → ℕ → G) (place count : ℕ) (g h : G) (chosen : List ℕ) (pass : Sample G) where
-  pub pass_goes_on : place < count → passed bytes after place (count - place) g chosen ≡ pass
-      → h ≡ (place_up_to bytes after place g).1 → (drawn : ℕ) → Ok drawn ≡ (place_up_to bytes after place g).0
-      → passed bytes after (place + 1) (count - (place + 1)) h (placed chosen place drawn) ≡ pass
+module _ {G : Type 0} (requests : Requests G) (place count : ℕ) (g h : G) (chosen : List ℕ) (pass : Sample G) where
+  pub pass_goes_on : place < count → passed requests place (count - place) g chosen ≡ pass
+      → h ≡ (place_up_to requests place g).1 → (drawn : ℕ) → Ok drawn ≡ (place_up_to requests place g).0
+      → passed requests (place + 1) (count - (place + 1)) h (placed chosen place drawn) ≡ pass
   pass_goes_on more so_far left drawn is =
       let next : count - place ≡ suc (count - (place + 1)) = omega arith in
       rw left (rw (next, ← is) at so_far)
 
-  pub pass_ends : place < count → passed bytes after place (count - place) g chosen ≡ pass
-      → h ≡ (place_up_to bytes after place g).1 → (refusal : RangeError) → Err refusal ≡ (place_up_to bytes after place g).0
+  pub pass_ends : place < count → passed requests place (count - place) g chosen ≡ pass
+      → h ≡ (place_up_to requests place g).1 → (refusal : RangeError) → Err refusal ≡ (place_up_to requests place g).0
       → record { answer = Err refusal; chosen = chosen; state = h } ≡ pass
   pass_ends more so_far left refusal is =
       let next : count - place ≡ suc (count - (place + 1)) = omega arith in

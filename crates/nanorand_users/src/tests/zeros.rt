@@ -1,7 +1,7 @@
 //! A generator of zeros, whose words name nothing unless a size divides 2^64.
 ghost use Rattle.std.specs.Prelude.{◌≡◌, ◌+◌, ◌%◌, ◌^◌, ⊤, refl, replicate};
 ghost use Rattle.std.proofs.Common.{rules};
-ghost use Rattle.nanorand.specs.generators.Blocks.{plain_after};
+ghost use Rattle.nanorand.specs.generators.Blocks.{plain};
 
 use nanorand::rand::fill_by_blocks;
 use nanorand::{Blocks, Rng};
@@ -63,11 +63,13 @@ impl Blocks<8> for Zeros {
 }
 
 impl Rng<8> for Zeros {
-    ghost after = { plain_after (λ drawn. (drawn + 1) % 2 ^ 64) 8 };
+    ghost requests = { plain (λ _. replicate 8 0) (λ drawn. (drawn + 1) % 2 ^ 64) 8 };
 
     fn fill_bytes(&mut self, buffer: &mut [u8]) {
         fill_by_blocks(self, buffer)
     }
+
+    ghost delivers = { λ _ _. refl };
 
     ghost after_nothing = { λ _. refl };
 

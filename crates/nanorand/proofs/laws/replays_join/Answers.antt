@@ -3,4 +3,4 @@ use Rattle.nanorand.proofs.lemmas.replay.ReplayLemmas.{joined}
 use Rattle.nanorand.proofs.laws.replays_join.Goals as goal
 
 pub returns : goal.returns
-returns g c = joined (taken g.G.Blocks.block g.G.Blocks.step) g.G.Rng.after
+returns g c = joined g.G.Rng.requests

@@ -1,22 +1,21 @@
-use Rattle.std.proofs.Common.{sym, ◌+◌}
-use Rattle.nanorand.specs.support.BlockLemmas.{taken_nothing}
-use Rattle.nanorand.specs.generators.Buffered.{buffered_after}
+use Rattle.std.proofs.Common.{sym, refl, ◌+◌}
+use Rattle.nanorand.specs.generators.Buffered.{buffered, buffered_taken}
 use Rattle.nanorand.specs.support.BufferedLemmas.{after_nothing, after_add, taken_add, taken_unbroken, rest_below}
 use Rattle.nanorand.proofs.lemmas.replay.UnbrokenLemmas.{unbroken}
 use Rattle.nanorand.proofs.laws.unbroken_delivery.Goals as goal
 
 pub returns-clause-unbroken : goal.returns-clause-unbroken
+unfolding buffered_taken
 returns-clause-unbroken g c =
     let block = g.G.Blocks.block in
     let step = g.G.Blocks.step in
     let positive = g.met.G.Blocks.positive in
     let size = g.met.G.Blocks.block_length in
-    let same = taken_unbroken block step g.row.OUTPUT positive size in
-    unbroken _ (buffered_after block step g.row.OUTPUT)
+    unbroken (buffered block step g.row.OUTPUT)
     (after_nothing block step g.row.OUTPUT positive size)
-    (λ b. taken_nothing _ _ b)
+    (λ _. refl)
     (after_add block step g.row.OUTPUT positive size)
-    (λ b m n. rw (same b m, same (buffered_after block step g.row.OUTPUT b m) n, same b (m + n)) (sym (taken_add block step g.row.OUTPUT positive size b m n)))
+    (λ b m n. sym (taken_add block step g.row.OUTPUT positive size b m n))
 
 pub returns-clause-row : goal.returns-clause-row
 returns-clause-row g c = taken_unbroken g.G.Blocks.block g.G.Blocks.step g.row.OUTPUT g.met.G.Blocks.positive g.met.G.Blocks.block_length

@@ -1,6 +1,7 @@
 -- Partners that are drawn from the numbers of their ranges, and the shuffles of none and of three that they make.
 use Rattle.std.proofs.Common.{◌≡◌, ℕ, ◌+◌, ◌-◌, ◌^◌, ◌<◌, ◌≤◌, List, [], ◌∷◌, Result, Ok, Err, length, map, min, nat_le, nat_lt, refl, ap, ◌∙◌}
 use Rattle.std.specs.List.{range_with_len}
+use Rattle.nanorand.specs.generators.Blocks.{Requests}
 use Rattle.nanorand.specs.values.Range.{unsigned_number, unsigned_range}
 use Rattle.nanorand.specs.values.Draws.{range_outcome}
 use Rattle.nanorand.specs.shuffles.Shuffles.{partner_drawn, choices_from, shuffle_choices, shuffle_answer, shuffle_state, state_after_places}
@@ -15,64 +16,64 @@ numbers_between a b some within =
     range-places nat_le nat_lt 64 unsigned_number (Included a) (Excluded b) a b (λ k. refl) (λ k in_type. refl) within some
 
 -- what a shuffle makes: its answer, its choices and the state that it leaves
-pub record Makes {G : Type 0} (bytes : G → ℕ → List ℕ) (after : G → ℕ → G) (first : ℕ → ℕ) (n : ℕ) (g : G) (answer : Result (Unit {0}) RangeError) (choices : List ℕ) (left : G) : Type 0 where
-  pub answered : shuffle_answer bytes after first n g ≡ answer
-  pub chosen : shuffle_choices bytes after first n g ≡ choices
-  pub leaves : shuffle_state bytes after first n g ≡ left
+pub record Makes {G : Type 0} (requests : Requests G) (first : ℕ → ℕ) (n : ℕ) (g : G) (answer : Result (Unit {0}) RangeError) (choices : List ℕ) (left : G) : Type 0 where
+  pub answered : shuffle_answer requests first n g ≡ answer
+  pub chosen : shuffle_choices requests first n g ≡ choices
+  pub leaves : shuffle_state requests first n g ≡ left
 
-module _ {G : Type 0} (bytes : G → ℕ → List ℕ) (after : G → ℕ → G) (first : ℕ → ℕ) where
+module _ {G : Type 0} (requests : Requests G) (first : ℕ → ℕ) where
   -- a partner from the numbers of its range
   pub partner_between : (n i : ℕ) (g : G) → first i < n → n ≤ 2 ^ 64
-      → partner_drawn bytes after first n i g ≡ range_outcome bytes after 64 (map unsigned_number (range_with_len (first i) (n - first i))) g
+      → partner_drawn requests first n i g ≡ range_outcome requests 64 (map unsigned_number (range_with_len (first i) (n - first i))) g
   unfolding partner_drawn
   partner_between n i g some within =
-      ap (λ numbers. range_outcome bytes after 64 numbers g) (numbers_between (first i) n some within)
+      ap (λ numbers. range_outcome requests 64 numbers g) (numbers_between (first i) n some within)
 
   -- a shuffle of none, of three by their partners, and one whose first or second partner is refused
-  pub none_to_shuffle : (g : G) → Makes bytes after first 0 g (Ok tt) [] g
+  pub none_to_shuffle : (g : G) → Makes requests first 0 g (Ok tt) [] g
   unfolding choices_from state_after_places
   none_to_shuffle g = record { answered = refl; chosen = refl; leaves = refl }
 
   pub three_partners : (g0 g1 g2 g3 : G) (a b c : ℕ)
-      → partner_drawn bytes after first 3 0 g0 ≡ (Ok a, g1)
-      → partner_drawn bytes after first 3 1 g1 ≡ (Ok b, g2)
-      → partner_drawn bytes after first 3 2 g2 ≡ (Ok c, g3)
-      → Makes bytes after first 3 g0 (Ok tt) (a ∷ b ∷ c ∷ []) g3
+      → partner_drawn requests first 3 0 g0 ≡ (Ok a, g1)
+      → partner_drawn requests first 3 1 g1 ≡ (Ok b, g2)
+      → partner_drawn requests first 3 2 g2 ≡ (Ok c, g3)
+      → Makes requests first 3 g0 (Ok tt) (a ∷ b ∷ c ∷ []) g3
   unfolding choices_from state_after_places
   three_partners g0 g1 g2 g3 a b c x y z =
-      let chosen : shuffle_choices bytes after first 3 g0 ≡ a ∷ b ∷ c ∷ [] = rw (x, y, z) refl in
+      let chosen : shuffle_choices requests first 3 g0 ≡ a ∷ b ∷ c ∷ [] = rw (x, y, z) refl in
       record {
         answered = rw chosen refl;
         chosen = chosen;
-        leaves = ap (λ choices. state_after_places bytes after first 3 0 (min 3 (length choices + 1)) g0) chosen
-            ∙ ap (λ drawn. state_after_places bytes after first 3 1 2 drawn.1) x
-            ∙ ap (λ drawn. state_after_places bytes after first 3 2 1 drawn.1) y
+        leaves = ap (λ choices. state_after_places requests first 3 0 (min 3 (length choices + 1)) g0) chosen
+            ∙ ap (λ drawn. state_after_places requests first 3 1 2 drawn.1) x
+            ∙ ap (λ drawn. state_after_places requests first 3 2 1 drawn.1) y
             ∙ ap (λ drawn. drawn.1) z;
       }
 
   pub first_refused : (g0 g1 : G)
-      → partner_drawn bytes after first 3 0 g0 ≡ (Err Exhausted, g1)
-      → Makes bytes after first 3 g0 (Err Exhausted) [] g1
+      → partner_drawn requests first 3 0 g0 ≡ (Err Exhausted, g1)
+      → Makes requests first 3 g0 (Err Exhausted) [] g1
   unfolding choices_from state_after_places
   first_refused g0 g1 x =
-      let chosen : shuffle_choices bytes after first 3 g0 ≡ [] = rw x refl in
+      let chosen : shuffle_choices requests first 3 g0 ≡ [] = rw x refl in
       record {
         answered = rw chosen refl;
         chosen = chosen;
-        leaves = ap (λ choices. state_after_places bytes after first 3 0 (min 3 (length choices + 1)) g0) chosen ∙ ap (λ drawn. drawn.1) x;
+        leaves = ap (λ choices. state_after_places requests first 3 0 (min 3 (length choices + 1)) g0) chosen ∙ ap (λ drawn. drawn.1) x;
       }
 
   pub second_refused : (g0 g1 g2 : G) (a : ℕ)
-      → partner_drawn bytes after first 3 0 g0 ≡ (Ok a, g1)
-      → partner_drawn bytes after first 3 1 g1 ≡ (Err Exhausted, g2)
-      → Makes bytes after first 3 g0 (Err Exhausted) (a ∷ []) g2
+      → partner_drawn requests first 3 0 g0 ≡ (Ok a, g1)
+      → partner_drawn requests first 3 1 g1 ≡ (Err Exhausted, g2)
+      → Makes requests first 3 g0 (Err Exhausted) (a ∷ []) g2
   unfolding choices_from state_after_places
   second_refused g0 g1 g2 a x y =
-      let chosen : shuffle_choices bytes after first 3 g0 ≡ a ∷ [] = rw (x, y) refl in
+      let chosen : shuffle_choices requests first 3 g0 ≡ a ∷ [] = rw (x, y) refl in
       record {
         answered = rw chosen refl;
         chosen = chosen;
-        leaves = ap (λ choices. state_after_places bytes after first 3 0 (min 3 (length choices + 1)) g0) chosen
-            ∙ ap (λ drawn. state_after_places bytes after first 3 1 1 drawn.1) x
+        leaves = ap (λ choices. state_after_places requests first 3 0 (min 3 (length choices + 1)) g0) chosen
+            ∙ ap (λ drawn. state_after_places requests first 3 1 1 drawn.1) x
             ∙ ap (λ drawn. drawn.1) y;
       }

@@ -5,6 +5,7 @@ use Rattle.std.proofs.Math.Seq.{set-append_seam}
 use Rattle.std.proofs.lemmas.Bool.{cases_lt}
 use Rattle.std.proofs.lemmas.List.{take_more, take_all, append-nil, length-append, length-take-le, length_push, set-get_or, get_or_append_left, get_or-append_right}
 use Rattle.std.proofs.lemmas.List.FromFn.{length-range_with_len, get_or-range_with_len}
+use Rattle.nanorand.specs.generators.Blocks.{Requests}
 use Rattle.nanorand.specs.shuffles.Arrangements.{completed, rising, IsValid}
 use Rattle.nanorand.specs.shuffles.Shuffles.{arranged, arranged_from, from_itself, shuffle_choices, partner_drawn}
 use Rattle.nanorand.proofs.lemmas.shuffles.ChoiceLemmas.{Chosen, arranged_from-append, valid_from_chosen}
@@ -65,22 +66,22 @@ pub completed-valid : (n : ℕ) (choices : List ℕ) → length choices ≤ n �
 completed-valid n choices room h =
     valid_from_chosen n (completed n choices) (completed-size n choices room) (completed-chosen n choices room h)
 
-module _ {G T : Type 0} (bytes : G → ℕ → List ℕ) (after : G → ℕ → G) (items : List T) (g : G) where
+module _ {G T : Type 0} (requests : Requests G) (items : List T) (g : G) where
   -- i choices were drawn and recorded, and the places behind them stand for themselves
   pub record Recording (i : ℕ) (now : G) (list : List T) (choices : List ℕ) : Type 0 where
-    pub shuffling : Shuffling bytes after from_itself items g i now list
-    pub recorded : choices ≡ completed (length items) (take i (shuffle_choices bytes after from_itself (length items) g))
+    pub shuffling : Shuffling requests from_itself items g i now list
+    pub recorded : choices ≡ completed (length items) (take i (shuffle_choices requests from_itself (length items) g))
 
   pub recorded-start : (choices : List ℕ) → choices ≡ rising (length items)
-      → choices ≡ completed (length items) (take 0 (shuffle_choices bytes after from_itself (length items) g))
+      → choices ≡ completed (length items) (take 0 (shuffle_choices requests from_itself (length items) g))
   recorded-start choices is = is ∙ sym (completed-nothing (length items))
 
   pub recorded-step : (i j : ℕ) (now : G) (list : List T) (choices : List ℕ) → Recording i now list choices → i < length items
-      → Ok j ≡ (partner_drawn bytes after from_itself (length items) i now).0
-      → set choices i j ≡ completed (length items) (take (i + 1) (shuffle_choices bytes after from_itself (length items) g))
+      → Ok j ≡ (partner_drawn requests from_itself (length items) i now).0
+      → set choices i j ≡ completed (length items) (take (i + 1) (shuffle_choices requests from_itself (length items) g))
   recorded-step i j now list choices m low drawn =
-      let drawn_choices = shuffle_choices bytes after from_itself (length items) g in
-      let parts = choice-drawn bytes after from_itself items g i now list m.shuffling j low drawn in
+      let drawn_choices = shuffle_choices requests from_itself (length items) g in
+      let parts = choice-drawn requests from_itself items g i now list m.shuffling j low drawn in
       let size = length-take-le i drawn_choices m.shuffling.many in
       let more : take (i + 1) drawn_choices ≡ take i drawn_choices ++ j ∷ [] =
       take_more drawn_choices i 0 parts.0 ∙ ap (λ x. take i drawn_choices ++ x ∷ []) parts.1 in
@@ -89,19 +90,19 @@ module _ {G T : Type 0} (bytes : G → ℕ → List ℕ) (after : G → ℕ → 
 
   -- what the choices that are recorded say of the items, once no more are drawn
   pub record Recorded (list : List T) (choices : List ℕ) : Type 0 where
-    pub is : choices ≡ completed (length items) (shuffle_choices bytes after from_itself (length items) g)
+    pub is : choices ≡ completed (length items) (shuffle_choices requests from_itself (length items) g)
     pub valid : IsValid choices
     pub makes : arranged choices items ≡ list
 
   pub recorded : (i : ℕ) (now : G) (list : List T) (choices : List ℕ) → Recording i now list choices → i ≤ length items
-      → length (shuffle_choices bytes after from_itself (length items) g) ≡ i → Recorded list choices
+      → length (shuffle_choices requests from_itself (length items) g) ≡ i → Recorded list choices
   recorded i now list choices m room size =
-      let drawn = shuffle_choices bytes after from_itself (length items) g in
+      let drawn = shuffle_choices requests from_itself (length items) g in
       let all : take i drawn ≡ drawn = take_all i drawn (omega (arith, size)) in
       let is : choices ≡ completed (length items) drawn = m.recorded ∙ ap (completed (length items)) all in
       let made : list ≡ arranged drawn items = m.shuffling.made ∙ ap (λ xs. arranged xs items) all in
       record {
         is = is;
-        valid = rw is (completed-valid (length items) drawn (omega (arith, size)) (choices-chosen bytes after (length items) (length items) 0 g));
+        valid = rw is (completed-valid (length items) drawn (omega (arith, size)) (choices-chosen requests (length items) (length items) 0 g));
         makes = rw (is, made) (completed-arranged (length items) drawn items);
       }

@@ -5,6 +5,7 @@ use Rattle.std.proofs.lemmas.Bool.{cases_lt, ne_eqb, eq-eqb, le-leb, lt-ltb, leb
 use Rattle.std.proofs.Math.Nat.{min-eq_left, min-eq_right, max-eq_left, max-eq_right}
 use Rattle.std.proofs.lemmas.List.{length-drop, get_or-drop, drop-drop, take_all, set_comm}
 use Rattle.std.proofs.lemmas.List.Sorted.{IsPermutation-refl, IsPermutation-swap, IsPermutation-trans, length_permutation}
+use Rattle.nanorand.specs.generators.Blocks.{Requests}
 use Rattle.nanorand.specs.values.Range.{unsigned_number}
 use Rattle.nanorand.specs.values.Draws.{next_word, after_word}
 use Rattle.nanorand.specs.shuffles.Shuffles.{arranged, from_itself, choice_before, partner_drawn, choices_from, state_after_places, shuffle_choices, shuffle_state, shuffle_answer}
@@ -23,20 +24,20 @@ drop-is xs i j rest is =
     let here : get_or xs (i + 0) 0 ≡ j = sym (get_or-drop i xs 0 0) ∙ ap (λ ys. get_or ys 0 0) is in
     (omega (arith, length-drop i xs, ap length is), rw place at here, sym (drop-drop 1 i xs) ∙ ap (λ ys. drop 1 ys) is)
 
-module _ {G : Type 0} (bytes : G → ℕ → List ℕ) (after : G → ℕ → G) (first : ℕ → ℕ) (n i : ℕ) (g : G) where
-  limits : KeepsLimits nat_le nat_lt 64 unsigned_number (after_word after 64) (Included (first i)) (Excluded n) g (partner_drawn bytes after first n i g)
+module _ {G : Type 0} (requests : Requests G) (first : ℕ → ℕ) (n i : ℕ) (g : G) where
+  limits : KeepsLimits nat_le nat_lt 64 unsigned_number (after_word requests 64) (Included (first i)) (Excluded n) g (partner_drawn requests first n i g)
   unfolding partner_drawn
-  limits = keeps_limits (next_word bytes 64) (after_word after 64) nat_le nat_lt 64 unsigned_number (Included (first i)) (Excluded n) g
+  limits = keeps_limits (next_word requests 64) (after_word requests 64) nat_le nat_lt 64 unsigned_number (Included (first i)) (Excluded n) g
 
   -- a partner is a place from `first i` on
-  partner-within : (j : ℕ) → (partner_drawn bytes after first n i g).0 ≡ Ok j → (nat_le (first i) j ≡ true) × (nat_lt j n ≡ true)
+  partner-within : (j : ℕ) → (partner_drawn requests first n i g).0 ≡ Ok j → (nat_le (first i) j ≡ true) × (nat_lt j n ≡ true)
   partner-within j is = rw is at limits.within
 
-  pub partner-below : (j : ℕ) → Ok j ≡ (partner_drawn bytes after first n i g).0 → j < n
+  pub partner-below : (j : ℕ) → Ok j ≡ (partner_drawn requests first n i g).0 → j < n
   partner-below j is = ltb-true j n (partner-within j (sym is)).1
 
   -- where there is a place, only words can be wanting
-  partner-refused : first i < n → n < 2 ^ 64 → (e : RangeError) → (partner_drawn bytes after first n i g).0 ≡ Err e → e ≡ Exhausted
+  partner-refused : first i < n → n < 2 ^ 64 → (e : RangeError) → (partner_drawn requests first n i g).0 ≡ Err e → e ≡ Exhausted
   partner-refused low fits e is =
       rw is at (limits.some (first i) (omega arith) (le-leb (first i) (first i) (omega arith)) (lt-ltb (first i) n low))
 
@@ -54,41 +55,41 @@ choice-chosen i n (Ok j) rest within h =
     let at = within j refl in record { each = chosen-more i n j rest (leb-true i j at.0) (ltb-true j n at.1) h }
 
 -- partners that are drawn each from the place itself are valid choices
-module _ {G : Type 0} (bytes : G → ℕ → List ℕ) (after : G → ℕ → G) (n : ℕ) where
-  pub choices-chosen : (left i : ℕ) (g : G) → Chosen i n (choices_from bytes after from_itself n i left g)
+module _ {G : Type 0} (requests : Requests G) (n : ℕ) where
+  pub choices-chosen : (left i : ℕ) (g : G) → Chosen i n (choices_from requests from_itself n i left g)
   unfolding choices_from
   choices-chosen zero i g = record { each = λ k low. absurd (omega arith) }
   choices-chosen (suc left) i g =
-      choice-chosen i n (partner_drawn bytes after from_itself n i g).0
-      (choices_from bytes after from_itself n (i + 1) left (partner_drawn bytes after from_itself n i g).1)
-      (partner-within bytes after from_itself n i g)
-      (choices-chosen left (i + 1) (partner_drawn bytes after from_itself n i g).1)
+      choice-chosen i n (partner_drawn requests from_itself n i g).0
+      (choices_from requests from_itself n (i + 1) left (partner_drawn requests from_itself n i g).1)
+      (partner-within requests from_itself n i g)
+      (choices-chosen left (i + 1) (partner_drawn requests from_itself n i g).1)
 
-  pub choices-valid : (g : G) → length (shuffle_choices bytes after from_itself n g) ≡ n → IsValid (shuffle_choices bytes after from_itself n g)
-  choices-valid g size = valid_from_chosen n (shuffle_choices bytes after from_itself n g) size (choices-chosen n 0 g)
+  pub choices-valid : (g : G) → length (shuffle_choices requests from_itself n g) ≡ n → IsValid (shuffle_choices requests from_itself n g)
+  choices-valid g size = valid_from_chosen n (shuffle_choices requests from_itself n g) size (choices-chosen n 0 g)
 
-module _ {G T : Type 0} (bytes : G → ℕ → List ℕ) (after : G → ℕ → G) (first : ℕ → ℕ) (items : List T) (g : G) where
+module _ {G T : Type 0} (requests : Requests G) (first : ℕ → ℕ) (items : List T) (g : G) where
   -- i choices were drawn, which made `list` and left `now`
   pub record Shuffling (i : ℕ) (now : G) (list : List T) : Type 0 where
-    pub drawn : drop i (shuffle_choices bytes after first (length items) g) ≡ choices_from bytes after first (length items) i (length items - i) now
-    pub many : i ≤ length (shuffle_choices bytes after first (length items) g)
-    pub reached : now ≡ state_after_places bytes after first (length items) 0 i g
-    pub made : list ≡ arranged (take i (shuffle_choices bytes after first (length items) g)) items
+    pub drawn : drop i (shuffle_choices requests first (length items) g) ≡ choices_from requests first (length items) i (length items - i) now
+    pub many : i ≤ length (shuffle_choices requests first (length items) g)
+    pub reached : now ≡ state_after_places requests first (length items) 0 i g
+    pub made : list ≡ arranged (take i (shuffle_choices requests first (length items) g)) items
     pub shuffled : IsPermutation items list
 
   -- what the shuffle answers, leaves and makes
   pub record Shuffled (answer : Result (Unit {0}) RangeError) (now : G) (list : List T) : Type 0 where
-    pub answered : answer ≡ shuffle_answer bytes after first (length items) g
-    pub left : now ≡ shuffle_state bytes after first (length items) g
-    pub made : list ≡ arranged (shuffle_choices bytes after first (length items) g) items
+    pub answered : answer ≡ shuffle_answer requests first (length items) g
+    pub left : now ≡ shuffle_state requests first (length items) g
+    pub made : list ≡ arranged (shuffle_choices requests first (length items) g) items
 
-  state-more : (a count : ℕ) (h : G) → state_after_places bytes after first (length items) a (suc count) h
-      ≡ (partner_drawn bytes after first (length items) (a + count) (state_after_places bytes after first (length items) a count h)).1
+  state-more : (a count : ℕ) (h : G) → state_after_places requests first (length items) a (suc count) h
+      ≡ (partner_drawn requests first (length items) (a + count) (state_after_places requests first (length items) a count h)).1
   unfolding state_after_places
   state-more a zero h = rw (add-zero a) refl
   state-more a (suc count) h =
       let place : a + 1 + count ≡ a + suc count = omega arith in
-      rw (← place) (state-more (a + 1) count (partner_drawn bytes after first (length items) a h).1)
+      rw (← place) (state-more (a + 1) count (partner_drawn requests first (length items) a h).1)
 
   pub shuffling-start : Shuffling 0 g items
   unfolding state_after_places
@@ -101,51 +102,51 @@ module _ {G T : Type 0} (bytes : G → ℕ → List ℕ) (after : G → ℕ → 
     size = length_permutation items list m.shuffled
 
     -- the choice at i and those that follow
-    next : i < length items → drop i (shuffle_choices bytes after first (length items) g)
-        ≡ choice_before (partner_drawn bytes after first (length items) i now).0
-        (choices_from bytes after first (length items) (i + 1) (length items - (i + 1)) (partner_drawn bytes after first (length items) i now).1)
+    next : i < length items → drop i (shuffle_choices requests first (length items) g)
+        ≡ choice_before (partner_drawn requests first (length items) i now).0
+        (choices_from requests first (length items) (i + 1) (length items - (i + 1)) (partner_drawn requests first (length items) i now).1)
     unfolding choices_from
     next low =
         let left : length items - i ≡ suc (length items - (i + 1)) = omega arith in
         let is = rw left at m.drawn in is
 
     -- what was drawn is the choice at i
-    pub choice-drawn : (j : ℕ) → i < length items → Ok j ≡ (partner_drawn bytes after first (length items) i now).0
-        → (i < length (shuffle_choices bytes after first (length items) g)) × (get_or (shuffle_choices bytes after first (length items) g) i 0 ≡ j)
-        × (drop (i + 1) (shuffle_choices bytes after first (length items) g)
-        ≡ choices_from bytes after first (length items) (i + 1) (length items - (i + 1)) (partner_drawn bytes after first (length items) i now).1)
+    pub choice-drawn : (j : ℕ) → i < length items → Ok j ≡ (partner_drawn requests first (length items) i now).0
+        → (i < length (shuffle_choices requests first (length items) g)) × (get_or (shuffle_choices requests first (length items) g) i 0 ≡ j)
+        × (drop (i + 1) (shuffle_choices requests first (length items) g)
+        ≡ choices_from requests first (length items) (i + 1) (length items - (i + 1)) (partner_drawn requests first (length items) i now).1)
     choice-drawn j low drawn =
         let is = rw (← drawn) at next low in
-        drop-is (shuffle_choices bytes after first (length items) g) i j
-        (choices_from bytes after first (length items) (i + 1) (length items - (i + 1)) (partner_drawn bytes after first (length items) i now).1) is
+        drop-is (shuffle_choices requests first (length items) g) i j
+        (choices_from requests first (length items) (i + 1) (length items - (i + 1)) (partner_drawn requests first (length items) i now).1) is
 
-    pub shuffling-step : (j : ℕ) → i < length items → Ok j ≡ (partner_drawn bytes after first (length items) i now).0
-        → Shuffling (i + 1) (partner_drawn bytes after first (length items) i now).1 (swap list i j)
+    pub shuffling-step : (j : ℕ) → i < length items → Ok j ≡ (partner_drawn requests first (length items) i now).0
+        → Shuffling (i + 1) (partner_drawn requests first (length items) i now).1 (swap list i j)
     shuffling-step j low drawn =
         let parts = choice-drawn j low drawn in
-        let to = partner-below bytes after first (length items) i now j drawn in
+        let to = partner-below requests first (length items) i now j drawn in
         record {
           drawn = parts.2;
           many = omega (arith, parts.0);
           reached = let place : 0 + i ≡ i = omega arith in rw (add-one i, state-more 0 i g, place, ← m.reached) refl;
-          made = rw (arranged-more (shuffle_choices bytes after first (length items) g) items i parts.0, parts.1, ← m.made) refl;
+          made = rw (arranged-more (shuffle_choices requests first (length items) g) items i parts.0, parts.1, ← m.made) refl;
           shuffled = IsPermutation-trans items list (swap list i j) m.shuffled
               (IsPermutation-swap list (swap list i j) i j (omega (arith, size)) (omega (arith, size)) refl);
         }
 
     -- the choices end where one is refused
-    module _ (e : RangeError) (low : i < length items) (drawn : Err e ≡ (partner_drawn bytes after first (length items) i now).0) where
-      pub count-refused : length (shuffle_choices bytes after first (length items) g) ≡ i
+    module _ (e : RangeError) (low : i < length items) (drawn : Err e ≡ (partner_drawn requests first (length items) i now).0) where
+      pub count-refused : length (shuffle_choices requests first (length items) g) ≡ i
       count-refused =
           let is = rw (← drawn) at next low in
-          omega (arith, length-drop i (shuffle_choices bytes after first (length items) g), ap length is, m.many)
+          omega (arith, length-drop i (shuffle_choices requests first (length items) g), ap length is, m.many)
 
       pub refused : first i < length items → length items < 2 ^ 64
-          → Shuffled (Err e) (partner_drawn bytes after first (length items) i now).1 list
+          → Shuffled (Err e) (partner_drawn requests first (length items) i now).1 list
       refused from fits =
-          let reason = partner-refused bytes after first (length items) i now from fits e (sym drawn) in
-          let all = take_all i (shuffle_choices bytes after first (length items) g) (omega (arith, count-refused)) in
-          let draws : min (length items) (length (shuffle_choices bytes after first (length items) g) + 1) ≡ suc i = omega (arith, count-refused) in
+          let reason = partner-refused requests first (length items) i now from fits e (sym drawn) in
+          let all = take_all i (shuffle_choices requests first (length items) g) (omega (arith, count-refused)) in
+          let draws : min (length items) (length (shuffle_choices requests first (length items) g) + 1) ≡ suc i = omega (arith, count-refused) in
           let place : 0 + i ≡ i = omega arith in
           record {
             answered = rw (count-refused, ne_eqb i (length items) (λ same. omega arith), reason) refl;
@@ -155,17 +156,17 @@ module _ {G T : Type 0} (bytes : G → ℕ → List ℕ) (after : G → ℕ → 
 
     -- all choices were drawn
     module _ (end : i ≡ length items) where
-      pub count-done : length (shuffle_choices bytes after first (length items) g) ≡ i
+      pub count-done : length (shuffle_choices requests first (length items) g) ≡ i
       unfolding choices_from
       count-done =
           let none : length items - i ≡ 0 = omega arith in
           let is = rw none at m.drawn in
-          omega (arith, length-drop i (shuffle_choices bytes after first (length items) g), ap length is, m.many)
+          omega (arith, length-drop i (shuffle_choices requests first (length items) g), ap length is, m.many)
 
       pub done : Shuffled (Ok tt) now list
       done =
-          let all = take_all i (shuffle_choices bytes after first (length items) g) (omega (arith, count-done)) in
-          let draws : min (length items) (length (shuffle_choices bytes after first (length items) g) + 1) ≡ i = omega (arith, count-done) in
+          let all = take_all i (shuffle_choices requests first (length items) g) (omega (arith, count-done)) in
+          let draws : min (length items) (length (shuffle_choices requests first (length items) g) + 1) ≡ i = omega (arith, count-done) in
           record {
             answered = rw (count-done, eq-eqb i (length items) end) refl;
             made = rw all at m.made;

@@ -6,8 +6,8 @@ use Rattle.nanorand.proofs.replay.replay.Given as goal
 -- the answers so far and those to the calls that are left are those to all, and what is left leaves the same
 abbrev pub invariant-loop-place : goal.invariant-loop-place
 invariant-loop-place g l =
-    let left = replayed (taken g.G.Blocks.block g.G.Blocks.step) g.G.Rng.after l.rng l.items (drop l.place l.calls) in
-    let all = replayed (taken g.G.Blocks.block g.G.Blocks.step) g.G.Rng.after l.fn.rng l.fn.items l.calls in
+    let left = replayed g.G.Rng.requests l.rng l.items (drop l.place l.calls) in
+    let all = replayed g.G.Rng.requests l.fn.rng l.fn.items l.calls in
     record {
       room : length l.answers ≡ length l.calls;
       answers : take l.place l.answers ++ left.answers ≡ all.answers;

@@ -9,27 +9,25 @@ use Rattle.nanorand.proofs.shuffles.shuffle_and_record.Goals as goal
 
 pub loop-place-init : goal.loop-place-init
 loop-place-init g c =
-    let bytes = taken g.G.Blocks.block g.G.Blocks.step in
-    let after = g.G.Rng.after in
+    let requests = g.G.Rng.requests in
     record {
-      shuffling = shuffling-start bytes after from_itself c.args.target.now c.args.rng.now;
-      recorded = recorded-start bytes after c.args.target.now c.args.rng.now c.write_places.new.slots
+      shuffling = shuffling-start requests from_itself c.args.target.now c.args.rng.now;
+      recorded = recorded-start requests c.args.target.now c.args.rng.now c.write_places.new.slots
           (c.write_places.ensures ∙ ap rising (omega arith));
     }
 
 pub returns-in_err-partner : goal.returns-in_err-partner
 unfolding partner_drawn
 returns-in_err-partner g c =
-    let bytes = taken g.G.Blocks.block g.G.Blocks.step in
-    let after = g.G.Rng.after in
+    let requests = g.G.Rng.requests in
     let m = c.loop-place.invariant in
     let ended =
-    refused bytes after from_itself c.args.target.now c.args.rng.now c.loop-place.place c.loop-place.rng c.loop-place.target m.shuffling
+    refused requests from_itself c.args.target.now c.args.rng.now c.loop-place.place c.loop-place.rng c.loop-place.target m.shuffling
     _ c.loop-place-test.true c.in_err-partner.ensures.value (omega arith) (omega arith) in
     let size =
-    count-refused bytes after from_itself c.args.target.now c.args.rng.now c.loop-place.place c.loop-place.rng c.loop-place.target m.shuffling
+    count-refused requests from_itself c.args.target.now c.args.rng.now c.loop-place.place c.loop-place.rng c.loop-place.target m.shuffling
     _ c.loop-place-test.true c.in_err-partner.ensures.value in
-    let stored = recorded bytes after c.args.target.now c.args.rng.now c.loop-place.place c.loop-place.rng c.loop-place.target c.loop-place.choices m (omega arith) size in
+    let stored = recorded requests c.args.target.now c.args.rng.now c.loop-place.place c.loop-place.rng c.loop-place.target c.loop-place.choices m (omega arith) size in
     let kept = err_from_is_err_and c.from_residual.result c.from_residual.ensures.1 in
     rw (kept.1, kept.2, c.in_err-partner.ensures.state) (record {
       answer = ended.answered;
@@ -45,36 +43,34 @@ returns-in_err-partner g c =
 pub swap-requires-clause-b_in_bounds : goal.swap-requires-clause-b_in_bounds
 unfolding partner_drawn
 swap-requires-clause-b_in_bounds g c =
-    let below = partner-below (taken g.G.Blocks.block g.G.Blocks.step) g.G.Rng.after from_itself (length c.args.target.now)
+    let below = partner-below g.G.Rng.requests from_itself (length c.args.target.now)
     c.loop-place.place c.loop-place.rng c.in_ok-partner.partner c.in_ok-partner.ensures.value in
     omega arith
 
 pub loop-place-preserved : goal.loop-place-preserved
 unfolding partner_drawn
 loop-place-preserved g c =
-    let bytes = taken g.G.Blocks.block g.G.Blocks.step in
-    let after = g.G.Rng.after in
+    let requests = g.G.Rng.requests in
     let m = c.loop-place.invariant in
     rw (c.in_ok-partner.ensures.state, c.swap.ensures.after)
     (record {
       shuffling =
-          shuffling-step bytes after from_itself c.args.target.now c.args.rng.now c.loop-place.place c.loop-place.rng c.loop-place.target m.shuffling
+          shuffling-step requests from_itself c.args.target.now c.args.rng.now c.loop-place.place c.loop-place.rng c.loop-place.target m.shuffling
           c.in_ok-partner.partner c.loop-place-test.true c.in_ok-partner.ensures.value;
       recorded =
-          recorded-step bytes after c.args.target.now c.args.rng.now c.loop-place.place c.in_ok-partner.partner c.loop-place.rng c.loop-place.target
+          recorded-step requests c.args.target.now c.args.rng.now c.loop-place.place c.in_ok-partner.partner c.loop-place.rng c.loop-place.target
           c.loop-place.choices m c.loop-place-test.true c.in_ok-partner.ensures.value;
     })
 
 pub returns : goal.returns
 returns g c =
-    let bytes = taken g.G.Blocks.block g.G.Blocks.step in
-    let after = g.G.Rng.after in
+    let requests = g.G.Rng.requests in
     let m = c.loop-place.invariant in
     let ended =
-    done bytes after from_itself c.args.target.now c.args.rng.now c.loop-place.place c.loop-place.rng c.loop-place.target m.shuffling (omega arith) in
+    done requests from_itself c.args.target.now c.args.rng.now c.loop-place.place c.loop-place.rng c.loop-place.target m.shuffling (omega arith) in
     let size =
-    count-done bytes after from_itself c.args.target.now c.args.rng.now c.loop-place.place c.loop-place.rng c.loop-place.target m.shuffling (omega arith) in
-    let stored = recorded bytes after c.args.target.now c.args.rng.now c.loop-place.place c.loop-place.rng c.loop-place.target c.loop-place.choices m (omega arith) size in
+    count-done requests from_itself c.args.target.now c.args.rng.now c.loop-place.place c.loop-place.rng c.loop-place.target m.shuffling (omega arith) in
+    let stored = recorded requests c.args.target.now c.args.rng.now c.loop-place.place c.loop-place.rng c.loop-place.target c.loop-place.choices m (omega arith) size in
     record {
       answer = ended.answered;
       items = ended.made;

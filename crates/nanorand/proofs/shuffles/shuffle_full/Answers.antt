@@ -6,13 +6,13 @@ use Rattle.nanorand.proofs.lemmas.shuffles.ShuffleLemmas.{partner-below, shuffli
 use Rattle.nanorand.proofs.shuffles.shuffle_full.Goals as goal
 
 pub loop-place-init : goal.loop-place-init
-loop-place-init g c = shuffling-start (taken g.G.Blocks.block g.G.Blocks.step) g.G.Rng.after from_all c.args.target.now c.args.rng.now
+loop-place-init g c = shuffling-start g.G.Rng.requests from_all c.args.target.now c.args.rng.now
 
 pub returns-in_err-partner : goal.returns-in_err-partner
 unfolding partner_drawn
 returns-in_err-partner g c =
     let ended =
-    refused (taken g.G.Blocks.block g.G.Blocks.step) g.G.Rng.after from_all c.args.target.now c.args.rng.now
+    refused g.G.Rng.requests from_all c.args.target.now c.args.rng.now
     c.loop-place.place c.loop-place.rng c.loop-place.target c.loop-place.invariant
     _ c.loop-place-test.true c.in_err-partner.ensures.value (omega arith) (omega arith) in
     let kept = err_from_is_err_and c.from_residual.result c.from_residual.ensures.1 in
@@ -26,7 +26,7 @@ returns-in_err-partner g c =
 pub swap-requires-clause-b_in_bounds : goal.swap-requires-clause-b_in_bounds
 unfolding partner_drawn
 swap-requires-clause-b_in_bounds g c =
-    let below = partner-below (taken g.G.Blocks.block g.G.Blocks.step) g.G.Rng.after from_all (length c.args.target.now)
+    let below = partner-below g.G.Rng.requests from_all (length c.args.target.now)
     c.loop-place.place c.loop-place.rng c.in_ok-partner.partner c.in_ok-partner.ensures.value in
     omega arith
 
@@ -34,14 +34,14 @@ pub loop-place-preserved : goal.loop-place-preserved
 unfolding partner_drawn
 loop-place-preserved g c =
     rw (c.in_ok-partner.ensures.state, c.swap.ensures.after, c.min.ensures, c.max.ensures, swap-ordered c.loop-place.target c.loop-place.place c.in_ok-partner.partner)
-    (shuffling-step (taken g.G.Blocks.block g.G.Blocks.step) g.G.Rng.after from_all c.args.target.now c.args.rng.now
+    (shuffling-step g.G.Rng.requests from_all c.args.target.now c.args.rng.now
     c.loop-place.place c.loop-place.rng c.loop-place.target c.loop-place.invariant c.in_ok-partner.partner c.loop-place-test.true
     c.in_ok-partner.ensures.value)
 
 pub returns : goal.returns
 returns g c =
     let ended =
-    done (taken g.G.Blocks.block g.G.Blocks.step) g.G.Rng.after from_all c.args.target.now c.args.rng.now
+    done g.G.Rng.requests from_all c.args.target.now c.args.rng.now
     c.loop-place.place c.loop-place.rng c.loop-place.target c.loop-place.invariant (omega arith) in
     record {
       answer = ended.answered;

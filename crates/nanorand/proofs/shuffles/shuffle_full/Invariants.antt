@@ -5,4 +5,4 @@ use Rattle.nanorand.proofs.shuffles.shuffle_full.Given as goal
 
 abbrev pub invariant-loop-place : goal.invariant-loop-place
 invariant-loop-place g l =
-    Shuffling (taken g.G.Blocks.block g.G.Blocks.step) g.G.Rng.after from_all l.fn.target l.fn.rng l.place l.rng l.target
+    Shuffling g.G.Rng.requests from_all l.fn.target l.fn.rng l.place l.rng l.target

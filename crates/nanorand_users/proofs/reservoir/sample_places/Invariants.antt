@@ -8,12 +8,11 @@ use Rattle.nanorand_users.proofs.reservoir.sample_places.Given as goal
 
 abbrev pub invariant-loop-place : goal.invariant-loop-place
 invariant-loop-place g l =
-    let bytes = taken g.G.Blocks.block g.G.Blocks.step in
-    let after = g.G.Rng.after in
+    let requests = g.G.Rng.requests in
     let size = length l.fn.chosen in
     record {
-      pass : passed bytes after l.place (l.count - l.place) l.rng l.chosen
-          ≡ passed bytes after size (l.count - size) l.fn.rng (range_with_len 0 size);
+      pass : passed requests l.place (l.count - l.place) l.rng l.chosen
+          ≡ passed requests size (l.count - size) l.fn.rng (range_with_len 0 size);
       below : All (λ place. place < l.place) l.chosen;
       apart : AllPairs (λ place other. place ≢ other) l.chosen;
       words : (n : ℕ) × (n ≤ 128 * (l.place - size)) × (l.rng ≡ iterate (after_word after 64) n l.fn.rng);

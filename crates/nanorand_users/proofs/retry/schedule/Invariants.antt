@@ -7,16 +7,15 @@ use Rattle.nanorand_users.proofs.retry.schedule.Given as goal
 
 abbrev pub invariant-loop-slot : goal.invariant-loop-slot
 invariant-loop-slot g l =
-    let bytes = taken g.G.Blocks.block g.G.Blocks.step in
-    let after = g.G.Rng.after in
+    let requests = g.G.Rng.requests in
     let tries = length l.fn.delays in
     let k = l.slot-index in
     record {
       ceiling : l.ceiling ≡ ceiling_after l.first l.cap k;
-      drawn : take k l.delays ++ delays_after bytes after l.first l.cap k (tries - k) l.rng
-          ≡ delays_after bytes after l.first l.cap 0 tries l.fn.rng;
-      state : state_after_delays bytes after l.first l.cap k (tries - k) l.rng
-          ≡ state_after_delays bytes after l.first l.cap 0 tries l.fn.rng;
+      drawn : take k l.delays ++ delays_after requests l.first l.cap k (tries - k) l.rng
+          ≡ delays_after requests l.first l.cap 0 tries l.fn.rng;
+      state : state_after_delays requests l.first l.cap k (tries - k) l.rng
+          ≡ state_after_delays requests l.first l.cap 0 tries l.fn.rng;
       half : (j : ℕ) → j < k → ceiling_after l.first l.cap j / 2 ≤ slice_index l.delays j;
       below : (j : ℕ) → j < k → slice_index l.delays j ≤ ceiling_after l.first l.cap j;
       words : (n : ℕ) × (n ≤ 128 * k) × (l.rng ≡ iterate (after_word after 64) n l.fn.rng);

@@ -6,13 +6,13 @@ use Rattle.nanorand.proofs.lemmas.shuffles.ShuffleLemmas.{partner-below, shuffli
 use Rattle.nanorand.proofs.rand.Rng.shuffle.Goals as goal
 
 pub loop-place-init : goal.loop-place-init
-loop-place-init g c = shuffling-start (taken g.Self.Blocks.block g.Self.Blocks.step) g.Self.Rng.after from_itself c.args.target.now c.args.self.now
+loop-place-init g c = shuffling-start g.Self.Rng.requests from_itself c.args.target.now c.args.self.now
 
 pub returns-in_err-partner : goal.returns-in_err-partner
 unfolding partner_drawn
 returns-in_err-partner g c =
     let ended =
-    refused (taken g.Self.Blocks.block g.Self.Blocks.step) g.Self.Rng.after from_itself c.args.target.now c.args.self.now
+    refused g.Self.Rng.requests from_itself c.args.target.now c.args.self.now
     c.loop-place.place c.loop-place.self c.loop-place.target c.loop-place.invariant
     _ c.loop-place-test.true c.in_err-partner.ensures.value (omega arith) (omega arith) in
     let kept = err_from_is_err_and c.from_residual.result c.from_residual.ensures.1 in
@@ -28,7 +28,7 @@ returns-in_err-partner g c =
 pub swap-requires-clause-b_in_bounds : goal.swap-requires-clause-b_in_bounds
 unfolding partner_drawn
 swap-requires-clause-b_in_bounds g c =
-    let below = partner-below (taken g.Self.Blocks.block g.Self.Blocks.step) g.Self.Rng.after from_itself (length c.args.target.now)
+    let below = partner-below g.Self.Rng.requests from_itself (length c.args.target.now)
     c.loop-place.place c.loop-place.self c.in_ok-partner.partner c.in_ok-partner.ensures.value in
     omega arith
 
@@ -36,17 +36,17 @@ pub loop-place-preserved : goal.loop-place-preserved
 unfolding partner_drawn
 loop-place-preserved g c =
     rw (c.in_ok-partner.ensures.state, c.swap.ensures.after)
-    (shuffling-step (taken g.Self.Blocks.block g.Self.Blocks.step) g.Self.Rng.after from_itself c.args.target.now c.args.self.now
+    (shuffling-step g.Self.Rng.requests from_itself c.args.target.now c.args.self.now
     c.loop-place.place c.loop-place.self c.loop-place.target c.loop-place.invariant c.in_ok-partner.partner c.loop-place-test.true
     c.in_ok-partner.ensures.value)
 
 pub returns : goal.returns
 returns g c =
     let ended =
-    done (taken g.Self.Blocks.block g.Self.Blocks.step) g.Self.Rng.after from_itself c.args.target.now c.args.self.now
+    done g.Self.Rng.requests from_itself c.args.target.now c.args.self.now
     c.loop-place.place c.loop-place.self c.loop-place.target c.loop-place.invariant (omega arith) in
     let size =
-    count-done (taken g.Self.Blocks.block g.Self.Blocks.step) g.Self.Rng.after from_itself c.args.target.now c.args.self.now
+    count-done g.Self.Rng.requests from_itself c.args.target.now c.args.self.now
     c.loop-place.place c.loop-place.self c.loop-place.target c.loop-place.invariant (omega arith) ∙ omega arith in
     record {
       answer = ended.answered;
@@ -54,5 +54,5 @@ returns g c =
       state = ended.left;
       arrangement = c.loop-place.invariant.shuffled;
       whole = size;
-      valid = choices-valid (taken g.Self.Blocks.block g.Self.Blocks.step) g.Self.Rng.after (length c.args.target.now) c.args.self.now size;
+      valid = choices-valid g.Self.Rng.requests (length c.args.target.now) c.args.self.now size;
     }

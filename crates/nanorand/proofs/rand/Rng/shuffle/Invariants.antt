@@ -5,4 +5,4 @@ use Rattle.nanorand.proofs.rand.Rng.shuffle.Given as goal
 
 abbrev pub invariant-loop-place : goal.invariant-loop-place
 invariant-loop-place g l =
-    Shuffling (taken g.Self.Blocks.block g.Self.Blocks.step) g.Self.Rng.after from_itself l.fn.target l.fn.self l.place l.self l.target
+    Shuffling g.Self.Rng.requests from_itself l.fn.target l.fn.self l.place l.self l.target

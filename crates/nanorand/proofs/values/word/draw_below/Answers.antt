@@ -57,4 +57,4 @@ returns-clause-words g c = counted_words _ _ _ _ _ _ _ (returns-clause-state g c
 pub returns-clause-exhausted : goal.returns-clause-exhausted
 returns-clause-exhausted g c =
     let all : c.others.counter ≡ word_limit = omega arith in
-    c.others.invariant.reached ∙ ap (λ (n : ℕ). iterate (after_word g.G.Rng.after c.args.bits) n c.args.rng.now) all
+    c.others.invariant.reached ∙ ap (λ (n : ℕ). iterate (after_word g.G.Rng.requests c.args.bits) n c.args.rng.now) all

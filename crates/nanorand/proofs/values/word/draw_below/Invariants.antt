@@ -6,4 +6,4 @@ use Rattle.nanorand.proofs.values.word.draw_below.Given as goal
 -- each word so far was rejected
 abbrev pub invariant-others : goal.invariant-others
 invariant-others g l =
-    Searching (next_word (taken g.G.Blocks.block g.G.Blocks.step) l.bits) (after_word g.G.Rng.after l.bits) word_limit l.bits l.size l.fn.rng l.counter l.rng
+    Searching (next_word g.G.Rng.requests l.bits) (after_word g.G.Rng.requests l.bits) word_limit l.bits l.size l.fn.rng l.counter l.rng

@@ -1,8 +1,8 @@
-use Rattle.nanorand.specs.generators.ChaChaRounds.{on_diagonals}
-use Rattle.nanorand.proofs.crypto.chacha.wide.mix_diagonals.Goals as goal
+use Rattle.nanorand.specs.generators.ChaChaRounds.{on_columns}
+use Rattle.nanorand.proofs.crypto.chacha.four_blocks.mix_columns.Goals as goal
 
 pub returns : goal.returns
-unfolding on_diagonals
+unfolding on_columns
 returns c j h =
     rw (
       ← c.quarter_round.ensures j h,

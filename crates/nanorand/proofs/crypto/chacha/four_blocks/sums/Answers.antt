@@ -1,5 +1,5 @@
 use Rattle.std.proofs.Common.{refl}
-use Rattle.nanorand.proofs.crypto.chacha.wide.sums.Goals as goal
+use Rattle.nanorand.proofs.crypto.chacha.four_blocks.sums.Goals as goal
 
 pub returns : goal.returns
 returns c j h =

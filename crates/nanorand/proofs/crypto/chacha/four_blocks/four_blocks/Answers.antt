@@ -1,6 +1,6 @@
 use Rattle.std.proofs.Common.{lit<, ◌∙◌}
 use Rattle.nanorand.proofs.lemmas.chacha.RowLemmas.{lane_block}
-use Rattle.nanorand.proofs.crypto.chacha.wide.four_blocks.Goals as goal
+use Rattle.nanorand.proofs.crypto.chacha.four_blocks.four_blocks.Goals as goal
 
 pub returns-clause-first : goal.returns-clause-first
 returns-clause-first g c =

@@ -1,7 +1,7 @@
 use Rattle.std.proofs.Common.{◌≡◌, ◌/◌, arith, ap, ◌∙◌}
 use Rattle.nanorand.specs.generators.ChaChaRounds.{quarter_round, on_diagonals, rounds}
 use Rattle.nanorand.proofs.lemmas.chacha.MatrixLemmas.{iterate_more}
-use Rattle.nanorand.proofs.crypto.chacha.wide.mix.Goals as goal
+use Rattle.nanorand.proofs.crypto.chacha.four_blocks.mix.Goals as goal
 
 pub pairs-preserved : goal.pairs-preserved
 pairs-preserved g c j h =

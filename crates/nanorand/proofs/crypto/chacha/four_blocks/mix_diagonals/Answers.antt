@@ -1,8 +1,8 @@
-use Rattle.nanorand.specs.generators.ChaChaRounds.{on_columns}
-use Rattle.nanorand.proofs.crypto.chacha.wide.mix_columns.Goals as goal
+use Rattle.nanorand.specs.generators.ChaChaRounds.{on_diagonals}
+use Rattle.nanorand.proofs.crypto.chacha.four_blocks.mix_diagonals.Goals as goal
 
 pub returns : goal.returns
-unfolding on_columns
+unfolding on_diagonals
 returns c j h =
     rw (
       ← c.quarter_round.ensures j h,

@@ -4,7 +4,7 @@ use Rattle.nanorand.proofs.lemmas.chacha.RowLemmas.{below_four}
 use Rattle.nanorand.proofs.lemmas.chacha.ChaChaStateLemmas.{with_counter-spelled}
 use Rattle.nanorand.specs.generators.ChaChaRounds.{IsMatrix}
 use Rattle.nanorand.specs.support.ChaChaDrawLemmas.{chacha_closed}
-use Rattle.nanorand.proofs.crypto.chacha.wide.four_states.Goals as goal
+use Rattle.nanorand.proofs.crypto.chacha.four_blocks.four_states.Goals as goal
 
 pub returns : goal.returns
 returns c =
