@@ -1,4 +1,4 @@
-//! The exports of the static library. A slice crosses as a pointer and a length.
+//! The calls of the static library. Slices go as a pointer and a length.
 
 use std::ptr::NonNull;
 
@@ -53,7 +53,7 @@ unsafe extern "C" {
 macro_rules! slices {
     ($($safe:ident = $name:ident($seed:ty, [$item:ty] $(, $more:ident: $type:ty)*);)+) => { $(
         pub fn $safe(seed: $seed, items: &mut [$item] $(, $more: $type)*) {
-            // SAFETY: the pointer and the length are those of one slice, borrowed for the call.
+            // SAFETY: the pointer and the length are those of a slice that is lent for the call alone.
             unsafe { $name(seed, NonNull::from(&mut *items).cast(), items.len() $(, $more)*) }
         }
     )+ };

@@ -1,4 +1,4 @@
-//! Times nanorand, the kit's generators, and the old Rust crate if `run` is given its folder.
+//! Times nanorand, the kit's generators, and the old Rust crate where `run` names it.
 
 mod calls;
 #[cfg(feature = "original")]
@@ -8,7 +8,7 @@ mod table;
 use calls::*;
 use table::{Row, Work};
 
-// The old crate's work, if the feature `original` is on.
+// The work of the old crate, where it is there.
 macro_rules! old {
     ($kind:ty: $work:expr) => {{
         #[cfg(feature = "original")]
@@ -61,7 +61,7 @@ fn words(rows: &mut Vec<Row>) {
 
 type Fill = fn(&mut [u8], u32);
 
-// Fills a slice again and again, and gives a number made of its last bytes.
+// Fills of a slice, and a number of the last one.
 fn filled(length: u64, fill: Fill) -> impl FnMut() -> u64 {
     let mut bytes = vec![0; length as usize];
     let times = (BYTES / length) as u32;
@@ -71,7 +71,7 @@ fn filled(length: u64, fill: Fill) -> impl FnMut() -> u64 {
     }
 }
 
-// The row for fills of one length.
+// A row of fills of one length.
 fn fill_row(name: &'static str, length: u64, fill: Fill, original: Option<Fill>) -> Row {
     let original = original.map(|fill| Box::new(filled(length, fill)) as Work);
     Row::new(name, BYTES, filled(length, fill)).original(original)
@@ -140,7 +140,7 @@ fn ranges(rows: &mut Vec<Row>) {
     }
 }
 
-// Shuffles 1000 numbers again and again, and gives one of them.
+// Shuffles of 1000 numbers, one after another, and one of the numbers.
 fn shuffled(shuffle: impl Fn(&mut [u64])) -> impl FnMut() -> u64 {
     let mut items: Vec<u64> = (0..ITEMS).collect();
     move || {

@@ -1,4 +1,4 @@
-//! The same work, done by the old Rust crate.
+//! The same work by the old Rust crate.
 
 use nanorand::{BufferedRng, ChaCha, Pcg64, Rng, WyRand};
 use std::hint::black_box;

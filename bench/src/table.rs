@@ -1,16 +1,15 @@
-//! Times the rows in turns, and prints the table of their means.
+//! Rows that are timed by turns, and the table of their means.
 
 use std::hint::black_box;
 use std::time::Instant;
 
-// Each number is the mean of RUNS runs, and each run the best of TURNS turns.
+// The mean of so many runs, each the best of so many turns.
 const RUNS: usize = 5;
 const TURNS: usize = 9;
 
 pub type Work = Box<dyn FnMut() -> u64>;
 
-/// A row of the table: how many items a turn makes, and the works that make them, of nanorand, the old
-/// crate and the kit.
+/// One line: how many items a turn makes, and the works that make them.
 pub struct Row {
     name: &'static str,
     items: u64,
@@ -36,7 +35,7 @@ impl Row {
         self
     }
 
-    // The means in nanoseconds an item, and whether the old crate gave nanorand's result.
+    // The mean of the runs, in nanoseconds an item, and whether the old crate gave the same.
     fn timed(&mut self) -> ([Option<f64>; 3], bool) {
         let mut totals = [0.0; 3];
         let mut answers = [0; 3];
@@ -69,7 +68,7 @@ fn cell(number: Option<f64>) -> String {
 /// Times all rows and prints them.
 pub fn print(rows: &mut [Row]) {
     println!(
-        "Nanoseconds an item, and the ratio to the other library: the mean of {RUNS} runs, each the best of {TURNS} turns."
+        "Nanoseconds an item, and how many times the other's: the mean of {RUNS} runs, each the best of {TURNS} turns."
     );
     println!();
     println!("| Work | nanorand | Rust original | ratio | kit | ratio |");

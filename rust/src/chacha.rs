@@ -14,7 +14,8 @@ pub type ChaCha20 = ChaCha<20>;
 /// The generator `ChaCha`: blocks of 64 bytes from a key, a nonce of 64 bits and a counter of 64 bits.
 ///
 /// It is Daniel J. Bernstein, "ChaCha, a variant of Salsa20", 2008. With a secret random key and 20
-/// rounds its bytes are believed unpredictable; nothing here proves that, and no key is wiped.
+/// rounds its bytes are believed unpredictable; nothing here proves that, and no key is wiped. Where an
+/// adversary matters, take a vetted cryptographic generator.
 ///
 /// It draws no ranges: draw a seed from it, and ranges from that. `ROUNDS` is 8, 12 or 20; other
 /// generators do not compile:
