@@ -1,7 +1,7 @@
-// How the structs of crates/nanorand_c lie in memory, by the functions that take or give them.
+// Checks how the structs of crates/nanorand_c lie in memory, by the functions that take or give them.
 //
-// The structs are declared here once more, and each function is called with known answers in which
-// both words of a number differ. A guard on either side of a struct shows what is written beside it.
+// The structs are declared here again. Each function has known answers in which the two words of a
+// number differ. A guard on either side of a struct shows a write beside it.
 
 #include <stdbool.h>
 #include <stddef.h>
@@ -24,7 +24,7 @@ _Static_assert(offsetof(struct wide, low) == 0, "the low word first");
 _Static_assert(offsetof(struct wide, high) == 8, "then the high word");
 _Static_assert(sizeof(struct wyrand) == 8, "one word");
 _Static_assert(offsetof(struct wyrand, seed) == 0, "which is the seed");
-_Static_assert(sizeof(size_t) == 8, "places have 64 bits");
+_Static_assert(sizeof(size_t) == 8, "indices have 64 bits");
 
 uint64_t nanorand_pcg64_u64(struct wide *seed);
 void nanorand_pcg64_fill_bytes(struct wide *seed, uint8_t *buffer, size_t length);
@@ -58,7 +58,7 @@ static void check(const char *name, bool holds)
     }
 }
 
-// Four words of memory: the seed stands in the middle, least word first, between two guards.
+// Four words of memory: the seed in the middle, low word first, between two guards.
 struct guarded_wide {
     uint64_t words[4];
 };
@@ -101,7 +101,7 @@ static bool word_is(const struct guarded_word *memory, uint64_t seed)
     return memory->words[0] == GUARD && memory->words[1] == seed && memory->words[2] == GUARD;
 }
 
-// The items 0, 1, .., 9 were put into this order.
+// The items 0, 1, .., 9 are in this order.
 static bool is_order(const size_t *items, const char *digits)
 {
     for (size_t place = 0; place < 10; place++) {
@@ -175,7 +175,7 @@ static void check_pcg64_ranges(void)
     size_t place = 7;
     memory = wide_of(5, 1);
     check("pcg64_range_usize: one", nanorand_pcg64_range_usize(seed_in(&memory), 1, 1000, &place) == 0);
-    check("pcg64_range_usize: the place", place == 435);
+    check("pcg64_range_usize: the number", place == 435);
     check("pcg64_range_usize: the seed", wide_is(&memory, 0x10ae3804ebd97e92, 0x7fe0b180f659422b));
 }
 
@@ -229,7 +229,7 @@ static void check_wyrand_ranges(void)
     size_t place = 7;
     memory = word_of(42);
     check("wyrand_range_usize: one", nanorand_wyrand_range_usize(rng_in(&memory), 1, 100, &place) == 0);
-    check("wyrand_range_usize: the place", place == 69);
+    check("wyrand_range_usize: the number", place == 69);
     check("wyrand_range_usize: the seed", word_is(&memory, 0xa0761d6478bd6459));
 }
 

@@ -163,7 +163,7 @@ fn shuffles(rows: &mut Vec<Row>) {
     let items = ITEMS * u64::from(SHUFFLES);
     let calls: [(_, fn(u64, &mut [u64], u32)); 2] = [
         ("shuffle of 1000, an item", shuffle),
-        ("shuffle of 1000 from all places, an item", shuffle_full),
+        ("shuffle of 1000 from all indices, an item", shuffle_full),
     ];
     for (name, call) in calls {
         rows.push(

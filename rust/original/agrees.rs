@@ -1,7 +1,7 @@
-//! Compares the crate with the old Rust crate, where the two mean the same: `rust/test FOLDER`.
+//! Compares the crate with the old Rust crate, where the two should agree: `rust/test FOLDER`.
 //!
-//! They differ in a range that reaches the greatest number of its type, in an empty one, and in
-//! `shuffle`: `shuffle_full` is the old one.
+//! They differ in ranges that reach the greatest number of the type, in empty ranges, and in `shuffle`:
+//! `shuffle_full` is the old one.
 
 use nanorand as old;
 use nanorand::{Rng as _, SeedableRng as _};
@@ -10,7 +10,7 @@ use nanorand_proved::{Rng as _, SeedableRng as _};
 
 const SEEDS: [u64; 6] = [0, 1, 42, 0x5f89_e29b_8742_9bd1, 1 << 63, u64::MAX];
 
-/// The same bytes, numbers and blocks, in one order, from a pair of equal generators.
+/// Equal generators give the same bytes, numbers and blocks, in one order of calls.
 fn check_streams<P: proved::Rng<OUTPUT>, O: old::Rng<OUTPUT>, const OUTPUT: usize>(
     mut proved: P,
     mut original: O,
@@ -37,7 +37,8 @@ fn check_streams<P: proved::Rng<OUTPUT>, O: old::Rng<OUTPUT>, const OUTPUT: usiz
     }
 }
 
-/// The same numbers of ranges below the greatest, half of them with many rejected words.
+/// The same numbers of ranges that stay below the type's greatest number. Half of the sizes reject
+/// many words.
 fn check_ranges<P: proved::Rng<8>, O: old::Rng<8>>(mut proved: P, mut original: O)
 where
     u64: proved::RandomRange<P>,
@@ -57,7 +58,7 @@ where
     }
 }
 
-/// The same shuffles of the old kind.
+/// `shuffle_full` is the old `shuffle`.
 fn check_shuffles<P: proved::Rng<8> + proved::Shuffle, O: old::Rng<8>>(
     mut proved: P,
     mut original: O,
@@ -144,7 +145,7 @@ fn seeds() {
     assert_eq!(ours.rand(), theirs.rand());
 }
 
-/// A jump is so many draws of the old crate.
+/// A jump of n is n draws of the old crate.
 #[test]
 fn jumps() {
     let mut wyrand = (proved::WyRand::new_seed(5), old::WyRand::new_seed(5));

@@ -1,18 +1,18 @@
-//! The functions of `crates/nanorand_c`. A slice crosses as a pointer and then a length.
+//! The exports of `crates/nanorand_c`. A slice crosses as a pointer and then a length.
 //!
-//! None of them requires anything beyond its types, which Rust's references promise too: each is a
-//! `safe fn`, but for those that a slice crosses to. Those have a safe function here.
+//! No export has a precondition beyond its types, which Rust's references guarantee: each is a
+//! `safe fn`, except those that take a slice. Those have a safe wrapper here.
 //!
-//! Nothing compares these lines with `crates/nanorand_c/src`, so an edit there is made here too.
+//! Nothing compares these declarations with `crates/nanorand_c/src`: repeat here what you change there.
 #![allow(
     unsafe_code,
-    reason = "the functions are declared, and slices taken apart"
+    reason = "the exports are declared, and slices split into pointer and length"
 )]
 
 use crate::WyRand;
 use std::fmt;
 
-/// A number of 128 bits, as two words of 64.
+/// A number of 128 bits, as two halves of 64.
 // The fields and their order are those of the struct in `crates/nanorand_c`.
 #[derive(Clone, Copy, PartialEq, Eq)]
 #[repr(C)]
@@ -123,36 +123,36 @@ unsafe extern "C" {
 }
 
 pub(crate) fn wyrand_fill_bytes(rng: &mut WyRand, buffer: &mut [u8]) {
-    // SAFETY: the pointer and the length are those of one slice, which is lent for the call.
+    // SAFETY: the pointer and the length are those of one slice, borrowed for the call.
     unsafe { nanorand_wyrand_fill_bytes(rng, buffer.as_mut_ptr(), buffer.len()) }
 }
 
 pub(crate) fn wyrand_shuffle(rng: &mut WyRand, items: &mut [usize]) -> u8 {
-    // SAFETY: the pointer and the length are those of one slice, which is lent for the call.
+    // SAFETY: the pointer and the length are those of one slice, borrowed for the call.
     unsafe { nanorand_wyrand_shuffle(rng, items.as_mut_ptr(), items.len()) }
 }
 
 pub(crate) fn wyrand_shuffle_full(rng: &mut WyRand, items: &mut [usize]) -> u8 {
-    // SAFETY: the pointer and the length are those of one slice, which is lent for the call.
+    // SAFETY: the pointer and the length are those of one slice, borrowed for the call.
     unsafe { nanorand_wyrand_shuffle_full(rng, items.as_mut_ptr(), items.len()) }
 }
 
 pub(crate) fn pcg64_fill_bytes(seed: &mut Wide, buffer: &mut [u8]) {
-    // SAFETY: the pointer and the length are those of one slice, which is lent for the call.
+    // SAFETY: the pointer and the length are those of one slice, borrowed for the call.
     unsafe { nanorand_pcg64_fill_bytes(seed, buffer.as_mut_ptr(), buffer.len()) }
 }
 
 pub(crate) fn pcg64_shuffle(seed: &mut Wide, items: &mut [usize]) -> u8 {
-    // SAFETY: the pointer and the length are those of one slice, which is lent for the call.
+    // SAFETY: the pointer and the length are those of one slice, borrowed for the call.
     unsafe { nanorand_pcg64_shuffle(seed, items.as_mut_ptr(), items.len()) }
 }
 
 pub(crate) fn pcg64_shuffle_full(seed: &mut Wide, items: &mut [usize]) -> u8 {
-    // SAFETY: the pointer and the length are those of one slice, which is lent for the call.
+    // SAFETY: the pointer and the length are those of one slice, borrowed for the call.
     unsafe { nanorand_pcg64_shuffle_full(seed, items.as_mut_ptr(), items.len()) }
 }
 
-/// The block of a counter under 8, 12 or 20 rounds.
+/// The block at a counter, with 8, 12 or 20 rounds. The counter moves on.
 pub(crate) fn chacha_block<const ROUNDS: u8>(
     key: &[u8; 32],
     nonce: [u8; 8],
@@ -169,7 +169,7 @@ pub(crate) fn chacha_block<const ROUNDS: u8>(
     out
 }
 
-/// The bytes from a counter on, under 8, 12 or 20 rounds.
+/// The bytes from a counter on, with 8, 12 or 20 rounds. The counter moves on.
 pub(crate) fn chacha_fill_bytes<const ROUNDS: u8>(
     key: &[u8; 32],
     nonce: [u8; 8],
@@ -182,6 +182,6 @@ pub(crate) fn chacha_fill_bytes<const ROUNDS: u8>(
         20 => nanorand_chacha20_fill_bytes,
         _ => unreachable!("no generator of other rounds is made"),
     };
-    // SAFETY: the pointer and the length are those of one slice, which is lent for the call.
+    // SAFETY: the pointer and the length are those of one slice, borrowed for the call.
     unsafe { fill_bytes(key, &nonce, counter, buffer.as_mut_ptr(), buffer.len()) }
 }

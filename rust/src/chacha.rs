@@ -13,7 +13,11 @@ pub type ChaCha20 = ChaCha<20>;
 
 /// The generator `ChaCha`: blocks of 64 bytes from a key, a nonce of 64 bits and a counter of 64 bits.
 ///
-/// It draws no ranges: draw a seed from it, and ranges from that. `ROUNDS` is 8, 12 or 20, and other
+/// It is Daniel J. Bernstein, "ChaCha, a variant of Salsa20", 2008. With a secret random key and 20
+/// rounds its bytes are believed unpredictable; nothing here proves that, and no key is wiped. Where an
+/// adversary matters, take a vetted cryptographic generator.
+///
+/// It draws no ranges: draw a seed from it, and ranges from that. `ROUNDS` is 8, 12 or 20; other
 /// generators do not compile:
 ///
 /// ```compile_fail
@@ -38,13 +42,13 @@ impl<const ROUNDS: u8> ChaCha<ROUNDS> {
         }
     }
 
-    /// The counter: the place of the next block.
+    /// The counter: the number of the next block.
     #[must_use]
     pub fn counter(&self) -> u64 {
         self.counter
     }
 
-    /// Leaves what n draws leave. After the greatest counter comes 0.
+    /// Advances by n draws. After the greatest counter comes 0.
     pub fn jump(&mut self, n: u64) {
         self.counter = self.counter.wrapping_add(n);
     }

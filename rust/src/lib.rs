@@ -1,10 +1,10 @@
 //! The seeded random generators of `nanorand`, proved in Rattle, for Rust programs.
 //!
-//! The proved functions are linked as the static library `nanorand_c`, and this crate is safe Rust
-//! over them, with the names of the Rust crate `nanorand` 0.7.0. `rust/test` builds the library, for
-//! Linux on x86-64 from x86-64-v2 on. A generator is a plain Rust value: its state is lent for each
-//! call, so it can be cloned, compared, moved, sent to a thread and dropped as any other. Equal
-//! seeds give equal numbers.
+//! The proved functions are linked as the static library `nanorand_c`. This crate is safe Rust over
+//! them, with the names of the Rust crate `nanorand` 0.7.0. `rust/test` builds the library, for Linux
+//! on x86-64 from x86-64-v2 on. A generator is a plain Rust value, whose state each call borrows: it can
+//! be cloned, compared, moved, sent to a thread and dropped as any other. Equal seeds give equal
+//! numbers. `WyRand` and `Pcg64` are not cryptographically secure.
 //!
 //! A number:
 //!
@@ -17,8 +17,8 @@
 //! # let _ = coin;
 //! ```
 //!
-//! A number of a range: each of them has equally many of the words that can be drawn. An empty range
-//! is an error, and draws nothing:
+//! A number of a range: each has equally many of the possible words. An empty range is an error, and
+//! draws nothing:
 //!
 //! ```
 //! use nanorand_proved::{RangeError, Rng, WyRand};
@@ -43,7 +43,7 @@
 //! rng.fill(&mut words);
 //! ```
 //!
-//! A shuffle, which loses no item and makes none:
+//! A shuffle, which keeps each item exactly once:
 //!
 //! ```
 //! use nanorand_proved::{RangeError, Rng, WyRand};
@@ -55,9 +55,8 @@
 //! # Ok::<(), RangeError>(())
 //! ```
 //!
-//! Seeds and places. Nothing is seeded from what the caller did not hand in: take the bytes of a
-//! seed from the source that you trust, and give them to `reseed`. A jump leads to any place of a
-//! stream at once:
+//! Seeds and jumps. There is no default source of seeds: take the bytes of a seed from a source that
+//! you trust, and give them to `reseed`. A jump leads to any point of a stream at once:
 //!
 //! ```
 //! use nanorand_proved::{ChaCha8, Pcg64, Rng, SeedableRng, WyRand};
@@ -126,8 +125,8 @@ pub trait Rng<const OUTPUT: usize>: Clone {
     ///
     /// # Errors
     ///
-    /// [`RangeError::Empty`] where the range has no number; nothing was drawn.
-    /// [`RangeError::Exhausted`] where 128 words in a row were rejected; they stay drawn.
+    /// [`RangeError::Empty`] if the range has no number; nothing was drawn.
+    /// [`RangeError::Exhausted`] if 128 words in a row were rejected; they stay drawn.
     fn generate_range<T: RandomRange<Self>>(
         &mut self,
         range: impl RangeBounds<T>,
@@ -135,13 +134,14 @@ pub trait Rng<const OUTPUT: usize>: Clone {
         T::random_range(self, range)
     }
 
-    /// Shuffles the items: each place, from the first on, is swapped with a partner that is drawn
-    /// from that place and those after it.
+    /// Shuffles the items: for each index i, from the first on, draws a partner in `i..n` and swaps the
+    /// two items. It is the shuffle of Fisher and Yates (1938) in Richard Durstenfeld's form, "Algorithm
+    /// 235: Random permutation", CACM 7(7), 1964.
     ///
     /// # Errors
     ///
-    /// [`RangeError::Exhausted`] where 128 words in a row were rejected for one partner. What was
-    /// swapped before it stays so, and the items are an arrangement of what they were.
+    /// [`RangeError::Exhausted`] if 128 words in a row were rejected for one partner. The swaps made
+    /// before it stay, and the items are a permutation of what they were.
     fn shuffle<T>(&mut self, items: &mut [T]) -> Result<(), RangeError>
     where
         Self: Shuffle,
@@ -149,7 +149,7 @@ pub trait Rng<const OUTPUT: usize>: Clone {
         shuffle::arrange(items, |places| self.shuffle_places(places))
     }
 
-    /// Shuffles the items with partners from all places, as the Rust crate `nanorand` does.
+    /// Shuffles the items with partners from all indices, as the Rust crate `nanorand` does.
     ///
     /// # Errors
     ///

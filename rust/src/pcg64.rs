@@ -2,9 +2,11 @@ use crate::border::{self, Wide};
 use crate::range::answer;
 use crate::{RangeError, Rng, SeedableRng, Shuffle};
 
-/// The generator Pcg64 of the Rust crate `nanorand`: 128 bits of seed, and a word of 64 bits a draw.
+/// The generator Pcg64 of the Rust crate `nanorand`: a seed of 128 bits, and a word of 64 bits a draw.
 ///
-/// It is no generator for secrets. Its state is the seed alone, which decides all that comes.
+/// It is not cryptographically secure. Its state is the seed alone. It is after Melissa E. O'Neill,
+/// "PCG: A Family of Simple Fast Space-Efficient Statistically Good Algorithms for Random Number
+/// Generation", HMC-CS-2014-0905, 2014; other programs of that family give other numbers.
 #[derive(Clone, Debug, PartialEq, Eq)]
 pub struct Pcg64 {
     seed: Wide,
@@ -23,12 +25,13 @@ impl Pcg64 {
         self.seed.into()
     }
 
-    /// Leaves what n draws leave, in at most 128 turns.
+    /// Advances by n draws, in at most 128 turns: Forrest B. Brown, "Random Number Generation with
+    /// Arbitrary Strides", Trans. American Nuclear Society 71, 1994.
     pub fn jump(&mut self, n: u128) {
         border::nanorand_pcg64_jump(&mut self.seed, &n.into());
     }
 
-    /// What crosses.
+    /// The seed as it crosses the border.
     pub(crate) fn seed_mut(&mut self) -> &mut Wide {
         &mut self.seed
     }

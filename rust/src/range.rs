@@ -29,7 +29,7 @@ impl fmt::Display for RangeError {
 
 impl Error for RangeError {}
 
-/// What a status of the border says.
+/// The outcome that a status of the border stands for.
 pub(crate) fn answer(status: u8) -> Result<(), RangeError> {
     match status {
         0 => Ok(()),
@@ -40,8 +40,9 @@ pub(crate) fn answer(status: u8) -> Result<(), RangeError> {
 
 /// A number that a generator draws from a range.
 ///
-/// Words of 64 bits are drawn until one names a number of the range. Each number has equally many
-/// words, and 128 words are drawn at most.
+/// Words of 64 bits are drawn until one names a number of the range, 128 at most. Each number has
+/// equally many words: Daniel Lemire, "Fast Random Integer Generation in an Interval", ACM TOMACS
+/// 29(1), 2019.
 pub trait RandomRange<G>: Sized {
     /// Draws a number of the range.
     ///
@@ -51,7 +52,7 @@ pub trait RandomRange<G>: Sized {
     fn random_range(rng: &mut G, range: impl RangeBounds<Self>) -> Result<Self, RangeError>;
 }
 
-/// The whole-number types, as far as the ends of a range ask.
+/// What the ends of a range need of a whole-number type.
 trait Whole: Copy {
     const LEAST: Self;
     const GREATEST: Self;
@@ -59,8 +60,8 @@ trait Whole: Copy {
     fn previous(self) -> Option<Self>;
 }
 
-/// The first and the last number that both bounds admit, where each of the bounds admits one. The
-/// last may be below the first.
+/// The first number that the low bound admits and the last that the high bound admits, if each admits
+/// one. The last may be below the first.
 fn ends<T: Whole>(range: &impl RangeBounds<T>) -> Option<(T, T)> {
     let first = match range.start_bound() {
         Bound::Included(first) => *first,

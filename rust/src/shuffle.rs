@@ -1,17 +1,17 @@
-//! Shuffles of any items, by shuffles of their places.
+//! Shuffles of any items, by shuffles of their indices.
 
 use crate::RangeError;
 
 /// A generator that shuffles numbers.
 pub trait Shuffle {
-    /// Shuffles the numbers, each partner drawn from its place on.
+    /// Shuffles the numbers, each partner drawn from its index on.
     ///
     /// # Errors
     ///
     /// As of [`Rng::shuffle`](crate::Rng::shuffle).
     fn shuffle_places(&mut self, places: &mut [usize]) -> Result<(), RangeError>;
 
-    /// The same with partners from all places.
+    /// The same with partners from all indices.
     ///
     /// # Errors
     ///
@@ -19,14 +19,14 @@ pub trait Shuffle {
     fn shuffle_places_full(&mut self, places: &mut [usize]) -> Result<(), RangeError>;
 }
 
-/// Arranges the items as a shuffle arranges their places, also where it is refused.
+/// Moves the items as a shuffle moves their indices, also if it is refused.
 pub(crate) fn arrange<T>(
     items: &mut [T],
     shuffle: impl FnOnce(&mut [usize]) -> Result<(), RangeError>,
 ) -> Result<(), RangeError> {
     let mut places: Vec<usize> = (0..items.len()).collect();
     let outcome = shuffle(&mut places);
-    // Each place takes the item of the place that it names: each cycle is walked once.
+    // Each index takes the item of the index stored at it. Each cycle is walked once.
     for start in 0..items.len() {
         let mut place = start;
         while places[place] != start {

@@ -2,9 +2,9 @@ use crate::border;
 use crate::range::answer;
 use crate::{RangeError, Rng, SeedableRng, Shuffle};
 
-/// The generator wyrand: 64 bits of seed, and a word of 64 bits a draw.
+/// The generator wyrand of Wang Yi (wyhash, 2019): a seed of 64 bits, and a word of 64 bits a draw.
 ///
-/// It is no generator for secrets.
+/// It is not cryptographically secure.
 // The field is that of the struct in `crates/nanorand`.
 #[derive(Clone, Debug, PartialEq, Eq)]
 #[repr(C)]
@@ -25,7 +25,7 @@ impl WyRand {
         self.seed
     }
 
-    /// Leaves what n draws leave.
+    /// Advances by n draws.
     pub fn jump(&mut self, n: u64) {
         border::nanorand_wyrand_jump(self, n);
     }

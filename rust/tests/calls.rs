@@ -1,11 +1,11 @@
-//! What the functions of the Rust side do around the proved ones.
+//! What the Rust side does around the proved functions.
 
 use nanorand_proved::{
     ChaCha8, ChaCha12, ChaCha20, Pcg64, RangeError, Rng, SeedableRng, Shuffle, WyRand,
 };
 use std::ops::Bound::{self, Excluded, Included, Unbounded};
 
-/// A request of n bytes is that of a longer one cut short, and values are read from requests.
+/// A request of n bytes delivers the first n bytes of a longer one, and values are read from requests.
 fn check_requests<G: Rng<OUTPUT> + PartialEq + std::fmt::Debug, const OUTPUT: usize>(rng: &G) {
     let mut long = vec![0; 1000];
     rng.clone().fill_bytes(&mut long);
@@ -62,7 +62,7 @@ fn jumps() {
         assert_eq!(jumped, chacha);
         let _ = (wyrand.rand(), pcg64.rand(), chacha.rand());
     }
-    // A jump of 2^64 draws and one of 1: both halves of the number count.
+    // A jump of 2^64 + 1 draws: both halves of the number count.
     let mut there = Pcg64::new_seed(3);
     there.jump((1 << 64) + 1);
     let mut halves = Pcg64::new_seed(3);
@@ -129,7 +129,7 @@ fn bounds() {
         assert_ne!(wyrand, WyRand::new_seed(1));
         assert_ne!(pcg64, Pcg64::new_seed(1));
     }
-    // Of all numbers each word names itself.
+    // In the range of all numbers each word names itself.
     let rng = WyRand::new_seed(8);
     assert_eq!(
         rng.clone().generate_range::<u64>(..),

@@ -1,4 +1,4 @@
-//! Published vectors, and rows that are worked out from the rules of behaviour, apart from this crate.
+//! Published test vectors, and known answers computed from the rules of behaviour, not by this crate.
 
 use nanorand_proved::{ChaCha, ChaCha8, ChaCha12, ChaCha20, Pcg64, RangeError, Rng, WyRand};
 
@@ -13,7 +13,7 @@ fn bytes(text: &str) -> Vec<u8> {
         .collect()
 }
 
-/// The blocks of a generator, as `rand` gives them and as one fill.
+/// Checks the blocks of a generator, as `rand` gives them and as one fill.
 fn check_blocks<const ROUNDS: u8>(key: &str, nonce: &str, blocks: &[&str]) {
     let key = bytes(key).try_into().expect("32 bytes");
     let nonce = bytes(nonce).try_into().expect("8 bytes");
@@ -161,7 +161,7 @@ fn ranges() -> Result<(), RangeError> {
     for percent in [93, 30, 34, 21, 23, 70, 26, 84] {
         assert_eq!(rng.generate_range::<usize>(1..101), Ok(percent));
     }
-    // Nearly half of the words are rejected: one, one, one and five words.
+    // Nearly half of the words are rejected: the numbers take one, one, one and five words.
     let mut rng = WyRand::new_seed(42);
     for number in [
         6_279_493_837_187_766_810_u64,
@@ -172,7 +172,7 @@ fn ranges() -> Result<(), RangeError> {
         assert_eq!(rng.generate_range(..=1 << 63), Ok(number));
     }
     assert_eq!(rng.seed(), 0x03b0_eb23_c5eb_21a2);
-    // One, four, four and two words.
+    // They take one, four, four and two words.
     let mut rng = Pcg64::new_seed(42);
     for number in [
         8_561_653_660_941_340_969_u64,
