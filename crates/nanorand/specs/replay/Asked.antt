@@ -5,12 +5,12 @@ use Rattle.std.specs.declared.ops.Bound.TheVariants.{Included, Excluded}
 use Rattle.nanorand.specs.generators.Blocks.{Requests}
 use Rattle.nanorand.specs.values.Range.{unsigned_range, signed_range}
 use Rattle.nanorand.specs.values.Draws.{word_limit, deciding_place, words_from, next_word, after_word}
-use Rattle.nanorand.specs.replay.Replay.{size_of, outcome}
+use Rattle.nanorand.specs.replay.Replay.{TypedBounds, bounds_of, outcome, size_of}
+use Rattle.nanorand.specs.replay.Replay.TypedBounds.{signed, unsigned}
 use Rattle.nanorand.specs.shuffles.Shuffles.{from_itself, partner_drawn, shuffle_choices}
 use Rattle.nanorand.specs.declared.replay.Call.{Call}
 use Rattle.nanorand.specs.declared.replay.Call.TheVariants.{Gen, Range, Shuffle}
 use Rattle.nanorand.specs.declared.replay.Span.{Span}
-use Rattle.nanorand.specs.declared.replay.Span.TheVariants as spans
 
 -- How many words are drawn for a range of these numbers: up to the deciding one, or all 128; none if there is no number.
 unfoldable pub words_drawn : {G T : Type 0} → (G → ℕ) → (G → G) → ℕ → List T → G → ℕ
@@ -23,17 +23,12 @@ module _ {G : Type 0} (requests : Requests G) where
   abbrev pub asked_by_range : {T : Type 0} → ℕ → List T → G → ℕ
   asked_by_range bits numbers g = words_drawn (next_word requests bits) (after_word requests bits) bits numbers g * (bits / 8)
 
+  abbrev pub asked_by_bounds : G → TypedBounds → ℕ
+  asked_by_bounds g (unsigned bits low high) = asked_by_range bits (unsigned_range bits low high) g
+  asked_by_bounds g (signed bits low high) = asked_by_range bits (signed_range bits low high) g
+
   abbrev pub asked_by_span : G → Span → ℕ
-  asked_by_span g (spans.I8 low high) = asked_by_range 8 (signed_range 8 low high) g
-  asked_by_span g (spans.I16 low high) = asked_by_range 16 (signed_range 16 low high) g
-  asked_by_span g (spans.I32 low high) = asked_by_range 32 (signed_range 32 low high) g
-  asked_by_span g (spans.I64 low high) = asked_by_range 64 (signed_range 64 low high) g
-  asked_by_span g (spans.Isize low high) = asked_by_range 64 (signed_range 64 low high) g
-  asked_by_span g (spans.U8 low high) = asked_by_range 8 (unsigned_range 8 low high) g
-  asked_by_span g (spans.U16 low high) = asked_by_range 16 (unsigned_range 16 low high) g
-  asked_by_span g (spans.U32 low high) = asked_by_range 32 (unsigned_range 32 low high) g
-  asked_by_span g (spans.U64 low high) = asked_by_range 64 (unsigned_range 64 low high) g
-  asked_by_span g (spans.Usize low high) = asked_by_range 64 (unsigned_range 64 low high) g
+  asked_by_span g span = asked_by_bounds g (bounds_of span)
 
   -- The bytes that the partners of `count` places from i on ask for, in a shuffle of n items.
   unfoldable pub asked_by_places : (ℕ → ℕ) → ℕ → ℕ → ℕ → G → ℕ

@@ -50,6 +50,23 @@ value_of kinds.U128 bytes = Unsigned (number_of bytes)
 value_of kinds.Usize bytes = Unsigned (number_of bytes)
 value_of kinds.Bool bytes = Truth (truth_of bytes)
 
+-- The bounds of a range, low and high, of the unsigned or the signed type of so many bits.
+pub data TypedBounds : Type 0 where
+  unsigned : ℕ → Bound ℕ → Bound ℕ → TypedBounds
+  signed : ℕ → Bound ℤ → Bound ℤ → TypedBounds
+
+abbrev pub bounds_of : Span → TypedBounds
+bounds_of (spans.I8 low high) = signed 8 low high
+bounds_of (spans.I16 low high) = signed 16 low high
+bounds_of (spans.I32 low high) = signed 32 low high
+bounds_of (spans.I64 low high) = signed 64 low high
+bounds_of (spans.Isize low high) = signed 64 low high
+bounds_of (spans.U8 low high) = unsigned 8 low high
+bounds_of (spans.U16 low high) = unsigned 16 low high
+bounds_of (spans.U32 low high) = unsigned 32 low high
+bounds_of (spans.U64 low high) = unsigned 64 low high
+bounds_of (spans.Usize low high) = unsigned 64 low high
+
 -- The answer to a call that is refused.
 abbrev pub refusal_answer : RangeError → Answer
 refusal_answer refusals.Empty = Empty
@@ -83,28 +100,17 @@ pub record Replay (G : Type 0) : Type 0 where
   pub state : G
 
 module _ {G : Type 0} (requests : Requests G) where
-  abbrev pub unsigned_span : ℕ → G → Bound ℕ → Bound ℕ → Answer × G
-  unsigned_span bits g low high =
+  -- What a range answers, and the state that it leaves.
+  abbrev pub bounds_outcome : G → TypedBounds → Answer × G
+  bounds_outcome g (unsigned bits low high) =
       let drawn = unsigned_outcome requests bits g low high in
       (unsigned_answer drawn.0, drawn.1)
-
-  abbrev pub signed_span : ℕ → G → Bound ℤ → Bound ℤ → Answer × G
-  signed_span bits g low high =
+  bounds_outcome g (signed bits low high) =
       let drawn = signed_outcome requests bits g low high in
       (signed_answer drawn.0, drawn.1)
 
-  -- What a range answers, and the state that it leaves.
   abbrev pub span_outcome : G → Span → Answer × G
-  span_outcome g (spans.I8 low high) = signed_span 8 g low high
-  span_outcome g (spans.I16 low high) = signed_span 16 g low high
-  span_outcome g (spans.I32 low high) = signed_span 32 g low high
-  span_outcome g (spans.I64 low high) = signed_span 64 g low high
-  span_outcome g (spans.Isize low high) = signed_span 64 g low high
-  span_outcome g (spans.U8 low high) = unsigned_span 8 g low high
-  span_outcome g (spans.U16 low high) = unsigned_span 16 g low high
-  span_outcome g (spans.U32 low high) = unsigned_span 32 g low high
-  span_outcome g (spans.U64 low high) = unsigned_span 64 g low high
-  span_outcome g (spans.Usize low high) = unsigned_span 64 g low high
+  span_outcome g span = bounds_outcome g (bounds_of span)
 
   abbrev pub outcome : G → List ℕ → Call → Outcome G
   outcome g items (Gen kind) = record { answer = value_of kind (requests.bytes g (size_of kind)); items = items; state = requests.after g (size_of kind) }

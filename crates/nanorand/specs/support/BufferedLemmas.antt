@@ -11,6 +11,7 @@ use Rattle.std.proofs.lemmas.List.{append-nil, take-append-le, drop-append-le, d
 use Rattle.std.proofs.Math.Nat.{zero-div, zero-mod, add-mul, suc-mul, zero-mul, suc-add, sub-zero, add_comm, mul-le-mul_right}
 use Rattle.nanorand.specs.generators.Blocks.{blocks, taken, plain_after}
 use Rattle.nanorand.specs.generators.Buffered.{Buffered, buffer_of, row, blocks_needed, buffered_taken, buffered_after, buffered_block, buffered_step}
+use Rattle.nanorand.specs.support.IterateLemmas.{iterate-add}
 use Rattle.nanorand.specs.support.BlockLemmas.{blocks_add, length-blocks, div_ceil_more, le-mul_self, taken_front}
 
 -- the only number of that size that covers x
@@ -53,10 +54,6 @@ left_below r n k positive below =
     ⊎_elim (λ (more : r < n). omega (arith, bounds))
     (λ (enough : n ≤ r). let start = ceil_none (n - r) k (omega arith) in omega (arith, start))
     (cases_lt r n)
-
-iterate_add : {G : Type 0} (step : G → G) (m n : ℕ) (g : G) → iterate step (m + n) g ≡ iterate step n (iterate step m g)
-iterate_add step zero n g = rw zero-add refl
-iterate_add step (suc m) n g = rw suc-add (iterate_add step m n (step g))
 
 pub same_buffer : {G : Type 0} {rest other : List ℕ} {inner another : G} → rest ≡ other → inner ≡ another → buffer_of rest inner ≡ buffer_of other another
 same_buffer e f = cc
@@ -116,7 +113,7 @@ module _ {G : Type 0} (block : G → List ℕ) (step : G → G) (output : ℕ) (
       let first : ℕ = blocks_needed block step output b m in
       let second : ℕ = blocks_needed block step output (buffered_after block step output b m) n in
       let rest : drop n (row block step output (buffered_after block step output b m) second) ≡ drop (m + n) (row block step output b (first + second)) = ap (λ bytes. drop n bytes) (row_after b m second) ∙ drop-drop n m _ in
-      same_buffer rest (sym (iterate_add step first second b.inner)) ∙ ap (λ k. record { rest = drop (m + n) (row block step output b k); inner = iterate step k b.inner }) (sym (needed_add b m n))
+      same_buffer rest (sym (iterate-add step first second b.inner)) ∙ ap (λ k. record { rest = drop (m + n) (row block step output b k); inner = iterate step k b.inner }) (sym (needed_add b m n))
 
   taken_within : (b : Buffered G) (n m : ℕ) → n ≤ m → take n (buffered_taken block step output b m) ≡ buffered_taken block step output b n
   taken_within b n m within =

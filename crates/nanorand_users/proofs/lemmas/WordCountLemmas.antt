@@ -1,11 +1,7 @@
 -- How many words several draws take.
-use Rattle.std.proofs.Common.{◌≡◌, ℕ, zero, suc, ◌+◌, ◌*◌, ◌≤◌, zero-add, refl, ◌∙◌, ap, arith}
-use Rattle.std.proofs.Math.Nat.{suc-add}
+use Rattle.std.proofs.Common.{◌≡◌, ℕ, zero, suc, ◌+◌, ◌*◌, ◌≤◌, sym, ◌∙◌, ap, arith}
 use Rattle.std.specs.Fn.{iterate}
-
-iterate-add : {A : Type 0} (h : A → A) (m n : ℕ) (x : A) → iterate h n (iterate h m x) ≡ iterate h (m + n) x
-iterate-add h zero n x = rw zero-add refl
-iterate-add h (suc m) n x = rw suc-add (iterate-add h m n (h x))
+use Rattle.nanorand.specs.support.IterateLemmas.{iterate-add}
 
 -- one draw more
 pub words_more : {A : Type 0} (h : A → A) (limit i : ℕ) (x y z : A)
@@ -14,4 +10,4 @@ pub words_more : {A : Type 0} (h : A → A) (limit i : ℕ) (x y z : A)
 words_more h limit i x y z before next =
     let few = before.1 in
     let one = next.1 in
-    (before.0 + next.0, omega arith, next.2 ∙ ap (iterate h next.0) before.2 ∙ iterate-add h before.0 next.0 x)
+    (before.0 + next.0, omega arith, next.2 ∙ ap (iterate h next.0) before.2 ∙ sym (iterate-add h before.0 next.0 x))

@@ -1,4 +1,3 @@
-use Rattle.nanorand.specs.generators.Blocks.{taken}
 use Rattle.nanorand.proofs.lemmas.replay.ReplayLemmas.{joined}
 use Rattle.nanorand.proofs.laws.replays_join.Goals as goal
 

@@ -6,16 +6,15 @@ use Rattle.std.proofs.lemmas.Bool.{cases_Bool}
 use Rattle.std.proofs.lemmas.List.Sums.{sum_by-cons}
 use Rattle.std.proofs.Math.Nat.{zero-mul, suc-mul}
 use Rattle.nanorand.specs.generators.Blocks.{Requests}
-use Rattle.nanorand.specs.replay.Asked.{words_drawn, asked_by_range, asked_by_span, asked_by_places, asked_by_call, asked}
+use Rattle.nanorand.specs.replay.Asked.{words_drawn, asked_by_range, asked_by_bounds, asked_by_places, asked_by_call, asked}
 use Rattle.nanorand.specs.values.Draws.{next_word, after_word, left_after, left_by}
 use Rattle.nanorand.specs.values.Range.{unsigned_range, signed_range}
-use Rattle.nanorand.specs.replay.Replay.{replayed, outcome, span_outcome}
+use Rattle.nanorand.specs.replay.Replay.{TypedBounds, bounds_of, bounds_outcome, outcome, replayed}
+use Rattle.nanorand.specs.replay.Replay.TypedBounds.{signed, unsigned}
 use Rattle.nanorand.specs.shuffles.Shuffles.{from_itself, partner_drawn, state_after_places, shuffle_choices}
 use Rattle.nanorand.specs.replay.Unbroken.{IsUnbroken, after_all, taken_all}
 use Rattle.nanorand.specs.declared.replay.Call.{Call}
 use Rattle.nanorand.specs.declared.replay.Call.TheVariants.{Gen, Range, Shuffle}
-use Rattle.nanorand.specs.declared.replay.Span.{Span}
-use Rattle.nanorand.specs.declared.replay.Span.TheVariants as spans
 
 -- what a range leaves is the state so many words on
 left-words : {G T : Type 0} (word : G → ℕ) (after : G → G) (bits : ℕ) (numbers : List T) (g : G)
@@ -50,17 +49,10 @@ module _ {G : Type 0} (requests : Requests G)
       left-words (next_word requests bits) (after_word requests bits) bits numbers g
       ∙ repeated_state (bits / 8) (words_drawn (next_word requests bits) (after_word requests bits) bits numbers g) g
 
-  span_state : (g : G) (span : Span) → (span_outcome requests g span).1 ≡ requests.after g (asked_by_span requests g span)
-  span_state g (spans.I8 low high) = range_state 8 (signed_range 8 low high) g
-  span_state g (spans.I16 low high) = range_state 16 (signed_range 16 low high) g
-  span_state g (spans.I32 low high) = range_state 32 (signed_range 32 low high) g
-  span_state g (spans.I64 low high) = range_state 64 (signed_range 64 low high) g
-  span_state g (spans.Isize low high) = range_state 64 (signed_range 64 low high) g
-  span_state g (spans.U8 low high) = range_state 8 (unsigned_range 8 low high) g
-  span_state g (spans.U16 low high) = range_state 16 (unsigned_range 16 low high) g
-  span_state g (spans.U32 low high) = range_state 32 (unsigned_range 32 low high) g
-  span_state g (spans.U64 low high) = range_state 64 (unsigned_range 64 low high) g
-  span_state g (spans.Usize low high) = range_state 64 (unsigned_range 64 low high) g
+  bounds_state : (g : G) (bounds : TypedBounds)
+      → (bounds_outcome requests g bounds).1 ≡ requests.after g (asked_by_bounds requests g bounds)
+  bounds_state g (unsigned bits low high) = range_state bits (unsigned_range bits low high) g
+  bounds_state g (signed bits low high) = range_state bits (signed_range bits low high) g
 
   partner_state : (first : ℕ → ℕ) (n i : ℕ) (g : G)
       → (partner_drawn requests first n i g).1 ≡ requests.after g (asked_by_range requests 64 (unsigned_range 64 (Included (first i)) (Excluded n)) g)
@@ -79,7 +71,7 @@ module _ {G : Type 0} (requests : Requests G)
 
   call_state : (g : G) (items : List ℕ) (call : Call) → (outcome requests g items call).state ≡ requests.after g (asked_by_call requests g items call)
   call_state g items (Gen kind) = refl
-  call_state g items (Range span) = span_state g span
+  call_state g items (Range span) = bounds_state g (bounds_of span)
   call_state g items Shuffle =
       places_state from_itself (length items) 0 (min (length items) (length (shuffle_choices requests from_itself (length items) g) + 1)) g
 

@@ -76,27 +76,28 @@ module _ {G T : Type 0} (requests : Requests G) (items : List T) (g : G) where
       → choices ≡ completed (length items) (take 0 (shuffle_choices requests from_itself (length items) g))
   recorded-start choices is = is ∙ sym (completed-nothing (length items))
 
-  pub recorded-step : (i j : ℕ) (now : G) (list : List T) (choices : List ℕ) → Recording i now list choices → i < length items
-      → Ok j ≡ (partner_drawn requests from_itself (length items) i now).0
-      → set choices i j ≡ completed (length items) (take (i + 1) (shuffle_choices requests from_itself (length items) g))
-  recorded-step i j now list choices m low drawn =
-      let drawn_choices = shuffle_choices requests from_itself (length items) g in
-      let parts = choice-drawn requests from_itself items g i now list m.shuffling j low drawn in
-      let size = length-take-le i drawn_choices m.shuffling.many in
-      let more : take (i + 1) drawn_choices ≡ take i drawn_choices ++ j ∷ [] =
-      take_more drawn_choices i 0 parts.0 ∙ ap (λ x. take i drawn_choices ++ x ∷ []) parts.1 in
-      ap (λ xs. set xs i j) m.recorded ∙ completed-more (length items) i j (take i drawn_choices) size low
-      ∙ ap (completed (length items)) (sym more)
-
   -- what the choices that are recorded say of the items, once no more are drawn
   pub record Recorded (list : List T) (choices : List ℕ) : Type 0 where
     pub is : choices ≡ completed (length items) (shuffle_choices requests from_itself (length items) g)
     pub valid : IsValid choices
     pub makes : arranged choices items ≡ list
 
-  pub recorded : (i : ℕ) (now : G) (list : List T) (choices : List ℕ) → Recording i now list choices → i ≤ length items
-      → length (shuffle_choices requests from_itself (length items) g) ≡ i → Recorded list choices
-  recorded i now list choices m room size =
+module _ {G T : Type 0} {requests : Requests G} {items : List T} {g : G} {i : ℕ} {now : G} {list : List T} {choices : List ℕ}
+    (m : Recording requests items g i now list choices) where
+  pub recorded-step : {j : ℕ} → i < length items → Ok j ≡ (partner_drawn requests from_itself (length items) i now).0
+      → set choices i j ≡ completed (length items) (take (i + 1) (shuffle_choices requests from_itself (length items) g))
+  recorded-step {j} low drawn =
+      let drawn_choices = shuffle_choices requests from_itself (length items) g in
+      let parts = choice-drawn m.shuffling low drawn in
+      let size = length-take-le i drawn_choices m.shuffling.many in
+      let more : take (i + 1) drawn_choices ≡ take i drawn_choices ++ j ∷ [] =
+      take_more drawn_choices i 0 parts.0 ∙ ap (λ x. take i drawn_choices ++ x ∷ []) parts.1 in
+      ap (λ xs. set xs i j) m.recorded ∙ completed-more (length items) i j (take i drawn_choices) size low
+      ∙ ap (completed (length items)) (sym more)
+
+  pub recorded : i ≤ length items → length (shuffle_choices requests from_itself (length items) g) ≡ i
+      → Recorded requests items g list choices
+  recorded room size =
       let drawn = shuffle_choices requests from_itself (length items) g in
       let all : take i drawn ≡ drawn = take_all i drawn (omega (arith, size)) in
       let is : choices ≡ completed (length items) drawn = m.recorded ∙ ap (completed (length items)) all in

@@ -97,81 +97,85 @@ module _ {G T : Type 0} (requests : Requests G) (first : ℕ → ℕ) (items : L
       let all : length items - 0 ≡ length items = omega arith in
       record { drawn = rw all refl; many = omega arith; reached = refl; made = refl; shuffled = IsPermutation-refl items }
 
-  module _ (i : ℕ) (now : G) (list : List T) (m : Shuffling i now list) where
-    pub size : length list ≡ length items
-    size = length_permutation items list m.shuffled
+module _ {G T : Type 0} {requests : Requests G} {first : ℕ → ℕ} {items : List T} {g : G}
+    {i : ℕ} {now : G} {list : List T} (m : Shuffling requests first items g i now list) where
+  pub size : length list ≡ length items
+  size = length_permutation items list m.shuffled
 
-    -- the choice at i and those that follow
-    next : i < length items → drop i (shuffle_choices requests first (length items) g)
-        ≡ choice_before (partner_drawn requests first (length items) i now).0
-        (choices_from requests first (length items) (i + 1) (length items - (i + 1)) (partner_drawn requests first (length items) i now).1)
-    unfolding choices_from
-    next low =
-        let left : length items - i ≡ suc (length items - (i + 1)) = omega arith in
-        let is = rw left at m.drawn in is
+  -- the choice at i and those that follow
+  next : i < length items → drop i (shuffle_choices requests first (length items) g)
+      ≡ choice_before (partner_drawn requests first (length items) i now).0
+      (choices_from requests first (length items) (i + 1) (length items - (i + 1)) (partner_drawn requests first (length items) i now).1)
+  unfolding choices_from
+  next low =
+      let left : length items - i ≡ suc (length items - (i + 1)) = omega arith in
+      let is = rw left at m.drawn in is
 
-    -- what was drawn is the choice at i
-    pub choice-drawn : (j : ℕ) → i < length items → Ok j ≡ (partner_drawn requests first (length items) i now).0
-        → (i < length (shuffle_choices requests first (length items) g)) × (get_or (shuffle_choices requests first (length items) g) i 0 ≡ j)
-        × (drop (i + 1) (shuffle_choices requests first (length items) g)
-        ≡ choices_from requests first (length items) (i + 1) (length items - (i + 1)) (partner_drawn requests first (length items) i now).1)
-    choice-drawn j low drawn =
+  pub choice-below : {j : ℕ} → Ok j ≡ (partner_drawn requests first (length items) i now).0 → j < length items
+  choice-below {j} drawn = partner-below requests first (length items) i now j drawn
+
+  -- what was drawn is the choice at i
+  pub choice-drawn : {j : ℕ} → i < length items → Ok j ≡ (partner_drawn requests first (length items) i now).0
+      → (i < length (shuffle_choices requests first (length items) g)) × (get_or (shuffle_choices requests first (length items) g) i 0 ≡ j)
+      × (drop (i + 1) (shuffle_choices requests first (length items) g)
+      ≡ choices_from requests first (length items) (i + 1) (length items - (i + 1)) (partner_drawn requests first (length items) i now).1)
+  choice-drawn {j} low drawn =
+      let is = rw (← drawn) at next low in
+      drop-is (shuffle_choices requests first (length items) g) i j
+      (choices_from requests first (length items) (i + 1) (length items - (i + 1)) (partner_drawn requests first (length items) i now).1) is
+
+  pub shuffling-step : {j : ℕ} → i < length items → Ok j ≡ (partner_drawn requests first (length items) i now).0
+      → Shuffling requests first items g (i + 1) (partner_drawn requests first (length items) i now).1 (swap list i j)
+  shuffling-step {j} low drawn =
+      let parts = choice-drawn low drawn in
+      let to = choice-below drawn in
+      record {
+        drawn = parts.2;
+        many = omega (arith, parts.0);
+        reached = let place : 0 + i ≡ i = omega arith in rw (add-one i, state-more requests first items g 0 i g, place, ← m.reached) refl;
+        made = rw (arranged-more (shuffle_choices requests first (length items) g) items i parts.0, parts.1, ← m.made) refl;
+        shuffled = IsPermutation-trans items list (swap list i j) m.shuffled
+            (IsPermutation-swap list (swap list i j) i j (omega (arith, size)) (omega (arith, size)) refl);
+      }
+
+  -- the choices end where one is refused
+  module _ {e : RangeError} (low : i < length items) (drawn : Err e ≡ (partner_drawn requests first (length items) i now).0) where
+    pub count-refused : length (shuffle_choices requests first (length items) g) ≡ i
+    count-refused =
         let is = rw (← drawn) at next low in
-        drop-is (shuffle_choices requests first (length items) g) i j
-        (choices_from requests first (length items) (i + 1) (length items - (i + 1)) (partner_drawn requests first (length items) i now).1) is
+        omega (arith, length-drop i (shuffle_choices requests first (length items) g), ap length is, m.many)
 
-    pub shuffling-step : (j : ℕ) → i < length items → Ok j ≡ (partner_drawn requests first (length items) i now).0
-        → Shuffling (i + 1) (partner_drawn requests first (length items) i now).1 (swap list i j)
-    shuffling-step j low drawn =
-        let parts = choice-drawn j low drawn in
-        let to = partner-below requests first (length items) i now j drawn in
+    pub refused : first i < length items → length items < 2 ^ 64
+        → Shuffled requests first items g (Err e) (partner_drawn requests first (length items) i now).1 list
+    refused from fits =
+        let reason = partner-refused requests first (length items) i now from fits e (sym drawn) in
+        let all = take_all i (shuffle_choices requests first (length items) g) (omega (arith, count-refused)) in
+        let draws : min (length items) (length (shuffle_choices requests first (length items) g) + 1) ≡ suc i = omega (arith, count-refused) in
+        let place : 0 + i ≡ i = omega arith in
         record {
-          drawn = parts.2;
-          many = omega (arith, parts.0);
-          reached = let place : 0 + i ≡ i = omega arith in rw (add-one i, state-more 0 i g, place, ← m.reached) refl;
-          made = rw (arranged-more (shuffle_choices requests first (length items) g) items i parts.0, parts.1, ← m.made) refl;
-          shuffled = IsPermutation-trans items list (swap list i j) m.shuffled
-              (IsPermutation-swap list (swap list i j) i j (omega (arith, size)) (omega (arith, size)) refl);
+          answered = rw (count-refused, ne_eqb i (length items) (λ same. omega arith), reason) refl;
+          made = rw all at m.made;
+          left = rw (draws, state-more requests first items g 0 i g, place, ← m.reached) refl;
         }
 
-    -- the choices end where one is refused
-    module _ (e : RangeError) (low : i < length items) (drawn : Err e ≡ (partner_drawn requests first (length items) i now).0) where
-      pub count-refused : length (shuffle_choices requests first (length items) g) ≡ i
-      count-refused =
-          let is = rw (← drawn) at next low in
-          omega (arith, length-drop i (shuffle_choices requests first (length items) g), ap length is, m.many)
+  -- all choices were drawn
+  module _ (end : i ≡ length items) where
+    pub count-done : length (shuffle_choices requests first (length items) g) ≡ i
+    unfolding choices_from
+    count-done =
+        let none : length items - i ≡ 0 = omega arith in
+        let is = rw none at m.drawn in
+        omega (arith, length-drop i (shuffle_choices requests first (length items) g), ap length is, m.many)
 
-      pub refused : first i < length items → length items < 2 ^ 64
-          → Shuffled (Err e) (partner_drawn requests first (length items) i now).1 list
-      refused from fits =
-          let reason = partner-refused requests first (length items) i now from fits e (sym drawn) in
-          let all = take_all i (shuffle_choices requests first (length items) g) (omega (arith, count-refused)) in
-          let draws : min (length items) (length (shuffle_choices requests first (length items) g) + 1) ≡ suc i = omega (arith, count-refused) in
-          let place : 0 + i ≡ i = omega arith in
-          record {
-            answered = rw (count-refused, ne_eqb i (length items) (λ same. omega arith), reason) refl;
-            made = rw all at m.made;
-            left = rw (draws, state-more 0 i g, place, ← m.reached) refl;
-          }
-
-    -- all choices were drawn
-    module _ (end : i ≡ length items) where
-      pub count-done : length (shuffle_choices requests first (length items) g) ≡ i
-      unfolding choices_from
-      count-done =
-          let none : length items - i ≡ 0 = omega arith in
-          let is = rw none at m.drawn in
-          omega (arith, length-drop i (shuffle_choices requests first (length items) g), ap length is, m.many)
-
-      pub done : Shuffled (Ok tt) now list
-      done =
-          let all = take_all i (shuffle_choices requests first (length items) g) (omega (arith, count-done)) in
-          let draws : min (length items) (length (shuffle_choices requests first (length items) g) + 1) ≡ i = omega (arith, count-done) in
-          record {
-            answered = rw (count-done, eq-eqb i (length items) end) refl;
-            made = rw all at m.made;
-            left = rw draws m.reached;
-          }
+    pub done : Shuffled requests first items g (Ok tt) now list
+    done =
+        let all = take_all i (shuffle_choices requests first (length items) g) (omega (arith, count-done)) in
+        let draws : min (length items) (length (shuffle_choices requests first (length items) g) + 1) ≡ i = omega (arith, count-done) in
+        record {
+          answered = rw (count-done, eq-eqb i (length items) end) refl;
+          made = rw all at m.made;
+          left = rw draws m.reached;
+        }
 
 -- an exchange is the same from either place
 swap-other : {T : Type 0} (xs : List T) (i j : ℕ) → ((i ≡ j) → ⊥) → swap xs j i ≡ swap xs i j

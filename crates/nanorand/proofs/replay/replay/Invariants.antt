@@ -1,5 +1,4 @@
 use Rattle.std.proofs.Common.{◌≡◌, length, ◌++◌, take, drop}
-use Rattle.nanorand.specs.generators.Blocks.{taken}
 use Rattle.nanorand.specs.replay.Replay.{replayed}
 use Rattle.nanorand.proofs.replay.replay.Given as goal
 

@@ -1,9 +1,8 @@
 use Rattle.std.proofs.Common.{length, ◌∙◌, ap, arith}
 use Rattle.std.proofs.lemmas.Result.{err_from_is_err_and}
 use Rattle.nanorand.specs.shuffles.Arrangements.{rising}
-use Rattle.nanorand.specs.generators.Blocks.{taken}
 use Rattle.nanorand.specs.shuffles.Shuffles.{from_itself, partner_drawn}
-use Rattle.nanorand.proofs.lemmas.shuffles.ShuffleLemmas.{partner-below, shuffling-start, shuffling-step, refused, done, count-refused, count-done}
+use Rattle.nanorand.proofs.lemmas.shuffles.ShuffleLemmas.{shuffling-start, choice-below, shuffling-step, refused, done, count-refused, count-done}
 use Rattle.nanorand.proofs.lemmas.shuffles.RecordLemmas.{completed-whole, recorded-start, recorded-step, recorded}
 use Rattle.nanorand.proofs.shuffles.shuffle_and_record.Goals as goal
 
@@ -19,21 +18,16 @@ loop-place-init g c =
 pub returns-in_err-partner : goal.returns-in_err-partner
 unfolding partner_drawn
 returns-in_err-partner g c =
-    let requests = g.G.Rng.requests in
-    let m = c.loop-place.invariant in
-    let ended =
-    refused requests from_itself c.args.target.now c.args.rng.now c.loop-place.place c.loop-place.rng c.loop-place.target m.shuffling
-    _ c.loop-place-test.true c.in_err-partner.ensures.value (omega arith) (omega arith) in
-    let size =
-    count-refused requests from_itself c.args.target.now c.args.rng.now c.loop-place.place c.loop-place.rng c.loop-place.target m.shuffling
-    _ c.loop-place-test.true c.in_err-partner.ensures.value in
-    let stored = recorded requests c.args.target.now c.args.rng.now c.loop-place.place c.loop-place.rng c.loop-place.target c.loop-place.choices m (omega arith) size in
+    let so_far = c.loop-place.invariant in
+    let ended = refused so_far.shuffling c.loop-place-test.true c.in_err-partner.ensures.value (omega arith) (omega arith) in
+    let size = count-refused so_far.shuffling c.loop-place-test.true c.in_err-partner.ensures.value in
+    let stored = recorded so_far (omega arith) size in
     let kept = err_from_is_err_and c.from_residual.result c.from_residual.ensures.1 in
     rw (kept.1, kept.2, c.in_err-partner.ensures.state) (record {
       answer = ended.answered;
       items = ended.made;
       state = ended.left;
-      arrangement = m.shuffling.shuffled;
+      arrangement = so_far.shuffling.shuffled;
       drawn = tt;
       recorded = stored.is;
       valid = stored.valid;
@@ -43,39 +37,30 @@ returns-in_err-partner g c =
 pub swap-requires-clause-b_in_bounds : goal.swap-requires-clause-b_in_bounds
 unfolding partner_drawn
 swap-requires-clause-b_in_bounds g c =
-    let below = partner-below g.G.Rng.requests from_itself (length c.args.target.now)
-    c.loop-place.place c.loop-place.rng c.in_ok-partner.partner c.in_ok-partner.ensures.value in
+    let below = choice-below c.loop-place.invariant.shuffling c.in_ok-partner.ensures.value in
     omega arith
 
 pub loop-place-preserved : goal.loop-place-preserved
 unfolding partner_drawn
 loop-place-preserved g c =
-    let requests = g.G.Rng.requests in
-    let m = c.loop-place.invariant in
+    let so_far = c.loop-place.invariant in
     rw (c.in_ok-partner.ensures.state, c.swap.ensures.after)
     (record {
-      shuffling =
-          shuffling-step requests from_itself c.args.target.now c.args.rng.now c.loop-place.place c.loop-place.rng c.loop-place.target m.shuffling
-          c.in_ok-partner.partner c.loop-place-test.true c.in_ok-partner.ensures.value;
-      recorded =
-          recorded-step requests c.args.target.now c.args.rng.now c.loop-place.place c.in_ok-partner.partner c.loop-place.rng c.loop-place.target
-          c.loop-place.choices m c.loop-place-test.true c.in_ok-partner.ensures.value;
+      shuffling = shuffling-step so_far.shuffling c.loop-place-test.true c.in_ok-partner.ensures.value;
+      recorded = recorded-step so_far c.loop-place-test.true c.in_ok-partner.ensures.value;
     })
 
 pub returns : goal.returns
 returns g c =
-    let requests = g.G.Rng.requests in
-    let m = c.loop-place.invariant in
-    let ended =
-    done requests from_itself c.args.target.now c.args.rng.now c.loop-place.place c.loop-place.rng c.loop-place.target m.shuffling (omega arith) in
-    let size =
-    count-done requests from_itself c.args.target.now c.args.rng.now c.loop-place.place c.loop-place.rng c.loop-place.target m.shuffling (omega arith) in
-    let stored = recorded requests c.args.target.now c.args.rng.now c.loop-place.place c.loop-place.rng c.loop-place.target c.loop-place.choices m (omega arith) size in
+    let so_far = c.loop-place.invariant in
+    let ended = done so_far.shuffling (omega arith) in
+    let size = count-done so_far.shuffling (omega arith) in
+    let stored = recorded so_far (omega arith) size in
     record {
       answer = ended.answered;
       items = ended.made;
       state = ended.left;
-      arrangement = m.shuffling.shuffled;
+      arrangement = so_far.shuffling.shuffled;
       drawn = stored.is ∙ completed-whole (length c.args.target.now) _ (size ∙ omega arith);
       recorded = stored.is;
       valid = stored.valid;

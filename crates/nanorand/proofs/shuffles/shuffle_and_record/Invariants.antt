@@ -1,4 +1,3 @@
-use Rattle.nanorand.specs.generators.Blocks.{taken}
 use Rattle.nanorand.proofs.lemmas.shuffles.RecordLemmas.{Recording}
 use Rattle.nanorand.proofs.shuffles.shuffle_and_record.Given as goal
 

@@ -1,4 +1,3 @@
-use Rattle.nanorand.specs.generators.Blocks.{taken}
 use Rattle.nanorand.specs.shuffles.Shuffles.{from_all}
 use Rattle.nanorand.proofs.lemmas.shuffles.ShuffleLemmas.{Shuffling}
 use Rattle.nanorand.proofs.shuffles.shuffle_full.Given as goal

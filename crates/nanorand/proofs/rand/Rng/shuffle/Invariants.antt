@@ -1,4 +1,3 @@
-use Rattle.nanorand.specs.generators.Blocks.{taken}
 use Rattle.nanorand.specs.shuffles.Shuffles.{from_itself}
 use Rattle.nanorand.proofs.lemmas.shuffles.ShuffleLemmas.{Shuffling}
 use Rattle.nanorand.proofs.rand.Rng.shuffle.Given as goal

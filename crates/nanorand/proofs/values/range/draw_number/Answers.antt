@@ -21,16 +21,6 @@ returns-then-end-first-clause-some g c k fits low high =
     let end = ltb-true k c.end_place-end.result (sym (c.end_place-end.ensures.admits k fits) ∙ high) in
     absurd (omega (arith, first, end))
 
-pub returns-in-Some-clause-within : goal.returns-in-Some-clause-within
-returns-in-Some-clause-within g c =
-    let k : ℕ = c.first_place-first.result + c.in-Some.k in
-    let place = c.at_place.ensures ∙ ap (λ (k : ℕ). g.T.Number.number (c.first_place-first.result + k)) c.from.ensures in
-    rw place (
-      c.first_place-first.ensures.admits k ∙ le-leb c.first_place-first.result k (omega arith),
-      c.end_place-end.ensures.admits k (omega (arith, c.in-Some.ensures.below, c.end_place-end.ensures.within))
-          ∙ lt-ltb k c.end_place-end.result (omega (arith, c.in-Some.ensures.below)),
-    )
-
 pub returns-in-Some-clause-value : goal.returns-in-Some-clause-value
 returns-in-Some-clause-value g c =
     let is = range-places g.T.Number.le g.T.Number.lt g.T.Number.BITS g.T.Number.number c.args.low c.args.high _ _
@@ -45,9 +35,6 @@ returns-in-Some-clause-state g c =
     c.first_place-first.ensures.admits c.end_place-end.ensures.admits c.end_place-end.ensures.within c.if-end-first.false in
     left-drawn _ _ _ _ _ _ (omega arith) _ is _ _ (rw c.BITS.ensures at c.draw_below.ensures.state)
 
-pub returns-in-Some-clause-words : goal.returns-in-Some-clause-words
-returns-in-Some-clause-words g c = rw c.BITS.ensures at c.draw_below.ensures.words
-
 pub returns-in-None-clause-value : goal.returns-in-None-clause-value
 returns-in-None-clause-value g c =
     let is = range-places g.T.Number.le g.T.Number.lt g.T.Number.BITS g.T.Number.number c.args.low c.args.high _ _
@@ -59,9 +46,3 @@ returns-in-None-clause-state g c =
     let is = range-places g.T.Number.le g.T.Number.lt g.T.Number.BITS g.T.Number.number c.args.low c.args.high _ _
     c.first_place-first.ensures.admits c.end_place-end.ensures.admits c.end_place-end.ensures.within c.if-end-first.false in
     left-drawn _ _ _ _ _ _ (omega arith) _ is _ _ (rw c.BITS.ensures at c.draw_below.ensures.state)
-
-pub returns-in-None-clause-words : goal.returns-in-None-clause-words
-returns-in-None-clause-words g c = rw c.BITS.ensures at c.draw_below.ensures.words
-
-pub returns-in-None-clause-exhausted : goal.returns-in-None-clause-exhausted
-returns-in-None-clause-exhausted g c refused = rw c.BITS.ensures at c.in-None.ensures.exhausted

@@ -1,4 +1,3 @@
-use Rattle.nanorand.specs.generators.Blocks.{taken}
 use Rattle.nanorand.specs.values.Draws.{next_word, after_word, word_limit}
 use Rattle.nanorand.proofs.lemmas.ranges.DrawLemmas.{Searching}
 use Rattle.nanorand.proofs.values.word.draw_below.Given as goal
