@@ -6,8 +6,8 @@
 //! - COUNT, at most 1000, is the number of items 0, 1, .. for shuffles.
 //! - A REQUEST is a type such as `u8`, a range of a type such as `u8:1..=6`, or `shuffle`.
 //!
-//! It prints a line for each request, and a line of the items if there are any. The exit status is 0,
-//! or 2 if an argument cannot be read, 3 if out of memory, and 4 if a write failed.
+//! It prints a line for each request, and a line of the items if there are any. The exit status is
+//! 0 on success, 2 if an argument cannot be read, 3 if out of memory, and 4 if a write failed.
 #![tactic(auto)]
 
 mod bounds;
