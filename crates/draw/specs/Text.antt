@@ -27,7 +27,8 @@ pub record Drawn : Type 0 where
 
 -- Runs the calls on a generator with blocks of `output` bytes: in plain mode on the generator
 -- itself, and in buffered mode on a buffer around it that is empty at first.
-abbrev pub in_mode : {G : Type 0} → (G → List ℕ) → (G → G) → ℕ → G → Mode → List Call → List ℕ → Drawn
+abbrev pub in_mode :
+    {G : Type 0} → (G → List ℕ) → (G → G) → ℕ → G → Mode → List Call → List ℕ → Drawn
 in_mode block step output g Plain calls items =
     let all = replayed (plain block step output) g items calls in
     record { answers = all.answers; items = all.items }

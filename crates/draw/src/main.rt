@@ -1,4 +1,13 @@
 //! Draws numbers from a seed: `draw GENERATOR SEED MODE COUNT REQUEST...`.
+//!
+//! - GENERATOR is `wyrand`, `pcg64`, `chacha8`, `chacha12` or `chacha20`.
+//! - SEED has two hexadecimal digits a byte: 8 bytes for `wyrand`, 16 for `pcg64`, 40 for ChaCha.
+//! - MODE is `plain` or `buffered`.
+//! - COUNT, at most 1000, is the number of items 0, 1, .. for shuffles.
+//! - A REQUEST is a type such as `u8`, a range of a type such as `u8:1..=6`, or `shuffle`.
+//!
+//! It prints a line for each request, and a line of the items if there are any. The exit status is
+//! 0 on success, 2 if an argument cannot be read, 3 if out of memory, and 4 if a write failed.
 #![tactic(auto)]
 
 mod bounds;

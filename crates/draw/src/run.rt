@@ -63,8 +63,11 @@ fn text_for_arguments<'a, A: Allocator>(
     Ok(text_of_command(alloc, &command)?)
 }
 
-/// Writes the text that the arguments ask for, all of it at once, and then flushes. After a failed
-/// write, how much of the text `out` took is unspecified.
+/// Writes the text that the arguments ask for, all of it at once, and then flushes. The arguments
+/// are those after the name of the program.
+///
+/// With the error `Write`, how much of the text `out` took is unspecified. With any other error,
+/// nothing was written.
 pub fn run<A: Allocator, W: Write>(
     alloc: A,
     arguments: &[String],

@@ -40,7 +40,7 @@ from_2 : (bits more : ℕ) → 2 ^ bits ≡ suc (suc (suc more)) → unsigned_ra
 unfolding range_within
 from_2 bits more size = rw size (ap (λ rest. 2 ∷ rest) (none_past 2 3 3 more (omega arith)))
 
--- one item of wyrand
+-- One item, shuffled by wyrand.
 one_partner : partner_drawn (record { bytes = taken wyrand_block next_seed; after = plain_after next_seed 8 }) from_itself 1 0 0x5f89e29b87429bd1 ≡ (Ok 0, next_seed 0x5f89e29b87429bd1)
 unfolding partner_drawn named words_from value_drawn left_by left_after taken
 one_partner =
@@ -58,7 +58,7 @@ unfolding digits range_within value_drawn left_by
 text_of_empty_and_shuffle =
     (λ i. text_of (record { answers = Empty ∷ shuffle_call_answer (one_answer i) ∷ []; items = arranged (one_choice i) (0 ∷ []) })) ∙ refl
 
--- three items by three partners
+-- Three items, shuffled by three choices.
 module _ {G : Type 0} (requests : Requests G) (g0 g1 g2 g3 : G) (a b c : ℕ)
     (x : range_outcome requests 64 (0 ∷ 1 ∷ 2 ∷ []) g0 ≡ (Ok a, g1))
     (y : range_outcome requests 64 (1 ∷ 2 ∷ []) g1 ≡ (Ok b, g2))

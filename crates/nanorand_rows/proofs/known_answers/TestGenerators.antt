@@ -36,7 +36,7 @@ count_after_the_greatest = refl
 steps_are_rising : rising_block 8 31 ≡ steps_block 31
 steps_are_rising = refl
 
--- a generator that wastes a block at a byte, and none at a whole block
+-- `Waste` wastes a block at a request of one byte, and none at a request of a whole block.
 wasted_replay : replayed waste_requests 0 [] (Gen kinds.U8 ∷ Gen kinds.U64 ∷ Gen kinds.U8 ∷ [])
     ≡ record { answers = Unsigned 0 ∷ Unsigned 0x1716151413121110 ∷ Unsigned 24 ∷ []; items = []; state = 5 }
 unfolding taken
@@ -45,13 +45,13 @@ wasted_replay = refl
 nothing_wasted : waste_after 7 0 ≡ 7
 nothing_wasted = refl
 
--- a buffer around it draws whole blocks, and so it wastes none
+-- A buffer around it requests whole blocks, so that none is wasted.
 kept_replay : replayed (buffered steps_block next_count 8) (buffer_of [] 0) [] (Gen kinds.U8 ∷ Gen kinds.U8 ∷ [])
     ≡ record { answers = Unsigned 0 ∷ Unsigned 1 ∷ []; items = []; state = buffer_of (range_with_len 2 6) 1 }
 unfolding taken buffered_taken buffered_after
 kept_replay = refl
 
--- blocks of one byte and of 64
+-- Blocks of one byte and of 64 bytes.
 byte_and_byte : replayed (plain (rising_block 1) next_count 1) 0 [] (Gen kinds.U16 ∷ []) ≡ record { answers = Unsigned 0x0100 ∷ []; items = []; state = 2 }
 unfolding taken
 byte_and_byte = refl
@@ -69,7 +69,8 @@ byte_of_block_129 : replayed (plain script_block script_step 8) (late_one, 0) []
 unfolding named range_within words_from value_drawn left_by left_after taken
 byte_of_block_129 = refl
 
--- the die: 1 behind 128 rejected words of zeros, and behind one of rising bytes, and 2 where it begins at 2
+-- The die: 1 after 128 rejected words of zeros, 1 after one rejected word of `Steps`, and 2 from a
+-- range that begins at 2.
 throw_of_zeros : die_value (plain constant_block constant_step 8) (record { byte = 0; drawn = 0 }) ≡ 1
 unfolding named range_within words_from value_drawn left_by left_after taken
 throw_of_zeros = refl

@@ -1,7 +1,7 @@
 use Rattle.std.proofs.Common.{◌≡◌, ℕ, ◌+◌, ◌*◌, ◌%◌, ◌<◌, length, get_or}
 use Rattle.nanorand_rows.proofs.generators.rising.rising.Given as goal
 
--- the bytes so far are written
+-- The bytes below the index are written.
 abbrev pub invariant-loop-i : goal.invariant-loop-i
 invariant-loop-i g l =
     record {
