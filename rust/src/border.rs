@@ -3,7 +3,7 @@
 //! No export has a precondition beyond its types, which Rust's references guarantee: each is a
 //! `safe fn`, except those that take a slice. Those have a safe wrapper here.
 //!
-//! Nothing compares these declarations with `crates/nanorand_c/src`: repeat here what you change there.
+//! `tests/declarations` compares these declarations with `crates/nanorand_c/src`.
 #![allow(
     unsafe_code,
     reason = "the exports are declared, and slices split into pointer and length"
