@@ -76,8 +76,8 @@ impl<G: Rng<OUTPUT>, const OUTPUT: usize> BufferedRng<G, OUTPUT> {
         OUTPUT - self.cursor
     }
 
-    /// Appends the buffered bytes alone to `out`, empties the buffer, and returns how many they
-    /// were.
+    /// Appends the buffered bytes alone to `out`, empties the buffer, and returns how many bytes it
+    /// appended.
     ///
     /// Nothing is drawn. If the vector has too little room and the allocator refuses to grow it,
     /// the items and the capacity of the vector and the buffer are unchanged. If the buffer is
@@ -199,8 +199,8 @@ impl<G: Rng<OUTPUT> + Default, const OUTPUT: usize> Default for BufferedRng<G, O
     }
 }
 
-/// Fills the whole slice as `fill_bytes` does, and returns its length. The stream never ends. Of
-/// the trait's provided methods nothing is promised.
+/// Fills the whole slice as `fill_bytes` does, and returns its length. The stream never ends.
+/// Nothing is promised about the provided methods of `Read`.
 impl<G: Rng<OUTPUT>, const OUTPUT: usize> Read for BufferedRng<G, OUTPUT> {
     fn read(&mut self, buf: &mut [u8]) -> io::Result<usize>
         ensures bound { ReadsAtMost result buf.new }

@@ -30,8 +30,8 @@ use crate::rand::{Blocks, Rng};
 /// overlap, and fewer than half of all words name no number. `swaps`: swapping the runs of two
 /// numbers word by word is an involution on lists of words. It keeps the index of the deciding
 /// word, swaps the two numbers in the result, and leaves every other result, and every failure,
-/// unchanged. `events`: an event, the numbers that pass a test, is named by exactly floor(2^N /
-/// size) words for each of its numbers.
+/// unchanged. `events`: an event, a test that m of the numbers pass, is named by exactly m times as
+/// many words as one number.
 pub fn fairness()
     ensures runs { RunsAreFair }
     ensures swaps { NoNumberIsPreferred }
@@ -82,7 +82,7 @@ pub fn permutations_by_counting()
 ///
 /// `unbroken`: two requests in a row take the same bytes and leave the same state as one request
 /// for the sum of their sizes, and so does any list of requests. A replay leaves the state that one
-/// request for all the bytes of its calls would leave. `row`: the blocks of the buffer itself are
+/// request for all the bytes of its calls would leave. `row`: the buffer's own blocks, joined, are
 /// the buffered bytes and then the inner blocks. `below`: if less than a block is buffered, less
 /// than a block is buffered after each request.
 pub fn unbroken_delivery<G: Rng<OUTPUT>, const OUTPUT: usize>()

@@ -35,7 +35,7 @@ pub trait Blocks<const OUTPUT: usize> {
 
     ghost positive: { 0 < OUTPUT };
 
-    // The length of every array that fits in memory keeps this.
+    // The length of every array in memory is below this.
     ghost in_memory: { OUTPUT < 2 ^ 63 };
 
     ghost block_length: { (g : Self) → length (block g) ≡ OUTPUT };
@@ -43,8 +43,9 @@ pub trait Blocks<const OUTPUT: usize> {
 
 /// A generator of random values.
 ///
-/// To implement it, write `fill_bytes` (and `Blocks`), and define `requests`: the bytes that a
-/// request of n bytes takes, and the state that it leaves. The other functions follow from these.
+/// To implement it, implement `Clone` and `Blocks`, write `fill_bytes`, define `requests` (the
+/// bytes that a request of n bytes takes, and the state that it leaves), and prove the three laws
+/// at the end of the trait. The other functions follow from these.
 pub trait Rng<const OUTPUT: usize>: Clone + Blocks<OUTPUT> {
     // The bytes that a request of n bytes takes, and the state that it leaves, for every n.
     ghost requests: { Requests Self };
@@ -78,7 +79,7 @@ pub trait Rng<const OUTPUT: usize>: Clone + Blocks<OUTPUT> {
     ///
     /// For the integer types it returns `Empty` if the range has no number, and draws nothing then.
     /// It returns `Exhausted` if 128 words in a row were rejected; these stay drawn. A user's type
-    /// defines when it returns which.
+    /// defines when it returns each of the two.
     #[inline]
     fn generate_range<T: RandomRange<Self, OUTPUT>>(
         &mut self,
@@ -95,8 +96,8 @@ pub trait Rng<const OUTPUT: usize>: Clone + Blocks<OUTPUT> {
     /// those after it.
     ///
     /// It is the shuffle of Fisher and Yates (1938) in Durstenfeld's form ("Algorithm 235: Random
-    /// permutation", 1964), from the first index up. It leaves a permutation of the items. Of the
-    /// indices 0, 1, .. each permutation is made by exactly one list of drawn indices.
+    /// permutation", 1964), from the first index up. It leaves a permutation of the items. Each
+    /// permutation of the indices 0, 1, .. is made by exactly one list of drawn indices.
     ///
     /// It returns `Exhausted` if 128 words in a row were rejected for one index. The swaps before
     /// that stay, and so do all draws. An empty slice draws nothing.

@@ -6,7 +6,7 @@ use crate::rand::Rng;
 use crate::values::RangeError;
 use std::ops::Bound;
 
-/// A type of values for `Call::Gen`.
+/// The type of the value that `Call::Gen` draws.
 #[derive(Clone, Copy, Debug, PartialEq, Eq)]
 pub enum Kind {
     I8,

@@ -34,7 +34,7 @@ pub fn apply_choices<T>(choices: &[usize], items: &mut [T])
 /// Precondition: `out` and `scratch` are as long as `order`. Both are overwritten, and nothing is
 /// allocated: `scratch` starts as the identity and becomes `order` index by index. The call returns
 /// `NotArrangement` exactly if `order` is not a permutation of the numbers below its length. The
-/// contents of `out` and `scratch` are then unspecified.
+/// contents of `out` and `scratch` are unspecified after that.
 pub fn choices_of(
     order: &[usize],
     out: &mut [usize],

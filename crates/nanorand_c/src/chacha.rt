@@ -10,7 +10,7 @@ ghost use Rattle.nanorand_c.specs.ChaChaPlace.{state_at};
 use nanorand::laws::chacha_counter;
 use nanorand::{Blocks, ChaCha, Rng};
 
-/// Writes the block of the counter to `out`, with 8 rounds, and adds 1 to the counter. After the
+/// Writes the block at the counter to `out`, with 8 rounds, and adds 1 to the counter. After the
 /// greatest counter, 2^64 - 1, comes 0.
 #[unsafe(no_mangle)]
 pub extern "C" fn nanorand_chacha8_block(
@@ -46,7 +46,7 @@ pub extern "C" fn nanorand_chacha8_fill_bytes(
     fill_bytes::<8>(key, nonce, counter, buffer);
 }
 
-/// Writes the block of the counter to `out`, with 12 rounds, and adds 1 to the counter. After the
+/// Writes the block at the counter to `out`, with 12 rounds, and adds 1 to the counter. After the
 /// greatest counter, 2^64 - 1, comes 0.
 #[unsafe(no_mangle)]
 pub extern "C" fn nanorand_chacha12_block(
@@ -82,7 +82,7 @@ pub extern "C" fn nanorand_chacha12_fill_bytes(
     fill_bytes::<12>(key, nonce, counter, buffer);
 }
 
-/// Writes the block of the counter to `out`, with 20 rounds, and adds 1 to the counter. After the
+/// Writes the block at the counter to `out`, with 20 rounds, and adds 1 to the counter. After the
 /// greatest counter, 2^64 - 1, comes 0.
 #[unsafe(no_mangle)]
 pub extern "C" fn nanorand_chacha20_block(

@@ -1,4 +1,5 @@
-//! The generators for programs in other languages, Rust too, by the calling convention of C.
+//! The generators for programs in other languages, Rust among them, through the C calling
+//! convention.
 //!
 //! A state is the caller's memory, lent for a call, and nothing here allocates. No function has a
 //! precondition beyond its types. A slice is passed as a pointer and then a length.

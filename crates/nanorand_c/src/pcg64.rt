@@ -73,7 +73,7 @@ pub extern "C" fn nanorand_pcg64_range_u64(
     hand_over(&outcome, number)
 }
 
-/// The same for `usize`: indices and lengths.
+/// As `nanorand_pcg64_range_u64`, for `usize`: indices and lengths.
 #[unsafe(no_mangle)]
 pub extern "C" fn nanorand_pcg64_range_usize(
     seed: &mut Wide,
@@ -115,8 +115,8 @@ pub extern "C" fn nanorand_pcg64_shuffle(seed: &mut Wide, items: &mut [usize]) -
     status(&outcome)
 }
 
-/// Shuffles the items as `shuffle_full` does, by indices drawn from the whole slice, and returns a
-/// status as above.
+/// Shuffles the items as `nanorand::shuffles::shuffle_full` does, by indices drawn from the whole
+/// slice, and returns a status as `nanorand_pcg64_shuffle` does.
 #[unsafe(no_mangle)]
 pub extern "C" fn nanorand_pcg64_shuffle_full(seed: &mut Wide, items: &mut [usize]) -> u8
     ensures status { let start = at_seed seed.old in

@@ -66,7 +66,7 @@ pub extern "C" fn nanorand_wyrand_range_u64(
     hand_over(&outcome, number)
 }
 
-/// The same for `usize`: indices and lengths.
+/// As `nanorand_wyrand_range_u64`, for `usize`: indices and lengths.
 #[unsafe(no_mangle)]
 pub extern "C" fn nanorand_wyrand_range_usize(
     rng: &mut WyRand,
@@ -98,8 +98,8 @@ pub extern "C" fn nanorand_wyrand_shuffle(rng: &mut WyRand, items: &mut [usize])
     status(&outcome)
 }
 
-/// Shuffles the items as `shuffle_full` does, by indices drawn from the whole slice, and returns a
-/// status as above.
+/// Shuffles the items as `nanorand::shuffles::shuffle_full` does, by indices drawn from the whole
+/// slice, and returns a status as `nanorand_wyrand_shuffle` does.
 #[unsafe(no_mangle)]
 pub extern "C" fn nanorand_wyrand_shuffle_full(rng: &mut WyRand, items: &mut [usize]) -> u8
     ensures status { result ≡ status (shuffled wyrand_requests from_all rng.old items.old).answer }

@@ -37,11 +37,12 @@ pub type ChaCha20 = ChaCha<20>;
 /// to the counter. After the block of the greatest counter, 2^64 - 1, the counter is 0 again, under
 /// the same key and nonce. It is a plain generator: each request starts a new block.
 ///
-/// What it is for: the cipher is fast and long-studied, and its stream is believed unpredictable
-/// while the key is secret. What it is not: a vetted cryptographic generator. Nothing here takes a
-/// seed from the system, reseeds on its own, or erases keys from memory, and nothing was audited.
-/// For encryption, never use a pair of key and nonce twice. `ChaCha8` and `ChaCha12` have fewer
-/// rounds than the standard's 20.
+/// It is for long reproducible streams whose blocks can be reached by index. The cipher is fast and
+/// long-studied, and its stream is believed unpredictable while the key is secret. It is not a
+/// vetted cryptographic generator: nothing here takes a seed from the system, reseeds on its own or
+/// erases keys from memory, and nothing was audited. Where an adversary matters, take one that is
+/// vetted. For encryption, never use a pair of key and nonce twice. `ChaCha8` and `ChaCha12` have
+/// fewer rounds than the standard's 20.
 ///
 /// `ROUNDS` is even, as an invariant of the type.
 #[derive(Drop)]
@@ -106,7 +107,7 @@ impl<const ROUNDS: u8> ChaCha<ROUNDS> {
         self.state
     }
 
-    /// Advances by n draws, with one addition. The states have period exactly 2^64.
+    /// Advances by n draws, with one addition. The period of the states is exactly 2^64.
     #[inline]
     pub fn jump(&mut self, n: u64)
         ensures state { self.new ≡ chacha_after n self.old }

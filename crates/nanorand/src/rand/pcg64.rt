@@ -93,9 +93,9 @@ impl Pcg64 {
         self.seed
     }
 
-    /// Advances by n draws, `state` and `inc` included, in at most 128 steps and one draw, after F.
-    /// Brown, "Random Number Generation with Arbitrary Strides" (1994). `jump(0)` changes nothing.
-    /// The seeds have period exactly 2^126.
+    /// Advances by n draws, `state` and `inc` included, in at most 128 steps and one draw, after
+    /// Forrest Brown, "Random Number Generation with Arbitrary Strides" (1994). `jump(0)` changes
+    /// nothing. The period of the seeds is exactly 2^126.
     pub fn jump(&mut self, n: u128)
         ensures { self.new ≡ pcg64_after n self.old }
     {
@@ -105,9 +105,9 @@ impl Pcg64 {
         }
     }
 
-    /// How many draws, below 2^126, lead from this seed to the other's: `None` exactly if no number
-    /// of draws does. Two seeds are in the same cycle exactly if they are equal modulo 8 or their
-    /// sum is 7 modulo 8.
+    /// The number of draws below 2^126 that leads from this seed to the other's, or `None` exactly
+    /// if no number of draws does. Two seeds are in the same cycle exactly if they are equal modulo
+    /// 8 or their sum is 7 modulo 8.
     ///
     /// It allocates nothing and takes at most 126 steps. `state` and `inc` do not matter.
     pub fn distance(&self, other: &Pcg64) -> Option<u128>
@@ -158,7 +158,7 @@ impl fmt::Debug for Pcg64 {
 impl fmt::Display for Pcg64 {
     ghost output = { λ _. Some (codes "Pcg64") };
 
-    // Width, fill and the other options of a format change nothing.
+    // Width, fill and other format options change nothing.
     ghost styled_output = { λ _ _. Some (codes "Pcg64") };
 
     fn fmt<W: fmt::Write>(&self, f: &mut fmt::Formatter<W>) -> fmt::Result {

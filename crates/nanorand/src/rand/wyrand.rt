@@ -78,7 +78,7 @@ impl WyRand {
         self.seed
     }
 
-    /// Advances by n draws, with one multiplication. The seeds have period exactly 2^64.
+    /// Advances by n draws, with one multiplication. The period of the seeds is exactly 2^64.
     #[inline]
     pub fn jump(&mut self, n: u64)
         ensures state { self.new ≡ wyrand_after n self.old }
@@ -87,7 +87,8 @@ impl WyRand {
         self.seed = self.seed.wrapping_add(n.wrapping_mul(INCREMENT));
     }
 
-    /// How many draws, below 2^64, lead from this seed to the other's: exactly one number does.
+    /// The number of draws below 2^64 that leads from this seed to the other's. There is exactly
+    /// one.
     #[inline]
     pub fn distance(&self, other: &WyRand) -> u64
         ensures leads { seed_after result self.now ≡ other.now }
@@ -120,7 +121,7 @@ impl fmt::Debug for WyRand {
 impl fmt::Display for WyRand {
     ghost output = { λ _. Some (codes "WyRand") };
 
-    // Width, fill and the other options of a format change nothing.
+    // Width, fill and other format options change nothing.
     ghost styled_output = { λ _ _. Some (codes "WyRand") };
 
     fn fmt<W: fmt::Write>(&self, f: &mut fmt::Formatter<W>) -> fmt::Result {

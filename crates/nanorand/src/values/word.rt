@@ -29,8 +29,8 @@ pub fn pick_word(size: u128, bits: u32, word: u64) -> Option<u64>
     pick_below(size as u64, bits, word)
 }
 
-// As `pick_word`, for a size of 64 bits. Fewer than `size` words are rejected, so a low part of at
-// least `size` is accepted without computing how many.
+// As `pick_word`, for a size that fits in 64 bits. Fewer than `size` words are rejected, so a low
+// part of at least `size` is accepted without computing how many.
 fn pick_below(size: u64, bits: u32, word: u64) -> Option<u64>
     requires width { IsWordWidth bits }
     requires some { 1 ≤ size }
@@ -66,7 +66,7 @@ fn rejected(size: u64, bits: u32) -> u64
     }
 }
 
-/// Draws a number below `size`. Each of these is named by equally many words of `bits` bits.
+/// Draws a number below `size`; each is named by equally many words of `bits` bits.
 ///
 /// Preconditions: `bits` is 8, 16, 32 or 64, and `size` is from 1 to 2^bits. Each word is one
 /// request, and the first word that names a number, as `pick_word` says, decides. It returns `None`
