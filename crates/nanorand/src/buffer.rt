@@ -1,4 +1,4 @@
-//! A generator whose unused bytes are kept: it delivers one unbroken row of bytes.
+//! A generator that buffers unused bytes, so that its requests join into one unbroken stream.
 ghost use Rattle.std.specs.Prelude.{◌≡◌, ℕ, ◌+◌, ◌++◌, ◌<◌, ◌≤◌, [], length, vec_len, vec_capacity, refl, take, drop, min, IfOk, OnOk, OnErr, IsOk, IsErr, Ok, None};
 ghost use Rattle.std.specs.Io.{ReadsAtMost};
 ghost use Rattle.std.specs.Io.KnownBytes.{ReadConsumes};
@@ -11,11 +11,13 @@ use std::io::{self, Read};
 use std::marker::Model;
 use thiserror::Error;
 
-/// A generator that delivers the blocks of another one byte after byte, and keeps what is left over.
+/// A generator that delivers the blocks of another one as one stream, and buffers the bytes that a
+/// request leaves over.
 ///
-/// A request of n bytes draws the least number of inner blocks that covers it, by the inner `rand`.
-/// What it does not deliver is buffered, always less than a block, and comes first at the next
-/// request. It may wrap any generator, another `BufferedRng` too.
+/// A request of n bytes takes the buffered bytes first, and then draws the least number of inner
+/// blocks that covers the rest, by the inner `rand`. The bytes that it does not deliver, always
+/// less than a block, stay buffered for the next request. It may wrap any generator, another
+/// `BufferedRng` too.
 #[derive(Drop)]
 pub struct BufferedRng<G: Rng<OUTPUT>, const OUTPUT: usize> {
     inner: G,
@@ -23,8 +25,8 @@ pub struct BufferedRng<G: Rng<OUTPUT>, const OUTPUT: usize> {
     cursor: usize,
 }
 
-// A buffer is the pair of the bytes that are kept and the inner generator. The kept bytes are those
-// of the block from the cursor on, and the bytes before it mean nothing.
+// The view is the pair of the buffered bytes and the inner generator. The buffered bytes are those
+// of the block from the cursor on; the bytes before it mean nothing.
 impl<G: Rng<OUTPUT>, const OUTPUT: usize> Model for BufferedRng<G, OUTPUT> {
     ghost use Rattle.std.specs.Prelude.{◌≡◌, ◌<◌, ◌≤◌, length, drop};
     ghost use Rattle.nanorand.specs.generators.Buffered.{Buffered, buffered_code};
@@ -38,13 +40,13 @@ impl<G: Rng<OUTPUT>, const OUTPUT: usize> Model for BufferedRng<G, OUTPUT> {
     ghost invariant = { λ b. (0 < b.cursor) × (b.cursor ≤ OUTPUT) × (length b.block ≡ OUTPUT) };
 }
 
-/// A generator has no end and no text, so it cannot be read into a string.
+/// The error of `read_to_string`: the stream has no end and is not text.
 #[derive(Clone, Copy, Debug, PartialEq, Eq, Error)]
 #[error("a generator cannot be read into a string")]
 pub struct TextRefused;
 
 impl<G: Rng<OUTPUT>, const OUTPUT: usize> BufferedRng<G, OUTPUT> {
-    /// Wraps a generator. Nothing is buffered, and nothing is drawn.
+    /// Wraps a generator. Nothing is buffered yet, and nothing is drawn.
     #[inline]
     pub fn new(rng: G) -> Self
         ensures rest { result.rest ≡ [] }
@@ -57,7 +59,7 @@ impl<G: Rng<OUTPUT>, const OUTPUT: usize> BufferedRng<G, OUTPUT> {
         }
     }
 
-    /// The generator that is wrapped. The buffered bytes are dropped.
+    /// Returns the inner generator. The buffered bytes are dropped.
     #[inline]
     pub fn into_inner(self) -> G
         ensures { result ≡ self.inner }
@@ -65,7 +67,7 @@ impl<G: Rng<OUTPUT>, const OUTPUT: usize> BufferedRng<G, OUTPUT> {
         self.inner
     }
 
-    /// How many bytes are buffered: always less than a block.
+    /// The number of buffered bytes, always less than a block.
     #[inline]
     pub fn buffered(&self) -> usize
         ensures value { result ≡ length self.now.rest }
@@ -74,11 +76,12 @@ impl<G: Rng<OUTPUT>, const OUTPUT: usize> BufferedRng<G, OUTPUT> {
         OUTPUT - self.cursor
     }
 
-    /// Appends the buffered bytes alone, empties the buffer, and answers how many they were.
+    /// Appends the buffered bytes alone to `out`, empties the buffer, and returns how many bytes it
+    /// appended.
     ///
-    /// Nothing is drawn. It makes room first: where the vector has none and its growth is refused,
-    /// its items, its capacity and the buffer are as before. An empty buffer takes no memory and
-    /// answers 0.
+    /// Nothing is drawn. If the vector has too little room and the allocator refuses to grow it,
+    /// the items and the capacity of the vector and the buffer are unchanged. If the buffer is
+    /// empty, nothing is allocated and the call returns 0.
     pub fn read_to_end<A: Allocator>(&mut self, out: &mut Vec<u8, A>) -> Result<usize, AllocError>
         ensures count { IfOk result (λ count. count ≡ length self.old.rest) }
         ensures appended { OnOk result (out.new.items ≡ out.old.items ++ self.old.rest) }
@@ -87,7 +90,7 @@ impl<G: Rng<OUTPUT>, const OUTPUT: usize> BufferedRng<G, OUTPUT> {
         ensures capacity_stays { OnErr result (vec_capacity out.new ≡ vec_capacity out.old) }
         ensures buffer_stays { OnErr result (self.new ≡ self.old) }
 
-        // It is refused only where the vector had no room, and so never for an empty buffer.
+        // It fails only if the vector had too little room, and so never for an empty buffer.
         ensures full { let kept = length self.old.rest in
             OnErr result (vec_capacity out.old < vec_len out.old + kept) }
         ensures empty { self.old.rest ≡ [] → IsOk result }
@@ -96,14 +99,14 @@ impl<G: Rng<OUTPUT>, const OUTPUT: usize> BufferedRng<G, OUTPUT> {
         if count > 0 {
             let bytes = &self.block[..];
             out.reserve(count)?;
-            // There is room now, so this is never refused.
+            // There is room now, so this never fails.
             out.extend_from_slice(&bytes[self.cursor..])?;
             self.cursor = OUTPUT;
         }
         Ok(count)
     }
 
-    /// Always `TextRefused`. Nothing changes.
+    /// Always returns `TextRefused`, and changes nothing.
     pub fn read_to_string<A: Allocator>(
         &mut self,
         out: &mut String<A>,
@@ -117,8 +120,8 @@ impl<G: Rng<OUTPUT>, const OUTPUT: usize> BufferedRng<G, OUTPUT> {
     }
 }
 
-/// Equal buffered bytes, and the inner generator that the inner clone answers, whatever that is. It
-/// takes no memory, so it is never refused where the inner clone never is.
+/// Equal buffered bytes, and the generator that the inner `clone` returns, whatever that is. It
+/// allocates nothing itself, so it never fails if the inner clone never does.
 impl<G: Rng<OUTPUT>, const OUTPUT: usize> Clone for BufferedRng<G, OUTPUT> {
     ghost is_clone = { λ b c. (c.rest ≡ b.rest) × G.is_clone b.inner c.inner };
 
@@ -179,7 +182,7 @@ where
 {
     ghost seeded = { λ b seed. buffer_of b.rest (G.seeded b.inner seed) };
 
-    /// The inner generator is seeded anew. The buffered bytes stay, and come first.
+    /// Reseeds the inner generator. The buffered bytes stay, and are delivered first.
     fn reseed(&mut self, seed: [u8; SEED_SIZE])
         ensures { self.new ≡ buffer_of self.old.rest (G.seeded self.old.inner seed.entry) }
     {
@@ -187,7 +190,7 @@ where
     }
 }
 
-/// `new` of the default generator.
+/// `BufferedRng::new` of the inner generator's default.
 impl<G: Rng<OUTPUT> + Default, const OUTPUT: usize> Default for BufferedRng<G, OUTPUT> {
     ghost is_default = { λ b. (b.rest ≡ []) × G.is_default b.inner };
 
@@ -196,7 +199,8 @@ impl<G: Rng<OUTPUT> + Default, const OUTPUT: usize> Default for BufferedRng<G, O
     }
 }
 
-/// Fills the whole slice as `fill_bytes` does, and answers its length. The row of bytes has no end.
+/// Fills the whole slice as `fill_bytes` does, and returns its length. The stream never ends.
+/// Nothing is promised about the provided methods of `Read`.
 impl<G: Rng<OUTPUT>, const OUTPUT: usize> Read for BufferedRng<G, OUTPUT> {
     fn read(&mut self, buf: &mut [u8]) -> io::Result<usize>
         ensures bound { ReadsAtMost result buf.new }
@@ -210,7 +214,7 @@ impl<G: Rng<OUTPUT>, const OUTPUT: usize> Read for BufferedRng<G, OUTPUT> {
     }
 }
 
-// Fills the slice with the bytes that are kept and those of further blocks, and keeps what is left over.
+// Delivers the buffered bytes first and then further blocks, and buffers what is left over.
 #[inline(always)]
 fn deliver<G: Rng<OUTPUT>, const OUTPUT: usize>(
     inner: &mut G,
@@ -241,7 +245,7 @@ fn deliver<G: Rng<OUTPUT>, const OUTPUT: usize>(
     }
 }
 
-// Fills the slice with whole blocks and the front of one more, whose other bytes are kept.
+// Delivers whole blocks and the front of one more, whose other bytes are then buffered.
 fn deliver_blocks<G: Rng<OUTPUT>, const OUTPUT: usize>(
     inner: &mut G,
     block: &mut [u8; OUTPUT],

@@ -1,3 +1,3 @@
-//! Ciphers whose key stream serves as a source of blocks.
+//! Stream ciphers whose keystream is a source of blocks.
 
 pub mod chacha;

@@ -1,4 +1,4 @@
-//! Seeds from a reader of random bytes that the caller hands in.
+//! Seeds from a reader of random bytes that the caller passes in.
 ghost use Rattle.std.specs.Prelude.{◌≡◌, ◌<◌, ◌⊎◌, length, [], None, IfErr, OnOk};
 ghost use Rattle.std.specs.Io.KnownBytes.{Consumes};
 ghost use Rattle.nanorand.specs.generators.Entropy.{HasFewer};
@@ -7,38 +7,39 @@ ghost use Rattle.nanorand.specs.declared.entropy.EntropyError.TheVariants.{Short
 use std::io::Read;
 use thiserror::Error;
 
-/// Why no bytes came.
+/// Why a source of entropy gave no bytes.
 #[derive(Clone, Copy, Debug, PartialEq, Eq, Error)]
 pub enum EntropyError {
-    /// The reader gave no byte for a slice that was not empty.
+    /// The reader ended early: it gave no byte although the slice was not full.
     #[error("the entropy reader ended early")]
     Short,
 
-    /// The reader answered an error, an interruption included.
+    /// The reader returned an error. An interruption counts as one.
     #[error("the entropy reader failed")]
     Fault,
 
-    /// There is no such source.
+    /// There is no such source. Only `backup` returns this.
     #[error("no entropy source is available")]
     Unavailable,
 }
 
-/// Fills the slice with the reader's next bytes, and takes exactly as many: a contract about every
-/// reader that tells its bytes. The reader may give them in pieces of any size. An empty slice is
-/// `Ok`, and nothing is read.
+/// Fills the slice with the reader's next bytes, and takes exactly that many. This is promised for
+/// every reader whose bytes a contract can name (a slice, not a file). The reader may give them in
+/// pieces of any size. For an empty slice it returns `Ok` and reads nothing.
 ///
-/// `Short` where the reader gave no byte for a slice that was not full, `Fault` where it answered
-/// an error, an interruption included. After an error what the slice holds is open, and so is the
-/// place of the reader.
+/// It returns `Short` if the reader gave no byte before the slice was full, and `Fault` if the
+/// reader returned an error, an interruption included. After an error, the contents of the slice
+/// and the position of the reader are unspecified.
 pub fn system<R: Read>(source: &mut R, out: &mut [u8]) -> Result<(), EntropyError>
     ensures next { let old = R.remaining source.old in
         OnOk result (Consumes old (R.remaining source.new) out.new) }
 
-    // An empty slice is full as it is, and the reader is not asked.
+    // An empty slice is already full, so nothing is read.
     ensures nothing { out.old ≡ [] → result ≡ Ok tt }
     ensures unread { out.old ≡ [] → source.new ≡ source.old }
 
-    // No other error comes, and a reader that tells its bytes ends early only where it had too few.
+    // No other error is returned. If a contract can name the reader's bytes, `Short` means that it
+    // had too few of them.
     ensures error { IfErr result (λ e. (e ≡ Short) ⊎ (e ≡ Fault)) }
     ensures short { result ≡ Err Short → HasFewer (R.remaining source.old) (length out.old) }
 {
@@ -53,8 +54,8 @@ pub fn system<R: Read>(source: &mut R, out: &mut [u8]) -> Result<(), EntropyErro
     Ok(())
 }
 
-/// Bytes of an instruction of the processor, of which there is none: always `None`, and the slice
-/// stays as it is.
+/// Stands for a random-number instruction of the processor, which is not available here: always
+/// returns `None` and leaves the slice unchanged.
 pub fn rdseed(out: &mut [u8]) -> Option<usize>
     ensures none { result ≡ None }
     ensures same { out.new ≡ out.old }
@@ -63,8 +64,8 @@ pub fn rdseed(out: &mut [u8]) -> Option<usize>
     None
 }
 
-/// Bytes of a last resort, of which there is none: always `Unavailable`, also for an empty slice,
-/// and the slice stays as it is.
+/// Stands for an entropy source of last resort, of which there is none: always returns
+/// `Unavailable`, for an empty slice too, and leaves the slice unchanged.
 pub fn backup(out: &mut [u8]) -> Result<(), EntropyError>
     ensures unavailable { result ≡ Err EntropyError.Unavailable }
     ensures same { out.new ≡ out.old }

@@ -1,4 +1,5 @@
-//! Laws of the definitions. The functions do nothing: each contract is a law.
+//! Laws of the definitions. Each contract states a law. The functions do nothing; a proof calls one
+//! to use its law.
 ghost use Rattle.std.specs.Prelude.{◌≡◌, ◌<◌, length, ℕ, ℤ, nat_le, nat_lt, int_le, int_lt, ◌+◌, ◌^◌, bit_xor, ◌≢◌, ◌%◌, ◌↔◌, List, slice_index, IsPermutation};
 ghost use Rattle.std.specs.declared.ops.Bound.{Bound};
 ghost use Rattle.std.specs.Fn.{iterate};
@@ -22,25 +23,27 @@ ghost use Rattle.nanorand.specs.generators.WyRand as wyrand;
 use crate::buffer::BufferedRng;
 use crate::rand::{Blocks, Rng};
 
-/// A bounded draw prefers no number, for words of 8, 16, 32 and 64 bits and every size up to all
-/// words.
+/// A bounded draw prefers no number, for words of N = 8, 16, 32 and 64 bits and every size from 1
+/// to 2^N.
 ///
-/// Each number of a range has a run of equally many words, and fewer than half of all words name
-/// nothing. To exchange the runs of two numbers, word by word, leads from one list of words to
-/// another and back: it keeps the deciding place, exchanges the two numbers in what the list
-/// decides, and changes nothing else. An event answers to equally many words for each of its
-/// numbers.
+/// `runs`: each number below the size has a run of floor(2^N / size) words, the runs do not
+/// overlap, and fewer than half of all words name no number. `swaps`: swapping the runs of two
+/// numbers word by word is an involution on lists of words. It keeps the index of the deciding
+/// word, swaps the two numbers in the result, and leaves every other result, and every failure,
+/// unchanged. `events`: an event, a test that m of the numbers pass, is named by exactly m times as
+/// many words as one number.
 pub fn fairness()
     ensures runs { RunsAreFair }
     ensures swaps { NoNumberIsPreferred }
     ensures events { EventsAreFair }
 {}
 
-/// The limits that every ranged draw of the whole-number types keeps, over every generator.
+/// The limits that every ranged draw of an integer type keeps, over every generator.
 ///
-/// A number lies within both bounds, and at most 128 words are drawn. `Empty` comes only where the
-/// range has no number, and then nothing was drawn; `Exhausted` comes after exactly 128 words. What
-/// `generate_range` answers and leaves is the outcome that this law speaks of.
+/// A number that is drawn lies within both bounds, and at most 128 words are drawn. `Empty` is
+/// returned only if the range has no number, and then nothing was drawn. `Exhausted` is returned
+/// after exactly 128 words. The outcomes of this law are those that the contract of
+/// `generate_range` states.
 pub fn range_limits<G: Rng<OUTPUT>, const OUTPUT: usize>()
     ensures unsigned { (bits : ℕ) (g : G) (low high : Bound ℕ) →
         KeepsLimits nat_le nat_lt bits unsigned_number (after_word G.requests bits) low high g
@@ -50,34 +53,38 @@ pub fn range_limits<G: Rng<OUTPUT>, const OUTPUT: usize>()
         (signed_outcome G.requests bits g low high) }
 {}
 
-/// Two lists of calls, one after the other, are one list, over every generator: a replay that is
-/// stopped, stored and taken up again gives what the whole replay gives.
+/// Replaying two lists of calls one after the other is replaying their concatenation, over every
+/// generator: a replay that is stopped, stored and resumed gives what the whole replay gives.
 pub fn replays_join<G: Rng<OUTPUT>, const OUTPUT: usize>()
     ensures { ReplaysJoin G.requests }
 {}
 
-/// For every n, valid lists of n choices and arrangements of 0, 1, .., n - 1 correspond one to one: a
-/// valid list makes an arrangement, no other valid list makes it, and each arrangement is made.
+/// For every n, valid lists of n choices and permutations of 0, 1, .., n - 1 correspond one to one:
+/// a valid list makes a permutation, no other valid list makes the same one, and each permutation
+/// is made by one.
 pub fn choices_and_arrangements()
     ensures { (n : ℕ) → CorrespondsOneToOne n }
 {}
 
-/// Permutations and arrangements are told by counting.
+/// Permutations are recognized by counting.
 ///
-/// `permutations`: one list of numbers is a permutation of another exactly if every number stands
-/// in both equally often. `arrangements`: a list arranges the numbers below its length exactly if
-/// each of them stands in it once; nothing has to be said of other numbers.
+/// `permutations`: one list of numbers is a permutation of another exactly if every number occurs
+/// equally often in both. `arrangements`: a list is a permutation of the numbers below its length
+/// exactly if each of them occurs in it once; nothing has to be said of other numbers.
 pub fn permutations_by_counting()
     ensures permutations { (xs ys : List ℕ) → IsPermutation xs ys ↔ HoldEquallyOften xs ys }
     ensures arrangements { (order : List ℕ) →
         IsArrangement order ↔ HoldsEachOnce (length order) order }
 {}
 
-/// A `BufferedRng` over any generator delivers without a break, whatever is asked of it.
+/// A `BufferedRng` over any generator delivers one unbroken stream, whatever requests it is split
+/// into.
 ///
-/// Two requests in a row take and leave what one of both sizes does; so does any list of requests;
-/// and a replay leaves what one request of all the bytes that its calls ask for would leave. Less
-/// than a block stays buffered after each.
+/// `unbroken`: two requests in a row take the same bytes and leave the same state as one request
+/// for the sum of their sizes, and so does any list of requests. A replay leaves the state that one
+/// request for all the bytes of its calls would leave. `row`: the buffer's own blocks, joined, are
+/// the buffered bytes and then the inner blocks. `below`: if less than a block is buffered, less
+/// than a block is buffered after each request.
 pub fn unbroken_delivery<G: Rng<OUTPUT>, const OUTPUT: usize>()
     ensures unbroken { IsUnbroken ⟦<BufferedRng<G, OUTPUT> as Rng<OUTPUT>>⟧.requests }
     ensures row { (b : Buffered G) (n : ℕ) →
@@ -87,18 +94,19 @@ pub fn unbroken_delivery<G: Rng<OUTPUT>, const OUTPUT: usize>()
         → length (buffered_after G.block G.step OUTPUT b n).rest < OUTPUT }
 {}
 
-/// ChaCha's rounds make no two matrices the same, for every even number of rounds.
+/// ChaCha's rounds are injective on matrices, for every even number of rounds.
 pub fn rounds_are_injective()
     ensures { RoundsAreInjective }
 {}
 
-/// The seeds of `WyRand` are one cycle of 2^64, and its blocks have that period.
+/// The seeds of `WyRand` form one cycle of length 2^64, and the periods of its blocks are exactly
+/// the multiples of 2^64.
 ///
-/// `steps`, `more`, `adds`: `wyrand_after` is the state after n draws, one by one, at every number.
-/// `closed`, `seeds`, `fits`: at a seed, and after a draw, it is the one sum `seed_after`, a seed.
-/// `words`: block n, counted from 0, is the word of the seed after n + 1 draws. `agree`: the draws i
-/// and j lead to one seed exactly if they agree modulo 2^64. `periods`: d is a period exactly if 2^64
-/// divides it.
+/// `steps`, `more`, `adds`: `wyrand_after n` is the state after n single draws, from every number.
+/// `closed`, `seeds`: from a seed, or if n is at least 1, it is the closed form `seed_after n`.
+/// `fits`: from a seed it is a seed, a number below 2^64. `words`: block n, counted from 0, is the
+/// word of the seed after n + 1 draws. `agree`: i draws and j draws lead to the same seed exactly
+/// if i and j agree modulo 2^64. `periods`: d is a period exactly if 2^64 divides d.
 pub fn wyrand_cycle()
     ensures steps { DrawsLeave wyrand.next_seed wyrand.wyrand_after }
     ensures more { OneMoreDraw wyrand.next_seed wyrand.wyrand_after }
@@ -115,14 +123,16 @@ pub fn wyrand_cycle()
         → PeriodsAreMultiplesOf (2 ^ 64) wyrand.next_seed wyrand.wyrand_block seed }
 {}
 
-/// The seeds of `Pcg64` are four cycles of 2^126 each, and its blocks have that period.
+/// The seeds of `Pcg64` form four cycles of length 2^126 each, and the periods of its blocks are
+/// exactly the multiples of 2^126.
 ///
-/// `steps`, `more`, `adds`: `pcg64_after` is the generator after n draws, one by one. `closed`,
-/// `seeds`, `fits`: at a seed, and after a draw, its seed is the one sum `seed_after`, a seed.
-/// `words`: block n, counted from 0, is the word of the seed after n + 1 draws. `blocks`: blocks read
-/// the seed alone. `agree`: the draws i and j lead to one seed exactly if they agree modulo 2^126.
-/// `top_bit`: after 2^125 further draws a word differs in the top bit and in no other. `periods`: d
-/// is a period exactly if 2^126 divides it.
+/// `steps`, `more`, `adds`: `pcg64_after n` is the generator after n single draws. `closed`,
+/// `seeds`: from a seed, or if n is at least 1, its seed is the closed form `seed_after n`. `fits`:
+/// from a seed it is a seed, a number below 2^128. `words`: block n, counted from 0, is the word of
+/// the seed after n + 1 draws. `blocks`: blocks depend on the seed alone. `agree`: i draws and j
+/// draws lead to the same seed exactly if i and j agree modulo 2^126. `top_bit`: 2^125 draws
+/// further on, a word differs in the top bit and in no other. `periods`: d is a period exactly if
+/// 2^126 divides d.
 pub fn pcg64_cycles()
     ensures steps { DrawsLeave pcg64.next pcg64.pcg64_after }
     ensures more { OneMoreDraw pcg64.next pcg64.pcg64_after }
@@ -145,14 +155,15 @@ pub fn pcg64_cycles()
         → PeriodsAreMultiplesOf (2 ^ 126) pcg64.next pcg64.pcg64_block g }
 {}
 
-/// The states of `ChaCha` are cycles of 2^64, and its counter tells how far a state is.
+/// The states of `ChaCha` form cycles of length 2^64, and the counter is the position in the cycle.
 ///
-/// `steps`, `more`, `adds`: `chacha_after` is the state after n draws, one by one, at every list.
-/// `closed`, `matrices`: at sixteen words it is the state whose counter is n more, modulo 2^64, sixteen
-/// words again. `counts`, `keeps`: n draws add n to the counter, modulo 2^64, and change no other word.
-/// `blocks`: block n, counted from 0, is the block of the counter n more. `agree`: i and j draws leave
-/// one state exactly if i and j agree modulo 2^64. `periods`: every multiple of 2^64 is a period of the
-/// blocks.
+/// `steps`, `more`, `adds`: `chacha_after n` is the state after n single draws, from every list.
+/// `closed`, `matrices`: from a matrix, sixteen 32-bit words, it is the state with n added to the
+/// counter, modulo 2^64, and a matrix again. `counts`, `keeps`: n draws add n to the counter,
+/// modulo 2^64, and change no word but 12 and 13, which hold it. `blocks`: block n, counted from 0,
+/// is the block of the state with n added to the counter. `agree`: i draws and j draws leave the
+/// same state exactly if i and j agree modulo 2^64. `periods`: every multiple of 2^64 is a period
+/// of the blocks; that no other number is one is not claimed.
 pub fn chacha_counter()
     ensures steps { DrawsLeave next_state chacha_after }
     ensures more { OneMoreDraw next_state chacha_after }
@@ -171,10 +182,10 @@ pub fn chacha_counter()
         → IsPeriod next_state (chacha_block R) x d }
 {}
 
-/// Which seeds of `Pcg64` lead to which.
+/// Which seeds of `Pcg64` are reached from which.
 ///
-/// `reached`: draws lead from s to t exactly if both are in one of the four cycles. `once`: then
-/// exactly one number of draws below 2^126 does.
+/// `reached`: some number of draws leads from s to t exactly if both are in the same one of the
+/// four cycles. `once`: then exactly one number of draws below 2^126 does.
 pub fn pcg64_reach()
     ensures reached { (s t : ℕ) → s < 2 ^ 128 → t < 2 ^ 128
         → Reaches pcg64.seed_after s t ↔ pcg64.SameCycle s t }

@@ -1,8 +1,11 @@
-//! Seeded random generators, exact values, and lists of calls that can be replayed.
+//! Seeded random generators, exact values and ranges, shuffles, and lists of calls that can be
+//! replayed.
 //!
-//! Equal generators give equal values: nothing here reads a clock, a device or memory that the
-//! caller did not hand in. What each call answers, and the state that it leaves, stands in its
-//! contract.
+//! Equal generators give equal values: nothing here reads a clock, a device, or memory that the
+//! caller did not pass in. The contract of each call states what it returns and the state that it
+//! leaves.
+//!
+//! `WyRand` and `Pcg64` are not cryptographically secure. `ChaCha` says what it is and is not for.
 #![tactic(auto)]
 
 pub mod buffer;

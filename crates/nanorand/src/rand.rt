@@ -1,4 +1,4 @@
-//! The traits that every generator keeps, and the body that the plain generators share.
+//! The traits that every generator implements, and the `fill_bytes` that plain generators share.
 ghost use Rattle.std.specs.Prelude.{◌≡◌, ℕ, ◌^◌, ◌<◌, List, length, OnOk, IsPermutation};
 ghost use Rattle.std.specs.Fn.{iterate};
 ghost use Rattle.nanorand.specs.shuffles.Arrangements.{IsValid};
@@ -20,7 +20,7 @@ pub use wyrand::WyRand;
 
 /// A source of blocks of `OUTPUT` bytes.
 ///
-/// `OUTPUT` is at least 1: each implementation proves it.
+/// `OUTPUT` is at least 1 and below 2^63: each implementation proves it.
 pub trait Blocks<const OUTPUT: usize> {
     // The next block of a state.
     ghost block: { Self → List ℕ };
@@ -35,7 +35,7 @@ pub trait Blocks<const OUTPUT: usize> {
 
     ghost positive: { 0 < OUTPUT };
 
-    // A block fits in memory, as every array does.
+    // The length of every array in memory is below this.
     ghost in_memory: { OUTPUT < 2 ^ 63 };
 
     ghost block_length: { (g : Self) → length (block g) ≡ OUTPUT };
@@ -43,10 +43,11 @@ pub trait Blocks<const OUTPUT: usize> {
 
 /// A generator of random values.
 ///
-/// A user's generator writes `rand` and `fill_bytes`, and names its next block, the state after
-/// it, and the state that a request of n bytes leaves. Everything else follows from these.
+/// To implement it, implement `Clone` and `Blocks`, write `fill_bytes`, define `requests` (the
+/// bytes that a request of n bytes takes, and the state that it leaves), and prove the three laws
+/// at the end of the trait. The other functions follow from these.
 pub trait Rng<const OUTPUT: usize>: Clone + Blocks<OUTPUT> {
-    // The bytes that requests take, and the states that they leave.
+    // The bytes that a request of n bytes takes, and the state that it leaves, for every n.
     ghost requests: { Requests Self };
 
     /// Fills the slice with the next bytes, by one request. An empty slice draws nothing.
@@ -54,7 +55,7 @@ pub trait Rng<const OUTPUT: usize>: Clone + Blocks<OUTPUT> {
         ensures bytes { buffer.new ≡ requests.bytes self.old (length buffer.old) }
         ensures state { self.new ≡ requests.after self.old (length buffer.old) };
 
-    /// Draws a value.
+    /// Draws a value, as `RandomGen` defines it for the type.
     #[inline]
     fn generate<T: RandomGen<Self, OUTPUT>>(&mut self) -> T
         ensures value { result ≡ T.value self.old }
@@ -63,7 +64,7 @@ pub trait Rng<const OUTPUT: usize>: Clone + Blocks<OUTPUT> {
         T::random(self)
     }
 
-    /// Fills the slice with values, one after another: one value an item, in order.
+    /// Fills the slice with values, drawn one after another in the order of the items.
     fn fill<T: RandomGen<Self, OUTPUT> + Drop>(&mut self, target: &mut [T])
         ensures values { let count = length target.old in
             target.new ≡ values_from T.value T.state_after count self.old }
@@ -74,7 +75,11 @@ pub trait Rng<const OUTPUT: usize>: Clone + Blocks<OUTPUT> {
         }
     }
 
-    /// Draws a value between two bounds, the low one first.
+    /// Draws a value between the bounds `low` and `high`.
+    ///
+    /// For the integer types it returns `Empty` if the range has no number, and draws nothing then.
+    /// It returns `Exhausted` if 128 words in a row were rejected; these stay drawn. A user's type
+    /// defines when it returns each of the two.
     #[inline]
     fn generate_range<T: RandomRange<Self, OUTPUT>>(
         &mut self,
@@ -87,13 +92,15 @@ pub trait Rng<const OUTPUT: usize>: Clone + Blocks<OUTPUT> {
         T::random_range(self, low, high)
     }
 
-    /// Shuffles the slice: each place, from the first on, is swapped with a partner that is drawn
-    /// from that place and those after it.
+    /// Shuffles the slice: swaps each index in turn, from 0 up, with an index drawn from itself and
+    /// those after it.
     ///
-    /// It is the shuffle of Fisher and Yates, from the first place on. What it leaves is an
-    /// arrangement of the items: each of them as often as before. Every arrangement
-    /// answers to exactly one list of choices. `Exhausted` comes where 128 words in a row were
-    /// rejected for one partner; what was swapped before it stays so. An empty slice draws nothing.
+    /// It is the shuffle of Fisher and Yates (1938) in Durstenfeld's form ("Algorithm 235: Random
+    /// permutation", 1964), from the first index up. It leaves a permutation of the items. Each
+    /// permutation of the indices 0, 1, .. is made by exactly one list of drawn indices.
+    ///
+    /// It returns `Exhausted` if 128 words in a row were rejected for one index. The swaps before
+    /// that stay, and so do all draws. An empty slice draws nothing.
     final fn shuffle<T>(&mut self, target: &mut [T]) -> Result<(), RangeError>
         ensures answer { result ≡ (shuffled requests from_itself self.old target.old).answer }
         ensures items { target.new ≡ (shuffled requests from_itself self.old target.old).items }
@@ -112,7 +119,7 @@ pub trait Rng<const OUTPUT: usize>: Clone + Blocks<OUTPUT> {
         Ok(())
     }
 
-    // A request of n takes the first n bytes of the blocks.
+    // A request of n bytes takes the first n bytes of the blocks.
     ghost delivers: { (g : Self) (n : ℕ) → requests.bytes g n ≡ taken Self.block Self.step g n };
 
     ghost after_nothing: { (g : Self) → requests.after g 0 ≡ g };
@@ -120,20 +127,21 @@ pub trait Rng<const OUTPUT: usize>: Clone + Blocks<OUTPUT> {
     ghost after_block: { (g : Self) → requests.after g OUTPUT ≡ Self.step g };
 }
 
-/// A generator that can be seeded anew.
+/// A generator that can be reseeded.
 pub trait SeedableRng<const SEED_SIZE: usize, const OUTPUT: usize>: Rng<OUTPUT> {
-    // The state that the bytes of a seed leave.
+    // The state after a reseed, by the state before it and the bytes of the seed.
     ghost seeded: { Self → List ℕ → Self };
 
-    /// Seeds the generator anew.
+    /// Seeds the generator anew from the bytes of `seed`.
     fn reseed(&mut self, seed: [u8; SEED_SIZE])
         ensures { self.new ≡ seeded self.old seed.entry };
 }
 
-/// Fills the slice block by block through `rand`, and drops the rest of the last block.
+/// Fills the slice block by block through `rand`, and drops the unused bytes of the last block.
 ///
-/// It is the body of `fill_bytes` of `WyRand` and `Pcg64`, and of what is left over in `ChaCha`, and
-/// may serve a user's: a plain generator begins a new block at each request.
+/// It is the `fill_bytes` of a plain generator, which starts each request on a new block. `WyRand`
+/// and `Pcg64` use it, `ChaCha` uses it for the bytes after the last whole group of four blocks,
+/// and a user's generator may.
 pub fn fill_by_blocks<G: Blocks<OUTPUT>, const OUTPUT: usize>(rng: &mut G, buffer: &mut [u8])
     ensures bytes { buffer.new ≡ taken G.block G.step rng.old (length buffer.old) }
     ensures state { rng.new ≡ plain_after G.step OUTPUT rng.old (length buffer.old) }

@@ -1,4 +1,4 @@
-//! Lists of calls, made in order, with one answer each.
+//! Lists of calls on a generator, made in order, with one answer each.
 ghost use Rattle.std.specs.Prelude.{◌≡◌, length};
 ghost use Rattle.nanorand.specs.replay.Replay.{outcome, replayed, size_of, value_of, span_outcome, unsigned_answer, signed_answer, refusal_answer};
 
@@ -6,7 +6,7 @@ use crate::rand::Rng;
 use crate::values::RangeError;
 use std::ops::Bound;
 
-/// A type whose values are drawn whole.
+/// The type of the value that `Call::Gen` draws.
 #[derive(Clone, Copy, Debug, PartialEq, Eq)]
 pub enum Kind {
     I8,
@@ -24,7 +24,7 @@ pub enum Kind {
     Bool,
 }
 
-/// A range of a type, the low bound first.
+/// A range of an integer type: its low bound and its high bound.
 #[derive(Drop)]
 pub enum Span {
     I8(Bound<i8>, Bound<i8>),
@@ -39,18 +39,18 @@ pub enum Span {
     Usize(Bound<usize>, Bound<usize>),
 }
 
-/// A call of a generator.
+/// A call on a generator.
 #[derive(Drop)]
 pub enum Call {
-    /// A value of a type, as `generate` draws it.
+    /// Draws a value of a type, as `Rng::generate` does.
     Gen(Kind),
-    /// A number of a range, as `generate_range` draws it.
+    /// Draws a number of a range, as `Rng::generate_range` does.
     Range(Span),
-    /// A shuffle of the items, as `shuffle` makes it.
+    /// Shuffles the items, as `Rng::shuffle` does.
     Shuffle,
 }
 
-/// What a call answers.
+/// The answer to a call.
 #[derive(Clone, Copy, Debug, PartialEq, Eq)]
 pub enum Answer {
     Unsigned(u128),
@@ -58,7 +58,7 @@ pub enum Answer {
     Truth(bool),
     /// The range has no number, and nothing was drawn.
     Empty,
-    /// 128 words in a row were rejected.
+    /// 128 words in a row were rejected, for a number or for one index of a shuffle.
     Exhausted,
     /// The items were shuffled.
     Shuffled,
@@ -66,9 +66,10 @@ pub enum Answer {
 
 /// Makes the calls in order on the generator, and writes one answer for each.
 ///
-/// `answers` is as long as `calls`; both may be empty. A refused call is answered by its refusal
-/// and does not stop the list. It takes no memory and always succeeds: equal generators, items and
-/// calls give equal answers, items and generators.
+/// Precondition: `answers` is as long as `calls`; both may be empty. A call that fails is answered
+/// by `Empty` or `Exhausted` and does not stop the list. The replay itself always succeeds, and
+/// nothing is allocated. Equal generators, items and calls give equal answers, items and
+/// generators.
 pub fn replay<G: Rng<OUTPUT>, const OUTPUT: usize>(
     rng: &mut G,
     calls: &[Call],
@@ -85,7 +86,6 @@ pub fn replay<G: Rng<OUTPUT>, const OUTPUT: usize>(
     }
 }
 
-// Makes one call.
 fn make_call<G: Rng<OUTPUT>, const OUTPUT: usize>(
     rng: &mut G,
     call: &Call,
@@ -105,7 +105,6 @@ fn make_call<G: Rng<OUTPUT>, const OUTPUT: usize>(
     }
 }
 
-// Draws a value whole.
 fn draw<G: Rng<OUTPUT>, const OUTPUT: usize>(rng: &mut G, kind: Kind) -> Answer
     ensures answer { result ≡ value_of kind (G.requests.bytes rng.old (size_of kind)) }
     ensures state { rng.new ≡ G.requests.after rng.old (size_of kind) }
@@ -127,7 +126,6 @@ fn draw<G: Rng<OUTPUT>, const OUTPUT: usize>(rng: &mut G, kind: Kind) -> Answer
     }
 }
 
-// Draws a number of a range.
 fn draw_within<G: Rng<OUTPUT>, const OUTPUT: usize>(rng: &mut G, span: &Span) -> Answer
     ensures answer { result ≡ (span_outcome G.requests rng.old span.now).0 }
     ensures state { rng.new ≡ (span_outcome G.requests rng.old span.now).1 }
@@ -166,7 +164,6 @@ fn draw_within<G: Rng<OUTPUT>, const OUTPUT: usize>(rng: &mut G, span: &Span) ->
     }
 }
 
-// The answer of a number drawn, or of a refusal.
 fn unsigned_answer(drawn: Result<u128, RangeError>) -> Answer
     ensures { result ≡ unsigned_answer drawn }
 {

@@ -1,4 +1,4 @@
-//! Shuffles as lists of choices, and the shuffle that draws from all places.
+//! Shuffles as lists of choices, and the shuffle that draws from all indices.
 ghost use Rattle.std.specs.Prelude.{◌≡◌, ◌≢◌, ℕ, ◌<◌, ◌≤◌, length, slice_index, MatchOption, OnOk, OnErr, List, IsPermutation};
 ghost use Rattle.nanorand.specs.shuffles.Arrangements.{completed, rising, IsValid, IsArrangement};
 ghost use Rattle.nanorand.specs.shuffles.Shuffles.{arranged, from_all, from_itself, shuffled};
@@ -8,16 +8,16 @@ use crate::values::RangeError;
 use std::ops::Bound;
 use thiserror::Error;
 
-/// The list is no arrangement of the numbers below its length.
+/// The list is not a permutation of the numbers below its length.
 #[derive(Clone, Copy, Debug, PartialEq, Eq, Error)]
 #[error("the list is no arrangement")]
 pub struct NotArrangement;
 
-/// Deals stored choices: swaps each place, from the first on, with its choice.
+/// Applies stored choices: swaps each index i in turn, from 0 up, with `choices[i]`.
 ///
-/// There is a choice for each item, and it is that place or a later one. What is left is an
-/// arrangement of the items: each of them as often as before. Dealt to the items from which a shuffle
-/// began, the choices that it drew leave what the shuffle left.
+/// Preconditions: there is one choice for each item, and the choice of index i is i or a later
+/// index. It leaves a permutation of the items. Applied to the items that a shuffle started from,
+/// the choices that `shuffle_and_record` recorded leave the items that the shuffle left.
 pub fn apply_choices<T>(choices: &[usize], items: &mut [T])
     requires lengths { length choices.now ≡ length items.old }
     requires valid { IsValid choices.now }
@@ -29,12 +29,12 @@ pub fn apply_choices<T>(choices: &[usize], items: &mut [T])
     }
 }
 
-/// The choices that turn 0, 1, .. into `order`: at Ok `out` holds them, and no other valid list
-/// makes `order`.
+/// Writes to `out` the unique valid choices that turn the identity 0, 1, .. into `order`.
 ///
-/// It takes no memory. `scratch` begins as 0, 1, .. and becomes `order` place by place.
-/// `NotArrangement` comes exactly where `order` does not hold each number below its length once;
-/// what `out` and `scratch` then hold is open.
+/// Precondition: `out` and `scratch` are as long as `order`. Both are overwritten, and nothing is
+/// allocated: `scratch` starts as the identity and becomes `order` index by index. The call returns
+/// `NotArrangement` exactly if `order` is not a permutation of the numbers below its length. The
+/// contents of `out` and `scratch` are unspecified after that.
 pub fn choices_of(
     order: &[usize],
     out: &mut [usize],
@@ -63,7 +63,7 @@ pub fn choices_of(
     Ok(())
 }
 
-// Writes 0, 1, .. over the slice.
+// Writes the identity 0, 1, .. to the slice.
 fn write_places(slots: &mut [usize])
     ensures { slots.new ≡ rising (length slots.old) }
 {
@@ -72,7 +72,7 @@ fn write_places(slots: &mut [usize])
     }
 }
 
-// The first place from `from` on that has the wanted number.
+// The first index from `from` up whose item is `wanted`.
 fn place_from(items: &[usize], from: usize, wanted: usize) -> Option<usize>
     requires { from ≤ length items.now }
     ensures { MatchOption result
@@ -89,10 +89,11 @@ fn place_from(items: &[usize], from: usize, wanted: usize) -> Option<usize>
 
 /// Shuffles the slice as `Rng::shuffle` does, and records the choices that it draws.
 ///
-/// Answer, items and generator are those of `Rng::shuffle`. At Ok `choices` holds the choices that
-/// were drawn. After `Exhausted` it holds those drawn before the refusal, and behind them each
-/// place itself, which moves nothing. So they are valid choices in either case, and `apply_choices`
-/// deals by them what was dealt here. What `choices` held before is gone. It takes no memory.
+/// Precondition: `choices` is as long as `target`; its old contents are overwritten. Result, items
+/// and generator are those of `Rng::shuffle`. On success `choices` holds the drawn choices. After
+/// `Exhausted` it holds the choices drawn before the failure, and for each index from there on that
+/// index itself, which moves nothing. So the choices are valid in both cases, and `apply_choices`
+/// repeats with them what was done here. Nothing is allocated.
 pub fn shuffle_and_record<G: Rng<OUTPUT>, T, const OUTPUT: usize>(
     rng: &mut G,
     target: &mut [T],
@@ -120,12 +121,12 @@ pub fn shuffle_and_record<G: Rng<OUTPUT>, T, const OUTPUT: usize>(
     Ok(())
 }
 
-/// Shuffles the slice with partners from all places, as the Rust crate does: each place, from the
-/// first on, is swapped with a partner that is drawn from the whole slice.
+/// Shuffles the slice as the Rust crate `nanorand` 0.7.0 does: swaps each index in turn, from 0 up,
+/// with an index drawn from the whole slice.
 ///
-/// What it leaves is an arrangement of the items, but several lists of choices make the same one.
-/// `Exhausted` comes where 128 words in a row were rejected for one partner; what was swapped before
-/// it stays so. An empty slice draws nothing.
+/// It leaves a permutation of the items, but several lists of choices make the same permutation. It
+/// returns `Exhausted` if 128 words in a row were rejected for one index. The swaps before that
+/// stay, and so do all draws. An empty slice draws nothing.
 pub fn shuffle_full<G: Rng<OUTPUT>, T, const OUTPUT: usize>(
     rng: &mut G,
     target: &mut [T],
@@ -138,7 +139,7 @@ pub fn shuffle_full<G: Rng<OUTPUT>, T, const OUTPUT: usize>(
     let count = target.len();
     for place in 0..count {
         let partner = rng.generate_range(Bound::Included(0), Bound::Excluded(count))?;
-        // `swap` branches on which place is the smaller one: that is random here.
+        // `swap` branches on which index is smaller, which is random here: order the two first.
         target.swap(place.min(partner), place.max(partner));
     }
     Ok(())

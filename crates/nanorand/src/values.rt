@@ -12,15 +12,15 @@ use crate::rand::Rng;
 pub use range::{RandomRange, RangeError};
 pub use word::pick_word;
 
-/// A type whose values a generator draws.
+/// A type whose values can be drawn from a generator.
 ///
-/// A whole number of N bits is one request of N / 8 bytes, least byte first, the signed types in
-/// two's complement. `usize` and `isize` have 64 bits.
+/// An integer of N bits takes one request of N / 8 bytes, read least byte first, the signed types
+/// in two's complement. `usize` and `isize` have 64 bits.
 pub trait RandomGen<G: Rng<OUTPUT>, const OUTPUT: usize> {
-    // The value that a state gives.
+    // The value that is drawn in a state.
     ghost value: { G → Self };
 
-    // The state after it.
+    // The state after that draw.
     ghost state_after: { G → G };
 
     /// Draws a value.
@@ -29,7 +29,7 @@ pub trait RandomGen<G: Rng<OUTPUT>, const OUTPUT: usize> {
         ensures state { rng.new ≡ state_after rng.old };
 }
 
-/// True if one byte is below 128.
+/// Takes one byte, and is true if it is below 128.
 impl<G: Rng<OUTPUT>, const OUTPUT: usize> RandomGen<G, OUTPUT> for bool {
     ghost value = { λ g. truth_of (G.requests.bytes g 1) };
 
@@ -41,7 +41,7 @@ impl<G: Rng<OUTPUT>, const OUTPUT: usize> RandomGen<G, OUTPUT> for bool {
     }
 }
 
-// The next bytes, by one request.
+// The next `SIZE` bytes, by one request.
 #[inline]
 fn next_bytes<G: Rng<OUTPUT>, const SIZE: usize, const OUTPUT: usize>(rng: &mut G) -> [u8; SIZE]
     requires { SIZE < 2 ^ 63 }

@@ -1,4 +1,4 @@
--- A place in ChaCha's block stream.
+-- An index in ChaCha's stream of blocks.
 use Rattle.std.specs.Prelude.{ℕ, List}
 use Rattle.nanorand.specs.generators.ChaCha.{advanced, initial_state}
 

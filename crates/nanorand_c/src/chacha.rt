@@ -1,4 +1,6 @@
-//! ChaCha, by seed and place: the key, the nonce and the counter are the caller's memory.
+//! ChaCha, by key, nonce and counter, which are the caller's memory.
+//!
+//! `nanorand::ChaCha` says what it is and is not for.
 ghost use Rattle.std.specs.Prelude.{◌≡◌, ℕ, ◌+◌, ◌%◌, ◌^◌, length};
 ghost use Rattle.std.specs.Fn.{iterate};
 ghost use Rattle.std.specs.Int.{div_ceil};
@@ -8,8 +10,8 @@ ghost use Rattle.nanorand_c.specs.ChaChaPlace.{state_at};
 use nanorand::laws::chacha_counter;
 use nanorand::{Blocks, ChaCha, Rng};
 
-/// Draws the block of the counter, with 8 rounds, and adds 1 to the counter. After the greatest
-/// counter comes 0.
+/// Writes the block at the counter to `out`, with 8 rounds, and adds 1 to the counter. After the
+/// greatest counter, 2^64 - 1, comes 0.
 #[unsafe(no_mangle)]
 pub extern "C" fn nanorand_chacha8_block(
     key: &[u8; 32],
@@ -25,8 +27,8 @@ pub extern "C" fn nanorand_chacha8_block(
     block::<8>(key, nonce, counter, out);
 }
 
-/// Fills the slice from the counter on, with 8 rounds, by one request. The counter goes on by the
-/// blocks that it took.
+/// Fills the slice with the blocks from the counter on, with 8 rounds, by one request. The counter
+/// advances, modulo 2^64, by the number of blocks that the slice takes, the last one counted whole.
 #[unsafe(no_mangle)]
 pub extern "C" fn nanorand_chacha8_fill_bytes(
     key: &[u8; 32],
@@ -44,8 +46,8 @@ pub extern "C" fn nanorand_chacha8_fill_bytes(
     fill_bytes::<8>(key, nonce, counter, buffer);
 }
 
-/// Draws the block of the counter, with 12 rounds, and adds 1 to the counter. After the greatest
-/// counter comes 0.
+/// Writes the block at the counter to `out`, with 12 rounds, and adds 1 to the counter. After the
+/// greatest counter, 2^64 - 1, comes 0.
 #[unsafe(no_mangle)]
 pub extern "C" fn nanorand_chacha12_block(
     key: &[u8; 32],
@@ -61,8 +63,8 @@ pub extern "C" fn nanorand_chacha12_block(
     block::<12>(key, nonce, counter, out);
 }
 
-/// Fills the slice from the counter on, with 12 rounds, by one request. The counter goes on by the
-/// blocks that it took.
+/// Fills the slice with the blocks from the counter on, with 12 rounds, by one request. The counter
+/// advances, modulo 2^64, by the number of blocks that the slice takes, the last one counted whole.
 #[unsafe(no_mangle)]
 pub extern "C" fn nanorand_chacha12_fill_bytes(
     key: &[u8; 32],
@@ -80,8 +82,8 @@ pub extern "C" fn nanorand_chacha12_fill_bytes(
     fill_bytes::<12>(key, nonce, counter, buffer);
 }
 
-/// Draws the block of the counter, with 20 rounds, and adds 1 to the counter. After the greatest
-/// counter comes 0.
+/// Writes the block at the counter to `out`, with 20 rounds, and adds 1 to the counter. After the
+/// greatest counter, 2^64 - 1, comes 0.
 #[unsafe(no_mangle)]
 pub extern "C" fn nanorand_chacha20_block(
     key: &[u8; 32],
@@ -97,8 +99,8 @@ pub extern "C" fn nanorand_chacha20_block(
     block::<20>(key, nonce, counter, out);
 }
 
-/// Fills the slice from the counter on, with 20 rounds, by one request. The counter goes on by the
-/// blocks that it took.
+/// Fills the slice with the blocks from the counter on, with 20 rounds, by one request. The counter
+/// advances, modulo 2^64, by the number of blocks that the slice takes, the last one counted whole.
 #[unsafe(no_mangle)]
 pub extern "C" fn nanorand_chacha20_fill_bytes(
     key: &[u8; 32],
@@ -116,7 +118,7 @@ pub extern "C" fn nanorand_chacha20_fill_bytes(
     fill_bytes::<20>(key, nonce, counter, buffer);
 }
 
-// The generator of a key and a nonce at a counter. So many draws on is the place so much further.
+// The generator at a counter. n draws later, the counter is n more, modulo 2^64.
 fn at<const ROUNDS: u8>(key: &[u8; 32], nonce: &[u8; 8], counter: u64) -> ChaCha<ROUNDS>
     requires { ROUNDS % 2 ≡ 0 }
     ensures state { result ≡ state_at key.now nonce.now counter }
@@ -129,7 +131,6 @@ fn at<const ROUNDS: u8>(key: &[u8; 32], nonce: &[u8; 8], counter: u64) -> ChaCha
     rng
 }
 
-// The block of a place, and the next place.
 fn block<const ROUNDS: u8>(key: &[u8; 32], nonce: &[u8; 8], counter: &mut u64, out: &mut [u8; 64])
     requires { ROUNDS % 2 ≡ 0 }
     ensures block { out.new ≡ chacha_block ROUNDS (state_at key.now nonce.now counter.old) }
@@ -142,7 +143,6 @@ fn block<const ROUNDS: u8>(key: &[u8; 32], nonce: &[u8; 8], counter: &mut u64, o
     *counter = counter.wrapping_add(1);
 }
 
-// The bytes from a place on, and the place that is left.
 fn fill_bytes<const ROUNDS: u8>(
     key: &[u8; 32],
     nonce: &[u8; 8],

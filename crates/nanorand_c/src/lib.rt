@@ -1,7 +1,8 @@
-//! The generators for programs in other languages, Rust's among them.
+//! The generators for programs in other languages, Rust among them, through the C calling
+//! convention.
 //!
-//! A state is the caller's own memory, lent for a call, and nothing here allocates. No function
-//! requires anything beyond its types. A slice crosses as a pointer and then a length.
+//! A state is the caller's memory, lent for a call, and nothing here allocates. No function has a
+//! precondition beyond its types. A slice is passed as a pointer and then a length.
 #![tactic(auto)]
 
 pub mod chacha;

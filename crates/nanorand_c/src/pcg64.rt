@@ -1,4 +1,4 @@
-//! Pcg64. Its seed is the caller's memory, and moves on by each draw.
+//! Pcg64. Its seed is the caller's memory, and each draw advances it. Not cryptographically secure.
 ghost use Rattle.std.specs.Prelude.{◌≡◌, ◌≤◌, length, IsPermutation};
 ghost use Rattle.nanorand.specs.generators.Pcg64.{seed_after, pcg64_requests};
 ghost use Rattle.nanorand.specs.shuffles.Shuffles.{from_all, from_itself, shuffled};
@@ -15,7 +15,7 @@ use nanorand::values::range::draw_number;
 use nanorand::{Pcg64, Rng};
 use std::ops::Bound;
 
-/// Draws a number.
+/// Draws a 64-bit number, as `generate` does.
 #[unsafe(no_mangle)]
 pub extern "C" fn nanorand_pcg64_u64(seed: &mut Wide) -> u64
     ensures value { result ≡ number_of (pcg64_requests.bytes (at_seed seed.old) 8) }
@@ -39,7 +39,7 @@ pub extern "C" fn nanorand_pcg64_fill_bytes(seed: &mut Wide, buffer: &mut [u8])
     *seed = split(rng.seed());
 }
 
-/// Leaves what so many draws leave, in at most 128 turns.
+/// Advances the seed by `draws` draws, in at most 128 steps and one draw.
 #[unsafe(no_mangle)]
 pub extern "C" fn nanorand_pcg64_jump(seed: &mut Wide, draws: &Wide)
     ensures { wide_number seed.new ≡ seed_after (wide_number draws.now) (wide_number seed.old) }
@@ -50,8 +50,9 @@ pub extern "C" fn nanorand_pcg64_jump(seed: &mut Wide, draws: &Wide)
     *seed = split(rng.seed());
 }
 
-/// Draws a number from the first to the last, both of them drawn too, and answers a status: 0 where
-/// `number` was written, 1 where there is no number, 2 where 128 words in a row were rejected.
+/// Draws a number from `first..=last` and returns a status: 0 if `number` was written, 1 if the
+/// range is empty, 2 if 128 words in a row were rejected. After 1 and 2 `number` is unchanged.
+/// After 1 nothing was drawn; after 2 the words stay drawn.
 #[unsafe(no_mangle)]
 pub extern "C" fn nanorand_pcg64_range_u64(
     seed: &mut Wide,
@@ -72,7 +73,7 @@ pub extern "C" fn nanorand_pcg64_range_u64(
     hand_over(&outcome, number)
 }
 
-/// The same for places and lengths.
+/// As `nanorand_pcg64_range_u64`, for `usize`: indices and lengths.
 #[unsafe(no_mangle)]
 pub extern "C" fn nanorand_pcg64_range_usize(
     seed: &mut Wide,
@@ -93,8 +94,8 @@ pub extern "C" fn nanorand_pcg64_range_usize(
     hand_over(&outcome, number)
 }
 
-/// Shuffles numbers, each partner drawn from its place on, and answers a status. After 2 they are
-/// arranged by the choices that were made before.
+/// Shuffles the items as `Rng::shuffle` does, and returns a status: 0 on success, 2 if 128 words in
+/// a row were rejected for one index. After 2 the swaps before that stay.
 #[unsafe(no_mangle)]
 pub extern "C" fn nanorand_pcg64_shuffle(seed: &mut Wide, items: &mut [usize]) -> u8
     ensures status { let start = at_seed seed.old in
@@ -114,7 +115,8 @@ pub extern "C" fn nanorand_pcg64_shuffle(seed: &mut Wide, items: &mut [usize]) -
     status(&outcome)
 }
 
-/// The same with partners from all places, as the Rust crate draws them.
+/// Shuffles the items as `nanorand::shuffles::shuffle_full` does, by indices drawn from the whole
+/// slice, and returns a status as `nanorand_pcg64_shuffle` does.
 #[unsafe(no_mangle)]
 pub extern "C" fn nanorand_pcg64_shuffle_full(seed: &mut Wide, items: &mut [usize]) -> u8
     ensures status { let start = at_seed seed.old in

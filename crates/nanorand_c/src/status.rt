@@ -1,10 +1,10 @@
-//! How an outcome crosses: as a status, and a number beside it.
+//! How a result is passed to C: as a status, with the number beside it.
 ghost use Rattle.std.specs.Prelude.{◌≡◌, Ok};
 ghost use Rattle.nanorand_c.specs.Status.{drawn_or, status};
 
 use nanorand::RangeError;
 
-// 0 where nothing was refused, 1 where the range is empty, 2 where 128 words in a row were rejected.
+// 0 on success, 1 if the range is empty, 2 if 128 words in a row were rejected.
 pub(crate) fn status<T>(outcome: &Result<T, RangeError>) -> u8
     ensures { result ≡ status outcome.now }
 {
@@ -15,7 +15,7 @@ pub(crate) fn status<T>(outcome: &Result<T, RangeError>) -> u8
     }
 }
 
-// Writes the number that was drawn, if one was, and answers the status.
+// Writes the number if one was drawn, and returns the status.
 pub(crate) fn hand_over<T: Copy>(outcome: &Result<T, RangeError>, number: &mut T) -> u8
     ensures status { result ≡ status outcome.now }
     ensures number { number.new ≡ drawn_or number.old outcome.now }

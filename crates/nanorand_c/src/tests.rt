@@ -44,7 +44,7 @@ fn fills(rt: HostRuntime) {
     assert_eq!(rt; joined(&seed), 0x3b1dd060ff2fd1e09624b94fc0ada4df);
 }
 
-// The first bytes of published vectors, and the counter.
+// The first bytes of published test vectors, and the counter afterwards.
 #[test]
 fn places(rt: HostRuntime) {
     let mut counter = 0;

@@ -1,8 +1,8 @@
-//! Numbers of 128 bits, which do not cross as they are.
+//! 128-bit numbers, which cannot be passed to C as they are.
 ghost use Rattle.std.specs.Prelude.{◌≡◌};
 ghost use Rattle.nanorand_c.specs.WideNumber.{wide_number};
 
-/// A number of 128 bits, as two words of 64.
+/// A 128-bit number, as its low and its high 64 bits.
 #[derive(Clone, Copy)]
 #[repr(C)]
 pub struct Wide {
@@ -10,14 +10,12 @@ pub struct Wide {
     pub high: u64,
 }
 
-// The number of the two words.
 pub(crate) fn joined(wide: &Wide) -> u128
     ensures { result ≡ wide_number wide.now }
 {
     u128::from(wide.low) | u128::from(wide.high) << 64
 }
 
-// The two words of a number.
 pub(crate) fn split(wide: u128) -> Wide
     ensures { wide_number result ≡ wide }
 {

@@ -1,4 +1,4 @@
-//! Wyrand. The generator itself is the caller's memory.
+//! WyRand. The generator itself is the caller's memory. Not cryptographically secure.
 ghost use Rattle.std.specs.Prelude.{◌≡◌, ◌≤◌, length, IsPermutation};
 ghost use Rattle.nanorand.specs.shuffles.Shuffles.{from_all, from_itself, shuffled};
 ghost use Rattle.nanorand.specs.values.Values.{number_of};
@@ -12,7 +12,7 @@ use nanorand::values::range::draw_number;
 use nanorand::{Rng, WyRand};
 use std::ops::Bound;
 
-/// The generator of a seed.
+/// The generator with this seed.
 #[unsafe(no_mangle)]
 pub extern "C" fn nanorand_wyrand_new_seed(seed: u64) -> WyRand
     ensures { result ≡ seed }
@@ -20,7 +20,7 @@ pub extern "C" fn nanorand_wyrand_new_seed(seed: u64) -> WyRand
     WyRand::new_seed(seed)
 }
 
-/// Draws a number.
+/// Draws a 64-bit number, as `generate` does.
 #[unsafe(no_mangle)]
 pub extern "C" fn nanorand_wyrand_u64(rng: &mut WyRand) -> u64
     ensures value { result ≡ number_of (wyrand_requests.bytes rng.old 8) }
@@ -38,7 +38,7 @@ pub extern "C" fn nanorand_wyrand_fill_bytes(rng: &mut WyRand, buffer: &mut [u8]
     rng.fill_bytes(buffer);
 }
 
-/// Leaves what n draws leave.
+/// Advances by n draws.
 #[unsafe(no_mangle)]
 pub extern "C" fn nanorand_wyrand_jump(rng: &mut WyRand, n: u64)
     ensures { rng.new ≡ seed_after n rng.old }
@@ -46,8 +46,9 @@ pub extern "C" fn nanorand_wyrand_jump(rng: &mut WyRand, n: u64)
     rng.jump(n);
 }
 
-/// Draws a number from the first to the last, both of them drawn too, and answers a status: 0 where
-/// `number` was written, 1 where there is no number, 2 where 128 words in a row were rejected.
+/// Draws a number from `first..=last` and returns a status: 0 if `number` was written, 1 if the
+/// range is empty, 2 if 128 words in a row were rejected. After 1 and 2 `number` is unchanged.
+/// After 1 nothing was drawn; after 2 the words stay drawn.
 #[unsafe(no_mangle)]
 pub extern "C" fn nanorand_wyrand_range_u64(
     rng: &mut WyRand,
@@ -65,7 +66,7 @@ pub extern "C" fn nanorand_wyrand_range_u64(
     hand_over(&outcome, number)
 }
 
-/// The same for places and lengths.
+/// As `nanorand_wyrand_range_u64`, for `usize`: indices and lengths.
 #[unsafe(no_mangle)]
 pub extern "C" fn nanorand_wyrand_range_usize(
     rng: &mut WyRand,
@@ -83,8 +84,8 @@ pub extern "C" fn nanorand_wyrand_range_usize(
     hand_over(&outcome, number)
 }
 
-/// Shuffles numbers, each partner drawn from its place on, and answers a status. After 2 they are
-/// arranged by the choices that were made before.
+/// Shuffles the items as `Rng::shuffle` does, and returns a status: 0 on success, 2 if 128 words in
+/// a row were rejected for one index. After 2 the swaps before that stay.
 #[unsafe(no_mangle)]
 pub extern "C" fn nanorand_wyrand_shuffle(rng: &mut WyRand, items: &mut [usize]) -> u8
     ensures status { let shuffle = shuffled wyrand_requests from_itself rng.old items.old in
@@ -97,7 +98,8 @@ pub extern "C" fn nanorand_wyrand_shuffle(rng: &mut WyRand, items: &mut [usize])
     status(&outcome)
 }
 
-/// The same with partners from all places, as the Rust crate draws them.
+/// Shuffles the items as `nanorand::shuffles::shuffle_full` does, by indices drawn from the whole
+/// slice, and returns a status as `nanorand_wyrand_shuffle` does.
 #[unsafe(no_mangle)]
 pub extern "C" fn nanorand_wyrand_shuffle_full(rng: &mut WyRand, items: &mut [usize]) -> u8
     ensures status { result ≡ status (shuffled wyrand_requests from_all rng.old items.old).answer }

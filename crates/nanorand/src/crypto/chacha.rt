@@ -1,8 +1,9 @@
-//! ChaCha, after Daniel J. Bernstein's "ChaCha, a variant of Salsa20", in its first layout: a counter
-//! of 64 bits and a nonce of 64 bits.
+//! ChaCha, after Daniel J. Bernstein, "ChaCha, a variant of Salsa20" (2008), in its original
+//! layout: a 64-bit counter and a 64-bit nonce.
 //!
-//! The state is a matrix of sixteen words of 32 bits, row by row: four words of constants, eight of
-//! key, two of counter, two of nonce. Words are spelled least byte first.
+//! A word of ChaCha has 32 bits. The state is a matrix of 4 by 4 words, row by row: four words of
+//! constants, eight of key, two of counter, two of nonce. Words are read and written least byte
+//! first.
 
 mod block;
 mod inverse;

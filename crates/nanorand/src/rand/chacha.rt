@@ -1,4 +1,4 @@
-//! ChaCha as a generator: 512 bits a draw, from a key of 256 bits.
+//! ChaCha as a generator: a block of 64 bytes per draw, from a 256-bit key.
 ghost use Rattle.std.specs.Prelude.{◌≡◌, ℕ, ◌%◌, ◌⊎◌, List, ◌++◌, length, take, drop, ⊤, refl, Some, IfOk, IfErr, codes};
 ghost use Rattle.std.specs.Fmt.{decimal};
 ghost use Rattle.std.proofs.Common.{rules};
@@ -21,29 +21,36 @@ use std::fmt;
 use std::io::Read;
 use std::marker::Model;
 
-/// ChaCha with 8 rounds.
+/// ChaCha with 8 rounds, fewer than the standard's 20.
 pub type ChaCha8 = ChaCha<8>;
 
-/// ChaCha with 12 rounds.
+/// ChaCha with 12 rounds, fewer than the standard's 20.
 pub type ChaCha12 = ChaCha<12>;
 
-/// ChaCha with 20 rounds.
+/// ChaCha with the standard's 20 rounds.
 pub type ChaCha20 = ChaCha<20>;
 
-/// The generator ChaCha, after Daniel J. Bernstein's stream cipher, with a counter of 64 bits and a
-/// nonce of 64 bits.
+/// The keystream of the stream cipher ChaCha, with a 64-bit counter and a 64-bit nonce, after
+/// Daniel J. Bernstein, "ChaCha, a variant of Salsa20" (2008).
 ///
-/// A draw gives the block of the state as 64 bytes, each word least byte first, and adds 1 to the
-/// counter. After the block of the greatest counter, 2^64 - 1, the counter is 0, under the same key
-/// and nonce. It is a plain generator: each request begins a new block.
+/// A draw returns the block of the state as 64 bytes, each 32-bit word least byte first, and adds 1
+/// to the counter. After the block of the greatest counter, 2^64 - 1, the counter is 0 again, under
+/// the same key and nonce. It is a plain generator: each request starts a new block.
 ///
-/// `ROUNDS` is even, as a fact of the type.
+/// It is for long reproducible streams whose blocks can be reached by index. The cipher is fast and
+/// long-studied, and its stream is believed unpredictable while the key is secret. It is not a
+/// vetted cryptographic generator: nothing here takes a seed from the system, reseeds on its own or
+/// erases keys from memory, and nothing was audited. Where an adversary matters, take one that is
+/// vetted. For encryption, never use a pair of key and nonce twice. `ChaCha8` and `ChaCha12` have
+/// fewer rounds than the standard's 20.
+///
+/// `ROUNDS` is even, as an invariant of the type.
 #[derive(Drop)]
 pub struct ChaCha<const ROUNDS: u8> {
     state: [u32; 16],
 }
 
-// A generator is the sixteen words of its state.
+// The view is the state, sixteen 32-bit words.
 impl<const ROUNDS: u8> Model for ChaCha<ROUNDS> {
     ghost Value = { List ℕ };
 
@@ -53,7 +60,7 @@ impl<const ROUNDS: u8> Model for ChaCha<ROUNDS> {
 }
 
 impl<const ROUNDS: u8> ChaCha<ROUNDS> {
-    /// The generator of a key and a nonce, at the counter 0. `ROUNDS` is even.
+    /// A generator with this key and nonce and the counter 0. Precondition: `ROUNDS` is even.
     pub fn new_key(key: [u8; 32], nonce: [u8; 8]) -> Self
         requires { ROUNDS % 2 ≡ 0 }
         ensures state { result ≡ initial_state key nonce }
@@ -64,9 +71,11 @@ impl<const ROUNDS: u8> ChaCha<ROUNDS> {
         }
     }
 
-    /// The generator of the reader's next 40 bytes, at the counter 0: the first 32 are the key and
-    /// the other 8 the nonce. After an error there is no generator, and the place of the reader is
-    /// open. `ROUNDS` is even.
+    /// A generator made of the reader's next 40 bytes, with the counter 0: the first 32 are the key
+    /// and the other 8 the nonce. Precondition: `ROUNDS` is even.
+    ///
+    /// It returns `Short` or `Fault` as `entropy::system` does. The position of the reader is then
+    /// unspecified.
     pub fn new<R: Read>(source: &mut R) -> Result<Self, EntropyError>
         requires { ROUNDS % 2 ≡ 0 }
         ensures made { let old = R.remaining source.old in
@@ -81,8 +90,8 @@ impl<const ROUNDS: u8> ChaCha<ROUNDS> {
         Ok(ChaCha::new_key(key, nonce))
     }
 
-    /// The counter: the number of the next block under this key and nonce. What is seen of a
-    /// generator is always sixteen words.
+    /// The counter: the index of the next block under this key and nonce. The modelled state is
+    /// always sixteen 32-bit words.
     #[inline]
     pub fn counter(&self) -> u64
         ensures value { result ≡ counter self.now }
@@ -91,7 +100,6 @@ impl<const ROUNDS: u8> ChaCha<ROUNDS> {
         counter(&self.words())
     }
 
-    // The sixteen words.
     #[inline]
     fn words(&self) -> [u32; 16]
         ensures { result ≡ self.now }
@@ -99,7 +107,7 @@ impl<const ROUNDS: u8> ChaCha<ROUNDS> {
         self.state
     }
 
-    /// Leaves what n draws leave, by one sum: a state comes again after 2^64 draws and no sooner.
+    /// Advances by n draws, with one addition. The period of the states is exactly 2^64.
     #[inline]
     pub fn jump(&mut self, n: u64)
         ensures state { self.new ≡ chacha_after n self.old }
@@ -109,7 +117,7 @@ impl<const ROUNDS: u8> ChaCha<ROUNDS> {
         set_counter(&mut self.state, counter);
     }
 
-    // The next four blocks, as a request of 256 bytes.
+    // The next four blocks, as one request of 256 bytes.
     fn fill_group(&mut self, out: &mut [u8])
         requires { length out.old ≡ 256 }
         ensures bytes { out.new ≡ taken (chacha_block ROUNDS) next_state self.old 256 }
@@ -124,7 +132,7 @@ impl<const ROUNDS: u8> ChaCha<ROUNDS> {
     }
 }
 
-/// An equal generator. It takes no memory, so it is never refused.
+/// An equal generator. Nothing is allocated, so it never fails.
 impl<const ROUNDS: u8> Clone for ChaCha<ROUNDS> {
     ghost is_clone = { λ g c. c ≡ g };
 
@@ -177,7 +185,7 @@ impl<const ROUNDS: u8> Blocks<64> for ChaCha<ROUNDS> {
 impl<const ROUNDS: u8> Rng<64> for ChaCha<ROUNDS> {
     ghost requests = { chacha_requests ROUNDS };
 
-    /// Whole groups of 256 bytes are worked four blocks side by side.
+    /// Computes whole groups of 256 bytes four blocks side by side.
     fn fill_bytes(&mut self, buffer: &mut [u8]) {
         let mut filled = 0;
         'groups: while 256 <= buffer.len() - filled {
@@ -197,7 +205,7 @@ impl<const ROUNDS: u8> Rng<64> for ChaCha<ROUNDS> {
 impl<const ROUNDS: u8> SeedableRng<40, 64> for ChaCha<ROUNDS> {
     ghost seeded = { λ _ seed. seeded_state seed };
 
-    /// The first 32 bytes of the seed are the key and the last 8 the nonce. The counter is 0.
+    /// The first 32 bytes of the seed become the key and the last 8 the nonce. The counter is 0.
     fn reseed(&mut self, seed: [u8; 40])
         ensures { self.new ≡ seeded_state seed }
     {
@@ -206,7 +214,6 @@ impl<const ROUNDS: u8> SeedableRng<40, 64> for ChaCha<ROUNDS> {
     }
 }
 
-// The key and the nonce of a seed.
 #[inline]
 fn split_seed(seed: &[u8; 40]) -> ([u8; 32], [u8; 8])
     ensures key { result.0 ≡ take 32 seed.now }
@@ -219,7 +226,7 @@ fn split_seed(seed: &[u8; 40]) -> ([u8; 32], [u8; 8])
     (key, nonce)
 }
 
-// The words as bytes, least byte first.
+// The words as bytes, each least byte first.
 #[inline]
 fn bytes_of(words: &[u32; 16]) -> [u8; 64]
     ensures { result ≡ bytes words.now }

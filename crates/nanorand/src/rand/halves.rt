@@ -1,8 +1,7 @@
-// Words of 64 bits from numbers of 128.
+// 64-bit words from 128-bit numbers.
 ghost use Rattle.std.specs.Prelude.{◌≡◌};
 ghost use Rattle.nanorand.specs.generators.Halves.{folded};
 
-// The high half xored with the low half.
 #[inline]
 pub(crate) fn folded(wide: u128) -> u64
     ensures { result ≡ folded wide }

@@ -1,11 +1,11 @@
-// Numbers of 128 bits in hexadecimal.
+// 128-bit numbers in hexadecimal.
 ghost use Rattle.std.specs.Prelude.{Some};
 ghost use Rattle.nanorand.specs.generators.DebugTexts.{hexadecimal};
 
 use std::fmt;
 
-// A number that is shown by its lower-case digits. It is written by halves: of a whole number of 128
-// bits std's contract does not say what `{:x}` writes.
+// A number whose text is its lower-case hexadecimal digits. It is written in two halves because
+// std's contract does not say what `{:x}` writes for a 128-bit integer.
 #[derive(Drop)]
 pub(crate) struct Hexadecimal(pub(crate) u128);
 

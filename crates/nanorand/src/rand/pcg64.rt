@@ -1,4 +1,4 @@
-//! Pcg64: 128 bits of seed, and a word of 64 bits a draw.
+//! Pcg64: a 128-bit seed, and a 64-bit word per draw.
 ghost use Rattle.std.specs.Prelude.{◌≡◌, length, ◌⊎◌, ⊤, refl, Some, IfOk, IfErr, codes, ℕ, ◌<◌, ◌^◌, ◌↔◌, IsTrue, IsSome, IfSome};
 ghost use Rattle.std.proofs.Common.{rules};
 ghost use Rattle.nanorand.specs.generators.Entropy.{HasFewer, IsMadeOf};
@@ -19,24 +19,27 @@ const MULTIPLIER: u128 = 47026247687942121848144207491837523525;
 
 const SQUARE: u128 = u128::wrapping_mul(MULTIPLIER, MULTIPLIER);
 
-// What one draw multiplies the seed by: three squares, two multipliers and 2.
+// A draw takes the seed s to FACTOR * s + TERM, modulo 2^128.
 const FACTOR: u128 = u128::wrapping_add(
     u128::wrapping_mul(3, SQUARE),
     u128::wrapping_add(u128::wrapping_mul(2, MULTIPLIER), 2),
 );
 
-// What one draw then adds: a square, a multiplier and 1.
 const TERM: u128 = u128::wrapping_add(u128::wrapping_add(SQUARE, MULTIPLIER), 1);
 
-/// The generator Pcg64 of the Rust crate, after Melissa O'Neill's PCG family.
+/// The generator Pcg64 of the Rust crate `nanorand` 0.7.0, after Melissa E. O'Neill, "PCG: A Family
+/// of Simple Fast Space-Efficient Statistically Good Algorithms for Random Number Generation"
+/// (2014).
 ///
-/// A draw multiplies the seed by a constant and adds another, modulo 2^128; the word is the high
-/// half of the new seed xored with its low half. The block is the word's eight bytes, least first.
-/// It is a plain generator: each request begins a new block.
+/// Not cryptographically secure: its state can be recovered from its outputs.
 ///
-/// `state` and `inc` tell of the last draw: after it `state` is the new seed, and `inc` is twice
-/// the old seed and one more, modulo 2^128. No draw reads them. As in the Rust crate, each draw
-/// starts anew from the seed and rotates nothing, so other programs of the family differ.
+/// A draw multiplies the seed by a constant and adds another, modulo 2^128. The word is the high
+/// half of the new seed xor its low half. The block is the word's eight bytes, least byte first. It
+/// is a plain generator: each request starts a new block.
+///
+/// `state` and `inc` describe the last draw: after it, `state` is the new seed, and `inc` is twice
+/// the old seed plus 1, modulo 2^128. No draw reads them. As in the Rust crate, each draw starts
+/// over from the seed and rotates nothing, so other programs of the PCG family give other streams.
 #[derive(Drop)]
 pub struct Pcg64 {
     seed: u128,
@@ -44,7 +47,7 @@ pub struct Pcg64 {
     inc: u128,
 }
 
-// A generator is its three numbers.
+// The view is the three numbers.
 impl Model for Pcg64 {
     ghost use Rattle.nanorand.specs.generators.Pcg64.{Generator};
 
@@ -66,8 +69,11 @@ impl Pcg64 {
         }
     }
 
-    /// A generator whose seed is the number of the reader's next 16 bytes, least byte first; `state`
-    /// and `inc` are 0. After an error there is no generator, and the place of the reader is open.
+    /// A generator whose seed is the reader's next 16 bytes, least byte first. `state` and `inc`
+    /// are 0.
+    ///
+    /// It returns `Short` or `Fault` as `entropy::system` does. The position of the reader is then
+    /// unspecified.
     pub fn new<R: Read>(source: &mut R) -> Result<Self, EntropyError>
         ensures made { let old = R.remaining source.old in
             IfOk result (IsMadeOf 16 seeded_generator old (R.remaining source.new)) }
@@ -79,7 +85,7 @@ impl Pcg64 {
         Ok(Pcg64::new_seed(u128::from_le_bytes(seed)))
     }
 
-    /// The seed, which alone decides the blocks that come.
+    /// The seed, which alone determines the coming blocks.
     #[inline]
     pub fn seed(&self) -> u128
         ensures { result ≡ self.now.seed }
@@ -87,8 +93,9 @@ impl Pcg64 {
         self.seed
     }
 
-    /// Leaves exactly what n draws leave, `state` and `inc` too, in at most 128 turns: a seed comes
-    /// again after 2^126 draws and no sooner. `jump(0)` changes nothing.
+    /// Advances by n draws, `state` and `inc` included, in at most 128 steps and one draw, after
+    /// Forrest Brown, "Random Number Generation with Arbitrary Strides" (1994). `jump(0)` changes
+    /// nothing. The period of the seeds is exactly 2^126.
     pub fn jump(&mut self, n: u128)
         ensures { self.new ≡ pcg64_after n self.old }
     {
@@ -98,10 +105,11 @@ impl Pcg64 {
         }
     }
 
-    /// How many draws, below 2^126, lead from this seed to the other's. None exactly where none do:
-    /// the seeds are in one cycle if they are equal modulo 8, or their sum is 7 modulo 8.
+    /// The number of draws below 2^126 that leads from this seed to the other's, or `None` exactly
+    /// if no number of draws does. Two seeds are in the same cycle exactly if they are equal modulo
+    /// 8 or their sum is 7 modulo 8.
     ///
-    /// It takes no memory and at most 126 turns. `state` and `inc` play no part.
+    /// It allocates nothing and takes at most 126 steps. `state` and `inc` do not matter.
     pub fn distance(&self, other: &Pcg64) -> Option<u128>
         ensures reached { IsSome result ↔ SameCycle self.now.seed other.now.seed }
         ensures below { IfSome result (λ n. n < 2 ^ 126) }
@@ -117,7 +125,7 @@ impl Pcg64 {
     }
 }
 
-/// An equal generator. It takes no memory, so it is never refused.
+/// An equal generator. Nothing is allocated, so it never fails.
 impl Clone for Pcg64 {
     ghost is_clone = { λ g c. c ≡ g };
 
@@ -150,7 +158,7 @@ impl fmt::Debug for Pcg64 {
 impl fmt::Display for Pcg64 {
     ghost output = { λ _. Some (codes "Pcg64") };
 
-    // A width, a fill or another option changes nothing.
+    // Width, fill and other format options change nothing.
     ghost styled_output = { λ _ _. Some (codes "Pcg64") };
 
     fn fmt<W: fmt::Write>(&self, f: &mut fmt::Formatter<W>) -> fmt::Result {
@@ -196,8 +204,8 @@ impl Rng<8> for Pcg64 {
 impl SeedableRng<16, 8> for Pcg64 {
     ghost seeded = { reseeded };
 
-    /// The seed is the number of the bytes, least byte first. `state` and `inc` keep their values
-    /// until the next draw.
+    /// The bytes are the new seed, least byte first. `state` and `inc` keep their values until the
+    /// next draw.
     #[inline]
     fn reseed(&mut self, seed: [u8; 16])
         ensures { self.new ≡ reseeded self.old seed }
@@ -206,8 +214,8 @@ impl SeedableRng<16, 8> for Pcg64 {
     }
 }
 
-// The seed after so many draws. `factor` and `term` make 1, 2, 4, .. draws at once, and a turn takes
-// the lowest bit of the draws that are left.
+// The seed after `draws` draws. `factor` and `term` make 1, 2, 4, .. draws at once, and each step
+// takes the lowest bit of the draws that are left.
 fn seed_after(start: u128, draws: u128) -> u128
     ensures { result ≡ seed_after draws start }
 {
@@ -226,7 +234,6 @@ fn seed_after(start: u128, draws: u128) -> u128
     seed
 }
 
-// Whether draws lead from one seed to the other.
 #[inline]
 fn in_one_cycle(start: u128, end: u128) -> bool
     ensures { IsTrue result ↔ SameCycle start end }
@@ -234,9 +241,10 @@ fn in_one_cycle(start: u128, end: u128) -> bool
     start % 8 == end % 8 || start % 8 + end % 8 == 7
 }
 
-// How many draws lead from the start to the end, bit by bit from the lowest. Where the bits below
-// `bit` are decided, the end is a multiple of 2^(bit + 2) from the seed (for bit 0, it is 0 or an odd
-// number modulo 8), and the next bit is set exactly if it is an odd multiple.
+// How many draws lead from `start` to `end`, found bit by bit from the lowest. Invariant, once the
+// bits below `bit` are decided: `end - seed` is a multiple of 2^(bit + 2), and this bit is set
+// exactly if it is an odd multiple. For bit 0, `end - seed` is 0 or odd modulo 8, and the bit is
+// set exactly if it is odd.
 fn draws_between(start: u128, end: u128) -> u128
     requires { SameCycle start end }
     ensures below { result < 2 ^ 126 }

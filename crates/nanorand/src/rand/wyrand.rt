@@ -1,4 +1,4 @@
-//! Wyrand: 64 bits of seed, and a word of 64 bits a draw.
+//! WyRand: a 64-bit seed, and a 64-bit word per draw.
 ghost use Rattle.std.specs.Prelude.{◌≡◌, length, ◌⊎◌, ⊤, refl, Some, IfOk, IfErr, codes, ℕ, ◌<◌, ◌^◌};
 ghost use Rattle.std.proofs.Common.{rules};
 ghost use Rattle.nanorand.specs.generators.Entropy.{HasFewer, IsMadeOf};
@@ -15,27 +15,27 @@ use std::fmt;
 use std::io::Read;
 use std::marker::Model;
 
-// What one draw adds to the seed.
 const INCREMENT: u64 = 0xa076_1d64_78bd_642f;
 
-// Its inverse: their product is 1 modulo 2^64.
+// The inverse of INCREMENT: their product is 1 modulo 2^64.
 const INVERSE: u64 = 0x939c_72e4_af1e_62cf;
 
-// What the seed is xored with before the product.
 const MASK: u64 = 0xe703_7ed1_a0b4_28db;
 
-/// The generator wyrand, after Wang Yi's `wyrand`.
+/// The generator wyrand of Wang Yi's wyhash (2019).
 ///
-/// A draw adds a constant to the seed, modulo 2^64, and mixes the new seed into a word by one
-/// product of 128 bits. The block is the word's eight bytes, least first. It is a plain generator:
-/// each request begins a new block.
+/// Not cryptographically secure: its state can be recovered from its outputs.
+///
+/// A draw adds a constant to the seed, modulo 2^64, and multiplies the new seed s by (s xor another
+/// constant). The word is the high half of this 128-bit product xor its low half. The block is the
+/// word's eight bytes, least byte first. It is a plain generator: each request starts a new block.
 #[derive(Drop)]
 #[repr(C)]
 pub struct WyRand {
     seed: u64,
 }
 
-// A generator is its seed.
+// The view is the seed.
 impl Model for WyRand {
     ghost use Rattle.std.specs.Prelude.{ℕ};
 
@@ -55,8 +55,10 @@ impl WyRand {
         WyRand { seed }
     }
 
-    /// A generator whose seed is the number of the reader's next 8 bytes, least byte first. After an
-    /// error there is no generator, and the place of the reader is open.
+    /// A generator whose seed is the reader's next 8 bytes, least byte first.
+    ///
+    /// It returns `Short` or `Fault` as `entropy::system` does. The position of the reader is then
+    /// unspecified.
     pub fn new<R: Read>(source: &mut R) -> Result<Self, EntropyError>
         ensures made { let old = R.remaining source.old in
             IfOk result (IsMadeOf 8 number_of old (R.remaining source.new)) }
@@ -76,7 +78,7 @@ impl WyRand {
         self.seed
     }
 
-    /// Leaves what n draws leave, by one product: a seed comes again after 2^64 draws and no sooner.
+    /// Advances by n draws, with one multiplication. The period of the seeds is exactly 2^64.
     #[inline]
     pub fn jump(&mut self, n: u64)
         ensures state { self.new ≡ wyrand_after n self.old }
@@ -85,7 +87,8 @@ impl WyRand {
         self.seed = self.seed.wrapping_add(n.wrapping_mul(INCREMENT));
     }
 
-    /// How many draws, below 2^64, lead from this seed to the other's: one number does.
+    /// The number of draws below 2^64 that leads from this seed to the other's. There is exactly
+    /// one.
     #[inline]
     pub fn distance(&self, other: &WyRand) -> u64
         ensures leads { seed_after result self.now ≡ other.now }
@@ -95,7 +98,7 @@ impl WyRand {
     }
 }
 
-/// An equal generator. It takes no memory, so it is never refused.
+/// An equal generator. Nothing is allocated, so it never fails.
 impl Clone for WyRand {
     ghost is_clone = { λ g c. c ≡ g };
 
@@ -118,7 +121,7 @@ impl fmt::Debug for WyRand {
 impl fmt::Display for WyRand {
     ghost output = { λ _. Some (codes "WyRand") };
 
-    // A width, a fill or another option changes nothing.
+    // Width, fill and other format options change nothing.
     ghost styled_output = { λ _ _. Some (codes "WyRand") };
 
     fn fmt<W: fmt::Write>(&self, f: &mut fmt::Formatter<W>) -> fmt::Result {
@@ -162,7 +165,7 @@ impl Rng<8> for WyRand {
 impl SeedableRng<8, 8> for WyRand {
     ghost seeded = { λ _ bytes. number_of bytes };
 
-    /// The seed is the number of the bytes, least byte first.
+    /// The bytes are the new seed, least byte first.
     #[inline]
     fn reseed(&mut self, seed: [u8; 8])
         ensures { self.new ≡ number_of seed }
@@ -171,7 +174,7 @@ impl SeedableRng<8, 8> for WyRand {
     }
 }
 
-// The word of a new seed: both halves of a product of 128 bits, xored.
+// The word of the seed that a draw leaves.
 #[inline]
 fn word(seed: u64) -> u64
     ensures { result ≡ word seed }

@@ -16,24 +16,25 @@ use crate::values::word::draw_below;
 use std::ops::Bound;
 use thiserror::Error;
 
-/// Why a range gave no number.
+/// Why a ranged draw returned no number.
 #[derive(Clone, Copy, Debug, PartialEq, Eq, Error)]
 pub enum RangeError {
     /// The range has no number. Nothing was drawn.
     #[error("the range contains no number")]
     Empty,
-    /// 128 words were drawn, and none named a number of the range.
+    /// 128 words were drawn, and none named a number of the range. They stay drawn.
     #[error("128 words in a row were rejected")]
     Exhausted,
 }
 
-/// A type of which a generator draws a value between two bounds.
+/// A type whose values can be drawn from between two bounds.
 ///
-/// A range of the whole-number types holds the numbers that both bounds admit. Words of the type's
-/// width are drawn, each by one request, until one names a number; each number of the range has
-/// equally many words. A type of a user says for itself what its bounds mean and when it refuses.
+/// A range of an integer type holds the numbers that both bounds admit. Words of the type's width
+/// are drawn, each by one request, until one names a number, at most 128; each number of the range
+/// is named by equally many words. A user's type defines what its bounds mean and when a draw
+/// fails.
 pub trait RandomRange<G: Rng<OUTPUT>, const OUTPUT: usize>: RandomGen<G, OUTPUT> {
-    // What a state gives between two bounds, and the state after it.
+    // The result of a draw between two bounds, and the state after it.
     ghost outcome: { G → Bound Self → Bound Self → Result Self RangeError × G };
 
     /// Draws a value between the bounds.
@@ -42,11 +43,11 @@ pub trait RandomRange<G: Rng<OUTPUT>, const OUTPUT: usize>: RandomGen<G, OUTPUT>
         ensures state { rng.new ≡ (outcome rng.old low high).1 };
 }
 
-/// Draws a number that both bounds admit, each of them by equally many words.
+/// Draws a number that both bounds admit; each is named by equally many words.
 ///
-/// It draws at most 128 words of the type's bits, each by one request, and the first that names a
-/// number decides. `Empty` comes where no number is admitted, and then nothing was drawn.
-/// `Exhausted` comes where each of 128 words was rejected; they stay drawn.
+/// It draws at most 128 words of the type's width, each by one request, and the first word that
+/// names a number decides. It returns `Empty` if no number is admitted, and draws nothing then. It
+/// returns `Exhausted` if 128 words in a row were rejected; they stay drawn.
 pub fn draw_number<T: Number, G: Rng<OUTPUT>, const OUTPUT: usize>(
     rng: &mut G,
     low: Bound<T>,
@@ -78,7 +79,7 @@ pub fn draw_number<T: Number, G: Rng<OUTPUT>, const OUTPUT: usize>(
     }
 }
 
-// The first place whose number the low bound admits, or the place after the last.
+// The least rank whose number the low bound admits, or 2^BITS if there is none.
 fn first_place<T: Number>(low: Bound<T>) -> u128
     ensures admits { (k : ℕ) → is_above T.le T.lt low (T.number k) ≡ nat_le result k }
     ensures within { result ≤ 2 ^ T.BITS }
@@ -90,7 +91,7 @@ fn first_place<T: Number>(low: Bound<T>) -> u128
     }
 }
 
-// The place after the last whose number the high bound admits.
+// The rank after the greatest whose number the high bound admits, or 0 if there is none.
 fn end_place<T: Number>(high: Bound<T>) -> u128
     ensures admits { (k : ℕ) → k < 2 ^ T.BITS
         → is_below T.le T.lt high (T.number k) ≡ nat_lt k result }

@@ -1,4 +1,4 @@
-//! The unsigned numbers: one request of their bytes, least byte first.
+//! The unsigned types: one request of their bytes, read least byte first.
 ghost use Rattle.nanorand.specs.values.Values.{number_of};
 
 use super::{RandomGen, next_bytes};

@@ -1,18 +1,19 @@
-//! Words, and the numbers that they name.
+//! Random words of 8, 16, 32 or 64 bits, and the numbers that they name.
 ghost use Rattle.std.specs.Prelude.{◌≡◌, ℕ, ◌^◌, ◌<◌, ◌≤◌, MatchOption, IfSome, IfNone};
 ghost use Rattle.nanorand.specs.values.Runs.{IsWordWidth, Names, named, rejected};
 ghost use Rattle.nanorand.specs.values.Draws.{word_limit, next_word, after_word, after_words, drawn_below};
 
 use crate::rand::Rng;
 
-// How many words are drawn for one number at most.
+// The most words that are drawn for one number.
 const MAX_WORDS: usize = 128;
 
-/// The number below `size` that a word of `bits` bits names, if it names one, after Daniel Lemire.
+/// The number below `size` that a word of `bits` bits names, or `None` if the word is rejected.
 ///
-/// `bits` is 8, 16, 32 or 64, `size` is from 1 to 2^bits, and `word` is below 2^bits. Each number
-/// has a run of 2^bits / size consecutive words, the numbers upwards; the 2^bits % size words
-/// in no run name nothing.
+/// Preconditions: `bits` is 8, 16, 32 or 64, `size` is from 1 to 2^bits, and `word` is below
+/// 2^bits. The method is that of Daniel Lemire, "Fast Random Integer Generation in an Interval"
+/// (2019): each number has a run of floor(2^bits / size) consecutive words, in the order of the
+/// numbers, and the 2^bits % size words outside all runs are rejected.
 pub fn pick_word(size: u128, bits: u32, word: u64) -> Option<u64>
     requires width { IsWordWidth bits }
     requires some { 1 ≤ size }
@@ -28,8 +29,8 @@ pub fn pick_word(size: u128, bits: u32, word: u64) -> Option<u64>
     pick_below(size as u64, bits, word)
 }
 
-// As `pick_word`, for a size of 64 bits. Fewer words than `size` are rejected, so that a low part
-// of `size` or more is kept without a remainder.
+// As `pick_word`, for a size that fits in 64 bits. Fewer than `size` words are rejected, so a low
+// part of at least `size` is accepted without computing how many.
 fn pick_below(size: u64, bits: u32, word: u64) -> Option<u64>
     requires width { IsWordWidth bits }
     requires some { 1 ≤ size }
@@ -46,8 +47,8 @@ fn pick_below(size: u64, bits: u32, word: u64) -> Option<u64>
     }
 }
 
-// How many words name nothing. From half of the words on, no division is needed. Few words ask
-// for it, so it stands outside of the loops that draw.
+// How many words are rejected. If `size` is more than half of all words, this needs no division.
+// Few words need the count, so it is kept out of line, outside the loops that draw.
 #[cold]
 #[inline(never)]
 fn rejected(size: u64, bits: u32) -> u64
@@ -65,11 +66,11 @@ fn rejected(size: u64, bits: u32) -> u64
     }
 }
 
-/// Draws a number below `size`, each by equally many words of `bits` bits.
+/// Draws a number below `size`; each is named by equally many words of `bits` bits.
 ///
-/// `bits` is 8, 16, 32 or 64, and `size` is from 1 to 2^bits. Each word is one request, and the
-/// first of at most 128 that names a number decides. None comes after 128 words that name none;
-/// they stay drawn.
+/// Preconditions: `bits` is 8, 16, 32 or 64, and `size` is from 1 to 2^bits. Each word is one
+/// request, and the first word that names a number, as `pick_word` says, decides. It returns `None`
+/// if 128 words in a row were rejected; they stay drawn.
 pub fn draw_below<G: Rng<OUTPUT>, const OUTPUT: usize>(
     rng: &mut G,
     size: u128,
@@ -97,7 +98,7 @@ pub fn draw_below<G: Rng<OUTPUT>, const OUTPUT: usize>(
     None
 }
 
-// The next word, by one request.
+// The next word of `bits` bits, by one request.
 fn draw_word<G: Rng<OUTPUT>, const OUTPUT: usize>(rng: &mut G, bits: u32) -> u64
     requires width { IsWordWidth bits }
     ensures value { result ≡ next_word G.requests bits rng.old }

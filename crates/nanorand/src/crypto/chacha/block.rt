@@ -4,9 +4,10 @@ ghost use Rattle.nanorand.specs.generators.ChaChaRounds.{rounds, block};
 
 use super::lanes::{add, matrix_of, mix, rows_of};
 
-/// The rounds alone, without the final addition of the input.
+/// The matrix after the rounds alone, without the final addition of the input.
 ///
-/// `ROUNDS` is even: half of the rounds work on the columns and half on the diagonals, by turns.
+/// Precondition: `ROUNDS` is even. A double round is one round on the columns and then one on the
+/// diagonals.
 pub fn chacha_rounds<const ROUNDS: u8>(input: [u32; 16]) -> [u32; 16]
     requires { ROUNDS % 2 ≡ 0 }
     ensures { result ≡ rounds ROUNDS input }
@@ -14,9 +15,9 @@ pub fn chacha_rounds<const ROUNDS: u8>(input: [u32; 16]) -> [u32; 16]
     matrix_of(mix::<ROUNDS>(rows_of(&input)))
 }
 
-/// The block: the rounds, and then the input added word by word, modulo 2^32.
+/// The block: the matrix after the rounds plus the input, word by word, modulo 2^32.
 ///
-/// `ROUNDS` is even. No rounds give twice the input.
+/// Precondition: `ROUNDS` is even. With 0 rounds the block is the input plus itself.
 pub fn chacha_block<const ROUNDS: u8>(input: [u32; 16]) -> [u32; 16]
     requires { ROUNDS % 2 ≡ 0 }
     ensures { result ≡ block ROUNDS input }

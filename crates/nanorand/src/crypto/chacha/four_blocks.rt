@@ -1,4 +1,4 @@
-//! Four blocks side by side: sixteen vectors, one for each word, with a lane for each block.
+//! Four blocks side by side: sixteen vectors, one for each word, with one lane for each block.
 ghost use Rattle.std.specs.Prelude.{◌≡◌, ℕ, ◌%◌, ◌^◌, ◌<◌, ◌/◌, map, slice_index};
 ghost use Rattle.std.specs.Fn.{iterate};
 ghost use Rattle.std.specs.List.{range_with_len};
@@ -10,10 +10,9 @@ use super::lanes::{add, quarter_round};
 use super::state::counter;
 use std::simd::u32x4;
 
-// The words of four matrices.
+// Vector k has word k of four matrices, and lane j of all vectors is matrix j.
 type Lanes = [u32x4; 16];
 
-// The low half of a counter.
 #[inline(always)]
 fn low(n: u64) -> u32
     ensures { result ≡ n % 2 ^ 32 }
@@ -21,7 +20,6 @@ fn low(n: u64) -> u32
     (n & 0xffff_ffff) as u32
 }
 
-// The high half of a counter.
 #[inline(always)]
 fn high(n: u64) -> u32
     ensures { result ≡ n / 2 ^ 32 }
@@ -29,7 +27,7 @@ fn high(n: u64) -> u32
     (n >> 32) as u32
 }
 
-// A state and the three after it. The counter may go past the greatest inside the group.
+// A state and the three after it. The counter may wrap within the four.
 #[inline(always)]
 fn four_states(x: &[u32; 16]) -> Lanes
     ensures { (j : ℕ) → j < 4 → lane j result ≡ chacha_after j x.now }
@@ -58,7 +56,6 @@ fn four_states(x: &[u32; 16]) -> Lanes
     ]
 }
 
-// The quarter round of each column.
 #[inline(always)]
 fn mix_columns(x: Lanes) -> Lanes
     ensures { (j : ℕ) → j < 4 → lane j result ≡ on_columns quarter_round (lane j x) }
@@ -72,7 +69,6 @@ fn mix_columns(x: Lanes) -> Lanes
     ]
 }
 
-// The quarter round of each diagonal.
 #[inline(always)]
 fn mix_diagonals(x: Lanes) -> Lanes
     ensures { (j : ℕ) → j < 4 → lane j result ≡ on_diagonals quarter_round (lane j x) }
@@ -86,7 +82,6 @@ fn mix_diagonals(x: Lanes) -> Lanes
     ]
 }
 
-// The rounds of each matrix.
 #[inline(always)]
 fn mix<const ROUNDS: u8>(x: Lanes) -> Lanes
     requires { ROUNDS % 2 ≡ 0 }
@@ -99,7 +94,6 @@ fn mix<const ROUNDS: u8>(x: Lanes) -> Lanes
     mixed
 }
 
-// The matrix of each lane.
 #[inline(always)]
 fn matrices(x: Lanes) -> ([u32; 16], [u32; 16], [u32; 16], [u32; 16])
     ensures { (result.0 ≡ lane 0 x) × (result.1 ≡ lane 1 x) × (result.2 ≡ lane 2 x)
@@ -137,7 +131,6 @@ fn matrices(x: Lanes) -> ([u32; 16], [u32; 16], [u32; 16], [u32; 16])
     )
 }
 
-// The words of two matrices, added.
 #[inline(always)]
 fn sums(x: Lanes, y: Lanes) -> Lanes
     ensures { (j : ℕ) → j < 4 →

@@ -1,12 +1,12 @@
-//! The rounds undone, in place, word by word.
+//! The inverse of the rounds, computed in place.
 ghost use Rattle.std.specs.Prelude.{◌≡◌, ℕ, ◌%◌, ◌<◌, List};
 ghost use Rattle.nanorand.specs.generators.ChaChaRounds.{quarter_round, on_columns, on_diagonals, rounds, IsMatrix};
 ghost use Rattle.nanorand.specs.support.ChaChaInverse.{unquarter_round};
 ghost use Rattle.nanorand.specs.support.ChaChaLines.{with_line};
 
-/// The inverse of `chacha_rounds`: of all matrices the one that the rounds turn into `output`.
+/// The inverse of `chacha_rounds`: the only matrix that the rounds turn into `output`.
 ///
-/// `ROUNDS` is even.
+/// Precondition: `ROUNDS` is even.
 pub fn chacha_unrounds<const ROUNDS: u8>(output: [u32; 16]) -> [u32; 16]
     requires { ROUNDS % 2 ≡ 0 }
     ensures undone { rounds ROUNDS result ≡ output }
@@ -15,7 +15,7 @@ pub fn chacha_unrounds<const ROUNDS: u8>(output: [u32; 16]) -> [u32; 16]
     unmix::<ROUNDS>(output)
 }
 
-// Undoes the pairs of rounds, from the last to the first.
+// Undoes the double rounds, the last one first.
 #[inline(always)]
 fn unmix<const ROUNDS: u8>(output: [u32; 16]) -> [u32; 16]
     requires { ROUNDS % 2 ≡ 0 }
@@ -29,7 +29,6 @@ fn unmix<const ROUNDS: u8>(output: [u32; 16]) -> [u32; 16]
     x
 }
 
-// Undoes the quarter round of each column.
 #[inline(always)]
 fn unmix_columns(x: &mut [u32; 16])
     ensures { on_columns quarter_round x.new ≡ x.old }
@@ -40,7 +39,6 @@ fn unmix_columns(x: &mut [u32; 16])
     unmix_line(x, 3, 7, 11, 15);
 }
 
-// Undoes the quarter round of each diagonal.
 #[inline(always)]
 fn unmix_diagonals(x: &mut [u32; 16])
     ensures { on_diagonals quarter_round x.new ≡ x.old }
@@ -51,7 +49,7 @@ fn unmix_diagonals(x: &mut [u32; 16])
     unmix_line(x, 3, 4, 9, 14);
 }
 
-// Undoes the quarter round of the words on a line of the matrix, in place.
+// Undoes the quarter round of one column or one diagonal.
 #[inline(always)]
 fn unmix_line(x: &mut [u32; 16], a: usize, b: usize, c: usize, d: usize)
     requires { (a < 16) × (b < 16) × (c < 16) × (d < 16) }
@@ -64,7 +62,7 @@ fn unmix_line(x: &mut [u32; 16], a: usize, b: usize, c: usize, d: usize)
     x[d] = s;
 }
 
-// Undoes the quarter round of four words, from its last step to its first.
+// The steps of the quarter round undone, the last one first.
 #[inline(always)]
 fn unquarter_round(a: u32, b: u32, c: u32, d: u32) -> (u32, u32, u32, u32)
     ensures { result ≡ unquarter_round (a, b, c, d) }

@@ -1,14 +1,12 @@
-//! Rounds on four vectors of four lanes, one vector for each row of the matrix.
+//! The rounds on four vectors of four lanes, one vector for each row of the matrix.
 ghost use Rattle.std.specs.Prelude.{◌≡◌, ℕ, ◌+◌, ◌%◌, ◌<◌, slice_index};
 ghost use Rattle.nanorand.specs.generators.ChaChaRounds.{add, xor_rotate, quarter_round, on_columns, on_diagonals, rounds};
 ghost use Rattle.nanorand.specs.support.ChaChaRows.{matrix};
 
 use std::simd::u32x4;
 
-// The four rows of a matrix.
 pub(crate) type Rows = [u32x4; 4];
 
-// The rounds of a matrix.
 #[inline(always)]
 pub(crate) fn mix<const ROUNDS: u8>(rows: Rows) -> Rows
     requires { ROUNDS % 2 ≡ 0 }
@@ -21,7 +19,7 @@ pub(crate) fn mix<const ROUNDS: u8>(rows: Rows) -> Rows
     mixed
 }
 
-// The quarter round of each column, all four at once.
+// One lane is one column, so this does all four columns at once.
 #[inline(always)]
 fn mix_columns(rows: Rows) -> Rows
     ensures { matrix result ≡ on_columns quarter_round (matrix rows) }
@@ -31,8 +29,7 @@ fn mix_columns(rows: Rows) -> Rows
     [a, b, c, d]
 }
 
-// The quarter round of each diagonal: row r is rotated by r lanes, so that each diagonal stands in
-// one column, and afterwards rotated back.
+// Rotates row r by r lanes, so that each diagonal becomes a column, and afterwards rotates it back.
 #[inline(always)]
 fn mix_diagonals(rows: Rows) -> Rows
     ensures { matrix result ≡ on_diagonals quarter_round (matrix rows) }
@@ -45,7 +42,6 @@ fn mix_diagonals(rows: Rows) -> Rows
     [a, b, c, d]
 }
 
-// The quarter round of the four words in each lane.
 #[inline(always)]
 pub(crate) fn quarter_round(a: u32x4, b: u32x4, c: u32x4, d: u32x4) -> (u32x4, u32x4, u32x4, u32x4)
     ensures { (j : ℕ) → j < 4
@@ -64,7 +60,7 @@ pub(crate) fn quarter_round(a: u32x4, b: u32x4, c: u32x4, d: u32x4) -> (u32x4, u
     (a2, b2, c2, d2)
 }
 
-// The sum in each lane. It wraps.
+// `+` of vectors wraps in each lane.
 #[inline(always)]
 pub(crate) fn add(a: u32x4, b: u32x4) -> u32x4
     ensures { (j : ℕ) → j < 4 → slice_index result j ≡ add (slice_index a j) (slice_index b j) }
@@ -72,7 +68,7 @@ pub(crate) fn add(a: u32x4, b: u32x4) -> u32x4
     a + b
 }
 
-// Each lane of `d` xored with that of `a`, and then rotated left by `n` bits.
+// Each lane of `d` xor that of `a`, rotated left by `n` bits.
 #[inline(always)]
 fn xor_rotate(d: u32x4, a: u32x4, n: u32) -> u32x4
     requires { (0 < n) × (n < 32) }
@@ -83,7 +79,7 @@ fn xor_rotate(d: u32x4, a: u32x4, n: u32) -> u32x4
     (x << u32x4::splat(n)) | (x >> u32x4::splat(32 - n))
 }
 
-// The lanes from lane `n` on, and then those before it.
+// The row rotated so that lane `n` comes first.
 #[inline(always)]
 fn from_lane(n: usize, row: u32x4) -> u32x4
     requires { n < 4 }
@@ -98,7 +94,6 @@ fn from_lane(n: usize, row: u32x4) -> u32x4
     ])
 }
 
-// The rows of a matrix.
 #[inline(always)]
 pub(crate) fn rows_of(x: &[u32; 16]) -> Rows
     ensures { matrix result ≡ x.now }
@@ -111,7 +106,6 @@ pub(crate) fn rows_of(x: &[u32; 16]) -> Rows
     ]
 }
 
-// The matrix of four rows.
 #[inline(always)]
 pub(crate) fn matrix_of(rows: Rows) -> [u32; 16]
     ensures { result ≡ matrix rows }

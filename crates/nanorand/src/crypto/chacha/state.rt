@@ -1,13 +1,13 @@
-//! The state: its start and its counter.
+//! The initial state, and the counter in a state.
 ghost use Rattle.std.specs.Prelude.{◌≡◌, ◌+◌, ◌^◌, ◌<◌, ◌≤◌, ◌↔◌, length, drop, IsTrue};
 ghost use Rattle.std.specs.Bool.{OnTrue, OnFalse};
 ghost use Rattle.std.specs.Int.{w32, from_le_bytes};
 ghost use Rattle.nanorand.specs.generators.ChaCha.{initial_state, counter, with_counter};
 
-/// The state of a key and a nonce, at the counter 0.
+/// The state of a key and a nonce, with the counter 0.
 ///
-/// Words 0 to 3 are the bytes of `expand 32-byte k`, 4 to 11 the key, 12 and 13 the counter, 14 and
-/// 15 the nonce, each least byte first.
+/// Words 0 to 3 are the ASCII text `expand 32-byte k`, words 4 to 11 the key, 12 and 13 the
+/// counter, 14 and 15 the nonce. Four bytes make a word, least byte first.
 pub fn chacha_init(key: [u8; 32], nonce: [u8; 8]) -> [u32; 16]
     ensures { result ≡ initial_state key nonce }
 {
@@ -31,7 +31,6 @@ pub fn chacha_init(key: [u8; 32], nonce: [u8; 8]) -> [u32; 16]
     ]
 }
 
-// The word of four bytes, least first.
 #[inline]
 fn read_word(bytes: &[u8], at: usize) -> u32
     requires { at + 4 ≤ length bytes.now }
@@ -40,9 +39,10 @@ fn read_word(bytes: &[u8], at: usize) -> u32
     u32::from_le_bytes([bytes[at], bytes[at + 1], bytes[at + 2], bytes[at + 3]])
 }
 
-/// Adds 1 to the counter, whose low half is word 12 and high half word 13, and answers true.
+/// Adds 1 to the counter, whose low half is word 12 and whose high half is word 13, and returns
+/// true.
 ///
-/// At the greatest counter, 2^64 - 1, it answers false and changes nothing.
+/// At the greatest counter, 2^64 - 1, it returns false and changes nothing.
 #[inline]
 pub fn chacha_increment_counter(state: &mut [u32; 16]) -> bool
     ensures more { IsTrue result ↔ (counter state.old + 1 < 2 ^ 64) }
@@ -58,7 +58,6 @@ pub fn chacha_increment_counter(state: &mut [u32; 16]) -> bool
     }
 }
 
-// The counter of a state.
 #[inline]
 pub(crate) fn counter(state: &[u32; 16]) -> u64
     ensures { result ≡ counter state.now }
@@ -66,7 +65,6 @@ pub(crate) fn counter(state: &[u32; 16]) -> u64
     u64::from(state[12]) | u64::from(state[13]) << 32
 }
 
-// Writes the counter into a state.
 #[inline]
 pub(crate) fn set_counter(state: &mut [u32; 16], counter: u64)
     ensures { state.new ≡ with_counter state.old counter }

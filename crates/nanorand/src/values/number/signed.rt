@@ -1,4 +1,4 @@
-//! The signed numbers: place 0 has the least, -2^(BITS - 1).
+//! The signed types: rank 0 is the least number, -2^(BITS - 1).
 ghost use Rattle.std.specs.Prelude.{int_le, int_lt};
 ghost use Rattle.nanorand.specs.values.Range.{signed_number};
 ghost use Rattle.nanorand.specs.support.NumberOrderLemmas.{width_8, width_16, width_32, width_64, int_le-signed, int_lt-signed};

@@ -1,4 +1,4 @@
-//! The unsigned numbers: each stands at the place of its own value.
+//! The unsigned types: the rank of a number is the number itself.
 ghost use Rattle.std.specs.Prelude.{nat_le, nat_lt, refl};
 ghost use Rattle.nanorand.specs.values.Range.{unsigned_number};
 ghost use Rattle.nanorand.specs.support.NumberOrderLemmas.{width_8, width_16, width_32, width_64};

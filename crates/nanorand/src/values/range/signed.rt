@@ -1,4 +1,4 @@
-//! Ranges of the signed numbers.
+//! Ranges of the signed types.
 ghost use Rattle.std.specs.Prelude.{◌≡◌};
 ghost use Rattle.nanorand.specs.values.Draws.{signed_outcome};
 

@@ -1,4 +1,4 @@
-//! Ranges of the unsigned numbers.
+//! Ranges of the unsigned types.
 ghost use Rattle.std.specs.Prelude.{◌≡◌};
 ghost use Rattle.nanorand.specs.values.Draws.{unsigned_outcome};
 
