@@ -1,4 +1,5 @@
--- Decks of cards, and the hands that are dealt from them. The full deck of n cards is `rising n`: 0, 1, .., n - 1.
+-- Decks of cards, and the hands that are dealt from them. The full deck of n cards is `rising n`:
+-- 0, 1, .., n - 1.
 use Rattle.std.specs.Prelude.{◌≡◌, ℕ, zero, suc, ◌*◌, ◌<◌, List, [], ◌++◌, length, slice_index, take, drop}
 
 -- No card is at two indices of a deck.

@@ -14,8 +14,8 @@ after_draws step draws g = iterate step draws g
 abbrev pub word_of_draw : {G : Type 0} → (G → List ℕ) → (G → G) → G → ℕ → ℕ
 word_of_draw block step g n = number_of (taken block step (after_draws step n g) 8)
 
--- Parts of `share` draws that together stay within the period do not meet: if draw j of worker i
--- and draw l of worker k look equal through `seen`, they are the same draw of the same worker.
+-- Parts of `share` draws that together stay within the period do not meet: if `seen` gives the same
+-- for draw j of worker i and draw l of worker k, they are the same draw of the same worker.
 abbrev pub PartsAreApart : {S : Type 0} → ℕ → (ℕ → S) → Type 0
 PartsAreApart period seen =
     (workers share i j k l : ℕ) → workers * share ≤ period → i < workers → k < workers → j < share → l < share

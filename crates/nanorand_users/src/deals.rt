@@ -23,7 +23,7 @@ pub fn write_deck(deck: &mut [usize])
 
 /// Writes the full deck in order, and shuffles it.
 ///
-/// Returns `Exhausted` if 128 words in a row were rejected for one card. The deck is then still a
+/// Returns `Exhausted` if all 128 words for one card were rejected. The deck is then still a
 /// permutation of all cards, shuffled up to that card.
 pub fn shuffle_deck<G: Rng<OUTPUT>, const OUTPUT: usize>(
     rng: &mut G,

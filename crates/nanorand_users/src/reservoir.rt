@@ -15,9 +15,9 @@ use std::ops::Bound;
 
 /// Samples `chosen.len()` of the indices below `count`, without repetition, in one pass over them.
 ///
-/// The sample starts with the first indices. For each later index i, draw j in `0..=i`: if j is a
-/// slot of the sample, i goes there. A refusal can only be `Exhausted`. It ends the pass, and the
-/// sample is then one of the indices before the refused one.
+/// The sample starts with the first indices. For each later index i, draw j in `0..=i`: if the
+/// sample has a slot j, index i replaces what is in it. A refusal can only be `Exhausted`. It ends
+/// the pass, and the sample is then one of the indices before the refused one.
 pub fn sample_places<G: Rng<OUTPUT>, const OUTPUT: usize>(
     rng: &mut G,
     count: usize,

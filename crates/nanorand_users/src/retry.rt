@@ -1,6 +1,6 @@
-//! Retry delays: if all clients of a failed server retry at the same moment, they overload it
-//! again. So each client waits, up to twice as long after each failure, and draws a part of its
-//! delay.
+//! Retry delays: a server that comes back after a failure is overloaded if all its clients retry at
+//! the same moment. So each client waits before it retries. The ceiling of its wait doubles with
+//! each failure, and the wait is drawn between half the ceiling and the ceiling.
 //!
 //! This is exponential backoff with "equal" jitter: half of the ceiling is fixed, and the other
 //! half is drawn.

@@ -13,12 +13,12 @@ use Rattle.nanorand.specs.declared.values.range.RangeError.TheVariants.{Empty, E
 pub record KeepsLimits {G T : Type 0} (le lt : T → T → Bool) (bits : ℕ) (number : ℕ → T) (after : G → G) (low high : Bound T) (g : G) (outcome : Result T RangeError × G) : Type 0 where
   -- On success the number lies within both bounds.
   pub within : IfOk outcome.0 (λ x. (is_above le lt low x ≡ true) × (is_below le lt high x ≡ true))
-  -- At most 128 words were drawn.
+  -- The new state is the one after at most 128 words.
   pub words : (n : ℕ) × (n ≤ word_limit) × (outcome.1 ≡ iterate after n g)
   -- A range that contains a number can be refused only as `Exhausted`.
   pub some : (k : ℕ) → k < 2 ^ bits → is_above le lt low (number k) ≡ true → is_below le lt high (number k) ≡ true
       → IfErr outcome.0 (λ refusal. refusal ≡ Exhausted)
-  -- A draw refused as `Empty` drew nothing.
+  -- A draw refused as `Empty` leaves the state as it was.
   pub empty : outcome.0 ≡ Err Empty → outcome.1 ≡ g
-  -- A draw refused as `Exhausted` drew exactly 128 words.
+  -- A draw refused as `Exhausted` leaves the state after exactly 128 words.
   pub exhausted : outcome.0 ≡ Err Exhausted → outcome.1 ≡ iterate after word_limit g
