@@ -1,3 +1,4 @@
+-- Generators: their blocks and requests, what many draws leave, their periods and their texts.
 pub mod Blocks
 pub mod Buffered
 pub mod Halves

@@ -1,2 +1,3 @@
+-- Shuffles, and the permutations that their choices make.
 pub mod Shuffles
 pub mod Arrangements

@@ -1,3 +1,4 @@
+-- Values from bytes, ranges of numbers, bounded draws and their fairness.
 pub mod Values
 pub mod Runs
 pub mod Range

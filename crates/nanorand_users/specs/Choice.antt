@@ -1,5 +1,5 @@
--- Choices by weight: the numbers below the sum of the weights are shared out among the items, each having in turn as
--- many of them as its weight.
+-- Weighted choice: the numbers below the sum of the weights are divided into consecutive shares,
+-- one for each item, each as long as the item's weight.
 use Rattle.std.specs.Prelude.{◌≡◌, ℕ, suc, ◌+◌, ◌-◌, ◌*◌, ◌<◌, ◌≤◌, ◌^◌, ◌==◌, List, [], ◌∷◌, length, Option, Result, Ok, Err, sum, take, slice_index, nat_le, nat_lt, ok_or, is_ok, option_map, if◌then◌else◌}
 use Rattle.nanorand.specs.generators.Blocks.{Requests}
 use Rattle.nanorand.specs.values.Runs.{IsWordWidth, named, quota, words_that}
@@ -8,17 +8,18 @@ use Rattle.nanorand.specs.values.Fairness.{passes}
 use Rattle.nanorand_users.specs.declared.choice.ChoiceError.{ChoiceError}
 use Rattle.nanorand_users.specs.declared.choice.ChoiceError.TheVariants.{NoWeight, TooHeavy, Exhausted}
 
--- Number k stands in the share of item i: the weights before i do not reach beyond k, and with its own they do.
+-- Number k is in the share of item i: at least the sum of the weights before i, and below that sum
+-- with the weight of i.
 pub record IsInShare (weights : List ℕ) (k i : ℕ) : Type 0 where
   pub from : sum (take i weights) ≤ k
   pub before_end : k < sum (take i weights) + slice_index weights i
 
--- The item in whose share number k stands.
+-- The index of the item whose share contains number k.
 abbrev pub item_at : List ℕ → ℕ → ℕ
 item_at [] k = 0
 item_at (weight ∷ weights) k = if nat_lt k weight then 0 else suc (item_at weights (k - weight))
 
--- The sum of the weights, unless it is 0, or 2^64 or more.
+-- The sum of the weights, or why nothing can be drawn: the sum is 0, or 2^64 or more.
 abbrev pub total_of : List ℕ → Result ℕ ChoiceError
 total_of weights =
     if sum weights == 0 then Err NoWeight
@@ -26,29 +27,30 @@ total_of weights =
     else Ok (sum weights)
 
 module _ {G : Type 0} (requests : Requests G) where
-  -- The number below the sum of the weights that the next words decide, if they decide one.
+  -- The number below the sum of the weights that the next 128 words decide, if they decide one.
   abbrev pub number_for : List ℕ → G → Option ℕ
   number_for weights g = number_drawn (next_word requests 64) (after_word requests 64) word_limit 64 (sum weights) g
 
-  -- What a choice answers: the item in whose share that number stands.
+  -- The result of a choice: the item whose share contains that number, or the refusal.
   abbrev pub choice_answer : List ℕ → G → Result ℕ ChoiceError
   choice_answer weights g =
       if sum weights == 0 then Err NoWeight
       else if nat_le (2 ^ 64) (sum weights) then Err TooHeavy
       else ok_or (option_map (item_at weights) (number_for weights g)) Exhausted
 
-  -- The state that it leaves: after the deciding word, or after all 128. Where no number can be drawn, it stays.
+  -- The state that a choice leaves: after the deciding word, or after all 128. If the sum of the
+  -- weights is refused, nothing is drawn.
   abbrev pub choice_state : List ℕ → G → G
   choice_state weights g =
       if is_ok (total_of weights) then left_after (next_word requests 64) (after_word requests 64) word_limit 64 (sum weights) g
       else g
 
--- The item that a word of so many bits names, if it names one.
+-- The item that a word of `bits` bits names, if it names one.
 abbrev pub item_named : ℕ → List ℕ → ℕ → Option ℕ
 item_named bits weights word = option_map (item_at weights) (named bits (sum weights) word)
 
--- For every width of words, and all weights whose sum they can name: as many words name an item as its weight times
--- the words that one number has.
+-- For every word width and all weights whose sum is from 1 to 2^bits: an item is named by as many
+-- words as its weight times the words of one number.
 abbrev pub ChoicesAreFair : Type 0
 ChoicesAreFair =
     (bits : ℕ) (weights : List ℕ) (i : ℕ) → IsWordWidth bits → 1 ≤ sum weights → sum weights ≤ 2 ^ bits → i < length weights

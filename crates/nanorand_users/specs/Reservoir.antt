@@ -1,4 +1,5 @@
--- A sample of places that is kept while the places go by.
+-- Reservoir sampling, Waterman's algorithm R: a sample of indices, kept in slots while the indices
+-- go by.
 use Rattle.std.specs.Prelude.{◌≡◌, ℕ, zero, suc, ◌+◌, ◌-◌, ◌*◌, ◌<◌, ◌≤◌, ◌==◌, Bool, true, List, length, Result, Ok, Err, nat_lt, slice_set, sum_by, if◌then◌else◌}
 use Rattle.std.specs.List.{list_any, range_with_len}
 use Rattle.std.specs.declared.ops.Bound.TheVariants.{Included}
@@ -6,48 +7,49 @@ use Rattle.nanorand.specs.generators.Blocks.{Requests}
 use Rattle.nanorand.specs.values.Draws.{unsigned_outcome}
 use Rattle.nanorand.specs.declared.values.range.RangeError.{RangeError}
 
--- What a pass answers, the sample that it leaves, and the generator.
+-- The result of a pass, the sample that it leaves, and the state of the generator after it.
 pub record Sample (G : Type 0) : Type 0 where
   pub answer : Result (Unit {0}) RangeError
   pub chosen : List ℕ
   pub state : G
 
--- Place i goes where the draw says, if that is a place of the sample.
+-- Index i replaces the drawn slot, if the sample has such a slot.
 abbrev pub placed : List ℕ → ℕ → ℕ → List ℕ
 placed chosen i drawn = if nat_lt drawn (length chosen) then slice_set chosen drawn i else chosen
 
 module _ {G : Type 0} (requests : Requests G) where
-  -- A draw of the places from 0 to i, and the generator after it.
+  -- A draw of an index from 0 to i, and the state after it.
   unfoldable pub place_up_to : ℕ → G → Result ℕ RangeError × G
   place_up_to i g = unsigned_outcome requests 64 g (Included 0) (Included i)
 
-  -- The pass goes on from a draw, and a refusal ends it.
+  -- The pass continues after a draw, and ends at a refusal.
   abbrev pub goes_on : Result ℕ RangeError → List ℕ → G → (ℕ → Sample G) → Sample G
   goes_on (Ok drawn) chosen g pass = pass drawn
   goes_on (Err refusal) chosen g pass = record { answer = Err refusal; chosen = chosen; state = g }
 
-  -- What a pass over `left` more places, from place i on, makes of a sample.
+  -- A pass over `left` more indices, from i on, with this sample so far.
   abbrev pub passed : ℕ → ℕ → G → List ℕ → Sample G
   passed i zero g chosen = record { answer = Ok tt; chosen = chosen; state = g }
   passed i (suc left) g chosen =
       goes_on (place_up_to i g).0 chosen (place_up_to i g).1
       (λ drawn. passed (i + 1) left (place_up_to i g).1 (placed chosen i drawn))
 
-  -- A sample of `size` of the places below `count`: it begins with the first ones, and the others pass.
+  -- A sample of `size` of the indices below `count`: it starts with the first `size` indices, and
+  -- the others go by.
   abbrev pub sampled : ℕ → ℕ → G → Sample G
   sampled size count g = passed size (count - size) g (range_with_len 0 size)
 
--- Of all rows of draws, one for each of `left` places from place i on and each up to its place: how many lead from a
--- sample to one that passes a test.
+-- How many sequences of draws lead from a sample to one that passes a test. A sequence has one draw
+-- for each of `left` indices from i on, and the draw for an index is any number up to that index.
 abbrev pub rows_that : ℕ → ℕ → List ℕ → (List ℕ → Bool) → ℕ
 rows_that i zero chosen test = if test chosen then 1 else 0
 rows_that i (suc left) chosen test = sum_by (λ drawn. rows_that (i + 1) left (placed chosen i drawn) test) (range_with_len 0 (i + 1))
 
--- The same for the rows of a whole sample.
+-- How many sequences of draws make a whole sample that passes a test.
 abbrev pub samples_that : ℕ → ℕ → (List ℕ → Bool) → ℕ
 samples_that size count test = rows_that size (count - size) (range_with_len 0 size) test
 
--- Each place stands in the same part of all samples: `size` of `count`.
+-- Each index is in the same fraction of samples: `size` divided by `count`.
 abbrev pub SamplesAreFair : Type 0
 SamplesAreFair =
     (size count place : ℕ) → size ≤ count → place < count

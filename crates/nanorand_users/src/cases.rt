@@ -1,25 +1,26 @@
-//! A property is checked on many generated values: the first case that fails has to be found, named,
-//! and checked again alone.
+//! Property tests: a property is checked on many generated values, and the first failing case has
+//! to be found, named by its number, and checked again alone.
 //!
-//! The cases are numbered from 0. Each draws its value from a generator of its own, whose seed is the
-//! word of that number in the stream of the run's seed.
+//! Cases are numbered from 0. Case n draws its value from a generator of its own, whose seed is
+//! word n (counted from 0) of the `WyRand` stream of the run's seed.
 ghost use Rattle.std.specs.Prelude.{◌≡◌, ◌<◌, ℕ, Bool, true, false, MatchOption};
 ghost use Rattle.nanorand_users.specs.Cases.{case_seed};
 
 use nanorand::laws::wyrand_cycle;
 use nanorand::{RandomGen, Rng, WyRand};
 
-/// What should hold of every value of a type.
+/// A property that every value of a type should have.
 pub trait Property<T> {
-    // Whether it holds of a value.
+    // Whether the property holds of a value.
     ghost holds: { Self → T → Bool };
 
-    /// Checks it on a value.
+    /// Checks the property on a value.
     fn check(&self, value: &T) -> bool
         ensures { result ≡ holds self.now value.now };
 }
 
-/// The number of the first case, of so many, that fails. None if all of them hold.
+/// Returns the number of the first failing case among the cases below `cases`, or `None` if the
+/// property holds in all of them.
 pub fn first_failure<P: Property<T>, T: RandomGen<WyRand, 8> + Drop>(
     property: &P,
     seed: u64,
@@ -42,7 +43,7 @@ pub fn first_failure<P: Property<T>, T: RandomGen<WyRand, 8> + Drop>(
     None
 }
 
-/// The value of a case, by its number alone.
+/// Returns the value of a case, from the run's seed and the case's number alone.
 pub fn value_of_case<T: RandomGen<WyRand, 8>>(seed: u64, number: u64) -> T
     ensures { result ≡ T.value (case_seed seed number) }
 {
@@ -52,7 +53,7 @@ pub fn value_of_case<T: RandomGen<WyRand, 8>>(seed: u64, number: u64) -> T
     case.generate()
 }
 
-/// Checks a case again, alone.
+/// Checks one case again: returns whether the property holds of its value.
 pub fn check_again<P: Property<T>, T: RandomGen<WyRand, 8> + Drop>(
     property: &P,
     seed: u64,
@@ -63,7 +64,8 @@ pub fn check_again<P: Property<T>, T: RandomGen<WyRand, 8> + Drop>(
     property.check(&value_of_case(seed, number))
 }
 
-/// The first case that fails, by its number, with its value. Checked again it fails again.
+/// Returns the number and the value of the first failing case, or `None` if the property holds in
+/// all cases.
 pub fn failing_value<P: Property<T>, T: RandomGen<WyRand, 8> + Drop>(
     property: &P,
     seed: u64,
@@ -79,7 +81,8 @@ pub fn failing_value<P: Property<T>, T: RandomGen<WyRand, 8> + Drop>(
     Some((number, value_of_case(seed, number)))
 }
 
-/// Checks the first case that fails again, alone: it fails again. None if all of them hold.
+/// Finds the first failing case and checks it again: it fails again (`Some(false)`). `None` if the
+/// property holds in all cases.
 pub fn failure_again<P: Property<T>, T: RandomGen<WyRand, 8> + Drop>(
     property: &P,
     seed: u64,

@@ -1,5 +1,5 @@
-//! A load balancer sends each request to one of its servers, and a stronger server is to get more of
-//! them: an item is chosen by its weight, exactly and without floats.
+//! A load balancer: it sends each request to one of its servers, and a stronger server should get
+//! more requests. An item is chosen by its weight, exactly, without floating point.
 ghost use Rattle.std.specs.Prelude.{◌≡◌, ℕ, ◌^◌, ◌<◌, ◌≤◌, ◌↔◌, ◌⊎◌, length, slice_index, sum, Err, IfOk, IfSome};
 ghost use Rattle.nanorand.specs.values.Draws.{after_words};
 ghost use Rattle.nanorand_users.specs.declared.choice.ChoiceError.TheVariants.{NoWeight, TooHeavy, Exhausted};
@@ -12,7 +12,7 @@ use thiserror::Error;
 /// Why no item was chosen.
 #[derive(Clone, Copy, Debug, PartialEq, Eq, Error)]
 pub enum ChoiceError {
-    /// No item has a weight: there is none, or each weighs 0. Nothing was drawn.
+    /// There are no items, or all weights are 0. Nothing was drawn.
     #[error("no item has a weight")]
     NoWeight,
 
@@ -20,16 +20,16 @@ pub enum ChoiceError {
     #[error("the weights add up to 2^64 or more")]
     TooHeavy,
 
-    /// 128 words were drawn, and none named a number below the sum of the weights.
+    /// 128 words were drawn, and all of them were rejected.
     #[error("128 words in a row were rejected")]
     Exhausted,
 }
 
-/// Chooses an item by its weight, and answers its index.
+/// Chooses an item by its weight, and returns its index.
 ///
-/// A number below the sum of the weights is drawn by words of 64 bits, at most 128 of them. Each
-/// item in turn has as many of the numbers as its weight, so an item of weight 0 is never chosen.
-/// After `Exhausted` 128 words stay drawn; after the other refusals nothing was drawn.
+/// It draws a number below the sum of the weights, from words of 64 bits, at most 128 of them. Item
+/// i has `weights[i]` of these numbers, so an item of weight 0 is never chosen. After `Exhausted`
+/// exactly 128 words were drawn; after any other error, none.
 pub fn choose<G: Rng<OUTPUT>, const OUTPUT: usize>(
     rng: &mut G,
     weights: &[u64],
@@ -37,13 +37,13 @@ pub fn choose<G: Rng<OUTPUT>, const OUTPUT: usize>(
     ensures answer { result ≡ choice_answer G.requests weights.now rng.old }
     ensures state { rng.new ≡ choice_state G.requests weights.now rng.old }
 
-    // What is chosen.
+    // The chosen item.
     ensures share { let number = number_for G.requests weights.now rng.old in
         IfOk result (λ i. IfSome number (λ k. IsInShare weights.now k i)) }
     ensures within { IfOk result (λ i. i < length weights.now) }
     ensures weight { IfOk result (λ i. 0 < slice_index weights.now i) }
 
-    // What is refused.
+    // The refusals, and how many words are drawn.
     ensures no_weight { (result ≡ Err NoWeight) ↔ (sum weights.now ≡ 0) }
     ensures too_heavy { (result ≡ Err TooHeavy) ↔ (2 ^ 64 ≤ sum weights.now) }
     ensures undrawn { (result ≡ Err NoWeight) ⊎ (result ≡ Err TooHeavy) → rng.new ≡ rng.old }
@@ -71,7 +71,7 @@ fn total_weight(weights: &[u64]) -> Result<u64, ChoiceError>
     Ok(total)
 }
 
-// The item in whose share the number stands.
+// The item whose share contains the number.
 fn item_at(weights: &[u64], number: u64) -> usize
     requires { number < sum weights.now }
     ensures item { result ≡ item_at weights.now number }
@@ -88,8 +88,8 @@ fn item_at(weights: &[u64], number: u64) -> usize
     unreachable!()
 }
 
-/// No item has more than its share: for words of 8, 16, 32 and 64 bits, as many words name an item as
-/// its weight times the words that one number has.
+/// The law of this choice: among all words of 8, 16, 32 or 64 bits, exactly as many name an item as
+/// its weight times the number of words of one number.
 pub fn choice_is_fair()
     ensures { ChoicesAreFair }
 {

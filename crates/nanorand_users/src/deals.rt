@@ -1,7 +1,7 @@
-//! A deck is shuffled and dealt: no card may be lost, doubled or held by two players, and a deal has
-//! to be dealt again from what was stored of it.
+//! Card deals: no card may be lost, doubled or held by two players, and a stored deal can be dealt
+//! again.
 //!
-//! The cards of a deck of n are the numbers 0, 1, .., n - 1.
+//! The cards of a deck of n cards are the numbers 0, 1, .., n - 1.
 ghost use Rattle.std.specs.Prelude.{◌≡◌, ◌+◌, ◌*◌, ◌≤◌, ◌++◌, ℕ, List, length, drop, OnOk, IfErr};
 ghost use Rattle.nanorand.specs.shuffles.Arrangements.{rising, IsValid, IsArrangement, HoldsEachOnce};
 ghost use Rattle.nanorand.specs.shuffles.Shuffles.{arranged, from_itself, shuffle_answer, shuffle_choices, shuffle_state, shuffled};
@@ -21,10 +21,10 @@ pub fn write_deck(deck: &mut [usize])
     }
 }
 
-/// Writes the full deck, and shuffles it.
+/// Writes the full deck in order, and shuffles it.
 ///
-/// `Exhausted` comes where 128 words in a row were rejected for one card; the deck is a whole one then
-/// too, shuffled up to that card.
+/// Returns `Exhausted` if all 128 words for one card were rejected. The deck is then still a
+/// permutation of all cards, shuffled up to that card.
 pub fn shuffle_deck<G: Rng<OUTPUT>, const OUTPUT: usize>(
     rng: &mut G,
     deck: &mut [usize],
@@ -47,10 +47,10 @@ pub fn shuffle_deck<G: Rng<OUTPUT>, const OUTPUT: usize>(
     rng.shuffle(deck)
 }
 
-/// Writes the full deck, shuffles it, and stores it as choices: those that were drawn, if none was
-/// refused.
+/// Writes the full deck in order, shuffles it, and stores it as choices: on success, the choices
+/// that were drawn.
 ///
-/// After a refusal the stored choices make the deck as it is then.
+/// After a refusal the stored choices make the deck as the refusal left it.
 pub fn shuffle_and_store<G: Rng<OUTPUT>, const OUTPUT: usize>(
     rng: &mut G,
     deck: &mut [usize],
@@ -70,9 +70,9 @@ pub fn shuffle_and_store<G: Rng<OUTPUT>, const OUTPUT: usize>(
     shuffle_and_record(rng, deck, choices)
 }
 
-/// Stores a deck that holds each card once, however it was shuffled, as choices.
+/// Stores as choices a deck that holds each card once, however it was shuffled.
 ///
-/// `scratch` serves for a while, and what it holds at the end is open.
+/// `scratch` is working memory; its contents afterwards are unspecified.
 pub fn store_deck(deck: &[usize], choices: &mut [usize], scratch: &mut [usize])
     requires choices { length choices.old ≡ length deck.now }
     requires scratch { length scratch.old ≡ length deck.now }
@@ -81,11 +81,11 @@ pub fn store_deck(deck: &[usize], choices: &mut [usize], scratch: &mut [usize])
     ensures stored { arranged choices.new (rising (length deck.now)) ≡ deck.now }
 {
     permutations_by_counting();
-    // Such a deck is an arrangement, so this is never refused.
+    // Such a deck is a permutation, so this is never refused.
     let _ = choices_of(deck, choices, scratch);
 }
 
-/// Deals the deck that stored choices make.
+/// Deals a stored deck again: writes the deck that the choices make.
 pub fn deal_again(choices: &[usize], deck: &mut [usize])
     requires lengths { length choices.now ≡ length deck.old }
     requires valid { IsValid choices.now }
@@ -96,7 +96,8 @@ pub fn deal_again(choices: &[usize], deck: &mut [usize])
     apply_choices(choices, deck);
 }
 
-/// The hand of one player.
+/// Returns the hand of one player: `size` cards, after those of the players before. Players are
+/// counted from 0.
 pub fn hand(deck: &[usize], size: usize, player: usize) -> &[usize]
     requires { (player + 1) * size ≤ length deck.now }
     ensures cards { result.now ≡ hand_of size player deck.now }
@@ -105,7 +106,7 @@ pub fn hand(deck: &[usize], size: usize, player: usize) -> &[usize]
     &deck[player * size..][..size]
 }
 
-/// What is left behind the hands of so many players.
+/// Returns the cards left after the hands of all players.
 pub fn rest(deck: &[usize], size: usize, players: usize) -> &[usize]
     requires { players * size ≤ length deck.now }
     ensures { result.now ≡ drop (players * size) deck.now }
@@ -113,13 +114,13 @@ pub fn rest(deck: &[usize], size: usize, players: usize) -> &[usize]
     &deck[players * size..]
 }
 
-/// The hands and the rest, one after another, are the deck.
+/// The hands, one after another, and then the rest are the whole deck.
 pub fn hands_and_rest_are_the_deck()
     ensures { (size players : ℕ) (deck : List ℕ)
         → hands size players deck ++ drop (players * size) deck ≡ deck }
 {}
 
-/// No card is in two hands, nor twice in one, of a deck that holds none twice.
+/// In a deck that holds no card twice, no card is in two hands, and none is twice in one hand.
 pub fn hands_are_apart()
     ensures { (size players : ℕ) (deck : List ℕ) → players * size ≤ length deck
         → HoldsNoneTwice deck

@@ -1,7 +1,7 @@
-//! Programs of users, proved through nanorand's public contracts alone.
+//! Programs for typical users of `nanorand`, proved through its public contracts alone.
 //!
-//! No proof here cites a lemma of `nanorand`: only the clauses of its public functions, its laws and
-//! the definitions in its `specs/`.
+//! No proof here cites a lemma of `nanorand`, only the clauses of its public functions, its laws
+//! and the definitions in its `specs/`.
 #![tactic(auto)]
 
 pub mod cases;

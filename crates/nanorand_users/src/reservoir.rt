@@ -1,5 +1,8 @@
-//! A log has more lines than a report can show, and one pass over them has to do: a sample of so many
-//! places is kept while the places go by.
+//! A reservoir sample: a log has more lines than a report can show, and one pass over them has to
+//! do.
+//!
+//! This is Alan Waterman's algorithm R (Knuth, "The Art of Computer Programming", volume 2; Vitter,
+//! "Random Sampling with a Reservoir", 1985).
 ghost use Rattle.std.specs.Prelude.{◌≡◌, ◌≢◌, ℕ, ◌-◌, ◌*◌, ◌<◌, ◌≤◌, All, length, IfOk, IfErr};
 ghost use Rattle.std.specs.List.{AllPairs, range_with_len};
 ghost use Rattle.nanorand.specs.values.Draws.{after_words};
@@ -10,11 +13,11 @@ use nanorand::laws::range_limits;
 use nanorand::{RangeError, Rng};
 use std::ops::Bound;
 
-/// Samples as many of the places below `count` as `chosen` has, by one pass over them.
+/// Samples `chosen.len()` of the indices below `count`, without repetition, in one pass over them.
 ///
-/// The sample begins with the first places. Each later place is met by a draw from it and all places
-/// before it: if the draw is a place of the sample, the later place goes there. A refusal can only be
-/// `Exhausted`, and ends the pass; the sample is then one of the places that went by before it.
+/// The sample starts with the first indices. For each later index i, draw j in `0..=i`: if the
+/// sample has a slot j, index i replaces what is in it. A refusal can only be `Exhausted`. It ends
+/// the pass, and the sample is then one of the indices before the refused one.
 pub fn sample_places<G: Rng<OUTPUT>, const OUTPUT: usize>(
     rng: &mut G,
     count: usize,
@@ -25,7 +28,7 @@ pub fn sample_places<G: Rng<OUTPUT>, const OUTPUT: usize>(
     ensures places { chosen.new ≡ (sampled G.requests (length chosen.old) count rng.old).chosen }
     ensures state { rng.new ≡ (sampled G.requests (length chosen.old) count rng.old).state }
 
-    // What holds of the sample, after a refusal too.
+    // What holds of the sample, also after a refusal.
     ensures below { All (λ place. place < count) chosen.new }
     ensures apart { AllPairs (λ place other. place ≢ other) chosen.new }
     ensures refusal { IfErr result (λ refusal. refusal ≡ Exhausted) }
@@ -40,7 +43,7 @@ pub fn sample_places<G: Rng<OUTPUT>, const OUTPUT: usize>(
     Ok(())
 }
 
-// Writes 0, 1, ..
+// Writes the indices 0, 1, .., one into each slot.
 fn write_places(chosen: &mut [usize])
     ensures { chosen.new ≡ range_with_len 0 (length chosen.old) }
 {
@@ -49,7 +52,7 @@ fn write_places(chosen: &mut [usize])
     }
 }
 
-// Writes the place where the draw says, if that is a place of the sample.
+// Writes the index into the drawn slot, if the sample has such a slot.
 fn place_at(chosen: &mut [usize], drawn: usize, place: usize)
     ensures { chosen.new ≡ placed chosen.old place drawn }
 {
@@ -58,7 +61,7 @@ fn place_at(chosen: &mut [usize], drawn: usize, place: usize)
     }
 }
 
-// A place up to the last one.
+// Draws an index from `0..=last`.
 fn draw_place<G: Rng<OUTPUT>, const OUTPUT: usize>(
     rng: &mut G,
     last: usize,
@@ -73,11 +76,11 @@ fn draw_place<G: Rng<OUTPUT>, const OUTPUT: usize>(
     rng.generate_range(Bound::Included(0), Bound::Included(last))
 }
 
-/// No place is preferred: of all rows of draws, each place stands in the sample after the same part,
-/// which is the sample's size of the count.
+/// The law of this sample: each index is in the same fraction of samples, the sample's size divided
+/// by `count`.
 ///
-/// A row has a draw for each place after the first ones, and every number up to that place is drawn
-/// in as many rows. By `nanorand::laws::fairness` each of these numbers answers to equally many words.
+/// The samples are counted over all sequences of draws, a sequence having one draw from `0..=i` for
+/// each later index i. By `nanorand::laws::fairness` each number of `0..=i` has equally many words.
 pub fn sample_is_fair()
     ensures { SamplesAreFair }
 {}

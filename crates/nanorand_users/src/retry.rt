@@ -1,5 +1,9 @@
-//! A server that comes back after a failure is overrun if all its clients try again at one moment: each
-//! of them waits for a while, twice as long after each failure, and for a part that is drawn.
+//! Retry delays: a server that comes back after a failure is overloaded if all its clients retry at
+//! the same moment. So each client waits before it retries. The ceiling of its wait doubles with
+//! each failure, and the wait is drawn between half the ceiling and the ceiling.
+//!
+//! This is exponential backoff with "equal" jitter: half of the ceiling is fixed, and the other
+//! half is drawn.
 ghost use Rattle.std.specs.Prelude.{◌≡◌, ℕ, ◌*◌, ◌/◌, ◌≤◌, Err, EachIndex, length, slice_index, IfOk, IfErr};
 ghost use Rattle.std.specs.Result.{result_unwrap_or};
 ghost use Rattle.nanorand.specs.values.Draws.{after_words};
@@ -10,7 +14,7 @@ use nanorand::values::range::draw_number;
 use nanorand::{RangeError, Rng};
 use std::ops::Bound;
 
-/// A delay from half the ceiling to the ceiling. It can be refused as `Exhausted` alone, after 128
+/// Draws a delay from `ceiling / 2..=ceiling`. It can be refused only as `Exhausted`, after 128
 /// words.
 pub fn try_delay<G: Rng<OUTPUT>, const OUTPUT: usize>(
     rng: &mut G,
@@ -27,8 +31,8 @@ pub fn try_delay<G: Rng<OUTPUT>, const OUTPUT: usize>(
     draw_number(rng, Bound::Included(ceiling / 2), Bound::Included(ceiling))
 }
 
-/// A delay from half the ceiling to the ceiling, by at most 128 words. Where all of them are rejected
-/// it is the ceiling.
+/// Draws a delay from `ceiling / 2..=ceiling`, from at most 128 words. If all of them are rejected,
+/// the delay is the ceiling.
 pub fn delay<G: Rng<OUTPUT>, const OUTPUT: usize>(rng: &mut G, ceiling: u64) -> u64
     ensures value { result ≡ result_unwrap_or (delay_drawn G.requests ceiling rng.old).0 ceiling }
     ensures state { rng.new ≡ (delay_drawn G.requests ceiling rng.old).1 }
@@ -41,9 +45,10 @@ pub fn delay<G: Rng<OUTPUT>, const OUTPUT: usize>(rng: &mut G, ceiling: u64) -> 
     try_delay(rng, ceiling).unwrap_or(ceiling)
 }
 
-/// A delay for each try, by at most 128 words each.
+/// Draws a delay for each retry, from at most 128 words each.
 ///
-/// The first ceiling is `first`, each next one is twice the one before it, and none goes beyond `cap`.
+/// The first ceiling is `first`. Each next one is twice the one before, and none exceeds `cap`.
+/// Delays have the unit of `first` and `cap`.
 pub fn schedule<G: Rng<OUTPUT>, const OUTPUT: usize>(
     rng: &mut G,
     first: u64,

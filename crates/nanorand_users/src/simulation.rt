@@ -1,7 +1,7 @@
-//! A simulation has to be repeated exactly: from an equal generator, a copy or a seed, and also
-//! where it was stopped on the way and taken up again.
+//! Simulation replay: a run can be repeated exactly, from an equal generator, from a copy or from a
+//! seed, and it can be stopped and resumed.
 //!
-//! A simulation is a list of calls of a generator, with items that its shuffles move.
+//! A simulation is a list of calls of a generator, and the items that its shuffles permute.
 ghost use Rattle.std.specs.Prelude.{◌≡◌, ◌≤◌, length, OnOk, OnErr, IfOk, IsOk};
 ghost use Rattle.nanorand.specs.generators.WyRand.{wyrand_requests};
 ghost use Rattle.nanorand.specs.replay.Replay.{replayed};
@@ -11,8 +11,8 @@ use nanorand::replay::{Answer, Call, replay};
 use nanorand::{Rng, WyRand};
 use std::alloc::AllocError;
 
-/// Runs the calls on two equal generators, with equal items: answers, items and generators are equal
-/// at the end too.
+/// Runs the calls on two equal generators with equal items. The answers, the items and the
+/// generators are equal afterwards.
 pub fn replay_twice<G: Rng<OUTPUT>, const OUTPUT: usize>(
     first: &mut G,
     second: &mut G,
@@ -39,11 +39,11 @@ pub fn replay_twice<G: Rng<OUTPUT>, const OUTPUT: usize>(
     replay(second, calls, second_items, second_answers);
 }
 
-/// Runs the calls on the generator and on a copy that was taken before, which is given back as the
-/// run left it.
+/// Runs the calls on the generator and on a copy made before, and returns the copy as its run left
+/// it.
 ///
-/// A clone of the generator is an equal one, as of all the library's: another's need not be. It may be
-/// refused, as a generator of a user's own says; nothing was run then, and nothing has changed.
+/// That a clone equals its original is a precondition; it holds for the library's generators. If
+/// `clone` fails (a user's generator may allocate), nothing runs and nothing changes.
 pub fn replay_copy<G: Rng<OUTPUT> + Drop, const OUTPUT: usize>(
     rng: &mut G,
     calls: &[Call],
@@ -84,7 +84,7 @@ pub fn replay_copy<G: Rng<OUTPUT> + Drop, const OUTPUT: usize>(
     Ok(copy)
 }
 
-/// Runs the calls twice from one seed: what a seed gives once, it gives again.
+/// Runs the calls twice from one seed. Both runs give the same answers and items.
 pub fn replay_seed(
     seed: u64,
     calls: &[Call],
@@ -114,8 +114,9 @@ pub fn replay_seed(
     );
 }
 
-/// Runs the calls up to a place, stops, and takes up the rest from what was left. It gives what the
-/// whole run gives, wherever it stops.
+/// Runs the calls before index `place`, stops, and runs the rest from the state and the items that
+/// the first part left. Wherever it stops, the answers, the items and the generator are those of
+/// one whole run.
 pub fn replay_in_two<G: Rng<OUTPUT>, const OUTPUT: usize>(
     rng: &mut G,
     calls: &[Call],

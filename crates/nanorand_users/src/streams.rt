@@ -1,8 +1,8 @@
-//! Workers draw from one stream at once: each has to get a part of its own, and no two of them the
-//! same draws.
+//! Parallel streams: workers draw from one stream, each its own part, and no two of them the same
+//! draws.
 //!
-//! A stream is a generator, and its draws are numbered from 0. Worker number i takes `share` draws
-//! from number i * share on, and finds them by `skip`, without the draws of the others.
+//! A stream is a generator, and its draws are numbered from 0. Worker i takes `share` draws from
+//! draw number i * share on. It reaches them by `skip`, without making the draws of the others.
 ghost use Rattle.std.specs.Prelude.{◌≡◌, ◌+◌, ◌*◌, ◌^◌, ◌<◌, ℕ, List, length, slice_index, refl};
 ghost use Rattle.nanorand.specs.generators.ChaCha.{next_state};
 ghost use Rattle.nanorand.specs.generators.ChaChaRounds.{IsMatrix};
@@ -13,9 +13,9 @@ ghost use Rattle.nanorand_users.specs.Streams.{after_draws, word_of_draw, PartsA
 use nanorand::laws::{chacha_counter, pcg64_cycles, wyrand_cycle};
 use nanorand::{Blocks, ChaCha, Pcg64, Rng, WyRand};
 
-/// A generator that skips draws.
+/// A generator that can skip draws.
 pub trait Skip<const OUTPUT: usize>: Rng<OUTPUT> {
-    /// Leaves what so many draws leave.
+    /// Advances the generator by `draws` draws.
     fn skip(&mut self, draws: u128)
         ensures { self.new ≡ after_draws Self.step draws self.old };
 
@@ -46,7 +46,8 @@ impl Skip<8> for Pcg64 {
     ghost one_draw = { λ _. refl };
 }
 
-/// A word takes the first eight bytes of a block, and drops the others.
+/// Each word is a request of its own: it takes the first eight bytes of a block and drops the other
+/// 56.
 impl<const ROUNDS: u8> Skip<64> for ChaCha<ROUNDS> {
     fn skip(&mut self, draws: u128)
         ensures { self.new ≡ after_draws next_state draws self.old }
@@ -59,7 +60,7 @@ impl<const ROUNDS: u8> Skip<64> for ChaCha<ROUNDS> {
     ghost one_draw = { λ _. refl };
 }
 
-/// The generator of one worker: the stream behind the shares of the workers before it.
+/// Returns the generator of one worker: the stream after the shares of the workers before it.
 pub fn worker<G: Skip<OUTPUT>, const OUTPUT: usize>(stream: G, index: u64, share: u64) -> G
     ensures { result ≡ after_draws G.step (index * share) stream }
 {
@@ -68,7 +69,7 @@ pub fn worker<G: Skip<OUTPUT>, const OUTPUT: usize>(stream: G, index: u64, share
     worker
 }
 
-/// The part of one worker: as many words as the slice has, behind as many for each worker before it.
+/// Writes the part of one worker: `words.len()` words, after as many for each worker before it.
 pub fn part<G: Skip<OUTPUT> + Drop, const OUTPUT: usize>(stream: G, index: u64, words: &mut [u64])
     ensures { (j : ℕ) → j < length words.old
         → slice_index words.new j ≡ word_of_draw G.block G.step stream (index * length words.old + j) }
@@ -77,7 +78,7 @@ pub fn part<G: Skip<OUTPUT> + Drop, const OUTPUT: usize>(stream: G, index: u64, 
     own.fill(words);
 }
 
-/// Parts of a `WyRand` within 2^64 draws do not overlap: no seed comes twice.
+/// Parts of a `WyRand` stream within 2^64 draws do not overlap: no seed comes twice.
 pub fn wyrand_parts_are_apart()
     ensures { (seed : ℕ) → seed < 2 ^ 64
         → PartsAreApart (2 ^ 64) (λ n. after_draws next_seed n seed) }
@@ -85,8 +86,8 @@ pub fn wyrand_parts_are_apart()
     wyrand_cycle();
 }
 
-/// Parts of a `Pcg64` within 2^126 draws do not overlap: no seed comes twice, and the seed alone
-/// decides the blocks.
+/// Parts of a `Pcg64` stream within 2^126 draws do not overlap: no seed comes twice, and the seed
+/// alone decides the blocks.
 pub fn pcg64_parts_are_apart()
     ensures { (g : Generator) → g.seed < 2 ^ 128
         → PartsAreApart (2 ^ 126) (λ n. (after_draws next n g).seed) }
@@ -94,7 +95,7 @@ pub fn pcg64_parts_are_apart()
     pcg64_cycles();
 }
 
-/// Parts of a `ChaCha` within 2^64 draws do not overlap: no state comes twice.
+/// Parts of a `ChaCha` stream within 2^64 draws do not overlap: no state comes twice.
 pub fn chacha_parts_are_apart()
     ensures { (x : List ℕ) → IsMatrix x → PartsAreApart (2 ^ 64) (λ n. after_draws next_state n x) }
 {

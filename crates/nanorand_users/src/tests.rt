@@ -1,4 +1,4 @@
-//! Each program, run.
+//! Tests that run each program.
 
 mod cases;
 mod choice;

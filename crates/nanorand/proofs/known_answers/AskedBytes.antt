@@ -1,4 +1,4 @@
--- Worked rows of the bytes that lists of calls ask for.
+-- Known answers: how many bytes lists of calls ask for.
 use Rattle.std.proofs.Common.{◌≡◌, ℕ, ◌+◌, ◌-◌, ◌<◌, [], ◌∷◌, Ok, length, map, min, refl, ap, ◌∙◌, arith}
 use Rattle.std.specs.List.{range_with_len}
 use Rattle.std.specs.declared.ops.Bound.TheVariants.{Included, Excluded}
@@ -15,7 +15,8 @@ use Rattle.nanorand.proofs.known_answers.SmallGenerators.{steps, script}
 use Rattle.nanorand.proofs.lemmas.shuffles.PartnerLemmas.{numbers_between, partner_between}
 use Rattle.nanorand.proofs.known_answers.Replays.{four_calls, items_7_to_9, third_block_on}
 
--- a value asks for its size, a range for its words up to the deciding one, or for all 128, and an empty one for none
+-- a value asks for its size, a range for its words up to the deciding one or for all 128, and an
+-- empty range for nothing
 values_ask : asked steps 0 [] (Gen kinds.U8 ∷ Gen kinds.I128 ∷ Gen kinds.Bool ∷ []) ≡ 18
 values_ask = refl
 
@@ -31,7 +32,7 @@ nothing_asks : asked steps 0 [] (Range (spans.U8 (Included 5) (Excluded 5)) ∷ 
 unfolding named range_within words_from words_drawn taken
 nothing_asks = refl
 
--- a shuffle of three by rising bytes asks for a word of eight bytes a place
+-- a shuffle of three items by rising bytes asks for one word of eight bytes for each index
 word_asks : (g i : ℕ) → i < 3
     → asked_by_range steps 64 (unsigned_range 64 (Included i) (Excluded 3)) g
     ≡ asked_by_range steps 64 (map unsigned_number (range_with_len i (3 - i))) g
@@ -67,7 +68,7 @@ shuffle_asks =
     ∙ ap (λ drawn. 8 + (8 + asked_by_places steps from_itself 3 2 1 drawn.1)) after_second
     ∙ ap (λ n. 8 + (8 + (n + 0))) third_asks
 
--- a byte, a range decided by its first word, a shuffle of three and a truth
+-- a byte, a range decided by its first word, a shuffle of three items and a truth value
 four_calls_ask : asked steps 0 items_7_to_9 four_calls ≡ 27
 unfolding named range_within words_from words_drawn value_drawn left_by left_after taken
 four_calls_ask = ap (λ n. 1 + (1 + (n + (1 + 0)))) shuffle_asks

@@ -1,4 +1,4 @@
--- Worked rows, computed from the definitions alone.
+-- Known answers: blocks, requests and values, computed from the definitions alone.
 use Rattle.std.specs.Prelude.{◌≡◌, ℕ, List, [], ◌∷◌, refl}
 use Rattle.std.specs.Int.{w8}
 use Rattle.std.specs.Prelude.{negsuc, true, false}
@@ -13,7 +13,7 @@ use Rattle.nanorand.specs.declared.replay.Call.TheVariants.{Gen}
 use Rattle.nanorand.specs.declared.replay.Answer.TheVariants.{Unsigned}
 use Rattle.nanorand.proofs.known_answers.SmallGenerators.{next_count, rising_block, steps, steps_buffered}
 
--- wyrand's words: the new seed 0 and the new seed that the mask cancels give 0
+-- WyRand's words: the new seed 0, and the new seed equal to the xored constant, give 0
 word_of_zero : wyrand_block 0x5f89e29b87429bd1 ≡ 0 ∷ 0 ∷ 0 ∷ 0 ∷ 0 ∷ 0 ∷ 0 ∷ 0 ∷ []
 word_of_zero = refl
 
@@ -29,7 +29,7 @@ word_of_two = refl
 word_of_half : wyrand_block 0xdf89e29b87429bd1 ≡ 0x6d ∷ 0x14 ∷ 0x5a ∷ 0xd0 ∷ 0x68 ∷ 0xbf ∷ 0x81 ∷ 0xb3 ∷ []
 word_of_half = refl
 
--- a plain generator begins a new block at each request: u8, u8, u16
+-- a plain generator starts each request on a new block: u8, u8, u16
 two_bytes_and_a_word : (replayed steps 0 [] (Gen kinds.U8 ∷ Gen kinds.U8 ∷ Gen kinds.U16 ∷ [])).answers ≡ Unsigned 0 ∷ Unsigned 8 ∷ Unsigned 0x1110 ∷ []
 unfolding taken
 two_bytes_and_a_word = refl
@@ -41,7 +41,7 @@ one_wide_value = refl
 two_blocks_drawn : steps.after 0 16 ≡ 2
 two_blocks_drawn = refl
 
--- nine bytes take two blocks, and none takes none
+-- nine bytes take two blocks, and zero bytes take none
 nine_bytes : steps.bytes 0 9 ≡ 0 ∷ 1 ∷ 2 ∷ 3 ∷ 4 ∷ 5 ∷ 6 ∷ 7 ∷ 8 ∷ []
 unfolding taken
 nine_bytes = refl
@@ -52,7 +52,8 @@ blocks_of_nine_bytes = refl
 blocks_of_nothing : steps.after 0 0 ≡ 0
 blocks_of_nothing = refl
 
--- a buffered generator goes on where the last request ended: u8, u8, u16, and four bytes are left of the one block
+-- a buffered generator continues where the last request ended: u8, u8, u16, and four bytes of the
+-- one block stay buffered
 abbrev buffered_replay : List Call → Replay (Buffered ℕ)
 buffered_replay calls =
     replayed steps_buffered (buffer_of [] 0) [] calls
@@ -65,7 +66,7 @@ four_bytes_left : (buffered_replay (Gen kinds.U8 ∷ Gen kinds.U8 ∷ Gen kinds.
 unfolding taken buffered_taken buffered_after
 four_bytes_left = refl
 
--- numbers of bytes
+-- numbers and truth values from bytes
 signed_byte : signed_number_of w8 (218 ∷ []) ≡ negsuc 37
 signed_byte = refl
 

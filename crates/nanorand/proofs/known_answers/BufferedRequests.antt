@@ -1,4 +1,4 @@
--- Worked rows of requests and of what is kept of them, computed from the definitions alone.
+-- Known answers: requests and the bytes that stay buffered, computed from the definitions alone.
 use Rattle.std.specs.Prelude.{◌≡◌, ℕ, List, [], ◌∷◌, length, refl}
 use Rattle.std.specs.List.{range_with_len}
 use Rattle.nanorand.specs.generators.Blocks.{taken, plain_after}
@@ -16,7 +16,8 @@ kept_after size = buffered_after (rising_block size) next_count size
 abbrev bytes_and : ℕ → ℕ → ℕ → Buffered ℕ
 bytes_and from count drawn = buffer_of (range_with_len from count) drawn
 
--- three values of a byte each begin a block each, and three bytes of one request are of one block
+-- three values of one byte each start a block each, and three bytes of one request come from one
+-- block
 three_values : values_from (λ g. number_of (steps.bytes g 1)) (λ g. steps.after g 1) 3 0 ≡ 0 ∷ 8 ∷ 16 ∷ []
 unfolding taken
 three_values = refl
@@ -29,7 +30,8 @@ byte_after_nine : steps.bytes (steps.after 0 9) 1 ≡ 16 ∷ []
 unfolding taken
 byte_after_nine = refl
 
--- five values of a byte from any seed take one block and keep three bytes, and a whole block keeps none
+-- five bytes from any seed take one block and leave three bytes buffered, and a whole block leaves
+-- none
 three_kept : (seed : ℕ) → length (buffered_after wyrand_block next_seed 8 (buffer_of [] seed) 5).rest ≡ 3
 unfolding buffered_after
 three_kept seed = refl
@@ -42,7 +44,7 @@ none_kept : kept_after 8 (buffer_of [] 0) 8 ≡ buffer_of [] 1
 unfolding buffered_after
 none_kept = refl
 
--- four kept bytes come before the next block's
+-- four buffered bytes come before those of the next block
 wide_value_goes_on : number_of (kept_taken 8 (bytes_and 4 4 1) 8) ≡ 0x0b0a090807060504
 unfolding buffered_taken
 wide_value_goes_on = refl
@@ -51,7 +53,7 @@ four_kept_again : kept_after 8 (bytes_and 4 4 1) 8 ≡ bytes_and 12 4 2
 unfolding buffered_after
 four_kept_again = refl
 
--- a byte, then twenty, then a byte, and then none
+-- requests of one byte, of twenty, of one, and of none
 first_byte : kept_taken 8 (buffer_of [] 0) 1 ≡ 0 ∷ []
 unfolding buffered_taken
 first_byte = refl
@@ -80,7 +82,7 @@ nothing_asked : kept_after 8 (bytes_and 22 2 3) 0 ≡ bytes_and 22 2 3
 unfolding buffered_after
 nothing_asked = refl
 
--- a new seed comes into play behind the bytes that were kept
+-- a new seed takes effect after the bytes that are already buffered
 five_bytes : buffered_taken wyrand_block next_seed 8 (buffer_of [] 0x5f89e29b87429bd2) 5 ≡ 218 ∷ 40 ∷ 180 ∷ 160 ∷ 209 ∷ []
 unfolding buffered_taken
 five_bytes = refl
@@ -91,7 +93,7 @@ four_across_seeds : buffered_taken wyrand_block next_seed 8
 unfolding buffered_taken buffered_after
 four_across_seeds = refl
 
--- a buffer around a buffer that keeps seven bytes draws a block of it: eight of its bytes
+-- a buffer around a buffer with seven buffered bytes draws one block from it: eight bytes
 abbrev inner_block : Buffered ℕ → List ℕ
 inner_block = buffered_block (rising_block 8) next_count 8
 
@@ -106,7 +108,7 @@ seven_kept_twice : buffered_after inner_block inner_step 8 (buffer_of [] (bytes_
 unfolding buffered_taken buffered_after
 seven_kept_twice = refl
 
--- blocks of one byte, plain and kept
+-- blocks of one byte, plain and buffered
 two_blocks_of_one : number_of (taken (rising_block 1) next_count 0 2) ≡ 0x0100
 unfolding taken
 two_blocks_of_one = refl
@@ -119,7 +121,7 @@ none_kept_of_one : kept_after 1 (buffer_of [] 0) 2 ≡ buffer_of [] 2
 unfolding buffered_after
 none_kept_of_one = refl
 
--- blocks of 64 bytes, plain and kept
+-- blocks of 64 bytes, plain and buffered
 second_of_64 : taken (rising_block 64) next_count (plain_after next_count 64 0 1) 1 ≡ 64 ∷ []
 unfolding taken
 second_of_64 = refl

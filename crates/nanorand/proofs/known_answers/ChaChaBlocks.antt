@@ -1,4 +1,4 @@
--- Further vectors of ChaCha20, the later blocks of one, and blocks of few rounds.
+-- Known answers: more test vectors of ChaCha20, later blocks of one of them, and few rounds.
 use Rattle.std.specs.Prelude.{◌≡◌, ℕ, ◌++◌, List, [], ◌∷◌, codes, replicate, take, refl}
 use Rattle.std.specs.Fn.{iterate}
 use Rattle.std.specs.List.{range_with_len}
@@ -7,11 +7,11 @@ use Rattle.nanorand.specs.generators.ChaChaRounds.{quarter_round, on_columns, on
 use Rattle.nanorand.specs.support.ChaChaInverse.{unquarter_round}
 use Rattle.nanorand.specs.generators.ChaCha.{words, chacha_block, chacha_after, next_state, initial_state, seeded_state}
 
--- the four words of the constant
+-- the four 32-bit words of the constant
 constant_words : words (codes "expand 32-byte k") ≡ 0x61707865 ∷ 0x3320646e ∷ 0x79622d32 ∷ 0x6b206574 ∷ []
 constant_words = refl
 
--- a key of zeros and a one
+-- a key of 31 zeros and a one
 vector_2 : chacha_block 20 (initial_state (replicate 31 0 ++ 1 ∷ []) (replicate 8 0))
     ≡ 0x45 ∷ 0x40 ∷ 0xf0 ∷ 0x5a ∷ 0x9f ∷ 0x1f ∷ 0xb2 ∷ 0x96 ∷ 0xd7 ∷ 0x73 ∷ 0x6e ∷ 0x7b ∷ 0x20 ∷ 0x8e ∷ 0x3c ∷ 0x96
     ∷ 0xeb ∷ 0x4f ∷ 0xe1 ∷ 0x83 ∷ 0x46 ∷ 0x88 ∷ 0xd2 ∷ 0x60 ∷ 0x4f ∷ 0x45 ∷ 0x09 ∷ 0x52 ∷ 0xed ∷ 0x43 ∷ 0x2d ∷ 0x41
@@ -20,7 +20,7 @@ vector_2 : chacha_block 20 (initial_state (replicate 31 0 ++ 1 ∷ []) (replicat
 unfolding quarter_round on_columns on_diagonals rounds block initial_state
 vector_2 = refl
 
--- a nonce of zeros and a one, the first 60 bytes
+-- a nonce of seven zeros and a one, the first 60 bytes
 vector_3 : take 60 (chacha_block 20 (initial_state (replicate 32 0) (replicate 7 0 ++ 1 ∷ [])))
     ≡ 0xde ∷ 0x9c ∷ 0xba ∷ 0x7b ∷ 0xf3 ∷ 0xd6 ∷ 0x9e ∷ 0xf5 ∷ 0xe7 ∷ 0x86 ∷ 0xdc ∷ 0x63 ∷ 0x97 ∷ 0x3f ∷ 0x65 ∷ 0x3a
     ∷ 0x0b ∷ 0x49 ∷ 0xe0 ∷ 0x15 ∷ 0xad ∷ 0xbf ∷ 0xf7 ∷ 0x13 ∷ 0x4f ∷ 0xcb ∷ 0x7d ∷ 0xf1 ∷ 0x37 ∷ 0x82 ∷ 0x10 ∷ 0x31
@@ -29,7 +29,7 @@ vector_3 : take 60 (chacha_block 20 (initial_state (replicate 32 0) (replicate 7
 unfolding quarter_round on_columns on_diagonals rounds block initial_state
 vector_3 = refl
 
--- a nonce of a one and zeros
+-- a nonce of a one and seven zeros
 vector_4 : chacha_block 20 (initial_state (replicate 32 0) (1 ∷ replicate 7 0))
     ≡ 0xef ∷ 0x3f ∷ 0xdf ∷ 0xd6 ∷ 0xc6 ∷ 0x15 ∷ 0x78 ∷ 0xfb ∷ 0xf5 ∷ 0xcf ∷ 0x35 ∷ 0xbd ∷ 0x3d ∷ 0xd3 ∷ 0x3b ∷ 0x80
     ∷ 0x09 ∷ 0x63 ∷ 0x16 ∷ 0x34 ∷ 0xd2 ∷ 0x1e ∷ 0x42 ∷ 0xac ∷ 0x33 ∷ 0x96 ∷ 0x0b ∷ 0xd1 ∷ 0x38 ∷ 0xe5 ∷ 0x0d ∷ 0x32
@@ -38,7 +38,7 @@ vector_4 : chacha_block 20 (initial_state (replicate 32 0) (1 ∷ replicate 7 0)
 unfolding quarter_round on_columns on_diagonals rounds block initial_state
 vector_4 = refl
 
--- the key and the nonce in order: the blocks after the first
+-- the key 0, 1, .., 31 and the nonce 0, 1, .., 7: the blocks after the first
 abbrev in_order : List ℕ
 in_order = initial_state (range_with_len 0 32) (range_with_len 0 8)
 
@@ -66,7 +66,7 @@ vector_5_fourth : chacha_block 20 (chacha_after 3 in_order)
 unfolding quarter_round on_columns on_diagonals rounds block initial_state
 vector_5_fourth = refl
 
--- a request of 256 bytes gives the four blocks and leaves the state after them
+-- a request of 256 bytes takes four blocks and leaves the state after them
 four_blocks_taken : taken (chacha_block 20) next_state in_order 256
     ≡ chacha_block 20 (chacha_after 0 in_order) ++ chacha_block 20 (chacha_after 1 in_order) ++ chacha_block 20 (chacha_after 2 in_order) ++ chacha_block 20 (chacha_after 3 in_order)
 unfolding block initial_state taken
@@ -76,12 +76,12 @@ state_after_four : plain_after next_state 64 in_order 256 ≡ chacha_after 4 in_
 unfolding initial_state
 state_after_four = refl
 
--- the seed of 40 bytes is the key and then the nonce
+-- a 40-byte seed is the key and then the nonce
 seeded_in_order : seeded_state (range_with_len 0 32 ++ range_with_len 0 8) ≡ in_order
 unfolding initial_state
 seeded_in_order = refl
 
--- no rounds change nothing, and eight of zeros give zeros
+-- zero rounds change nothing, and eight rounds of a zero matrix give zeros
 no_rounds_at_all : (x : List ℕ) → rounds 0 x ≡ x
 unfolding rounds
 no_rounds_at_all x = refl
@@ -94,7 +94,7 @@ eight_rounds_of_zeros : block 8 (replicate 16 0) ≡ replicate 16 0
 unfolding quarter_round on_columns on_diagonals rounds block
 eight_rounds_of_zeros = refl
 
--- twenty rounds, undone pair by pair
+-- twenty rounds, undone by ten inverse double rounds
 twenty_rounds_undone : iterate (λ x. on_columns unquarter_round (on_diagonals unquarter_round x)) 10 (rounds 20 in_order) ≡ in_order
 unfolding quarter_round unquarter_round on_columns on_diagonals rounds initial_state
 twenty_rounds_undone = refl

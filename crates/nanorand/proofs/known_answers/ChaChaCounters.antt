@@ -1,4 +1,4 @@
--- Worked rows of ChaCha's counter: what jumps and draws leave of the zero key and nonce.
+-- Known answers: ChaCha's counter after jumps and draws, from the zero key and nonce.
 use Rattle.std.specs.Prelude.{◌≡◌, ℕ, ◌-◌, ◌^◌, List, [], ◌∷◌, ◌++◌, codes, drop, replicate, refl}
 use Rattle.std.proofs.Common.{ap}
 use Rattle.nanorand.specs.generators.Buffered.{buffer_of, buffered_taken, buffered_after}
@@ -15,7 +15,7 @@ first_state : of_zeros ≡ counting_from 0 0
 unfolding initial_state
 first_state = refl
 
--- a jump of 2^32 - 1, and one draw
+-- a jump of 2^32 - 1 draws, and then one draw
 into_the_high_half : next_state (chacha_after (2 ^ 32 - 1) of_zeros) ≡ counting_from 0 1
 unfolding initial_state
 into_the_high_half = refl
@@ -24,7 +24,7 @@ counter_in_the_high_half : counter (next_state (chacha_after (2 ^ 32 - 1) of_zer
 unfolding initial_state
 counter_in_the_high_half = refl
 
--- a jump of 2^64 - 1 stands at the greatest counter, and one draw later at the first state
+-- a jump of 2^64 - 1 draws reaches the greatest counter, and one more draw the first state
 at_the_greatest : chacha_after (2 ^ 64 - 1) of_zeros ≡ counting_from 0xffffffff 0xffffffff
 unfolding initial_state
 at_the_greatest = refl
@@ -37,11 +37,11 @@ counter_of_the_first : counter (next_state (chacha_after (2 ^ 64 - 1) of_zeros))
 unfolding initial_state
 counter_of_the_first = refl
 
--- so the second block is the first of the zero key and nonce
+-- so the block after that of the greatest counter is the first block of the zero key and nonce
 second_is_the_first : chacha_block 20 (next_state (chacha_after (2 ^ 64 - 1) of_zeros)) ≡ chacha_block 20 of_zeros
 second_is_the_first = ap (chacha_block 20) round_to_the_first
 
--- and a buffer delivers it behind the block of the greatest counter, and keeps nothing
+-- and a buffer delivers it after the block of the greatest counter, and buffers nothing
 behind_the_greatest : drop 64 (buffered_taken (chacha_block 20) next_state 64 (buffer_of [] (chacha_after (2 ^ 64 - 1) of_zeros)) 128) ≡ chacha_block 20 of_zeros
 unfolding buffered_taken block initial_state
 behind_the_greatest = refl

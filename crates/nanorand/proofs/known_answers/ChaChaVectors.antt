@@ -1,4 +1,5 @@
--- Vectors of ChaCha20, so that a wrong constant or step in a definition does not check.
+-- Known answers: test vectors of ChaCha20, so that a wrong constant or step in a definition is
+-- refused.
 use Rattle.std.proofs.Common.{◌≡◌, ℕ, zero, suc, ◌+◌, ◌-◌, ◌*◌, ◌/◌, ◌%◌, List, [], ◌∷◌, ◌++◌, ◌^◌, map, replicate, refl, slice_index}
 use Rattle.std.specs.List.{range_with_len}
 use Rattle.nanorand.specs.generators.ChaChaRounds.{Words, quarter_round, on_columns, on_diagonals, rounds, block}
@@ -13,7 +14,7 @@ pub vector_1 : chacha_block 20 (initial_state (replicate 32 0) (replicate 8 0))
 unfolding quarter_round on_columns on_diagonals rounds block initial_state
 vector_1 = refl
 
--- the keys and nonces in order, the first block
+-- the key 0, 1, .., 31 and the nonce 0, 1, .., 7: the first block
 pub vector_5 : chacha_block 20 (initial_state (range_with_len 0 32) (range_with_len 0 8))
     ≡ 0xf7 ∷ 0x98 ∷ 0xa1 ∷ 0x89 ∷ 0xf1 ∷ 0x95 ∷ 0xe6 ∷ 0x69 ∷ 0x82 ∷ 0x10 ∷ 0x5f ∷ 0xfb ∷ 0x64 ∷ 0x0b ∷ 0xb7 ∷ 0x75
     ∷ 0x7f ∷ 0x57 ∷ 0x9d ∷ 0xa3 ∷ 0x16 ∷ 0x02 ∷ 0xfc ∷ 0x93 ∷ 0xec ∷ 0x01 ∷ 0xac ∷ 0x56 ∷ 0xf8 ∷ 0x5a ∷ 0xc3 ∷ 0xc1
@@ -22,8 +23,8 @@ pub vector_5 : chacha_block 20 (initial_state (range_with_len 0 32) (range_with_
 unfolding quarter_round on_columns on_diagonals rounds block initial_state
 vector_5 = refl
 
--- The rounds by one formula: a line has the slant 0, as a column, or 1, as a diagonal, and its place
--- in row r is 4 * r + (j + slant * r) % 4. The word in row r and column c is word r of its line.
+-- Columns and diagonals by one formula: a line has slant 0 (a column) or 1 (a diagonal), and index
+-- 4 * r + (j + slant * r) % 4 in row r. The word in row r and column c is word r of its line.
 abbrev place : ℕ → ℕ → ℕ → ℕ
 place slant j r = 4 * r + (j + slant * r) % 4
 
@@ -52,7 +53,7 @@ pub on_diagonals_is : (f : Words → Words) (x : List ℕ) → on_lines 1 f x �
 unfolding on_diagonals
 on_diagonals_is f x = refl
 
--- the low half of the counter carries into its high half, and after the greatest counter comes 0
+-- the low half of the counter carries into its high half, and the greatest counter is followed by 0
 abbrev counting : ℕ → ℕ → List ℕ
 counting low high = replicate 12 5 ++ low ∷ high ∷ 5 ∷ 5 ∷ []
 
@@ -62,14 +63,14 @@ carried = refl
 after_the_greatest : next_state (counting 0xffffffff 0xffffffff) ≡ counting 0 0
 after_the_greatest = refl
 
--- 2^32 draws at once, and all of them
+-- 2^32 draws at once, and a full cycle of 2^64
 jumped : chacha_after (2 ^ 32) (counting 7 0) ≡ counting 7 1
 jumped = refl
 
 all_round : chacha_after (2 ^ 64) (counting 7 9) ≡ counting 7 9
 all_round = refl
 
--- no rounds give twice the input
+-- after zero rounds the block is twice the matrix, word by word
 no_rounds : block 0 (counting 7 0x80000001) ≡ replicate 12 10 ++ 14 ∷ 2 ∷ 10 ∷ 10 ∷ []
 unfolding rounds block
 no_rounds = refl

@@ -1,11 +1,11 @@
--- Worked rows of choices and orders of three: which lists are valid choices, and which are no arrangements.
+-- Known answers: lists of three that are valid choices, and lists that are no permutations.
 use Rattle.std.specs.Prelude.{◌≡◌, ℕ, zero, suc, ◌<◌, ◌≤◌, [], ◌∷◌, refl}
 use Rattle.std.proofs.Common.{arith}
 use Rattle.std.proofs.lemmas.List.Sorted.{IsPermutation-refl, sum_by-IsPermutation}
 use Rattle.nanorand.specs.shuffles.Shuffles.{arranged}
 use Rattle.nanorand.specs.shuffles.Arrangements.{IsValid, IsArrangement, rising}
 
--- a list of three is valid by its first choice, its second and its last
+-- a list of three is valid if its first choice is below 3, its second is 1 or 2, and its last is 2
 valid_three : (a b : ℕ) → a < 3 → 1 ≤ b → b < 3 → IsValid (a ∷ b ∷ 2 ∷ [])
 valid_three a b a_below b_from b_below zero within = (omega arith, omega (arith, a_below))
 valid_three a b a_below b_from b_below (suc zero) within = (b_from, omega (arith, b_below))
@@ -16,7 +16,7 @@ valid_three a b a_below b_from b_below (suc (suc (suc i))) within = absurd (omeg
 choices_of_last_first : IsValid (2 ∷ 2 ∷ 2 ∷ []) × (arranged (2 ∷ 2 ∷ 2 ∷ []) (rising 3) ≡ 2 ∷ 0 ∷ 1 ∷ [])
 choices_of_last_first = (valid_three 2 2 (omega arith) (omega arith) (omega arith), refl)
 
--- a number twice, and a number past the places, are in no arrangement
+-- a list with a number twice, or with a number past the indices, is no permutation
 number_twice : IsArrangement (0 ∷ 0 ∷ 1 ∷ []) → ⊥
 number_twice order = let same = sum_by-IsPermutation (λ (n : ℕ). n) (rising 3) (0 ∷ 0 ∷ 1 ∷ []) order in omega (arith, same)
 

@@ -1,4 +1,4 @@
--- Worked rows of ranges by the words that decide them: one word, a word after rejected ones, and none.
+-- Known answers: ranges decided by their first word, by a word after rejected ones, and by none.
 use Rattle.std.specs.Prelude.{◌≡◌, ℕ, ◌+◌, ◌-◌, ◌^◌, ℤ, List, [], ◌∷◌, ◌++◌, Some, None, Result, Ok, Err, replicate, pos, negsuc, map, refl}
 use Rattle.std.proofs.Common.{arith}
 use Rattle.std.specs.List.{range_with_len}
@@ -13,14 +13,16 @@ use Rattle.nanorand.specs.declared.values.range.RangeError.TheVariants.{Empty, E
 use Rattle.nanorand.proofs.lemmas.ranges.RunLemmas.{picks, rejects, names-itself}
 use Rattle.nanorand.proofs.known_answers.SmallGenerators.{script}
 
--- the outcome from a list of bytes, a block of eight each, with zeros after the list, and the number of the blocks drawn
+-- the outcome of a range, drawn from a list of bytes, each a block of eight equal bytes, with zeros
+-- after the list; the state is the number of blocks drawn
 abbrev unsigned_by : ℕ → List ℕ → Bound ℕ → Bound ℕ → Result ℕ RangeError × ℕ
 unsigned_by drawn bytes low high = unsigned_outcome (script bytes) 8 drawn low high
 
 abbrev signed_by : List ℕ → Bound ℤ → Bound ℤ → Result ℤ RangeError × ℕ
 signed_by bytes low high = signed_outcome (script bytes) 8 0 low high
 
--- u8: the greatest, a range of four by the word 0, and 10..=12 by the last of 128 words, and by the next 128 words
+-- u8: the greatest number; four numbers by word 0; 10..=12 by the last of 128 words, and by a word
+-- that comes too late and decides the next call
 greatest_byte : unsigned_by 0 (255 ∷ []) Unbounded Unbounded ≡ (Ok 255, 1)
 unfolding named range_within words_from value_drawn left_by left_after taken
 greatest_byte = refl
@@ -58,12 +60,12 @@ all_but_the_least : signed_by (0 ∷ 1 ∷ []) (Excluded (negsuc 127)) Unbounded
 unfolding named range_within words_from value_drawn left_by left_after taken
 all_but_the_least = refl
 
--- a range of one number takes every word, of 8 bits and of 64
+-- a range of one number accepts every word of 8 bits
 one_by_every_word : map (λ word. signed_by (word ∷ []) (Excluded (pos 5)) (Included (pos 6))) (range_with_len 0 256) ≡ replicate 256 (Ok (pos 6), 1)
 unfolding named range_within words_from value_drawn left_by left_after taken
 one_by_every_word = refl
 
--- ranges without a number draw nothing
+-- empty ranges draw nothing
 nothing_below_itself : unsigned_by 0 [] (Included 10) (Included 9) ≡ (Err Empty, 0)
 unfolding named range_within words_from value_drawn left_by left_after taken
 nothing_below_itself = refl
@@ -92,7 +94,8 @@ nothing_below_the_least : signed_by [] Unbounded (Excluded (negsuc 127)) ≡ (Er
 unfolding named range_within words_from value_drawn left_by left_after taken
 nothing_below_the_least = refl
 
--- words of 64 bits: of 2^63 + 1 numbers every other one of the first words names none, and of 2^64 each word names itself
+-- words of 64 bits: for a size of 2^63 + 1 the first words are rejected and accepted by turns, and
+-- for 2^64 each word names itself
 none_by_zero : named 64 (2 ^ 63 + 1) 0 ≡ None
 none_by_zero = rejects 64 (2 ^ 63 + 1) 0 (omega arith) (omega arith)
 

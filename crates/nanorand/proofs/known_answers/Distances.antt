@@ -1,4 +1,4 @@
--- Worked rows of distances: how many draws lead from one seed to another, and where none do.
+-- Known answers: how many draws lead from one seed to another, and seeds that none lead to.
 use Rattle.std.specs.Prelude.{◌≡◌, ◌⊎◌, ◌↔◌, ℕ, ◌+◌, ◌-◌, ◌%◌, ◌^◌, ◌<◌, refl}
 use Rattle.std.proofs.Common.{ap, inl, inr, sym, ◌∙◌, arith}
 use Rattle.nanorand.specs.generators.Cycles.{Reaches, ReachesOnceBelow}
@@ -10,7 +10,7 @@ use Rattle.nanorand.proofs.lemmas.cycles.DoublingLemmas.{walk_mod_8}
 use Rattle.nanorand.proofs.lemmas.cycles.Pcg64Lemmas.{u, v, seed_after-agree}
 use Rattle.nanorand.proofs.lemmas.cycles.ReachLemmas.{reached-class, reached_once}
 
--- wyrand: one draw, and back all but one
+-- WyRand: one draw, back by 2^64 - 1 draws, half a cycle, and zero draws
 wyrand_one : wyrand.seed_after 1 0 ≡ 0xa0761d6478bd642f
 wyrand_one = refl
 
@@ -23,7 +23,7 @@ wyrand_half = refl
 wyrand_to_itself : (seed : ℕ) → wyrand_after 0 seed ≡ seed
 wyrand_to_itself seed = refl
 
--- Pcg64: one draw, and back all but one
+-- Pcg64: one draw, back by 2^126 - 1 draws, and zero draws
 pcg64_one : seed_after 1 0 ≡ 0x3b1dd060ff2fd1e09624b94fc0ada4df
 pcg64_one = seed_after-one 0
 
@@ -35,14 +35,14 @@ pcg64_back =
 pcg64_to_itself : seed_after 0 0 ≡ 0
 pcg64_to_itself = seed_after-zero 0
 
--- a jump of one draw is that draw
+-- a jump of one draw is one draw
 abbrev from_zero : Generator
 from_zero = record { seed = 0; state = 0; inc = 0 }
 
 jump_of_one : pcg64_after 1 from_zero ≡ record { seed = 0x3b1dd060ff2fd1e09624b94fc0ada4df; state = 0x3b1dd060ff2fd1e09624b94fc0ada4df; inc = 1 }
 jump_of_one = sym (pcg64_steps 1 from_zero)
 
--- seeds of other cycles are not reached
+-- seeds on other cycles are not reached
 zero_to_one : Reaches seed_after 0 1 → ⊥
 zero_to_one leads =
     elim ((reached-class 0 1 (omega arith)).0 leads) [
@@ -57,7 +57,8 @@ five_to_three leads =
       | inr opposite ↦ omega (arith, opposite)
     ]
 
--- in a cycle one number of draws is reached below the period, odd where the sum is 7 modulo 8, and even where the seeds are equal modulo 8
+-- on a cycle exactly one number of draws below the period leads to a seed: odd where the seeds add
+-- up to 7 modulo 8, even where they are equal modulo 8
 zero_to_seven : ReachesOnceBelow (2 ^ 126) seed_after 0 7
 zero_to_seven = reached_once 0 7 (omega arith) (inr refl)
 
@@ -88,7 +89,8 @@ even_to_thirteen n leads =
       | inr odd ↦ absurd (omega (arith, odd.1, leads))
     ]
 
--- of the seeds below 8, each leads to itself and to the one that makes 7 with it, and to no other
+-- each seed below 8 leads to itself, to the seed that adds up to 7 with it, and to no other seed
+-- below 8
 below_eight : (s t : ℕ) → s < 8 → t < 8 → Reaches seed_after s t ↔ ((s ≡ t) ⊎ (s + t ≡ 7))
 below_eight s t s_low t_low = (
   λ leads. elim ((reached-class s t (omega arith)).0 leads) [

@@ -1,4 +1,4 @@
--- Worked rows of Pcg64, computed from the definitions alone.
+-- Known answers: Pcg64, computed from the definitions alone.
 use Rattle.std.specs.Prelude.{◌≡◌, ℕ, ◌+◌, ◌*◌, ◌%◌, ◌^◌, [], ◌∷◌, map, refl}
 use Rattle.std.specs.Fn.{iterate}
 use Rattle.std.specs.List.{range_with_len}
@@ -7,7 +7,7 @@ use Rattle.nanorand.specs.generators.Pcg64.{multiplier, factor, term, next_seed,
 use Rattle.nanorand.specs.support.Pcg64DrawLemmas.{seed_after-zero}
 use Rattle.nanorand.proofs.lemmas.cycles.Pcg64Lemmas.{seed_after-half, seed_after-agree}
 
--- a draw in one sum
+-- one draw, written out
 next_seed_in_full : (seed : ℕ) → next_seed seed ≡ ((3 * multiplier * multiplier + 2 * multiplier + 2) * seed + multiplier * multiplier + multiplier + 1) % 2 ^ 128
 next_seed_in_full seed = omega arith
 
@@ -29,7 +29,7 @@ block_of_zero = refl
 block_of_half : pcg64_block (record { seed = 2 ^ 127; state = 0; inc = 0 }) ≡ 0x3f ∷ 0x75 ∷ 0x82 ∷ 0x3f ∷ 0x2f ∷ 0x69 ∷ 0x39 ∷ 0x2d ∷ []
 block_of_half = refl
 
--- the old state and inc stay behind a new seed
+-- reseeding keeps the old state and inc
 reseeded_after_a_draw : reseeded (next from_zero) (0 ∷ 0 ∷ 0 ∷ 0 ∷ 0 ∷ 0 ∷ 0 ∷ 0 ∷ 0 ∷ 0 ∷ 0 ∷ 0 ∷ 0 ∷ 0 ∷ 0 ∷ 0 ∷ []) ≡ record { seed = 0; state = 0x3b1dd060ff2fd1e09624b94fc0ada4df; inc = 1 }
 reseeded_after_a_draw = refl
 
@@ -43,7 +43,7 @@ whole_way_round = (seed_after-agree 5 (2 ^ 126) 0).1 refl ∙ seed_after-zero 5
 no_jump : (g : Generator) → pcg64_after 0 g ≡ g
 no_jump g = refl
 
--- the constants in digits, and what they are modulo powers of 2
+-- the constants in hexadecimal, and modulo powers of 2
 multiplier_in_digits : multiplier ≡ 0x2360ed051fc65da44385df649fccf645
 multiplier_in_digits = refl
 
@@ -54,7 +54,7 @@ term_is_odd = refl
 draws_modulo_8 : map (λ s. next_seed s % 8) (range_with_len 0 8) ≡ 7 ∷ 6 ∷ 5 ∷ 4 ∷ 3 ∷ 2 ∷ 1 ∷ 0 ∷ []
 draws_modulo_8 = refl
 
--- a hundred draws, one by one and in one sum
+-- a hundred draws, one by one and in closed form
 hundred_draws : (iterate next 100 from_zero).seed ≡ seed_after 100 0
 unfolding affine_after geometric_sum
 hundred_draws = refl

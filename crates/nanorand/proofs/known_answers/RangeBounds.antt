@@ -1,10 +1,11 @@
--- Worked rows of ranges by their bounds: the nine pairs of bounds, and ranges at both ends of the types.
+-- Known answers: ranges by their bounds, for the nine pairs of kinds of bounds and at both ends of
+-- the types.
 use Rattle.std.specs.Prelude.{◌≡◌, [], ◌∷◌, pos, negsuc, map, refl}
 use Rattle.std.specs.List.{range_with_len}
 use Rattle.std.specs.declared.ops.Bound.TheVariants.{Included, Excluded, Unbounded}
 use Rattle.nanorand.specs.values.Range.{signed_number, unsigned_range, signed_range, range_within}
 
--- u8: both bounds are numbers
+-- u8: each pair of kinds of bounds
 u8_included_included : unsigned_range 8 (Included 3) (Included 6) ≡ 3 ∷ 4 ∷ 5 ∷ 6 ∷ []
 unfolding range_within
 u8_included_included = refl
@@ -41,7 +42,7 @@ u8_unbounded_unbounded : unsigned_range 8 Unbounded Unbounded ≡ range_with_len
 unfolding range_within
 u8_unbounded_unbounded = refl
 
--- i8: the numbers stand on both sides of 0, and the place of a number is 128 more
+-- i8: numbers on both sides of 0; the rank of a number is the number plus 128
 i8_included_included : signed_range 8 (Included (negsuc 1)) (Included (pos 2)) ≡ negsuc 1 ∷ negsuc 0 ∷ pos 0 ∷ pos 1 ∷ pos 2 ∷ []
 unfolding range_within
 i8_included_included = refl

@@ -1,4 +1,4 @@
--- Worked rows of ranges, computed from the definitions alone.
+-- Known answers: ranges and draws from them, computed from the definitions alone.
 use Rattle.std.specs.Prelude.{◌≡◌, ◌+◌, [], ◌∷◌, true, Some, None, Ok, Err, replicate, pos, negsuc, ◌++◌, map, refl}
 use Rattle.std.specs.declared.ops.Bound.TheVariants.{Included, Excluded, Unbounded}
 use Rattle.nanorand.specs.generators.Blocks.{taken, plain_after, plain}
@@ -13,7 +13,7 @@ use Rattle.nanorand.specs.declared.replay.Call.TheVariants.{Gen, Range}
 use Rattle.nanorand.specs.declared.replay.Answer.TheVariants as answers
 use Rattle.nanorand.proofs.known_answers.SmallGenerators.{steps}
 
--- what words of 8 bits name below 3, below 171 and below 256
+-- the numbers that words of 8 bits name, for the sizes 3, 171 and 256
 thirds_of_a_byte : map (named 8 3) (0 ∷ 1 ∷ 85 ∷ 86 ∷ 170 ∷ 171 ∷ 255 ∷ []) ≡ None ∷ Some 0 ∷ Some 0 ∷ Some 1 ∷ Some 1 ∷ Some 2 ∷ Some 2 ∷ []
 unfolding named
 thirds_of_a_byte = refl
@@ -60,7 +60,7 @@ range_past_the_greatest_signed : signed_range 8 (Excluded (pos 127)) Unbounded �
 unfolding range_within
 range_past_the_greatest_signed = refl
 
--- of 127 zeros and a one the last decides, and of 128 zeros none
+-- of 127 zeros and a one, the last word decides; of 128 zeros, none
 last_word_decides : deciding_place 8 3 (replicate 127 0 ++ 1 ∷ []) ≡ Some 127
 unfolding named
 last_word_decides = refl
@@ -69,7 +69,8 @@ no_word_decides : deciding_place 8 3 (replicate 128 0) ≡ None
 unfolding named
 no_word_decides = refl
 
--- u8 10..=12 from the bytes 0, 1, 2, .. in blocks of eight: word 0 is rejected, and word 8 names the first number
+-- u8 10..=12 from the bytes 0, 1, 2, .. in blocks of eight: word 0 is rejected, and word 8 names
+-- rank 0
 second_word_decides : unsigned_outcome steps 8 0 (Included 10) (Included 12) ≡ (Ok 10, 2)
 unfolding named range_within words_from value_drawn left_by left_after taken
 second_word_decides = refl
@@ -83,7 +84,7 @@ nothing_drawn : unsigned_outcome steps 8 0 (Included 5) (Excluded 5) ≡ (Err Em
 unfolding named range_within words_from value_drawn left_by left_after taken
 nothing_drawn = refl
 
--- i8 -1..=1 by the word 1, which a generator of ones gives
+-- i8 -1..=1 by the word 1, from a generator whose bytes are all 1
 least_by_one : signed_outcome (plain (λ n. replicate 8 1) (λ n. n + 1) 8) 8 0 (Included (negsuc 0)) (Included (pos 1)) ≡ (Ok (negsuc 0), 1)
 unfolding named range_within words_from value_drawn left_by left_after taken
 least_by_one = refl

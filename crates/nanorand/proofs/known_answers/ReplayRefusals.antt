@@ -1,4 +1,5 @@
--- Worked rows of replays that go on behind a refusal: 128 zeros are drawn, plain and from a buffer.
+-- Known answers: replays that continue after a refusal, plain and buffered; 128 words of zeros are
+-- drawn first.
 use Rattle.std.proofs.Common.{◌≡◌, ℕ, List, [], ◌∷◌, ◌++◌, Err, refl, ap, ◌∙◌, arith}
 use Rattle.std.specs.Prelude.{true, replicate}
 use Rattle.std.specs.declared.ops.Bound.TheVariants.{Included}
@@ -25,7 +26,8 @@ range_and_byte = Range (spans.U8 (Included 10) (Included 12)) ∷ Gen kinds.U8 �
 abbrev late_one : List ℕ
 late_one = replicate 128 0 ++ 1 ∷ []
 
--- the byte behind 128 rejected words: of block 129 where each word takes a block, and of block 17 where they are kept
+-- the byte after 128 rejected words is in block 129 if each word takes a block, and in block 17 if
+-- bytes are buffered
 byte_of_block_129 : replayed (script late_one) 0 [] range_and_byte ≡ record { answers = Exhausted ∷ Unsigned 1 ∷ []; items = []; state = 129 }
 unfolding named range_within words_from value_drawn left_by left_after taken
 byte_of_block_129 = refl
@@ -35,7 +37,7 @@ byte_of_block_17 : replayed (script_buffered late_one) (buffer_of [] 0) [] range
 unfolding named range_within words_from value_drawn left_by left_after taken buffered_taken buffered_after
 byte_of_block_17 = refl
 
--- a refused shuffle of three items, and the truth behind it
+-- a refused shuffle of three items, and the truth value after it
 abbrev shuffle_and_truth : List Call
 shuffle_and_truth = Shuffle ∷ Gen kinds.Bool ∷ []
 

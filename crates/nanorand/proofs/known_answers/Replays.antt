@@ -1,4 +1,4 @@
--- Worked rows of whole replays, plain and buffered, also after refusals.
+-- Known answers: whole replays, plain and buffered, also after refusals.
 use Rattle.std.proofs.Common.{◌≡◌, ℕ, List, [], ◌∷◌, ◌++◌, Ok, Err, refl, ap, ◌∙◌, arith}
 use Rattle.std.specs.Prelude.{true}
 use Rattle.std.specs.List.{range_with_len}
@@ -20,7 +20,7 @@ use Rattle.nanorand.specs.declared.replay.Answer.TheVariants.{Unsigned, Truth, E
 use Rattle.nanorand.proofs.known_answers.SmallGenerators.{steps, steps_buffered}
 use Rattle.nanorand.proofs.lemmas.shuffles.PartnerLemmas.{Makes, partner_between, three_partners}
 
--- what a replay goes on with behind a shuffle that is known
+-- how a replay continues after a shuffle whose outcome is known
 module _ {G : Type 0} (requests : Requests G) where
   abbrev pub goes_on : List Answer → List Call → Outcome G → Replay G
   goes_on before calls shuffled =
@@ -47,7 +47,7 @@ items_7_to_9 = 7 ∷ 8 ∷ 9 ∷ []
 no_calls : replayed steps 5 items_7_to_9 [] ≡ record { answers = []; items = items_7_to_9; state = 5 }
 no_calls = refl
 
--- a byte, a range, a shuffle and a truth of rising bytes: six blocks
+-- a byte, a range, a shuffle and a truth value, from rising bytes: six blocks
 pub third_block_on : Makes steps from_itself 3 2 (Ok tt) (0 ∷ 1 ∷ 2 ∷ []) 5
 unfolding named words_from value_drawn left_by left_after taken
 third_block_on =
@@ -84,7 +84,7 @@ twenty_seven_bytes : steps_buffered.after (buffer_of [] 0) 27 ≡ buffer_of (27 
 unfolding taken buffered_after
 twenty_seven_bytes = refl
 
--- with partners from all places the items turn
+-- with partners from all indices, the items rotate
 third_block_turns : Makes steps from_all 3 2 (Ok tt) (0 ∷ 0 ∷ 0 ∷ []) 5
 unfolding named words_from value_drawn left_by left_after taken
 third_block_turns =

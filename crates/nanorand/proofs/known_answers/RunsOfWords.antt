@@ -1,10 +1,10 @@
--- Worked rows of runs: where they begin, and how many words are in them.
+-- Known answers: where runs begin, and how many words they have.
 use Rattle.std.specs.Prelude.{◌≡◌, ◌%◌, ◌==◌, [], ◌∷◌, is_none, map, refl}
 use Rattle.std.specs.List.{range_with_len}
 use Rattle.nanorand.specs.values.Runs.{named, quota, rejected, first_word, words_that}
 use Rattle.nanorand.specs.values.Fairness.{passes}
 
--- below 3 each number has 85 bytes, and one byte names nothing
+-- for the size 3 each number has 85 bytes, and one byte is rejected
 runs_of_three : map (first_word 8 3) (0 ∷ 1 ∷ 2 ∷ []) ≡ 1 ∷ 86 ∷ 171 ∷ []
 runs_of_three = refl
 
@@ -15,12 +15,12 @@ words_of_three : map (λ k. words_that 8 (λ word. passes (λ j. j == k) (named 
 unfolding named words_that
 words_of_three = refl
 
--- below 6, the numbers of a die, each has 42, and four name nothing
+-- for the size 6, a die, each number has 42 bytes, and four bytes are rejected
 words_of_six : map (λ k. words_that 8 (λ word. passes (λ j. j == k) (named 8 6 word))) (range_with_len 0 6) ≡ 42 ∷ 42 ∷ 42 ∷ 42 ∷ 42 ∷ 42 ∷ []
 unfolding named words_that
 words_of_six = refl
 
--- of each size up to 16 as many bytes name nothing as 256 leaves by it, and so do those of 171
+-- for each size up to 16, and for 171, 256 modulo the size bytes are rejected
 rejected_bytes : map (λ size. words_that 8 (λ word. is_none (named 8 size word))) (range_with_len 1 16) ≡ map (λ size. 256 % size) (range_with_len 1 16)
 unfolding named words_that
 rejected_bytes = refl

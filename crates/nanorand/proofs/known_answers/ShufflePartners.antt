@@ -1,4 +1,5 @@
--- Worked rows of shuffles by their partners: of three items from several generators, in both versions, and of four.
+-- Known answers: shuffles by their partners, of three items from several generators in both
+-- versions, and of four.
 use Rattle.std.proofs.Common.{◌≡◌, ℕ, ◌+◌, [], ◌∷◌, Ok, Err, refl, ◌∙◌, arith}
 use Rattle.std.specs.Prelude.{codes, replicate}
 use Rattle.nanorand.specs.generators.Blocks.{taken}
@@ -9,14 +10,14 @@ use Rattle.nanorand.specs.declared.values.range.RangeError.TheVariants.{Exhauste
 use Rattle.nanorand.proofs.lemmas.shuffles.PartnerLemmas.{Makes, partner_between, none_to_shuffle, three_partners, first_refused, second_refused}
 use Rattle.nanorand.proofs.known_answers.SmallGenerators.{steps, script}
 
--- no items draw nothing
+-- a shuffle of no items draws nothing
 none_shuffled : Makes steps from_itself 0 7 (Ok tt) [] 7
 none_shuffled = none_to_shuffle steps from_itself 7
 
 none_shuffled_in_full : Makes steps from_all 0 7 (Ok tt) [] 7
 none_shuffled_in_full = none_to_shuffle steps from_all 7
 
--- of the words of rising bytes each partner is the first of its range
+-- words of rising bytes draw the first partner of each range
 pub rising_bytes_keep : Makes steps from_itself 3 0 (Ok tt) (0 ∷ 1 ∷ 2 ∷ []) 3
 unfolding named words_from value_drawn left_by left_after taken
 rising_bytes_keep =
@@ -39,7 +40,7 @@ kept = refl
 turned : arranged (0 ∷ 0 ∷ 0 ∷ []) (codes "abc") ≡ codes "cab"
 turned = refl
 
--- zeros are refused at the first place, after 128 words, and nothing is moved
+-- zeros are refused at index 0 after 128 words, and nothing moves
 zeros_keep : Makes (script []) from_itself 3 0 (Err Exhausted) [] 128
 unfolding named words_from value_drawn left_by left_after taken
 zeros_keep =
@@ -55,7 +56,8 @@ zeros_keep_in_full =
 nothing_moved : arranged [] (codes "abc") ≡ codes "abc"
 nothing_moved = refl
 
--- ones and then zeros: the partners from the place on are never refused, and those from all places are at the second
+-- a word of ones and then zeros: partners from the index itself on are never refused, those from
+-- all indices are refused at index 1
 ones_reverse : Makes (script (255 ∷ [])) from_itself 3 0 (Ok tt) (2 ∷ 1 ∷ 2 ∷ []) 3
 unfolding named words_from value_drawn left_by left_after taken
 ones_reverse =
@@ -77,7 +79,7 @@ ends_swapped = refl
 ends_swapped_at_once : arranged (2 ∷ []) (codes "abc") ≡ codes "cba"
 ends_swapped_at_once = refl
 
--- four items by words of ones: each partner from all places is the last
+-- four items by words of ones: each partner from all indices is the last index
 abbrev last_of_four : ℕ → ℕ → Type 0
 last_of_four i g = partner_drawn (script (replicate 4 255)) from_all 4 i g ≡ (Ok 3, g + 1)
 

@@ -1,4 +1,4 @@
--- Worked rows of shuffles: what choices make of three items, and the choices that three words make.
+-- Known answers: what choices make of three items, and the choices that three words make.
 use Rattle.std.proofs.Common.{◌≡◌, ℕ, List, [], ◌∷◌, Ok, refl, ap, ◌∙◌, arith}
 use Rattle.std.specs.Prelude.{codes}
 use Rattle.nanorand.specs.generators.Blocks.{taken, Requests}
@@ -9,7 +9,7 @@ use Rattle.nanorand.specs.shuffles.Arrangements.{rising}
 use Rattle.nanorand.proofs.lemmas.shuffles.PartnerLemmas.{Makes, partner_between, three_partners}
 use Rattle.nanorand.proofs.known_answers.SmallGenerators.{script}
 
--- the six valid lists of three choices, and the arrangements that they make
+-- the six valid lists of three choices, and the permutations that they make
 nothing_moved : arranged (0 ∷ 1 ∷ 2 ∷ []) (rising 3) ≡ 0 ∷ 1 ∷ 2 ∷ []
 nothing_moved = refl
 
@@ -28,11 +28,11 @@ reversed = refl
 last_goes_first : arranged (2 ∷ 2 ∷ 2 ∷ []) (rising 3) ≡ 2 ∷ 0 ∷ 1 ∷ []
 last_goes_first = refl
 
--- a generator of the bytes 128, 1 and 255, a block of eight each
+-- a generator of three blocks: eight bytes 128, eight bytes 1 and eight bytes 255
 abbrev three_blocks : Requests ℕ
 three_blocks = script (128 ∷ 1 ∷ 255 ∷ [])
 
--- the partners from the place on: 1 of 0..3, 1 of 1..3, 2 of 2..3
+-- partners from the index itself on: index 1 of 0..3, 1 of 1..3 and 2 of 2..3
 three_drawn : Makes three_blocks from_itself 3 0 (Ok tt) (1 ∷ 1 ∷ 2 ∷ []) 3
 unfolding named words_from value_drawn left_by left_after taken
 three_drawn =
@@ -45,7 +45,7 @@ three_drawn =
 shuffled : arranged (shuffle_choices three_blocks from_itself 3 0) (codes "abc") ≡ codes "bac"
 shuffled = ap (λ choices. arranged choices (codes "abc")) three_drawn.chosen
 
--- the partners from all places: 1, 0 and 2 of 0..3
+-- partners from all indices: 1, 0 and 2 of 0..3
 three_drawn_from_all : Makes three_blocks from_all 3 0 (Ok tt) (1 ∷ 0 ∷ 2 ∷ []) 3
 unfolding named words_from value_drawn left_by left_after taken
 three_drawn_from_all =

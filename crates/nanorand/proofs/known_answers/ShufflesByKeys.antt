@@ -1,4 +1,5 @@
--- Worked rows of shuffles by the blocks of keys: three items by ChaCha20, plain and buffered, and one item by wyrand.
+-- Known answers: shuffles of three items by ChaCha20, plain and buffered, and of one item by
+-- WyRand.
 use Rattle.std.proofs.Common.{◌≡◌, ℕ, ◌+◌, List, [], ◌∷◌, Ok, length, min, drop, refl, ap, ◌∙◌, arith}
 use Rattle.std.specs.Prelude.{replicate}
 use Rattle.std.specs.List.{range_with_len}
@@ -23,7 +24,7 @@ use Rattle.nanorand.proofs.known_answers.Replays.{goes_on, whole_shuffle}
 abbrev plain_requests : Requests (List ℕ)
 plain_requests = chacha_requests 20
 
--- the key and the nonce in order, a block a partner
+-- the key 0, 1, .., 31 and the nonce 0, 1, .., 7, a block for each partner
 abbrev in_order : ℕ → List ℕ
 in_order n = chacha_after n (initial_state (range_with_len 0 32) (range_with_len 0 8))
 
@@ -45,7 +46,7 @@ ordered_key_in_full =
     (between 1 (in_order 1) (omega arith) (omega arith) ∙ refl)
     (between 2 (in_order 2) (omega arith) (omega arith) ∙ refl)
 
--- the zero key and nonce, buffered: one block
+-- the zero key and nonce, buffered: one block for all partners
 abbrev buffered_requests : Requests (Buffered (List ℕ))
 buffered_requests = buffered (chacha_block 20) next_state 64
 
@@ -95,7 +96,7 @@ replay_of_zero_key : replayed buffered_requests (buffer_of [] of_zeros) (rising 
 replay_of_zero_key =
     ap (goes_on buffered_requests [] []) (whole_shuffle buffered_requests (buffer_of [] of_zeros) (zeros_from 24) (1 ∷ 1 ∷ 2 ∷ []) 0 1 2 zero_key)
 
--- one item stays, by one word
+-- one item stays where it is, and one word is drawn
 abbrev seed_of_zero : ℕ
 seed_of_zero = 0x5f89e29b87429bd1
 

@@ -1,4 +1,4 @@
--- The generators of the known answers, each by the number of its blocks: their requests, plain and buffered.
+-- The generators of the known answers, plain and buffered. Their state counts the blocks drawn.
 use Rattle.std.specs.Prelude.{ℕ, ◌+◌, ◌*◌, ◌%◌, List, map, replicate, slice_index_or}
 use Rattle.std.specs.List.{range_with_len}
 use Rattle.nanorand.specs.generators.Blocks.{Requests, plain}
@@ -17,7 +17,7 @@ steps = plain (rising_block 8) next_count 8
 abbrev pub steps_buffered : Requests (Buffered ℕ)
 steps_buffered = buffered (rising_block 8) next_count 8
 
--- the bytes of a list, a block of eight each, and zeros after it
+-- the bytes of a list, each a block of eight equal bytes, and zeros after the list
 abbrev pub script_block : List ℕ → ℕ → List ℕ
 script_block bytes n = replicate 8 (slice_index_or bytes n 0)
 

@@ -1,4 +1,4 @@
--- Worked rows of whole types as ranges: how many numbers they have, the least and the greatest.
+-- Known answers: whole types as ranges, how many numbers they have, the least and the greatest.
 use Rattle.std.proofs.Common.{◌≡◌, ℕ, ◌+◌, ◌-◌, ◌^◌, List, [], ◌∷◌, Ok, length, map, nat_le, nat_lt, refl, ap, ◌∙◌, inl, inr, arith, sym}
 use Rattle.std.specs.Prelude.{pos, negsuc, int_le, int_lt, replicate}
 use Rattle.std.specs.List.{range_with_len}
@@ -13,7 +13,7 @@ use Rattle.nanorand.specs.support.NumberOrderLemmas.{int_le-signed, int_lt-signe
 use Rattle.nanorand.specs.values.Draws.{unsigned_outcome, range_outcome, words_from, value_drawn, left_by, left_after}
 use Rattle.nanorand.proofs.lemmas.ranges.RangeLemmas.{range-empty, range-places}
 
--- both types of so many bits have 2^bits numbers, in the order of their places
+-- the unsigned and the signed type of `bits` bits have 2^bits numbers, in order of rank
 all_unsigned : (bits : ℕ) → unsigned_range bits Unbounded Unbounded ≡ map unsigned_number (range_with_len 0 (2 ^ bits))
 all_unsigned bits =
     let whole : 2 ^ bits - 0 ≡ 2 ^ bits = omega arith in
@@ -34,7 +34,7 @@ count_of_unsigned bits = ap length (all_unsigned bits) ∙ length-map-range_with
 count_of_signed : (bits : ℕ) → length (signed_range bits Unbounded Unbounded) ≡ 2 ^ bits
 count_of_signed bits = ap length (all_signed bits) ∙ length-map-range_with_len (signed_number bits) 0 (2 ^ bits)
 
--- a range from the greatest number, and one up to the least, has that number alone
+-- a range from the greatest number on, or up to the least, has that number alone
 module _ (bits : ℕ) where
   last : 2 ^ bits - (2 ^ bits - 1) ≡ 1
   last = omega (arith, pow_pos bits)
@@ -61,7 +61,7 @@ module _ (bits : ℕ) where
       range-places int_le int_lt bits (signed_number bits) Unbounded (Excluded (signed_number bits 1)) 0 1
       (λ k. sym (le-leb 0 k (omega arith))) (λ k in_type. int_lt-signed bits k 1) (pow_pos bits) (omega arith)
 
--- the numbers of the first and the last place
+-- the numbers of the first and the last rank
 least_and_greatest_of_8 : map (signed_number 8) (0 ∷ (2 ^ 8 - 1) ∷ []) ≡ negsuc 127 ∷ pos 127 ∷ []
 least_and_greatest_of_8 = refl
 
@@ -74,7 +74,7 @@ least_and_greatest_of_32 = refl
 least_and_greatest_of_64 : map (signed_number 64) (0 ∷ (2 ^ 64 - 1) ∷ []) ≡ negsuc 9223372036854775807 ∷ pos 9223372036854775807 ∷ []
 least_and_greatest_of_64 = refl
 
--- u64 7..=7 by words of zeros and by words of ones, a word each
+-- u64 7..=7 by a word of zeros and by a word of ones
 up_to_seven : (k : ℕ) → nat_le k 7 ≡ nat_lt k 8
 up_to_seven k =
     elim (cases_lt k 8) [
@@ -96,7 +96,7 @@ seven_by_ones : unsigned_outcome (constant 255) 64 0 (Included 7) (Included 7) �
 unfolding named words_from value_drawn left_by left_after taken
 seven_by_ones = ap (λ numbers. range_outcome (constant 255) 64 numbers 0) just_seven ∙ refl
 
--- i32 10..=5 has no number, in a type that is not walked through
+-- i32 10..=5 is empty, shown without a walk through the type
 up_to_five : (k : ℕ) → nat_le k (2 ^ 31 + 5) ≡ nat_lt k (2 ^ 31 + 6)
 up_to_five k =
     elim (cases_lt k (2 ^ 31 + 6)) [

@@ -1,4 +1,4 @@
--- Worked rows of wyrand's words and jumps, computed from the definitions alone.
+-- Known answers: WyRand's words and jumps, computed from the definitions alone.
 use Rattle.std.specs.Prelude.{◌≡◌, ◌-◌, ◌^◌, refl}
 use Rattle.std.specs.Fn.{iterate}
 use Rattle.nanorand.specs.generators.WyRand.{next_seed, word, wyrand_after}
@@ -15,6 +15,6 @@ half_way_round = refl
 one_draw_short_of_a_round : wyrand_after (2 ^ 64 - 1) 0 ≡ 0x5f89e29b87429bd1
 one_draw_short_of_a_round = refl
 
--- a thousand draws, one by one and at once
+-- a thousand draws, one by one and in closed form
 thousand_draws : iterate next_seed 1000 0 ≡ wyrand_after 1000 0
 thousand_draws = refl

@@ -1,51 +1,54 @@
--- ChaCha as a generator. Its state is a matrix, whose words 12 and 13 count the blocks.
+-- ChaCha as a generator. Its state is a matrix of sixteen 32-bit words, of which words 12 and 13
+-- (counted from 0) are the block counter.
 use Rattle.std.specs.Prelude.{ℕ, zero, suc, ◌+◌, ◌*◌, ◌/◌, ◌%◌, ◌^◌, List, [], ◌∷◌, ◌++◌, take, drop, codes, slice_index, slice_set}
 use Rattle.std.specs.Int.{w32, from_le_bytes, to_le_bytes}
 use Rattle.std.specs.List.{flat_map}
 use Rattle.nanorand.specs.generators.Blocks.{Requests, plain}
 use Rattle.nanorand.specs.generators.ChaChaRounds.{block}
 
--- The words that bytes spell, four bytes a word, least byte first.
+-- The 32-bit words of a list of bytes: four bytes a word, least significant byte first. One to
+-- three bytes left at the end are dropped.
 abbrev pub words : List ℕ → List ℕ
 words (a ∷ b ∷ c ∷ d ∷ rest) = from_le_bytes w32 (a ∷ b ∷ c ∷ d ∷ []) ∷ words rest
 words _ = []
 
--- The bytes of words, four bytes a word, least byte first.
+-- The bytes of 32-bit words: four bytes a word, least significant byte first.
 abbrev pub bytes : List ℕ → List ℕ
 bytes = flat_map (to_le_bytes w32)
 
--- The state of a key of 32 bytes and a nonce of 8, at the counter 0.
+-- The state of a 32-byte key and an 8-byte nonce, with the counter at 0.
 unfoldable pub initial_state : List ℕ → List ℕ → List ℕ
 initial_state key nonce = words (codes "expand 32-byte k") ++ words key ++ (0 ∷ 0 ∷ []) ++ words nonce
 
--- The state that a seed of 40 bytes gives: first the key, then the nonce.
+-- The state that a 40-byte seed gives: its first 32 bytes are the key, and the other 8 the nonce.
 abbrev pub seeded_state : List ℕ → List ℕ
 seeded_state seed = initial_state (take 32 seed) (drop 32 seed)
 
--- The counter: word 12 is its low half, and word 13 its high half.
+-- The 64-bit counter of a state: word 12 is its low half, and word 13 its high half.
 abbrev pub counter : List ℕ → ℕ
 counter x = slice_index x 12 + 2 ^ 32 * slice_index x 13
 
--- The state with another counter.
+-- The state with its counter set to n.
 abbrev pub with_counter : List ℕ → ℕ → List ℕ
 with_counter x n = slice_set (slice_set x 12 (n % 2 ^ 32)) 13 (n / 2 ^ 32)
 
--- The state n blocks on: the counter is n more, modulo 2^64.
+-- The state n blocks later: its counter is n more, modulo 2^64.
 abbrev pub advanced : ℕ → List ℕ → List ℕ
 advanced n x = with_counter x ((counter x + n) % 2 ^ 64)
 
--- The state after one block. After the greatest counter comes 0.
+-- The state after one block. The counter 2^64 - 1 is followed by 0.
 abbrev pub next_state : List ℕ → List ℕ
 next_state = advanced 1
 
--- The next block of a state under R rounds, as 64 bytes.
+-- The next block of a state, under R rounds: 64 bytes.
 abbrev pub chacha_block : ℕ → List ℕ → List ℕ
 chacha_block R x = bytes (block R x)
 
+-- The requests of a ChaCha of R rounds: a plain generator with blocks of 64 bytes.
 abbrev pub chacha_requests : ℕ → Requests (List ℕ)
 chacha_requests R = plain (chacha_block R) next_state 64
 
--- What n draws leave. No draw leaves every list as it is, also one that is no matrix.
+-- The state after n draws. Zero draws leave every list as it is, even one that is no matrix.
 abbrev pub chacha_after : ℕ → List ℕ → List ℕ
 chacha_after zero x = x
 chacha_after (suc n) x = advanced (suc n) x

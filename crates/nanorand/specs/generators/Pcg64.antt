@@ -1,68 +1,77 @@
--- Pcg64. What moves on is its seed, a number below 2^128, by a linear congruential step: a draw multiplies it by the
--- factor and adds the term.
+-- Pcg64: a linear congruential generator on a seed below 2^128. A draw multiplies the seed by
+-- `factor` and adds `term`, modulo 2^128.
 use Rattle.std.specs.Prelude.{◌≡◌, ◌⊎◌, ℕ, zero, suc, ◌+◌, ◌*◌, ◌%◌, ◌^◌, List}
 use Rattle.std.specs.Int.{w64, to_le_bytes}
 use Rattle.nanorand.specs.generators.Blocks.{Requests, plain}
 use Rattle.nanorand.specs.generators.Halves.{folded}
 use Rattle.nanorand.specs.values.Values.{number_of}
 
--- The generator's constant, of which the factor and the term of a draw are made.
+-- The constant from which `factor` and `term` are computed.
 abbrev pub multiplier : ℕ
 multiplier = 47026247687942121848144207491837523525
 
+-- What a draw multiplies the seed by.
 abbrev pub factor : ℕ
 factor = (3 * multiplier * multiplier + 2 * multiplier + 2) % 2 ^ 128
 
+-- What a draw then adds.
 abbrev pub term : ℕ
 term = (multiplier * multiplier + multiplier + 1) % 2 ^ 128
 
--- One draw takes the seed to the factor times the seed, plus the term.
+-- The seed after one draw.
 abbrev pub next_seed : ℕ → ℕ
 next_seed seed = (factor * seed + term) % 2 ^ 128
 
--- What is seen of a generator. `state` and `inc` tell of the last draw, and no draw reads them.
+-- The modelled state of a Pcg64. Only the seed decides what is drawn: a draw writes `state` and
+-- `inc`, and no draw reads them.
 pub record Generator : Type 0 where
   pub seed : ℕ
   pub state : ℕ
   pub inc : ℕ
 
--- The generator of a seed, before its first draw.
+-- The generator with this seed, before its first draw.
 abbrev pub initial_generator : ℕ → Generator
 initial_generator seed = record { seed = seed; state = 0; inc = 0 }
 
--- The generator that a seed of 16 bytes gives: the seed is their number, least byte first.
+-- The generator that a seed of 16 bytes gives: the seed is their number, least significant byte
+-- first.
 abbrev pub seeded_generator : List ℕ → Generator
 seeded_generator seed = initial_generator (number_of seed)
 
--- The generator after one draw: `state` is the new seed, and `inc` is twice the old seed and one more, modulo 2^128.
+-- The generator after one draw: `state` is the new seed, and `inc` is twice the old seed plus 1,
+-- modulo 2^128.
 abbrev pub next : Generator → Generator
 next g = record { seed = next_seed g.seed; state = next_seed g.seed; inc = (2 * g.seed + 1) % 2 ^ 128 }
 
--- The next block: the eight bytes of the new seed's word, least first. The word of a seed is its two halves, xored.
+-- The next block: the eight bytes of the new seed's word, least significant byte first. The word of
+-- a seed is the xor of its two 64-bit halves.
 abbrev pub pcg64_block : Generator → List ℕ
 pcg64_block g = to_le_bytes w64 (folded (next_seed g.seed))
 
+-- The requests of a Pcg64: a plain generator with blocks of 8 bytes.
 abbrev pub pcg64_requests : Requests Generator
 pcg64_requests = plain pcg64_block next 8
 
--- What the bytes of a seed leave: their number as the seed, with `state` and `inc` as they were.
+-- The generator reseeded with these bytes: the seed is their number, least significant byte first,
+-- and `state` and `inc` stay as they are.
 abbrev pub reseeded : Generator → List ℕ → Generator
 reseeded g bytes = record { seed = number_of bytes; state = g.state; inc = g.inc }
 
--- 1 + a + .. + a^(n - 1)
+-- The geometric sum 1 + a + .. + a^(n - 1).
 unfoldable pub geometric_sum : ℕ → ℕ → ℕ
 geometric_sum a zero = 0
 geometric_sum a (suc n) = geometric_sum a n + a ^ n
 
--- What s becomes where n times x is taken to a * x + c, in one sum.
+-- s after n times x ↦ a * x + c, in closed form.
 unfoldable pub affine_after : ℕ → ℕ → ℕ → ℕ → ℕ
 affine_after a c n s = a ^ n * s + c * geometric_sum a n
 
--- The seed after n draws, in one sum.
+-- The seed after n draws, in closed form.
 abbrev pub seed_after : ℕ → ℕ → ℕ
 seed_after n seed = affine_after factor term n seed % 2 ^ 128
 
--- The generator after n draws: `state` is its seed, and `inc` tells the seed of one draw less. No draw changes nothing.
+-- The generator after n draws, in closed form: `state` is its seed, and `inc` is made from the seed
+-- one draw earlier. Zero draws change nothing.
 abbrev pub pcg64_after : ℕ → Generator → Generator
 pcg64_after zero g = g
 pcg64_after (suc n) g = record {
@@ -71,7 +80,7 @@ pcg64_after (suc n) g = record {
   inc = (2 * seed_after n g.seed + 1) % 2 ^ 128;
 }
 
--- Two seeds are in one cycle if they are equal modulo 8, or their sum is 7 modulo 8. There are four: the residues 0 and
--- 7, 1 and 6, 2 and 5, 3 and 4.
+-- Two seeds are on the same cycle: they are equal modulo 8, or their sum is 7 modulo 8. So there
+-- are four cycles: the residues 0 and 7, 1 and 6, 2 and 5, 3 and 4.
 abbrev pub SameCycle : ℕ → ℕ → Type 0
 SameCycle s t = (s % 8 ≡ t % 8) ⊎ ((s + t) % 8 ≡ 7)

@@ -1,5 +1,5 @@
--- Lemmas of requests, one block after another. Nothing in this file needs to be believed: it stands in specs/ since the
--- laws of the impls cite it.
+-- Lemmas about requests, block by block. Nobody has to believe this file: it is in specs/ only
+-- because laws of impls cite its lemmas.
 use Rattle.std.proofs.Common.{◌≡◌, ℕ, zero, suc, ◌+◌, ◌-◌, ◌*◌, min, ◌<◌, ◌≤◌, List, [], ◌∷◌, ◌++◌, length, take, drop, refl, sym, ◌∙◌, ap, arith, length-append, append_assoc, ⊎_elim, zero-add}
 use Rattle.std.proofs.lemmas.List.{length-take-le, take_min}
 use Rattle.std.specs.Fn.{iterate}
@@ -12,7 +12,7 @@ use borrow.Rule.Slice.PartMut.{put_mid, post_of}
 use Rattle.std.proofs.Math.Nat.{suc-add, min_comm, suc-sub-suc, zero-sub, sub-zero, div-eq_of_lt, mod-eq_of_lt, add-div_right, add-mod_right, zero-div, zero-mod, div_self, mod_self}
 use Rattle.nanorand.specs.generators.Blocks.{blocks, taken, plain_after}
 
--- the first n of two lists, whatever n is
+-- the first n elements of one list followed by another, for any n
 pub take-append : (n : ℕ) (xs ys : List ℕ) → take n (xs ++ ys) ≡ take n xs ++ take (n - length xs) ys
 take-append zero xs ys = rw zero-sub
 take-append (suc n) [] ys = rw sub-zero
@@ -21,7 +21,7 @@ take-append (suc n) (x ∷ xs) ys = rw (suc-sub-suc n (length xs)) (ap (λ rest.
 pub le-mul_self : (n k : ℕ) → 0 < k → n ≤ n * k
 le-mul_self n k positive = grind arith
 
--- what is asked for takes one block, and those that the rest takes
+-- a request longer than a block takes one block, and then the blocks of the rest
 div_ceil_past : (n k : ℕ) → 0 < k → div_ceil (n + k) k ≡ suc (div_ceil n k)
 div_ceil_past n k positive = rw (add-div_right n positive, add-mod_right n k) (omega arith)
 
@@ -77,7 +77,7 @@ module _ {G : Type 0} (block : G → List ℕ) (step : G → G) (output : ℕ) (
   pub plain_after_more : (g : G) (n : ℕ) → 0 < n → plain_after step output g n ≡ plain_after step output (step g) (n - output)
   plain_after_more g n some = rw (div_ceil_more n output some positive) refl
 
-  -- the same, for a part of the block that is no longer than what is asked for
+  -- the same, for the part of the block that the request takes
   pub taken_part : (g : G) (n k : ℕ) → k ≡ min output n → taken block step g n ≡ take k (block g) ++ taken block step (step g) (n - k)
   taken_part g n k part =
       let front : take k (block g) ≡ take n (block g) = ap (λ j. take j (block g)) (part ∙ ap (λ j. min j n) (sym (size g)) ∙ min_comm (length (block g)) n) ∙ take_min n (block g) in
@@ -93,7 +93,7 @@ module _ {G : Type 0} (block : G → List ℕ) (step : G → G) (output : ℕ) (
   unfolding taken
   length-taken g n = length-take-le n _ (rw (length-blocks g n) (le-mul_self n output positive))
 
-  -- A write of the next block's front: of what is left, that much less is left.
+  -- One step of the loop that fills a buffer: it writes the front of the next block.
   module _ (buffer piece : List ℕ) (filled count : ℕ) (g : G) (open_place : filled < length buffer) (part : count ≡ min output (length buffer - filled)) (written : piece ≡ take count (block g)) where
     piece_length : length piece ≡ count
     piece_length = ap length written ∙ length-take-le count (block g) (rw (size g) (omega arith))
@@ -112,7 +112,7 @@ module _ {G : Type 0} (block : G → List ℕ) (step : G → G) (output : ℕ) (
         let left : length buffer - (filled + count) ≡ (length buffer - filled) - count = omega arith in
         rw left (sym (plain_after_part g (length buffer - filled) count (omega arith) part))
 
-  -- less than a block is the front of the next one
+  -- a request of at most a block takes the front of the next block
   pub taken_front : (g : G) (n : ℕ) → n ≤ output → taken block step g n ≡ take n (block g)
   taken_front g n few =
       let none : n - n ≡ 0 = omega arith in

@@ -1,5 +1,5 @@
--- Lemmas of ChaCha's blocks and of many draws. Nothing in this file needs to be believed: it stands in specs/ since laws
--- of impls cite it.
+-- Lemmas about ChaCha's blocks and many draws. Nobody has to believe this file: it is in specs/
+-- only because laws of impls cite its lemmas.
 use Rattle.std.proofs.Common.{◌≡◌, ◌≢◌, ℕ, zero, suc, ◌+◌, ◌/◌, ◌%◌, ◌^◌, ◌<◌, ◌≤◌, ◌↔◌, List, [], ◌∷◌, length, slice_index, set, refl, sym, ap, ◌∙◌, arith, add-one, ⊎_elim, length-set, get_or-set_other}
 use Rattle.std.proofs.lemmas.Bool.{cases_lt}
 use Rattle.std.proofs.lemmas.List.{get_or-set_same, get_or_past, set-set, set_comm, set_past, set-get_or}
@@ -16,7 +16,7 @@ pub length-chacha_block : (R : ℕ) (x : List ℕ) → length (chacha_block R x)
 unfolding block
 length-chacha_block R x = refl
 
--- of two counters written the last one stays
+-- setting the counter twice keeps the second one
 with_counter-twice : (x : List ℕ) (m n : ℕ) → with_counter (with_counter x m) n ≡ with_counter x n
 with_counter-twice x m n =
     let low = n % 2 ^ 32 in
@@ -26,7 +26,7 @@ with_counter-twice x m n =
     ∙ ap (λ (y : List ℕ). set y 13 high) (set-set x 12 (m % 2 ^ 32) low))
     ∙ set-set (set x 12 low) 13 high (n / 2 ^ 32)
 
--- a counter that was written is read, where both of its words are there
+-- the counter that was set is read back, if the list has both of its words
 counter-with_counter : (x : List ℕ) (n : ℕ) → 13 < length x → counter (with_counter x n) ≡ n
 counter-with_counter x n long =
     let low_there : 12 < length x = omega arith in
@@ -37,7 +37,8 @@ counter-with_counter x n long =
       get_or-set_same (set x 12 (n % 2 ^ 32)) 13 (n / 2 ^ 32) 0 high_there,
     ) (omega arith)
 
--- a list of at most thirteen words has no high word, and one of at most twelve no counter at all
+-- a list of at most thirteen words has no high half of a counter, and one of at most twelve no
+-- counter
 with_counter-short : (x : List ℕ) (n : ℕ) → length x ≤ 13 → with_counter x n ≡ set x 12 (n % 2 ^ 32)
 with_counter-short x n short =
     set_past (set x 12 (n % 2 ^ 32)) 13 (n / 2 ^ 32) (omega (arith, length-set x 12 (n % 2 ^ 32)))
@@ -45,7 +46,7 @@ with_counter-short x n short =
 with_counter-none : (x : List ℕ) (n : ℕ) → length x ≤ 12 → with_counter x n ≡ x
 with_counter-none x n none = with_counter-short x n (omega arith) ∙ set_past x 12 (n % 2 ^ 32) none
 
--- m draws on, and then n
+-- m blocks later, and then n more
 advanced-twice : (m n : ℕ) (x : List ℕ) → advanced n (advanced m x) ≡ advanced (m + n) x
 advanced-twice m n x =
     with_counter-twice x first ((counter (with_counter x first) + n) % 2 ^ 64)
@@ -92,7 +93,7 @@ chacha_steps = draws_leave next_state chacha_after chacha_none chacha_more
 pub chacha_adds : DrawsAdd chacha_after
 chacha_adds = draws_add next_state chacha_after chacha_none chacha_more
 
--- a matrix has the counter that it has
+-- setting the counter that a matrix has changes nothing
 with_counter-same : (x : List ℕ) → IsMatrix x → with_counter x (counter x % 2 ^ 64) ≡ x
 with_counter-same x matrix =
     let low : slice_index x 12 < 2 ^ 32 = matrix.words 12 in
@@ -101,7 +102,7 @@ with_counter-same x matrix =
     let high_is : counter x % 2 ^ 64 / 2 ^ 32 ≡ slice_index x 13 = omega arith in
     rw (low_is, high_is, set-get_or x 12 0) (set-get_or x 13 0)
 
--- at a matrix it is the closed form
+-- at a matrix, the state after n draws is the closed form
 pub chacha_closed : (n : ℕ) (x : List ℕ) → IsMatrix x → chacha_after n x ≡ advanced n x
 chacha_closed zero x matrix =
     let none : counter x ≡ counter x + 0 = omega arith in
@@ -117,7 +118,7 @@ pub chacha_keeps : (n k : ℕ) (x : List ℕ) → k ≢ 12 → k ≢ 13 → slic
 chacha_keeps zero k x low high = refl
 chacha_keeps (suc n) k x low high = rw (get_or-set_other, get_or-set_other) refl
 
--- a word that is written is one of the words
+-- setting one word to a word keeps all words below 2^32
 words-set : (x : List ℕ) (i word : ℕ) → ((k : ℕ) → slice_index x k < 2 ^ 32) → word < 2 ^ 32
     → (k : ℕ) → slice_index (set x i word) k < 2 ^ 32
 words-set [] i word words fits k = words k
@@ -126,7 +127,7 @@ words-set (a ∷ x) zero word words fits (suc k) = words (suc k)
 words-set (a ∷ x) (suc i) word words fits zero = words zero
 words-set (a ∷ x) (suc i) word words fits (suc k) = words-set x i word (λ j. words (suc j)) fits k
 
--- draws leave a matrix
+-- draws keep a matrix a matrix
 pub chacha_matrix : (n : ℕ) (x : List ℕ) → IsMatrix x → IsMatrix (chacha_after n x)
 chacha_matrix zero x matrix = matrix
 chacha_matrix (suc n) x matrix =
@@ -137,12 +138,12 @@ chacha_matrix (suc n) x matrix =
       words = words-set low 13 (c / 2 ^ 32) (words-set x 12 (c % 2 ^ 32) matrix.words (omega arith)) (omega arith);
     }
 
--- block n is that of the counter n more
+-- block n is the block of the state whose counter is n more
 pub chacha_blocks : (R n : ℕ) (x : List ℕ) → IsMatrix x
     → chacha_block R (iterate next_state n x) ≡ chacha_block R (advanced n x)
 chacha_blocks R n x matrix = ap (chacha_block R) (chacha_steps n x ∙ chacha_closed n x matrix)
 
--- draws lead to one state exactly if they agree modulo 2^64
+-- i draws and j draws lead to the same state exactly if i and j agree modulo 2^64
 pub chacha_agree : (i j : ℕ) (x : List ℕ) → IsMatrix x → (chacha_after i x ≡ chacha_after j x) ↔ (i % 2 ^ 64 ≡ j % 2 ^ 64)
 chacha_agree i j x matrix = (
   λ same.

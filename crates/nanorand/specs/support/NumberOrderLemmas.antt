@@ -1,5 +1,5 @@
--- Laws of the number types. Nothing in this file needs to be believed: it stands in specs/ since the laws of the impls
--- cite it.
+-- Lemmas about word widths and the order of numbers. Nobody has to believe this file: it is in
+-- specs/ only because laws of impls cite its lemmas.
 use Rattle.std.specs.Prelude.{◌≡◌, ℕ, ◌-◌, ◌^◌, ◌<◌, ◌≤◌, true, false, nat_le, nat_lt, int_le, int_lt, pos, ◌-ℤ◌, refl}
 use Rattle.std.proofs.Common.{inl, inr, arith, sym, ◌∙◌}
 use Rattle.std.proofs.lemmas.Bool.{cases_lt, le-leb, lt-leb, lt-ltb, le-ltb}
@@ -19,7 +19,7 @@ width_32 = inr (inr (inl refl))
 pub width_64 : IsWordWidth 64
 width_64 = inr (inr (inr refl))
 
--- numbers less one offset stay in order
+-- subtracting an offset keeps the order
 shifted_le : (m j k : ℕ) → j ≤ k → int_le (pos j -ℤ pos m) (pos k -ℤ pos m) ≡ true
 shifted_le m j k h = grind (arith, ints)
 

@@ -1,5 +1,5 @@
--- Lemmas of many draws of Pcg64. Nothing in this file needs to be believed: it stands in specs/ since laws of impls cite
--- it.
+-- Lemmas about many draws of Pcg64. Nobody has to believe this file: it is in specs/ only because
+-- laws of impls cite its lemmas.
 use Rattle.std.proofs.Common.{◌≡◌, ℕ, zero, suc, ◌+◌, ◌*◌, ◌%◌, ◌^◌, ◌<◌, refl, sym, ap, ◌∙◌, arith, add-one}
 use Rattle.std.proofs.Math.Nat.{pow-zero, pow-suc, mod-eq_of_lt, add-zero, add-suc}
 use Rattle.std.specs.Fn.{iterate}
@@ -41,7 +41,7 @@ seed_after-zero s = ap (λ (t : ℕ). t % 2 ^ 128) (affine_after-zero factor ter
 pub seed_after-suc : (n s : ℕ) → seed_after (suc n) s ≡ next_seed (seed_after n s)
 seed_after-suc n s = omega (arith, affine_after-suc factor term n s)
 
--- m draws and then n
+-- m draws and then n draws
 pub seed_after-add : (m n s : ℕ) → seed_after (m + n) s ≡ seed_after n (seed_after m s)
 seed_after-add m zero s = ap (λ (k : ℕ). seed_after k s) (add-zero m) ∙ omega (arith, seed_after-zero (seed_after m s))
 seed_after-add m (suc n) s =
@@ -53,7 +53,7 @@ seed_after-one s = omega (arith, seed_after-suc 0 s, seed_after-zero s)
 pub pcg64_none : (g : Generator) → pcg64_after 0 g ≡ g
 pcg64_none g = refl
 
--- a generator right after a draw that began at a seed
+-- the generator right after the draw from `before` to `seed`
 drawn : ℕ → ℕ → Generator
 drawn seed before = record { seed = seed; state = seed; inc = (2 * before + 1) % 2 ^ 128 }
 

@@ -1,18 +1,19 @@
--- Runs: how the words of some bits are shared out among the numbers below a size, after Daniel Lemire. Each number has
--- one run of consecutive words, all runs are equally long, and the few words in no run name nothing.
+-- Runs: how the words of N bits are divided among the numbers below a size, after Daniel Lemire
+-- ("Fast Random Integer Generation in an Interval", 2019). Each number has one run of consecutive
+-- words, and all runs are equally long. The few words in no run name no number: they are rejected.
 use Rattle.std.specs.Prelude.{◌≡◌, ℕ, ◌+◌, ◌*◌, ◌/◌, ◌%◌, ◌^◌, ◌<◌, ◌≤◌, ◌⊎◌, ◌&&◌, Bool, Option, nat_le, nat_lt, find, count_by}
 use Rattle.std.specs.Int.{div_ceil}
 use Rattle.std.specs.List.{range_with_len}
 
--- The widths of words. A word of so many bits is a number below 2^bits.
+-- The widths of words. A word of N bits is a number below 2^N.
 abbrev pub IsWordWidth : ℕ → Type 0
 IsWordWidth bits = (bits ≡ 8) ⊎ (bits ≡ 16) ⊎ (bits ≡ 32) ⊎ (bits ≡ 64)
 
--- How many words a number has.
+-- How many words name each number: the length of a run.
 abbrev pub quota : ℕ → ℕ → ℕ
 quota bits size = 2 ^ bits / size
 
--- How many words name nothing.
+-- How many words name no number.
 abbrev pub rejected : ℕ → ℕ → ℕ
 rejected bits size = 2 ^ bits % size
 
@@ -20,21 +21,21 @@ rejected bits size = 2 ^ bits % size
 abbrev pub first_word : ℕ → ℕ → ℕ → ℕ
 first_word bits size k = div_ceil (k * 2 ^ bits + rejected bits size) size
 
--- The word names k: it stands in the run of k.
+-- The word names k: it lies in the run of k.
 pub record Names (bits size word k : ℕ) : Type 0 where
   pub below : k < size
   pub after_first : first_word bits size k ≤ word
   pub before_end : word < first_word bits size k + quota bits size
 
--- Whether the word stands in the run of k.
+-- Whether the word lies in the run of k.
 abbrev pub is_in_run : ℕ → ℕ → ℕ → ℕ → Bool
 is_in_run bits size word k =
     nat_le (first_word bits size k) word && nat_lt word (first_word bits size k + quota bits size)
 
--- The number that the word names, if it names one: the least in whose run it stands.
+-- The number that the word names, if it names one: the least in whose run it lies.
 unfoldable pub named : ℕ → ℕ → ℕ → Option ℕ
 named bits size word = find (is_in_run bits size word) (range_with_len 0 size)
 
--- How many of all words of so many bits pass a test.
+-- How many of the 2^bits words pass a test.
 unfoldable pub words_that : ℕ → (ℕ → Bool) → ℕ
 words_that bits test = count_by test (range_with_len 0 (2 ^ bits))

@@ -1,4 +1,4 @@
--- A full deck, and its arrangements.
+-- A full deck, and its permutations.
 use Rattle.std.proofs.Common.{◌≡◌, ℕ, ◌+◌, ◌<◌, List, IsPermutation, sym, arith, inl, inr, eqb}
 use Rattle.std.specs.List.{IsDistinct}
 use Rattle.std.proofs.lemmas.Bool.{cases_lt, ne_eqb, eqb-false}

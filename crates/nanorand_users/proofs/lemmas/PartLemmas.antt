@@ -1,22 +1,22 @@
--- Places in a row of parts of one length.
+-- Indices in parts of equal length that follow each other.
 use Rattle.std.proofs.Common.{◌≡◌, ℕ, ◌+◌, ◌*◌, ◌<◌, ◌≤◌, ◌%◌, ◌/◌, sym, ◌∙◌, ap, arith}
 use Rattle.std.proofs.lemmas.Nat.{mul-le, div-mul-add, mod-mul-add}
 use Rattle.std.proofs.Math.Nat.{mod-eq_of_lt}
 use Rattle.nanorand_users.specs.Streams.{PartsAreApart}
 
--- a place within a part is below the end of all parts
+-- an index within a part is below the end of all parts
 pub place_below : (parts part end i j : ℕ) → parts * part ≤ end → i < parts → j < part → i * part + j < end
 place_below parts part end i j fits one within =
     omega (arith, mul-le (i + 1) part parts part (omega arith) (omega arith))
 
--- equal places are the same place of the same part
+-- equal indices are the same index of the same part
 pub same_place : (part i j k l : ℕ) → j < part → l < part → i * part + j ≡ k * part + l → (i ≡ k) × (j ≡ l)
 same_place part i j k l first second same = (
   sym (div-mul-add i part j first) ∙ ap (λ (n : ℕ). n / part) same ∙ div-mul-add k part l second,
   sym (mod-mul-add i part j first) ∙ ap (λ (n : ℕ). n % part) same ∙ mod-mul-add k part l second,
 )
 
--- parts are apart where places that are seen alike agree modulo the period
+-- parts are apart if indices that look equal agree modulo the period
 pub parts-apart : {S : Type 0} (period : ℕ) (seen : ℕ → S) → ((m n : ℕ) → seen m ≡ seen n → m % period ≡ n % period) → PartsAreApart period seen
 parts-apart period seen agree workers share i j k l fits one other first second same =
     let below : i * share + j < period = place_below workers share period i j fits one first in

@@ -1,4 +1,4 @@
--- In how many rows of draws a place stands in the sample at the end.
+-- In how many sequences of draws an index is in the sample at the end.
 use Rattle.std.proofs.Common.{◌≡◌, ◌≢◌, ℕ, zero, suc, ◌+◌, ◌-◌, ◌*◌, ◌<◌, ◌≤◌, Bool, true, List, [], ◌∷◌, length, get_or, nat_eq, refl, sym, ◌∙◌, ap, inl, inr, arith}
 use Rattle.std.specs.List.{All, AllPairs, list_any, range_with_len, sum_by}
 use Rattle.std.proofs.lemmas.Bool.{cases_lt, cases_eq, lt-ltb, le-ltb, eq-eqb, ne_eqb}
@@ -10,7 +10,7 @@ use Rattle.std.proofs.lemmas.List.Sums.{sum_by-cons}
 use Rattle.nanorand_users.proofs.lemmas.SampleLemmas.{first_below, first_apart, placed_below, placed_apart}
 use Rattle.nanorand_users.specs.Reservoir.{placed, rows_that, SamplesAreFair}
 
--- sums over the draws, each term times K
+-- sums over the draws of terms times K
 module _ (f : ℕ → ℕ) (K : ℕ) where
   sum_same : (w first n : ℕ) → ((d : ℕ) → first ≤ d → d < first + n → f d * K ≡ w) → sum_by f (range_with_len first n) * K ≡ n * w
   sum_same w first zero each = omega arith
@@ -37,7 +37,7 @@ module _ (f : ℕ → ℕ) (K : ℕ) where
             omega (arith, whole, here, rest)
       ]
 
-  -- the first terms alone
+  -- only the first terms
   sum_front : (w size first n : ℕ) → first ≤ size → size ≤ first + n → ((d : ℕ) → first ≤ d → d < size → f d * K ≡ w)
       → ((d : ℕ) → size ≤ d → d < first + n → f d * K ≡ 0) → sum_by f (range_with_len first n) * K + first * w ≡ size * w
   sum_front w size first zero low high each none =
@@ -56,7 +56,7 @@ module _ (f : ℕ → ℕ) (K : ℕ) where
             omega (arith, rest, ap (λ (s : ℕ). s * w) same)
       ]
 
--- how many rows there are
+-- how many sequences of draws there are
 abbrev total : ℕ → ℕ → ℕ
 total i zero = 1
 total i (suc left) = (i + 1) * total (i + 1) left
@@ -68,7 +68,7 @@ all_rows i (suc left) chosen =
     (λ d from to. let each = all_rows (i + 1) left (placed chosen i d) in omega (arith, each)) in
     omega (arith, rows)
 
--- whether a place stands in a sample
+-- whether an index is in a sample
 abbrev has : ℕ → List ℕ → Bool
 has p chosen = list_any (λ other. nat_eq other p) chosen
 
@@ -88,7 +88,7 @@ length-placed chosen i d =
       | inr miss ↦ rw (le-ltb d (length chosen) miss) refl
     ]
 
--- a place that went by and is not in the sample never comes back
+-- an index that went by and is not in the sample never comes back
 absent_placed : (chosen : List ℕ) (i d p : ℕ) → i ≢ p → All (λ x. x ≢ p) chosen → All (λ x. x ≢ p) (placed chosen i d)
 absent_placed chosen i d p other absent =
     elim (cases_lt d (length chosen)) [
@@ -106,7 +106,7 @@ lost i (suc left) p chosen past absent =
     omega (arith, each)) in
     omega (arith, rows)
 
--- a place of the sample stays where it is, unless the draw is its slot
+-- an index in the sample stays in its slot unless the draw is that slot
 stays : (chosen : List ℕ) (i d e p : ℕ) → e ≢ d → ((x : ℕ) → get_or chosen e x ≡ p) → (x : ℕ) → get_or (placed chosen i d) e x ≡ p
 stays chosen i d e p other is x =
     elim (cases_lt d (length chosen)) [
@@ -132,7 +132,7 @@ evicted chosen i e p below apart within is =
           ])
     ])
 
--- a place of the sample is kept in i of i + left rows
+-- an index in the sample is kept in i of i + left of the sequences
 kept : (i left p e : ℕ) (chosen : List ℕ) → All (λ x. x < i) chosen → AllPairs (λ x y. x ≢ y) chosen → length chosen ≤ i
     → e < length chosen → ((x : ℕ) → get_or chosen e x ≡ p) → rows_that i left chosen (has p) * (i + left) ≡ i * total i left
 kept i zero p e chosen below apart long within is = rw (has_at p e chosen within (is 0)) (omega arith)
@@ -148,7 +148,7 @@ kept i (suc left) p e chosen below apart long within is =
     (stays chosen i d e p (λ equal. miss (sym equal)) is)) in
     omega (arith, rows)
 
--- a place that is still to come is kept in as many as the sample has places
+-- an index still to come is kept in as many of them as the sample has slots
 coming : (i left p : ℕ) (chosen : List ℕ) → All (λ x. x < i) chosen → AllPairs (λ x y. x ≢ y) chosen → length chosen ≤ i
     → i ≤ p → p < i + left → rows_that i left chosen (has p) * (i + left) ≡ length chosen * total i left
 coming i zero p chosen below apart long from to = absurd (omega arith)

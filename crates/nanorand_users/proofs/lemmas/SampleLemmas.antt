@@ -1,4 +1,4 @@
--- The places of a sample stay apart, and below the place that comes next.
+-- The indices in a sample stay distinct, and below the next index.
 use Rattle.std.proofs.Common.{◌≡◌, ◌≢◌, ℕ, suc, ◌+◌, ◌-◌, ◌<◌, List, length, get_or, set, Ok, Err, inl, inr, arith}
 use Rattle.std.specs.List.{All, AllPairs, range_with_len}
 use Rattle.std.proofs.lemmas.Bool.{cases_lt, cases_eq, lt-ltb, le-ltb}
@@ -17,7 +17,7 @@ first_apart n j k d before within =
     let inside : j < n = omega arith in
     rw (get_or-range_with_len 0 n j d inside, get_or-range_with_len 0 n k d within) (λ same. absurd (omega arith))
 
--- a place that no place of the sample reaches takes the place of one
+-- replacing one index by one greater than all of them keeps the sample distinct
 apart-set : (chosen : List ℕ) (place drawn : ℕ) → All (λ x. x < place) chosen → AllPairs (λ x y. x ≢ y) chosen
     → AllPairs (λ x y. x ≢ y) (set chosen drawn place)
 apart-set chosen place drawn below apart j k d before within =
@@ -55,7 +55,7 @@ module _ (chosen : List ℕ) (place drawn : ℕ) (below : All (λ x. x < place) 
         | inr miss ↦ rw (le-ltb drawn (length chosen) miss) apart
       ]
 
--- a pass goes on after a number, and ends at a refusal
+-- a pass continues after a number, and ends at a refusal
 module _ {G : Type 0} (requests : Requests G) (place count : ℕ) (g h : G) (chosen : List ℕ) (pass : Sample G) where
   pub pass_goes_on : place < count → passed requests place (count - place) g chosen ≡ pass
       → h ≡ (place_up_to requests place g).1 → (drawn : ℕ) → Ok drawn ≡ (place_up_to requests place g).0

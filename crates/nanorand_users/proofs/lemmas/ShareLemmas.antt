@@ -1,4 +1,4 @@
--- The numbers of one item are those of its share.
+-- An item's numbers are exactly those in its share.
 use Rattle.std.proofs.Common.{◌≡◌, ℕ, zero, suc, ◌+◌, ◌-◌, ◌*◌, ◌<◌, ◌&&◌, Bool, cond, List, [], ◌∷◌, length, take, slice_index, min, max, Option, Some, None, option_map, nat_eq, nat_le, nat_lt, refl, ◌∙◌, ap, inl, inr, arith}
 use Rattle.std.specs.List.{range_with_len, count_by, sum}
 use Rattle.std.proofs.lemmas.Bool.{cases_lt, lt-ltb, le-ltb}
@@ -8,7 +8,7 @@ use Rattle.nanorand.specs.values.Runs.{named, quota, words_that}
 use Rattle.nanorand.specs.values.Fairness.{EventsAreFair, passes}
 use Rattle.nanorand_users.specs.Choice.{item_at, ChoicesAreFair}
 
--- the numbers from a on and below b, among n numbers from c on
+-- how many of the n numbers from c on are at least a and below b
 count_between : (a b n c : ℕ) → count_by (λ k. nat_le a k && nat_lt k b) (range_with_len c n) ≡ min b (c + n) - max a c
 count_between a b zero c = omega arith
 count_between a b (suc n) c =
@@ -17,7 +17,7 @@ count_between a b (suc n) c =
     let rest = count_between a b n (c + 1) in
     omega (arith, first, here, rest)
 
--- an item answers to a number exactly if the number stands in its share
+-- an item is chosen by a number exactly if the number is in its share
 item_in_share : (weights : List ℕ) (i k : ℕ) → i < length weights
     → nat_eq (item_at weights k) i ≡ (nat_le (sum (take i weights)) k && nat_lt k (sum (take i weights) + slice_index weights i))
 item_in_share [] i k within = absurd (omega arith)
@@ -35,7 +35,7 @@ item_in_share (weight ∷ weights) (suc i) k within =
           rw (le-ltb k weight over, before) (grind (arith, nat_tests, rest))
     ]
 
--- so the item has as many numbers as its weight
+-- so an item has as many numbers as its weight
 item_count : (weights : List ℕ) (i : ℕ) → i < length weights
     → count_by (λ k. nat_eq (item_at weights k) i) (range_with_len 0 (sum weights)) ≡ slice_index weights i
 item_count weights i within =

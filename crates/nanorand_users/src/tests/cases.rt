@@ -1,11 +1,11 @@
-//! A property that holds of the first 37 bytes of a run, and not of the next.
+//! A property that holds in the first 37 cases of a run and fails in the next.
 ghost use Rattle.std.specs.Prelude.{nat_lt};
 
 use crate::cases::{
     Property, check_again, failing_value, failure_again, first_failure, value_of_case,
 };
 
-// A byte is below this.
+// The property that a byte is below a limit.
 #[derive(Drop)]
 struct Below(u8);
 
@@ -18,7 +18,7 @@ impl Property<u8> for Below {
 }
 
 #[test]
-fn the_first_that_fails(rt: HostRuntime) {
+fn finds_the_first_failing_case(rt: HostRuntime) {
     let property = Below(250);
     assert_eq!(rt; first_failure(&property, 1, 1000), Some(37));
     assert_eq!(rt; failing_value(&property, 1, 1000), Some((37, 0xfc)));
@@ -27,7 +27,7 @@ fn the_first_that_fails(rt: HostRuntime) {
 }
 
 #[test]
-fn found_again(rt: HostRuntime) {
+fn finds_the_failing_case_again(rt: HostRuntime) {
     assert_eq!(rt; value_of_case::<u8>(1, 37), 0xfc);
     assert_eq!(rt; value_of_case::<u64>(1, 37), 0xa3c137fd95b922fc);
     assert!(rt; !check_again(&Below(250), 1, 37));

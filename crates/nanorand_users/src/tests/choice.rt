@@ -1,4 +1,4 @@
-//! Choices by weight, and their refusals.
+//! Choices by weight, refused choices and their texts.
 
 use super::zeros::Zeros;
 use crate::choice::{ChoiceError, choice_is_fair, choose};
@@ -6,7 +6,7 @@ use nanorand::WyRand;
 use std::test::Fail;
 
 #[test]
-fn chosen_by_weight(rt: HostRuntime) {
+fn chooses_by_weight(rt: HostRuntime) {
     choice_is_fair();
     let mut rng = WyRand::new_seed(42);
     for item in [3, 3, 3, 3, 2, 3, 0, 0, 3, 3, 0, 3, 0, 3, 0, 3] {
@@ -20,7 +20,7 @@ fn chosen_by_weight(rt: HostRuntime) {
 }
 
 #[test]
-fn refused(rt: HostRuntime) {
+fn refuses_bad_sums_and_rejected_words(rt: HostRuntime) {
     let mut rng = Zeros::new();
     assert_eq!(rt; choose(&mut rng, &[]), Err(ChoiceError::NoWeight));
     assert_eq!(rt; choose(&mut rng, &[0, 0]), Err(ChoiceError::NoWeight));
@@ -34,7 +34,7 @@ fn refused(rt: HostRuntime) {
 }
 
 #[test]
-fn told(rt: HostRuntime) -> Result<(), Fail> {
+fn error_texts(rt: HostRuntime) -> Result<(), Fail> {
     let refusals = [
         (ChoiceError::NoWeight, "no item has a weight"),
         (ChoiceError::TooHeavy, "the weights add up to 2^64 or more"),

@@ -1,4 +1,4 @@
-//! A deck of ten cards, shuffled by the words of wyrand and the multiplication that names a place.
+//! A deck of ten cards: dealt, stored and dealt again, and refused.
 
 use super::zeros::Zeros;
 use crate::deals::{deal_again, hand, rest, shuffle_and_store, shuffle_deck, store_deck};
@@ -19,7 +19,7 @@ fn hands_of_a_shuffled_deck(rt: HostRuntime) {
 }
 
 #[test]
-fn a_deck_dealt_again(rt: HostRuntime) {
+fn stored_deck_is_dealt_again(rt: HostRuntime) {
     let mut deck = [0; 10];
     let mut choices = [0; 10];
     let mut rng = WyRand::new_seed(42);
@@ -36,7 +36,7 @@ fn a_deck_dealt_again(rt: HostRuntime) {
 }
 
 #[test]
-fn a_deck_stored_afterwards(rt: HostRuntime) {
+fn shuffled_deck_is_stored_afterwards(rt: HostRuntime) {
     let mut deck = [0; 10];
     assert_eq!(rt; shuffle_deck(&mut WyRand::new_seed(42), &mut deck), Ok(()));
     let mut choices = [0; 10];
@@ -44,9 +44,9 @@ fn a_deck_stored_afterwards(rt: HostRuntime) {
     assert_eq!(rt; choices, CHOICES);
 }
 
-// The word 0 names no place of ten, so the first card is refused.
+// Word 0 names no index below 10, so the draw for the first card is refused.
 #[test]
-fn a_refused_deck_is_whole(rt: HostRuntime) {
+fn refused_shuffle_leaves_a_whole_deck(rt: HostRuntime) {
     let mut deck = [7; 10];
     let mut rng = Zeros::new();
     assert_eq!(rt;
@@ -57,9 +57,9 @@ fn a_refused_deck_is_whole(rt: HostRuntime) {
     assert_eq!(rt; rng.drawn(), 128);
 }
 
-// The choices that are left of an earlier deck are not dealt again.
+// The choices of an earlier deck are overwritten, and not dealt again.
 #[test]
-fn a_refused_deck_is_stored(rt: HostRuntime) {
+fn refused_shuffle_stores_its_deck(rt: HostRuntime) {
     let mut deck = [7; 10];
     let mut choices = CHOICES;
     assert_eq!(rt;

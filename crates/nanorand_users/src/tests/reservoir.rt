@@ -1,11 +1,11 @@
-//! A sample of places, and one that is cut short.
+//! A sample of indices, and one cut short by a refusal.
 
 use super::zeros::Zeros;
 use crate::reservoir::{sample_is_fair, sample_places};
 use nanorand::{RangeError, WyRand};
 
 #[test]
-fn sampled(rt: HostRuntime) {
+fn samples_five_of_twenty(rt: HostRuntime) {
     sample_is_fair();
     let mut rng = WyRand::new_seed(7);
     let mut chosen = [0; 5];
@@ -15,7 +15,7 @@ fn sampled(rt: HostRuntime) {
 }
 
 #[test]
-fn cut_short(rt: HostRuntime) {
+fn refusal_ends_the_pass(rt: HostRuntime) {
     let mut rng = Zeros::new();
     let mut chosen = [0; 3];
     assert_eq!(rt;

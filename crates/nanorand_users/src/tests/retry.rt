@@ -1,11 +1,11 @@
-//! Schedules of delays, and their fallback.
+//! Schedules of delays, and the delay after a refusal.
 
 use super::zeros::Zeros;
 use crate::retry::{delay, schedule, try_delay};
 use nanorand::{RangeError, WyRand};
 
 #[test]
-fn scheduled(rt: HostRuntime) {
+fn ceilings_double_up_to_the_cap(rt: HostRuntime) {
     let mut rng = WyRand::new_seed(7);
     let mut delays = [0; 8];
     schedule(&mut rng, 100, 1500, &mut delays);
@@ -26,7 +26,7 @@ fn scheduled(rt: HostRuntime) {
 }
 
 #[test]
-fn fallen_back(rt: HostRuntime) {
+fn refused_delay_is_the_ceiling(rt: HostRuntime) {
     let mut rng = Zeros::new();
     assert_eq!(rt; try_delay(&mut rng, 100), Err(RangeError::Exhausted));
     assert_eq!(rt; delay(&mut rng, 100), 100);

@@ -6,7 +6,7 @@ use nanorand::replay::{Answer, Call, Kind, Span};
 use std::ops::Bound;
 use std::test::Fail;
 
-// A word, a byte of a small range, a shuffle and a truth value.
+// A 64-bit value, a number from a small range of bytes, a shuffle and a truth value.
 fn calls() -> [Call; 4] {
     [
         Call::Gen(Kind::U64),
@@ -25,11 +25,11 @@ const ANSWERS: [Answer; 4] = [
 
 const ITEMS: [u64; 3] = [9, 7, 8];
 
-// What the six draws of the calls leave.
+// The seed after the six draws of the calls.
 const SEED_AFTER: u64 = 0xc2c4b05ad4705944;
 
 #[test]
-fn from_a_seed(rt: HostRuntime) {
+fn same_seed_repeats_the_run(rt: HostRuntime) {
     let mut first_items = [7, 8, 9];
     let mut second_items = [7, 8, 9];
     let mut first = [Answer::Empty; 4];
@@ -49,7 +49,7 @@ fn from_a_seed(rt: HostRuntime) {
 }
 
 #[test]
-fn from_a_copy(rt: HostRuntime) -> Result<(), Fail> {
+fn copy_repeats_the_run(rt: HostRuntime) -> Result<(), Fail> {
     let mut rng = WyRand::new_seed(42);
     let mut first_items = [7, 8, 9];
     let mut second_items = [7, 8, 9];
@@ -73,7 +73,7 @@ fn from_a_copy(rt: HostRuntime) -> Result<(), Fail> {
 }
 
 #[test]
-fn stopped_at_each_place(rt: HostRuntime) {
+fn stops_and_resumes_at_each_call(rt: HostRuntime) {
     for place in 0..5 {
         let mut rng = WyRand::new_seed(42);
         let mut items = [7, 8, 9];

@@ -1,5 +1,5 @@
-//! Parts of three streams: wyrand and Pcg64 from the seed 0, and ChaCha20 under zeros, whose blocks
-//! are known.
+//! Parts of three streams: WyRand and Pcg64 from seed 0, and ChaCha20 with a zero key and nonce,
+//! against known blocks.
 
 use crate::streams::{part, worker};
 use nanorand::{ChaCha20, Pcg64, WyRand};
@@ -46,7 +46,7 @@ fn parts_of_chacha(rt: HostRuntime) {
 }
 
 #[test]
-fn a_worker_begins_behind_the_others(rt: HostRuntime) {
+fn worker_starts_after_the_shares_before_it(rt: HostRuntime) {
     for (index, share, want) in [(0, 5, 0), (3, 5, 15), (1 << 63, 3, 1 << 63)] {
         let own = worker(ChaCha20::new_key([0; 32], [0; 8]), index, share);
         assert_eq!(rt; own.counter(), want, "worker {index}");

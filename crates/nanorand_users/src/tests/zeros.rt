@@ -1,4 +1,4 @@
-//! A generator of zeros, whose words name nothing unless a size divides 2^64.
+//! A generator of zeros. Word 0 is rejected unless the size of a range divides the number of words.
 ghost use Rattle.std.specs.Prelude.{◌≡◌, ◌+◌, ◌%◌, ◌^◌, ⊤, refl, replicate};
 ghost use Rattle.std.proofs.Common.{rules};
 ghost use Rattle.nanorand.specs.generators.Blocks.{plain};
@@ -8,13 +8,13 @@ use nanorand::{Blocks, Rng};
 use std::alloc::AllocError;
 use std::marker::Model;
 
-/// Gives zeros for ever, and counts its blocks.
+/// A generator that returns only zeros, and counts its blocks.
 #[derive(Drop)]
 pub struct Zeros {
     drawn: u64,
 }
 
-// A generator is the number of its blocks so far, modulo 2^64.
+// The modelled state is the number of blocks drawn, modulo 2^64.
 impl Model for Zeros {
     ghost use Rattle.std.specs.Prelude.{ℕ};
 
@@ -24,7 +24,7 @@ impl Model for Zeros {
 }
 
 impl Zeros {
-    /// A fresh generator.
+    /// A new generator, before its first block.
     pub fn new() -> Self {
         Zeros { drawn: 0 }
     }

@@ -5,11 +5,11 @@ use Rattle.nanorand.specs.support.BlockLemmas.{put_end}
 use Rattle.nanorand.specs.support.BufferedLemmas.{same_buffer, taken_kept, after_kept, taken_past, after_past}
 use Rattle.nanorand.proofs.buffer.deliver.Goals as goal
 
--- the bytes that are kept
+-- the number of buffered bytes
 kept_length : (output cursor : ℕ) (block : List ℕ) → length block ≡ output → length (drop cursor block) ≡ output - cursor
 kept_length output cursor block long = length-drop cursor block ∙ ap (λ n. n - cursor) long
 
--- what is left of a slice whose front is written
+-- the part of a slice that is left after its front is written
 left_of_slice : (front out : List ℕ) (kept : ℕ) → length front ≡ kept → kept ≤ length out →
     let written = front ++ drop kept out in
     length (take (length written - kept) (drop kept written)) ≡ length out - kept

@@ -2,7 +2,8 @@ use Rattle.std.proofs.Common.{length, take, ◌≡◌, ◌-◌, ◌≤◌}
 use Rattle.std.specs.Io.KnownBytes.{Consumes}
 use Rattle.nanorand.proofs.entropy.system.Given as goal
 
--- the reader has lost the bytes that were filled, and while there are none it is as it was
+-- the reader has consumed exactly the bytes that are filled, and while none are filled it is
+-- unchanged
 abbrev pub invariant-loop-filled : goal.invariant-loop-filled
 invariant-loop-filled g l = record {
   in_slice : l.filled ≤ length l.out;

@@ -1,4 +1,4 @@
--- The initial state and the counter.
+-- ChaCha's initial state, word by word, and its counter.
 use Rattle.std.proofs.Common.{◌≡◌, ℕ, ◌+◌, ◌/◌, ◌%◌, ◌^◌, ◌≤◌, slice_index, List, [], ◌∷◌, length, drop, arith, refl, ap, ◌∙◌}
 use Rattle.std.specs.Int.{w32, from_le_bytes}
 use Rattle.std.proofs.lemmas.List.{length-drop, drop-drop, drop_all}
@@ -12,7 +12,7 @@ words-cons (a ∷ []) h = absurd (omega arith)
 words-cons (a ∷ b ∷ []) h = absurd (omega arith)
 words-cons (a ∷ b ∷ c ∷ []) h = absurd (omega arith)
 
--- one word more, from a place on
+-- one 32-bit word more, from the byte at index `at` on
 words_from : (bs : List ℕ) (at : ℕ) (rest : List ℕ) → at + 4 ≤ length bs → words (drop (at + 4) bs) ≡ rest
     → words (drop at bs) ≡ from_le_bytes w32 (drop at bs) ∷ rest
 words_from bs at rest h later =
@@ -38,7 +38,7 @@ words_of_32 bs h =
     (words_from bs 24 _ (omega arith) (words_from bs 28 _ (omega arith)
     (words_end bs 32 (omega arith)))))))))
 
--- a matrix with another counter, word by word
+-- a matrix with its counter set, word by word
 pub with_counter-spelled : (x : List ℕ) (n : ℕ) → length x ≡ 16
     → with_counter x n ≡ slice_index x 0 ∷ slice_index x 1 ∷ slice_index x 2 ∷ slice_index x 3 ∷ slice_index x 4 ∷ slice_index x 5 ∷ slice_index x 6 ∷ slice_index x 7 ∷ slice_index x 8 ∷ slice_index x 9 ∷ slice_index x 10 ∷ slice_index x 11 ∷ n % 2 ^ 32 ∷ n / 2 ^ 32 ∷ slice_index x 14 ∷ slice_index x 15 ∷ []
 with_counter-spelled x n =

@@ -1,4 +1,4 @@
--- Groups of four blocks, of 64 bytes each.
+-- Requests by groups of four blocks of 64 bytes each.
 use Rattle.std.proofs.Common.{◌≡◌, ℕ, ◌+◌, ◌-◌, ◌<◌, ◌≤◌, List, [], ◌++◌, length, take, drop, arith, ap, sym, ◌∙◌, append_assoc, length-append, length-drop, refl}
 use Rattle.std.proofs.lemmas.List.{take_at, take_all, drop_at, drop_all, append-nil}
 use Rattle.std.proofs.lemmas.Grind.{common_steps}
@@ -8,14 +8,14 @@ use borrow.Rule.Slice.PartMut.{put_mid, post_of}
 use Rattle.nanorand.specs.generators.Blocks.{taken, plain_after}
 use Rattle.nanorand.specs.support.BlockLemmas.{taken_nothing, taken_more, plain_after_more, length-taken}
 
--- a piece that is written behind what is done
+-- writing the next piece after the n elements that are done
 write_next : (n k : ℕ) (done left piece : List ℕ) → length done ≡ n → put_mid n k (done ++ left) piece ≡ (done ++ piece) ++ drop k left
 write_next n k done left piece long =
     ap (λ front. front ++ (piece ++ post_of n k (done ++ left))) (take_at done left n long)
     ∙ ap (λ rest. done ++ (piece ++ drop k rest)) (drop_at done left n long)
     ∙ sym (append_assoc done piece (drop k left))
 
--- four pieces that are written one after another
+-- writing four pieces of 64 bytes, one after another
 pub four_written : (out p q r s : List ℕ) → length out ≡ 256 → length p ≡ 64 → length q ≡ 64 → length r ≡ 64
     → put_mid 192 (length (put_mid 128 64 (put_mid 64 64 (put_mid 0 64 out p) q) r) - 192) (put_mid 128 64 (put_mid 64 64 (put_mid 0 64 out p) q) r) s
     ≡ ((p ++ q) ++ r) ++ s
@@ -33,7 +33,7 @@ four_written out p q r s whole first second third =
     ∙ ap (λ x. (((p ++ q) ++ r) ++ s) ++ x) none ∙ append-nil (((p ++ q) ++ r) ++ s)
 
 module _ {G : Type 0} (block : G → List ℕ) (step : G → G) (size : (g : G) → length (block g) ≡ 64) where
-  -- a request of a block or more takes the whole next block first
+  -- a request of at least a block takes the whole next block first
   taken_block : (g : G) (n : ℕ) → 64 ≤ n → taken block step g n ≡ block g ++ taken block step (step g) (n - 64)
   taken_block g n more =
       taken_more block step 64 (omega arith) size g n
@@ -56,7 +56,7 @@ module _ {G : Type 0} (block : G → List ℕ) (step : G → G) (size : (g : G) 
       ∙ ap (λ rest. (((block g ++ block (step g)) ++ block (step (step g))) ++ block (step (step (step g)))) ++ rest) (taken_nothing block step (iterate step 4 g))
       ∙ append-nil _
 
-  -- a request of a group or more takes the next group first
+  -- a request of at least a group takes the next group first
   taken_past : (g : G) (n : ℕ) → 256 ≤ n → taken block step g n ≡ taken block step g 256 ++ taken block step (iterate step 4 g) (n - 256)
   taken_past g n more =
       taken_four g n more ∙ ap (λ front. front ++ taken block step (iterate step 4 g) (n - 256)) (sym (taken_group g))
@@ -71,7 +71,7 @@ module _ {G : Type 0} (block : G → List ℕ) (step : G → G) (size : (g : G) 
       ∙ plain_after_more block step 64 positive size (step (step (step g))) (n - 64 - 64 - 64) (omega arith)
       ∙ ap (λ k. plain_after step 64 (iterate step 4 g) k) left
 
-  -- A write of the next group: of what is left, a group less is left.
+  -- One step of the loop over groups: it writes the next group of 256 bytes.
   module _ (buffer piece : List ℕ) (filled : ℕ) (g : G) (room : 256 ≤ length buffer - filled) (written : piece ≡ taken block step g 256) where
     group_length : length piece ≡ 256
     group_length = ap length written ∙ length-taken block step 64 (omega arith) size g 256

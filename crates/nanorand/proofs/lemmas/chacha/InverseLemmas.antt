@@ -1,4 +1,4 @@
--- The quarter round and its inverse, on words and on matrices.
+-- The quarter round and its inverse, on four words and on matrices.
 use Rattle.std.proofs.Common.{◌≡◌, ℕ, zero, suc, ◌/◌, ◌^◌, ◌<◌, List, [], ◌∷◌, slice_index, lit<, refl, sym, ap, ◌∙◌}
 use Rattle.std.specs.Fn.{iterate}
 use Rattle.nanorand.specs.generators.ChaChaRounds.{Words, add, xor_rotate, quarter_round, of_columns, of_diagonals, on_columns, on_diagonals, pair_of_rounds, rounds, IsMatrix, RoundsAreInjective}
@@ -6,7 +6,7 @@ use Rattle.nanorand.specs.support.ChaChaInverse.{subtract, rotate_xor, unquarter
 use Rattle.nanorand.proofs.lemmas.chacha.MatrixLemmas.{sixteen, of_four}
 use Rattle.nanorand.proofs.lemmas.chacha.QuarterLemmas.{by_16, by_12, by_8, by_7, subtract-add, add-subtract, rotate_xor-xor_rotate, xor_rotate-rotate_xor, add-lt, subtract-lt, xor_rotate-lt, rotate_xor-lt}
 
--- four numbers below 2 ^ 32
+-- four 32-bit words: numbers below 2 ^ 32
 pub record AreWords (w : Words) : Type 0 where
   pub a : w.0 < 2 ^ 32
   pub b : w.1 < 2 ^ 32
@@ -80,14 +80,14 @@ quarter_round-unquarter_round (a2, b2, c2, d2) h =
       xor_rotate-rotate_xor b2 c2 7 by_7 h.b,
     ) refl
 
--- g brings f's words back
+-- g undoes f on 32-bit words
 abbrev Undoes : (Words → Words) → (Words → Words) → Type 0
 Undoes g f = (w : Words) → AreWords w → g (f w) ≡ w
 
 abbrev KeepsWords : (Words → Words) → Type 0
 KeepsWords f = (w : Words) → AreWords w → AreWords (f w)
 
--- the words of a line
+-- the words of a line of a matrix are 32-bit words
 line_words : (x : List ℕ) → IsMatrix x → (a b c d : ℕ)
     → AreWords (slice_index x a, slice_index x b, slice_index x c, slice_index x d)
 line_words x h a b c d = record { a = h.words a; b = h.words b; c = h.words c; d = h.words d }
@@ -114,7 +114,7 @@ diagonals_undone g f undoes x h =
     (undoes (c, h', i, n) (words 2 7 8 13)) (undoes (d, e, j, o) (words 3 4 9 14)))
     x h.sixteen h
 
--- a list of numbers below 2 ^ 32
+-- every number of a list is below 2 ^ 32
 abbrev AllWords : List ℕ → Type 0
 AllWords [] = Unit {0}
 AllWords (a ∷ x) = (a < 2 ^ 32) × AllWords x
@@ -150,7 +150,7 @@ diagonals-matrix f keeps x h =
           (p.a, (q.a, (r.a, (s.a, (s.b, (p.b, (q.b, (r.b, (r.c, (s.c, (p.c, (q.c, (q.d, (r.d, (s.d, (p.d, tt))))))))))))))));
     }
 
--- a pair of rounds undone
+-- the inverse of a double round
 abbrev unpair : List ℕ → List ℕ
 unpair x = on_columns unquarter_round (on_diagonals unquarter_round x)
 
@@ -164,14 +164,14 @@ unpair-pair x h =
     _ (columns-matrix quarter_round quarter_round-words x h))
     ∙ columns_undone unquarter_round quarter_round unquarter_round-quarter_round x h
 
--- the columns and the diagonals back from a matrix
+-- the inverse step undoes the step on columns, and the step on diagonals
 pub columns-back : (x : List ℕ) → IsMatrix x → on_columns quarter_round (on_columns unquarter_round x) ≡ x
 columns-back = columns_undone quarter_round unquarter_round quarter_round-unquarter_round
 
 pub diagonals-back : (x : List ℕ) → IsMatrix x → on_diagonals quarter_round (on_diagonals unquarter_round x) ≡ x
 diagonals-back = diagonals_undone quarter_round unquarter_round quarter_round-unquarter_round
 
--- from the result of n pairs back to the start
+-- n double rounds are injective on matrices
 pairs_injective : (n : ℕ) (x y : List ℕ) → IsMatrix x → IsMatrix y
     → iterate pair_of_rounds n x ≡ iterate pair_of_rounds n y → x ≡ y
 pairs_injective zero x y hx hy same = same

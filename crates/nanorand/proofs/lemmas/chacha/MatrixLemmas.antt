@@ -1,10 +1,10 @@
--- Matrices spelled out.
+-- Matrices as lists of sixteen variables.
 use Rattle.std.proofs.Common.{◌≡◌, ℕ, zero, suc, ◌+◌, List, [], ◌∷◌, length, slice_index, arith, refl, add-one}
 use Rattle.std.specs.Fn.{iterate}
 use Rattle.nanorand.specs.generators.ChaChaRounds.{Words, on_columns, on_diagonals}
 use Rattle.nanorand.specs.support.ChaChaLines.{with_line}
 
--- what holds of four elements before each list of n holds of each list of n + 4
+-- a property of four elements before each list of n holds of each list of n + 4
 pub four_more : (n : ℕ) (P : List ℕ → Type 0) → ((a b c d : ℕ) (x : List ℕ) → length x ≡ n → P (a ∷ b ∷ c ∷ d ∷ x))
     → (x : List ℕ) → length x ≡ n + 4 → P x
 four_more n P p (a ∷ b ∷ c ∷ d ∷ x) h = p a b c d x (omega arith)
@@ -17,7 +17,7 @@ pub no_more : (P : List ℕ → Type 0) → P [] → (x : List ℕ) → length x
 no_more P p [] h = p
 no_more P p (a ∷ x) h = absurd (omega arith)
 
--- what holds of each matrix spelled out holds of each matrix
+-- a property of all lists of sixteen variables holds of each list of sixteen
 pub sixteen : (P : List ℕ → Type 0)
     → ((a b c d e f g h i j k l m n o p : ℕ)
     → P (a ∷ b ∷ c ∷ d ∷ e ∷ f ∷ g ∷ h ∷ i ∷ j ∷ k ∷ l ∷ m ∷ n ∷ o ∷ p ∷ []))
@@ -36,7 +36,7 @@ pub spelled : (x : List ℕ) → length x ≡ 16
     ∷ slice_index x 12 ∷ slice_index x 13 ∷ slice_index x 14 ∷ slice_index x 15 ∷ [] ≡ x
 spelled = sixteen _ (λ a b c d e f g h i j k l m n o p. refl)
 
--- four lines written one after another are the columns
+-- replacing the four columns one after another is the step on columns
 pub with_columns : (f : Words → Words) (x : List ℕ) → length x ≡ 16
     → with_line f (with_line f (with_line f (with_line f x 0 4 8 12) 1 5 9 13) 2 6 10 14) 3 7 11 15 ≡ on_columns f x
 unfolding on_columns
@@ -44,7 +44,7 @@ with_columns f =
     sixteen (λ x. with_line f (with_line f (with_line f (with_line f x 0 4 8 12) 1 5 9 13) 2 6 10 14) 3 7 11 15 ≡ on_columns f x)
     (λ a b c d e f g h i j k l m n o p. refl)
 
--- and likewise the diagonals
+-- the same for the diagonals
 pub with_diagonals : (f : Words → Words) (x : List ℕ) → length x ≡ 16
     → with_line f (with_line f (with_line f (with_line f x 0 5 10 15) 1 6 11 12) 2 7 8 13) 3 4 9 14 ≡ on_diagonals f x
 unfolding on_diagonals
@@ -52,7 +52,7 @@ with_diagonals f =
     sixteen (λ x. with_line f (with_line f (with_line f (with_line f x 0 5 10 15) 1 6 11 12) 2 7 8 13) 3 4 9 14 ≡ on_diagonals f x)
     (λ a b c d e f g h i j k l m n o p. refl)
 
--- one application more, outermost
+-- one more application of f, outermost
 iterate-suc : (f : List ℕ → List ℕ) (n : ℕ) (x : List ℕ) → iterate f (suc n) x ≡ f (iterate f n x)
 iterate-suc f zero x = refl
 iterate-suc f (suc n) x = iterate-suc f n (f x)
@@ -60,7 +60,7 @@ iterate-suc f (suc n) x = iterate-suc f n (f x)
 pub iterate_more : (f : List ℕ → List ℕ) (n : ℕ) (x : List ℕ) → iterate f (n + 1) x ≡ f (iterate f n x)
 iterate_more f n x = rw add-one (iterate-suc f n x)
 
--- a matrix is equal to one made of the same four lines
+-- matrices made from equal lines are equal
 pub of_four : {A : Type 0} (of : Words → Words → Words → Words → A) (p p' q q' r r' s s' : Words)
     → p ≡ p' → q ≡ q' → r ≡ r' → s ≡ s' → of p q r s ≡ of p' q' r' s'
 of_four of p p' q q' r r' s s' hp hq hr hs = cc

@@ -7,7 +7,7 @@ use Rattle.std.proofs.Math.Nat.{mul-mod_left}
 use Rattle.nanorand.specs.generators.ChaChaRounds.{add, xor_rotate}
 use Rattle.nanorand.specs.support.ChaChaInverse.{subtract, rotate_xor}
 
--- the low j bits above the others
+-- a rotation of k + j bits by k to the left: the low j bits move above the others
 abbrev turned : ℕ → ℕ → ℕ → ℕ
 turned k j n = n % 2 ^ j * 2 ^ k + n / 2 ^ j
 
@@ -16,7 +16,7 @@ turned_back k j n fits =
     let high : n / 2 ^ j < 2 ^ k = shr_below n k j fits in
     rw (mod_low (n % 2 ^ j) k (n / 2 ^ j) high, shr_high (n % 2 ^ j) k (n / 2 ^ j) high) (shr_split n j)
 
--- two shifts and an or
+-- two shifts and an or make that rotation
 or_turned : (k j n : ℕ) → n < 2 ^ (k + j) → bit_or (n * 2 ^ k % 2 ^ (j + k)) (n / 2 ^ j) ≡ turned k j n
 or_turned k j n fits =
     let none : n * 2 ^ k % 2 ^ k ≡ 0 = mul-mod_left n (2 ^ k) in
@@ -29,7 +29,7 @@ turned_fits k j n fits =
     let low : n % 2 ^ j < 2 ^ j = mod_below n (2 ^ j) (pow_pos j) in
     rw (add_comm j k, pow-add 2 k j) (mul-add-lt (n % 2 ^ j) (2 ^ k) (n / 2 ^ j) (2 ^ j) low (shr_below n k j fits))
 
--- the shifts of a rotation to the left by k of k + j bits, and those of one to the right by k
+-- the rotation by k to the left of k + j bits, by shifts, and the one by k to the right
 abbrev left : ℕ → ℕ → ℕ → ℕ
 left k j n = bit_or (n * 2 ^ k % 2 ^ (j + k)) (n / 2 ^ j)
 
@@ -51,11 +51,11 @@ left_right k j n fits =
     ∙ or_turned k j (turned j k n) (turned_fits j k n fits)
     ∙ turned_back j k n fits
 
--- the bits of d ^ a ^ a
+-- xor with the same number twice changes nothing
 xor_again : (d a : ℕ) → bit_xor (bit_xor d a) a ≡ d
 xor_again d a = xor_assoc d a a ∙ ap (λ x. bit_xor d x) (xor_self a) ∙ xor_zero_r d
 
--- the sum undone
+-- subtracting undoes adding, modulo 2 ^ 32
 pub subtract-add : (a b : ℕ) → a < 2 ^ 32 → b < 2 ^ 32 → subtract (add a b) b ≡ a
 subtract-add a b fits_a fits_b = omega arith
 

@@ -1,4 +1,4 @@
--- Rows of four lanes.
+-- Matrices in vectors: rows of four lanes, and four blocks at once.
 use Rattle.std.proofs.Common.{◌≡◌, ℕ, zero, suc, ◌<◌, ◌-◌, ◌*◌, ◌/◌, ◌%◌, ◌^◌, List, [], ◌∷◌, length, slice_index, slice_index_or, map, bit_or, bit_xor, arith, lit<, refl, sym, ap, ◌∙◌}
 use Rattle.std.specs.List.{range_with_len}
 use Rattle.std.specs.Fn.{iterate}
@@ -9,7 +9,7 @@ use Rattle.nanorand.specs.generators.ChaChaRounds.{Words, add, xor_rotate, on_co
 use Rattle.nanorand.specs.support.ChaChaRows.{matrix, lane}
 use Rattle.nanorand.proofs.lemmas.chacha.MatrixLemmas.{four_more, no_more}
 
--- what holds of each of the four lanes
+-- a property of each of the four lanes holds of every lane
 pub below_four : (P : ℕ → Type 0) → P 0 → P 1 → P 2 → P 3 → (j : ℕ) → j < 4 → P j
 below_four P p0 p1 p2 p3 zero h = p0
 below_four P p0 p1 p2 p3 (suc zero) h = p1
@@ -17,11 +17,11 @@ below_four P p0 p1 p2 p3 (suc (suc zero)) h = p2
 below_four P p0 p1 p2 p3 (suc (suc (suc zero))) h = p3
 below_four P p0 p1 p2 p3 (suc (suc (suc (suc n)))) h = absurd (omega arith)
 
--- what holds of each row spelled out holds of each row
+-- a property of all rows of four variables holds of each row of four
 pub four_lanes : (P : List ℕ → Type 0) → ((a b c d : ℕ) → P (a ∷ b ∷ c ∷ d ∷ [])) → (x : List ℕ) → length x ≡ 4 → P x
 four_lanes P all = four_more 0 P (λ a b c d. no_more _ (all a b c d))
 
--- two shifts of each lane and an or are a rotation
+-- two shifts and an or of each lane rotate each lane
 abbrev Rotates : ℕ → List ℕ → List ℕ → Type 0
 Rotates n d a = (j : ℕ) → j < 4
     → slice_index (zip2 bit_or
@@ -37,7 +37,7 @@ shifts_rotate n low high =
     four_lanes (Rotates n (d0 ∷ d1 ∷ d2 ∷ d3 ∷ [])) (λ a0 a1 a2 a3.
     below_four _ (rw (left, right) refl) (rw (left, right) refl) (rw (left, right) refl) (rw (left, right) refl)))
 
--- each lane is a sum
+-- each lane of one row is the sum of that lane in two others
 abbrev pub Sums : List ℕ → List ℕ → List ℕ → Type 0
 Sums t p a = (j : ℕ) → j < 4 → slice_index t j ≡ add (slice_index p j) (slice_index a j)
 
@@ -67,7 +67,7 @@ rows_summed t p a h0 h1 h2 h3 =
       h3 3 (lit< tt),
     ) refl
 
--- the sums of what the rounds make of a matrix and the matrix itself are the block
+-- the rows of the matrix after R rounds plus the rows of the matrix make the block
 pub rows_block : (R : ℕ) (t p a : List (List ℕ)) → matrix p ≡ rounds R (matrix a)
     → Sums (slice_index_or t 0 []) (slice_index_or p 0 []) (slice_index_or a 0 [])
     → Sums (slice_index_or t 1 []) (slice_index_or p 1 []) (slice_index_or a 1 [])
@@ -79,7 +79,7 @@ rows_block R t p a mixed h0 h1 h2 h3 =
     rows_summed t p a h0 h1 h2 h3
     ∙ ap (λ (m : List ℕ). map (λ k. add (slice_index m k) (slice_index (matrix a) k)) (range_with_len 0 16)) mixed
 
--- a matrix turned so that each diagonal stands in a column
+-- the matrix with its rows rotated so that each diagonal becomes a column
 abbrev pub slanted : List ℕ → List ℕ
 slanted x =
     slice_index x 0 ∷ slice_index x 1 ∷ slice_index x 2 ∷ slice_index x 3
@@ -87,7 +87,7 @@ slanted x =
     ∷ slice_index x 10 ∷ slice_index x 11 ∷ slice_index x 8 ∷ slice_index x 9
     ∷ slice_index x 15 ∷ slice_index x 12 ∷ slice_index x 13 ∷ slice_index x 14 ∷ []
 
--- and turned back
+-- the matrix with its rows rotated back
 abbrev pub upright : List ℕ → List ℕ
 upright x =
     slice_index x 0 ∷ slice_index x 1 ∷ slice_index x 2 ∷ slice_index x 3
@@ -99,7 +99,7 @@ pub upright-columns : (f : Words → Words) (x m : List ℕ) → m ≡ on_column
 unfolding on_columns on_diagonals
 upright-columns f x m h = ap upright h
 
--- what the rounds of a lane and the lane itself sum to is its block, and lane j is the state after j draws
+-- lane j, after R rounds plus itself, is the block of the state after j draws
 pub lane_block : (R j : ℕ) (x : List ℕ) (s m a : List (List ℕ))
     → lane j s ≡ map (λ k. add (slice_index (lane j m) k) (slice_index (lane j a) k)) (range_with_len 0 16)
     → lane j m ≡ rounds R (lane j a) → lane j a ≡ chacha_after j x → lane j s ≡ block R (iterate next_state j x)

@@ -1,4 +1,5 @@
--- The cycles of the walks x ↦ a * x + c with a = 16 * u + 7 and c = 8 * v + 7, modulo 8 * 2 ^ i.
+-- The cycles of the walks x ↦ a * x + c with a = 16 * u + 7 and c = 8 * v + 7, modulo 8 * 2 ^ i. A
+-- stride is 2 ^ suc i steps.
 use Rattle.std.proofs.Common.{◌≡◌, ℕ, zero, suc, ◌+◌, ◌*◌, ◌/◌, ◌%◌, ◌^◌, ◌<◌, ◌⊎◌, inl, inr, lit<, sym, ap, ◌∙◌, arith}
 use Rattle.std.proofs.Math.Nat.{pow-suc, two-pow-succ, mod-add-div', mul_comm, add-mul-mod_self_left, mul-pos, eq_of_mul-eq-mul_left, one-mul, dvd-mul_right, mod-mod_of_dvd, add-mod_right, add-div_right}
 use Rattle.std.proofs.Math.Arith.{mod-mul}
@@ -7,7 +8,7 @@ use Rattle.nanorand.proofs.lemmas.cycles.ModulusLemmas.{parity, mod_cancel_left,
 use Rattle.nanorand.specs.support.Pcg64DrawLemmas.{affine_after-add}
 use Rattle.nanorand.proofs.lemmas.cycles.DoublingLemmas.{walk, walk-zero, walk-suc, moves_far, walk_mod_8}
 
--- n steps are the steps of its remainder, and then the strides of its quotient
+-- n steps are n % 2 ^ suc i steps and then n / 2 ^ suc i strides
 by_strides : (u v i n s : ℕ) → (z : ℕ)
     × (walk u v n s ≡ walk u v (n % 2 ^ suc i) s + n / 2 ^ suc i * (8 * 2 ^ i) + 8 * 2 ^ i * 2 * z)
 by_strides u v i n s =
@@ -32,7 +33,8 @@ walk-same u v i m n s same = to_remainder m ∙ ap (λ (k : ℕ). walk u v k s %
         let parts : t + e * (8 * 2 ^ i) + 8 * 2 ^ i * 2 * strides.0 ≡ t + 8 * 2 ^ i * (e + 2 * strides.0) = omega arith in
         ap (λ (k : ℕ). k % (8 * 2 ^ i)) (strides.1 ∙ parts) ∙ add-mul-mod_self_left t (8 * 2 ^ i) (e + 2 * strides.0)
 
--- two numbers of strides, from one place to one place modulo two strides, have one parity
+-- numbers of strides that lead from one number to the same number, modulo two strides, have the
+-- same parity
 same_parity : (q t e f z w : ℕ) → 0 < q
     → (t + e * q + q * 2 * z) % (q * 2) ≡ (t + f * q + q * 2 * w) % (q * 2) → e % 2 ≡ f % 2
 same_parity q t e f z w pos same =
@@ -56,7 +58,7 @@ coarser q a b same =
     let divides = dvd-mul_right q 2 in
     sym (mod-mod_of_dvd q a divides) ∙ ap (λ (n : ℕ). n % q) same ∙ mod-mod_of_dvd q b divides
 
--- a remainder by twice q, by its upper bit
+-- a remainder by twice q, split at its top bit
 split_two : (q n : ℕ) → 0 < q → n % (q * 2) ≡ n / q % 2 * q + n % q
 split_two q n pos = ap (λ (m : ℕ). n % m) (mul_comm q 2) ∙ mod-mul n (lit< tt) pos
 
@@ -104,7 +106,7 @@ walk_stride u v i n s =
     (affine_after-add _ _ n (2 ^ suc i) s ∙ ap (λ (k : ℕ). walk u v k t) (sym (one-mul (2 ^ suc i))) ∙ far.1 ∙ sum)
     ∙ add-mul-mod_self_left (t + q) (q * 2) far.0
 
--- a number that is t modulo q is t modulo twice q, or is after q more
+-- if n is t modulo q, then n or n + q is t modulo twice q
 one_bit_more : (q n t : ℕ) → 0 < q → n % q ≡ t % q → (n % (q * 2) ≡ t % (q * 2)) ⊎ ((n + q) % (q * 2) ≡ t % (q * 2))
 one_bit_more q n t pos same =
     let lifted : (a : ℕ) → a % q ≡ t % q → a / q % 2 ≡ t / q % 2 → a % (q * 2) ≡ t % (q * 2) =

@@ -1,4 +1,4 @@
--- The bits of a distance of Pcg64, from the lowest.
+-- The distance between two seeds of Pcg64, bit by bit from the lowest.
 use Rattle.std.proofs.Common.{◌≡◌, ◌≢◌, ℕ, zero, suc, ◌+◌, ◌-◌, ◌*◌, ◌/◌, ◌%◌, ◌^◌, ◌<◌, ◌≤◌, ◌↔◌, inl, inr, sym, ap, ◌∙◌, arith, lit<, subst}
 use Rattle.std.proofs.Math.Nat.{mod-add-mod, add-mod_right, mul-div_cancel_left, mod-mod_of_dvd, dvd-mul_right, pow-succ', two-pow-succ, mod-eq_of_lt, mul-mod_left}
 use Rattle.std.proofs.Math.Numerals.{add-one}
@@ -11,7 +11,7 @@ use Rattle.nanorand.proofs.lemmas.cycles.Pcg64Lemmas.{u, v, seed_after-agree}
 use Rattle.nanorand.proofs.lemmas.cycles.ReachLemmas.{reached}
 use Rattle.nanorand.proofs.lemmas.cycles.JumpLemmas.{Makes, Makes-one, Makes-twice, Makes-wrapping}
 
--- the difference of a number and an earlier one, modulo m
+-- the difference modulo m of a number and one d before it is d
 difference : (m s d : ℕ) → s < m → ((s + d) % m + (m - s)) % m ≡ d % m
 difference m s d fits =
     let gone : s + d + (m - s) ≡ d + m = omega arith in
@@ -29,7 +29,8 @@ deciding_bit p w d p_pos w_pos =
     ∙ ap (λ (n : ℕ). n % 8) (mul-div_cancel_left (4 * rest) two_pos)
     ∙ mul-mod-mul 4 rest 2 (lit< tt) (lit< tt) ∙ ap (λ (b : ℕ). 4 * b) low
 
--- the test of a bit: with k strides of 2 ^ bit draws left to the end, it finds none exactly if k is even
+-- the test of a bit: with k strides of 2 ^ bit draws left to the end, the tested value is 0 exactly
+-- if k is even
 pub deciding : (bit k seed end : ℕ) → bit < 126 → seed < 2 ^ 128 → seed_after (k * 2 ^ bit) seed ≡ end
     → ((end + (2 ^ 128 - seed)) % 2 ^ 128 / 2 ^ bit % 8 ≡ 0) ↔ (k % 2 ≡ 0)
 deciding zero k seed end in_range fits leads =
@@ -60,7 +61,7 @@ deciding (suc i) k seed end in_range fits leads =
         let product : 2 ^ i * 2 ^ (124 - i) ≡ 2 ^ 124 = sym (pow-add 2 i (124 - i)) ∙ ap (λ (n : ℕ). 2 ^ n) whole in
         omega (arith, product)
 
--- what is known where `bit` bits of the distance are decided
+-- what is known once `bit` bits of the distance are decided
 pub record IsDecided (f t bit draws seed start end : ℕ) : Type 0 where
   pub makes : Makes f t (2 ^ bit)
   pub below : draws < 2 ^ bit
@@ -77,20 +78,20 @@ IsDecided-start start end start_fits end_fits class =
       rest = (found.0, ap (λ (n : ℕ). seed_after n start) (omega arith) ∙ found.1);
     }
 
--- twice 2 ^ bit
+-- the map of twice 2 ^ bit draws
 doubled_stride : (f t bit : ℕ) → Makes f t (2 ^ bit) → Makes (f * f % 2 ^ 128) ((f + 1) % 2 ^ 128 * t % 2 ^ 128) (2 ^ (bit + 1))
 doubled_stride f t bit makes =
     let P : ℕ → Type 0 = λ n. Makes (f * f % 2 ^ 128) ((f + 1) % 2 ^ 128 * t % 2 ^ 128) n in
     subst P (sym (two-pow-succ bit) ∙ ap (λ (n : ℕ). 2 ^ n) (sym (add-one bit))) (Makes-twice f t (2 ^ bit) makes)
 
--- a number of strides by its last bit and its half
+-- a number of strides, split into its last bit and its half
 halved : (last k bit : ℕ) → k % 2 ≡ last → last * 2 ^ bit + k / 2 * 2 ^ (bit + 1) ≡ k * 2 ^ bit
 halved last k bit is =
     let whole : k ≡ 2 * (k / 2) + last = omega (arith, is) in
     ap (λ (n : ℕ). last * 2 ^ bit + k / 2 * n) (ap (λ (n : ℕ). 2 ^ n) (add-one bit) ∙ pow-succ' 2 bit)
     ∙ (let e : last * 2 ^ bit + k / 2 * (2 * 2 ^ bit) ≡ (2 * (k / 2) + last) * 2 ^ bit = omega arith in e) ∙ ap (λ (n : ℕ). n * 2 ^ bit) (sym whole)
 
--- a bit that is not set
+-- the step for a bit that is not set
 pub IsDecided-unset : (f t bit draws seed start end : ℕ) → bit < 126 → seed < 2 ^ 128
     → (end + (2 ^ 128 - seed)) % 2 ^ 128 / 2 ^ bit % 8 ≡ 0 → IsDecided f t bit draws seed start end
     → IsDecided (f * f % 2 ^ 128) ((f + 1) % 2 ^ 128 * t % 2 ^ 128) (bit + 1) draws seed start end
@@ -104,7 +105,7 @@ IsDecided-unset f t bit draws seed start end in_range fits none known =
       rest = (k / 2, ap (λ (n : ℕ). seed_after n seed) (omega (arith, halved 0 k bit even)) ∙ known.rest.1);
     }
 
--- a bit that is set
+-- the step for a bit that is set
 pub IsDecided-set : (f t bit draws seed start end : ℕ) → bit < 126 → seed < 2 ^ 128
     → (end + (2 ^ 128 - seed)) % 2 ^ 128 / 2 ^ bit % 8 ≢ 0 → IsDecided f t bit draws seed start end
     → IsDecided (f * f % 2 ^ 128) ((f + 1) % 2 ^ 128 * t % 2 ^ 128) (bit + 1) (draws + 2 ^ bit) ((f * seed % 2 ^ 128 + t) % 2 ^ 128) start end
@@ -124,7 +125,7 @@ IsDecided-set f t bit draws seed start end in_range fits some known =
       );
     }
 
--- 126 bits decide
+-- after 126 bits the distance is decided
 pub IsDecided-end : (f t draws seed start end : ℕ) → seed < 2 ^ 128 → IsDecided f t 126 draws seed start end → seed_after draws start ≡ end
 IsDecided-end f t draws seed start end fits known =
     let k = known.rest.0 in

@@ -1,5 +1,5 @@
--- The walks x ↦ a * x + c with a = 16 * u + 7 and c = 8 * v + 7, over the unbounded numbers and modulo powers of two.
--- Twice as many steps make a map of the same shape.
+-- The walks x ↦ a * x + c with a = 16 * u + 7 and c = 8 * v + 7, on unbounded numbers and modulo
+-- powers of two. Twice as many steps make a map of the same shape.
 use Rattle.std.proofs.Common.{◌≡◌, ℕ, zero, suc, ◌+◌, ◌*◌, ◌%◌, ◌^◌, ◌⊎◌, inl, inr, refl, sym, ap, ◌∙◌, arith}
 use Rattle.std.proofs.Math.Nat.{two-pow-succ, suc-mul, zero-mul}
 use Rattle.nanorand.specs.generators.Pcg64.{affine_after}

@@ -5,7 +5,7 @@ use Rattle.std.proofs.lemmas.Nat.{xor_comm, xor_lt}
 use Rattle.std.proofs.lemmas.Bool.{cases_lt}
 use Rattle.nanorand.specs.generators.Halves.{folded}
 
--- adding 2 ^ 63 modulo 2 ^ 64 turns the top bit
+-- adding 2 ^ 63 modulo 2 ^ 64 flips the top bit
 xor-top : (n : ℕ) → n < 2 ^ 64 → (n + 2 ^ 63) % 2 ^ 64 ≡ bit_xor n (2 ^ 63)
 xor-top n fits =
     elim (cases_lt n (2 ^ 63)) [
@@ -22,7 +22,7 @@ xor-top n fits =
           sum ∙ cleared ∙ sym joined ∙ ap (λ (m : ℕ). bit_xor m (2 ^ 63)) (sym parts)
     ]
 
--- adding 2 ^ 127 modulo 2 ^ 128 turns the top bit of the halves' xor
+-- adding 2 ^ 127 modulo 2 ^ 128 flips the top bit of the folded number
 pub folded-top : (n : ℕ) → n < 2 ^ 128 → folded ((n + 2 ^ 127) % 2 ^ 128) ≡ bit_xor (folded n) (2 ^ 63)
 folded-top n fits =
     let high = n / 2 ^ 64 in
@@ -36,7 +36,7 @@ folded-top n fits =
 pub folded-lt : (n : ℕ) → n < 2 ^ 128 → folded n < 2 ^ 64
 folded-lt n fits = xor_lt 64 (n / 2 ^ 64) (n % 2 ^ 64) (omega arith) (omega arith)
 
--- a number with its top bit turned is another number
+-- a number with its top bit flipped is another number
 pub xor_apart : (n : ℕ) → bit_xor n (2 ^ 63) ≡ n → ⊥
 xor_apart n same =
     let cleared : 2 ^ 63 ≡ 0 = sym (xor_zero_l (2 ^ 63)) ∙ ap (λ (z : ℕ). bit_xor z (2 ^ 63)) (sym (xor_self n)) ∙ xor_assoc n n (2 ^ 63)

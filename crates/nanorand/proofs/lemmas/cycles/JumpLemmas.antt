@@ -1,18 +1,19 @@
--- Affine maps that make many draws of Pcg64 at once, and a loop that composes them.
+-- Jumps of Pcg64: affine maps that make many draws at once, and a loop that composes them by
+-- repeated doubling.
 use Rattle.std.proofs.Common.{◌≡◌, ℕ, ◌+◌, ◌*◌, ◌/◌, ◌%◌, ◌^◌, ◌<◌, sym, ap, ◌∙◌, arith}
 use Rattle.std.proofs.Math.Nat.{mod-add-mod, add-mod-mod, add-mod, mod-eq_of_lt, zero-mul}
 use Rattle.std.proofs.lemmas.Nat.{mul-mod_first, mul-mod_second}
 use Rattle.nanorand.specs.generators.Pcg64.{factor, term, seed_after}
 use Rattle.nanorand.specs.support.Pcg64DrawLemmas.{seed_after-zero, seed_after-one, seed_after-add}
 
--- s ↦ f * s + t makes k draws
+-- the map s ↦ f * s + t makes k draws
 pub record Makes (f t k : ℕ) : Type 0 where
   pub draws : (s : ℕ) → (f * s + t) % 2 ^ 128 ≡ seed_after k s
 
 pub Makes-one : Makes factor term 1
 Makes-one = record { draws = λ s. sym (seed_after-one s) }
 
--- the map taken twice, under any modulus
+-- the map applied twice, modulo any m
 map_twice : (m f t s : ℕ) → (f * f % m * s + (f + 1) % m * t % m) % m ≡ (f * ((f * s + t) % m) + t) % m
 map_twice m f t s =
     let composed : f * f * s + (f + 1) * t ≡ f * (f * s + t) + t = omega arith in
@@ -29,11 +30,11 @@ Makes-twice f t k makes = record {
       map_twice (2 ^ 128) f t s ∙ ap (λ (x : ℕ). (f * x + t) % 2 ^ 128) (makes.draws s) ∙ makes.draws (seed_after k s) ∙ sym (seed_after-add k k s);
 }
 
--- what the code computes of the map
+-- the map as the code computes it, with wrapping products and sums
 pub Makes-wrapping : (f t k s : ℕ) → Makes f t k → (f * s % 2 ^ 128 + t) % 2 ^ 128 ≡ seed_after k s
 Makes-wrapping f t k s makes = mod-add-mod (f * s) (2 ^ 128) t ∙ makes.draws s
 
--- the draws left, in strides that the map makes, lead where all of them lead from the start
+-- the invariant: the `left` strides that remain lead to the same seed as all draws from the start
 pub record IsOnWay (f t left seed draws start : ℕ) : Type 0 where
   pub stride : ℕ
   pub makes : Makes f t stride

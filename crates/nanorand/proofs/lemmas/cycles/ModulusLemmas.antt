@@ -1,4 +1,4 @@
--- Remainders, most of them by powers of two.
+-- Remainders, most of them modulo powers of two.
 use Rattle.std.proofs.Common.{◌≡◌, ◌≢◌, ℕ, zero, suc, ◌+◌, ◌*◌, ◌/◌, ◌%◌, ◌^◌, ◌<◌, ◌⊎◌, inl, inr, lit<, refl, sym, ap, ◌∙◌, arith}
 use Rattle.std.proofs.Math.Nat.{pow-suc, pow-succ', mul-one, add-mul-mod_self_right, mod-eq_of_lt, div-add-mod', mul-lt-mul_of_pos_left, mod-lt}
 use Rattle.std.proofs.Math.Pow.{pow_pos}

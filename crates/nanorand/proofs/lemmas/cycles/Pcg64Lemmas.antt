@@ -14,35 +14,35 @@ use Rattle.nanorand.proofs.lemmas.cycles.CycleLemmas.{walk-same, same-walk, walk
 use Rattle.nanorand.proofs.lemmas.cycles.DoublingLemmas.{walk}
 use Rattle.nanorand.proofs.lemmas.cycles.PeriodLemmas.{periods_are_multiples}
 
--- factor is 16 * u + 7 and term is 8 * v + 7, so the seeds are a walk modulo 2 ^ 128
+-- `factor` is 16 * u + 7 and `term` is 8 * v + 7, so the seeds are a walk modulo 2 ^ 128
 abbrev pub u : ℕ
 u = factor / 16
 
 abbrev pub v : ℕ
 v = term / 8
 
--- draws from one seed lead to one seed exactly if they agree modulo 2 ^ 126
+-- i draws and j draws lead from a seed to the same seed exactly if i and j agree modulo 2 ^ 126
 pub seed_after-agree : (s : ℕ) → AgreeModulo (2 ^ 126) seed_after s
 seed_after-agree s i j = (same-walk u v 125 i j s, walk-same u v 125 i j s)
 
--- 2 ^ 125 draws more add 2 ^ 127
+-- 2 ^ 125 more draws add 2 ^ 127
 pub seed_after-half : (n s : ℕ) → seed_after (n + 2 ^ 125) s ≡ (seed_after n s + 2 ^ 127) % 2 ^ 128
 seed_after-half n s = walk_stride u v 124 n s ∙ sym (mod-add-mod (walk u v n s) (2 ^ 128) (2 ^ 127))
 
 seed_after-fits : (n s : ℕ) → seed_after n s < 2 ^ 128
 seed_after-fits n s = omega arith
 
--- 2 ^ 125 draws more turn the top bit of the word, and no other
+-- 2 ^ 125 more draws flip the top bit of the word, and no other
 pub word-half : (n s : ℕ) → folded (seed_after (n + 2 ^ 125) s) ≡ bit_xor (folded (seed_after n s)) (2 ^ 63)
 word-half n s = ap folded (seed_after-half n s) ∙ folded-top (seed_after n s) (seed_after-fits n s)
 
--- equal blocks are of equal words
+-- equal blocks come from equal words
 word-block : (s t : ℕ) → s < 2 ^ 128 → t < 2 ^ 128 → to_le_bytes w64 (folded s) ≡ to_le_bytes w64 (folded t) → folded s ≡ folded t
 word-block s t s_fits t_fits same =
     sym (from_le_bytes-to_le_bytes_8 (folded s) (folded-lt s s_fits)) ∙ ap (from_le_bytes w64) same
     ∙ from_le_bytes-to_le_bytes_8 (folded t) (folded-lt t t_fits)
 
--- draws that are 2 ^ 125 modulo 2 ^ 126 are no period
+-- a number of draws that is 2 ^ 125 modulo 2 ^ 126 is no period
 half_no_period : (g : Generator) (d : ℕ) → d % 2 ^ 126 ≡ 2 ^ 125 → ¬ (IsPeriod next pcg64_block g d)
 half_no_period g d half period =
     let s = g.seed in
@@ -62,7 +62,7 @@ whole_period g d divides n =
 pub pcg64_periods : (g : Generator) → PeriodsAreMultiplesOf (2 ^ 126) next pcg64_block g
 pcg64_periods g = periods_are_multiples next pcg64_block g 125 (whole_period g) (half_no_period g)
 
--- an ordinary draw after all draws but one
+-- n draws: n - 1 of them in closed form, and the last one as an ordinary draw
 pub next-last : (n s : ℕ) (g : Generator) → 0 < n → s ≡ seed_after (n - 1) g.seed
     → record { seed = next_seed s; state = next_seed s; inc = (2 * s + 1) % 2 ^ 128 } ≡ pcg64_after n g
 next-last n s g some before =

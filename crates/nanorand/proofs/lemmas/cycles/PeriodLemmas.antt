@@ -9,7 +9,7 @@ use Rattle.nanorand.specs.support.IterateLemmas.{iterate-add}
 use Rattle.nanorand.proofs.lemmas.cycles.ModulusLemmas.{half_multiple}
 
 module _ {G B : Type 0} (step : G → G) (block : G → B) (g : G) where
-  -- a multiple of a period is one
+  -- a multiple of a period is a period
   IsPeriod-multiple : (d k : ℕ) → IsPeriod step block g d → IsPeriod step block g (k * d)
   IsPeriod-multiple d zero period n =
       ap (λ (j : ℕ). block (iterate step n (iterate step j g))) (zero-mul d)

@@ -7,13 +7,13 @@ use Rattle.nanorand.proofs.lemmas.cycles.CycleLemmas.{reaches}
 use Rattle.nanorand.proofs.lemmas.cycles.DoublingLemmas.{walk_mod_8}
 use Rattle.nanorand.proofs.lemmas.cycles.Pcg64Lemmas.{u, v, seed_after-agree}
 
--- some number of draws leads to each seed of the cycle
+-- some number of draws leads to each seed of the same cycle
 pub reached : (s t : ℕ) → t < 2 ^ 128 → SameCycle s t → Reaches seed_after s t
 reached s t fits class =
     let found = reaches u v 125 s t class in
     (found.0, found.1 ∙ mod-eq_of_lt fits)
 
--- draws stay in a cycle
+-- draws stay on a cycle
 seed_after-class : (n s : ℕ) → SameCycle s (seed_after n s)
 seed_after-class n s =
     elim (walk_mod_8 u v n s) [
@@ -27,7 +27,7 @@ reached-class s t fits = (
   reached s t fits,
 )
 
--- below 2 ^ 126 one number of draws leads from a seed to another
+-- at most one number of draws below 2 ^ 126 leads from a seed to another
 pub seed_after-only : (m n s : ℕ) → m < 2 ^ 126 → n < 2 ^ 126 → seed_after m s ≡ seed_after n s → m ≡ n
 seed_after-only m n s m_fits n_fits same = sym (mod-eq_of_lt m_fits) ∙ (seed_after-agree s m n).0 same ∙ mod-eq_of_lt n_fits
 

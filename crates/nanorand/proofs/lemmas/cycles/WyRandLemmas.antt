@@ -1,4 +1,4 @@
--- The one cycle of wyrand's seeds.
+-- The one cycle of WyRand's seeds.
 use Rattle.std.proofs.Common.{◌≡◌, ◌≢◌, ℕ, ◌+◌, ◌-◌, ◌*◌, ◌/◌, ◌%◌, ◌^◌, ◌<◌, refl, sym, ap, ◌∙◌, arith, lit<}
 use Rattle.std.proofs.Math.Nat.{mod-add-mod, add-mod-mod, add-mul-mod_self_right, add-mod_right, mod-eq_of_lt, mod-eq-zero_of_dvd}
 use Rattle.std.proofs.lemmas.Nat.{mul-mod_first}
@@ -9,11 +9,11 @@ use Rattle.nanorand.specs.generators.WyRand.{increment, next_seed, seed_after, w
 use Rattle.nanorand.specs.support.WyRandDrawLemmas.{wyrand_steps, wyrand_closed}
 use Rattle.nanorand.proofs.lemmas.cycles.PeriodLemmas.{periods_are_multiples}
 
--- how many steps of a lead from s to t, modulo m, where b is the inverse of a
+-- the number of steps of a from s to t, modulo m, where b is the inverse of a
 abbrev pub steps_between : ℕ → ℕ → ℕ → ℕ → ℕ
 steps_between m b s t = (t + (m - s)) % m * b % m
 
--- a * b is 1 modulo m
+-- multiplying by a and its inverse b changes nothing modulo m
 back : (m a b k x : ℕ) → a * b ≡ 1 + k * m → (x * (a * b)) % m ≡ x % m
 back m a b k x inverse =
     let spread : x * (1 + k * m) ≡ x + x * k * m = omega arith in
@@ -39,14 +39,14 @@ steps-steps_between m a b k s t inverse s_fits t_fits =
     ∙ add-mod-mod s (d % m) m ∙ add-mod-mod s d m
     ∙ ap (λ (e : ℕ). e % m) gone ∙ add-mod_right t m ∙ mod-eq_of_lt t_fits
 
--- the increment's inverse modulo 2 ^ 64, and how often 2 ^ 64 goes into their product
+-- the inverse of the increment modulo 2 ^ 64, and the quotient of their product by 2 ^ 64
 abbrev pub inverse : ℕ
 inverse = 0x939c72e4af1e62cf
 
 abbrev turns : ℕ
 turns = increment * inverse / 2 ^ 64
 
--- how many draws lead from s to t
+-- the number of draws from s to t
 abbrev pub draws_between : ℕ → ℕ → ℕ
 draws_between s t = steps_between (2 ^ 64) inverse s t
 
@@ -56,7 +56,7 @@ draws_between-seed_after s n fits = steps_between-steps (2 ^ 64) increment inver
 pub seed_after-draws_between : (s t : ℕ) → s < 2 ^ 64 → t < 2 ^ 64 → seed_after (draws_between s t) s ≡ t
 seed_after-draws_between s t s_fits t_fits = steps-steps_between (2 ^ 64) increment inverse turns s t refl s_fits t_fits
 
--- draws from one seed lead to one seed exactly if they agree modulo 2 ^ 64
+-- i draws and j draws lead from a seed to the same seed exactly if i and j agree modulo 2 ^ 64
 pub seed_after-agree : (s : ℕ) → s < 2 ^ 64 → AgreeModulo (2 ^ 64) seed_after s
 seed_after-agree s fits i j = (
   λ same. sym (draws_between-seed_after s i fits) ∙ ap (draws_between s) same ∙ draws_between-seed_after s j fits,
@@ -66,7 +66,7 @@ seed_after-agree s fits i j = (
     reduced : (n : ℕ) → seed_after n s ≡ seed_after (n % 2 ^ 64) s
     reduced n = omega arith
 
--- draws made one by one, at a seed
+-- draws made one by one are the closed form, from a seed below 2 ^ 64
 steps_closed : (n s : ℕ) → s < 2 ^ 64 → iterate next_seed n s ≡ seed_after n s
 steps_closed n s fits = wyrand_steps n s ∙ wyrand_closed n s fits
 
@@ -80,7 +80,7 @@ before_half = (before_zero + 2 ^ 63) % 2 ^ 64
 blocks_apart : wyrand_block before_half ≢ wyrand_block before_zero
 blocks_apart same = (cc)
 
--- draws that are 2 ^ 63 modulo 2 ^ 64 are no period
+-- a number of draws that is 2 ^ 63 modulo 2 ^ 64 is no period
 half_no_period : (s : ℕ) → s < 2 ^ 64 → (d : ℕ) → d % 2 ^ 64 ≡ 2 ^ 63 → ¬ (IsPeriod next_seed wyrand_block s d)
 half_no_period s fits d half period =
     let there = draws_between s before_zero in

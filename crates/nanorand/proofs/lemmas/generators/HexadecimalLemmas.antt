@@ -1,4 +1,5 @@
--- The hexadecimal digits of a number of two words: those of the high word, and sixteen of the low one.
+-- The hexadecimal digits of a 128-bit number: those of its high half, and sixteen digits of its low
+-- half.
 use Rattle.std.proofs.Common.{◌≡◌, ℕ, zero, suc, ◌+◌, ◌-◌, ◌*◌, ◌/◌, ◌%◌, ◌^◌, ◌<◌, ◌≤◌, ◌==◌, false, List, [], ◌∷◌, ◌++◌, length, replicate, refl, sym, ◌∙◌, ap, subst, inl, inr, lit<, arith}
 use Rattle.std.proofs.lemmas.Bool.{cases_lt, ne_eqb}
 use Rattle.std.proofs.lemmas.List.{append_assoc, append-nil, length-append, replicate-append-replicate}
@@ -10,7 +11,7 @@ use Rattle.nanorand.specs.generators.DebugTexts.{hexadecimal}
 abbrev last : ℕ → ℕ
 last n = digit_glyph false (n % 16)
 
--- at most k digits, in front of others
+-- at most k digits of n, in front of other digits
 abbrev onto : ℕ → ℕ → List ℕ → List ℕ
 onto k n others = digits_onto k 16 false n others
 
@@ -31,7 +32,7 @@ in_front (suc k) n others =
           sym (ap (λ ds. ds ++ others) (more_digits k n [] large ∙ in_front k (n / 16) (last n ∷ [])))
     ]
 
--- room for a digit more changes nothing
+-- allowing one more digit changes nothing
 enough : (k n : ℕ) (others : List ℕ) → n < 16 ^ suc k → onto (suc k) n others ≡ onto (suc (suc k)) n others
 enough zero n others small =
     let one : n < 16 = omega (arith, small) in one_digit 0 n others one ∙ sym (one_digit 1 n others one)
@@ -55,7 +56,7 @@ hexadecimal_of_more n large small =
     more_digits 63 n [] large ∙ in_front 63 (n / 16) (last n ∷ []) ∙
     ap (λ ds. ds ++ (last n ∷ [])) (enough 62 (n / 16) [] below)
 
--- the last k digits, zeros in front
+-- the last k digits, with leading zeros
 last_digits : ℕ → ℕ → List ℕ
 last_digits zero n = []
 last_digits (suc k) n = last_digits k (n / 16) ++ (last n ∷ [])
@@ -85,7 +86,7 @@ joined (suc k) high low some below within =
     append_assoc (hexadecimal high) (last_digits k (low / 16)) (last n ∷ []) ∙
     ap (λ d. hexadecimal high ++ (last_digits k (low / 16) ++ (digit_glyph false d ∷ []))) end
 
--- as many zeros as are missing in front
+-- padding with zeros to k digits gives the last k digits
 padded : (k n : ℕ) → n < 16 ^ suc k → n < 16 ^ 64
     → replicate (suc k - length (hexadecimal n)) 48 ++ hexadecimal n ≡ last_digits (suc k) n
 unfolding last_digits

@@ -1,4 +1,4 @@
--- Counts of the items of a list that pass a test.
+-- How many elements of a list pass a test.
 use Rattle.std.proofs.Common.{◌≡◌, ℕ, zero, suc, ◌+◌, Bool, false, cond, List, [], ◌∷◌, zero-add, refl, sym, ◌∙◌, ap, arith}
 use Rattle.std.specs.List.{count_by, range_with_len}
 use Rattle.std.proofs.lemmas.List.Sums.{sum_by-cons}
@@ -29,7 +29,7 @@ count_by-none f none (x ∷ xs) =
     sum_by-cons (λ y. cond (f y) 1 0) x xs
     ∙ ap (λ (b : Bool). cond b 1 0 + count_by f xs) (none x) ∙ zero-add (count_by f xs) ∙ count_by-none f none xs
 
--- one number more, at the end
+-- one more number at the end
 pub count_by-last : (p : ℕ → Bool) (a n : ℕ) → count_by p (range_with_len a (suc n)) ≡ count_by p (range_with_len a n) + cond (p (a + n)) 1 0
 count_by-last p a zero =
     let same : a ≡ a + 0 = omega arith in

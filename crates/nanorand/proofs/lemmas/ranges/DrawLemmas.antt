@@ -10,7 +10,7 @@ use Rattle.nanorand.specs.values.Runs.{named}
 use Rattle.nanorand.specs.values.Draws.{deciding_place}
 use Rattle.nanorand.specs.values.Draws.{words_from, number_drawn, left_after}
 
--- the place of the first element that passes
+-- the index of the first element that passes
 pub position-is : {X : Type 0} (p : X → Bool) (xs : List X) (i : ℕ) (d : X) → i < length xs
     → ((k : ℕ) → k < i → p (get_or xs k d) ≡ false) → p (get_or xs i d) ≡ true → position p xs ≡ Some i
 position-is p xs i d low before here =
@@ -24,7 +24,7 @@ position-none p xs d before =
     position_or_len_is p xs (length xs) d (omega arith) before (λ same. absurd (omega arith)) in
     rw (place, le-ltb (length xs) (length xs) (omega arith)) refl
 
--- one step more, at the end
+-- one more step, at the end
 iterate-suc : {A : Type 0} (h : A → A) (n : ℕ) (x : A) → iterate h (suc n) x ≡ h (iterate h n x)
 iterate-suc h zero x = refl
 iterate-suc h (suc n) x = iterate-suc h n (h x)
@@ -32,7 +32,7 @@ iterate-suc h (suc n) x = iterate-suc h n (h x)
 pub iterate-more : {A : Type 0} (h : A → A) (n : ℕ) (x : A) → iterate h (n + 1) x ≡ h (iterate h n x)
 iterate-more h n x = rw add-one (iterate-suc h n x)
 
--- how many words are drawn, by the first that passes
+-- at most `limit` words are drawn to reach the first that passes
 drawn_words : {X : Type 0} (p : X → Bool) (xs : List X) (limit : ℕ) → length xs ≡ limit → option_map_or (λ i. i + 1) (position p xs) limit ≤ limit
 drawn_words p xs limit long =
     elim (cases_Bool (nat_lt (position_or_len p xs) (length xs))) [
@@ -41,7 +41,7 @@ drawn_words p xs limit long =
     ]
 
 module _ {G : Type 0} (word : G → ℕ) (after : G → G) (limit bits size : ℕ) (g : G) where
-  -- i words were drawn, and none named a number
+  -- the invariant of the search: i words were drawn, and none of them named a number
   pub record Searching (i : ℕ) (now : G) : Type 0 where
     pub reached : now ≡ iterate after i g
     pub passed : (j : ℕ) → j < i → named bits size (word (iterate after j g)) ≡ None
@@ -98,7 +98,7 @@ module _ {G : Type 0} (word : G → ℕ) (after : G → G) (limit bits size : �
   unfolding left_after
   missing_rest i now done s = rw (place_missing i now done s, ← done) s.reached
 
-  -- no more than `limit` words are drawn
+  -- at most `limit` words are drawn
   pub counted_words : (h : G) → h ≡ left_after word after limit bits size g → (n : ℕ) × (n ≤ limit) × (h ≡ iterate after n g)
   unfolding left_after
   counted_words h left = (

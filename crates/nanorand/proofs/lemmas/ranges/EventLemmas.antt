@@ -8,12 +8,12 @@ use Rattle.nanorand.specs.values.Fairness.{SharesWords, passes}
 use Rattle.nanorand.proofs.lemmas.ranges.CountLemmas.{count_by-same, count_by-add, count_by-none, count_by-last}
 use Rattle.nanorand.proofs.lemmas.ranges.RunLemmas.{in_run-Names, Names-in_run}
 
--- an answer is this number
+-- the named number is k
 abbrev is_answer : ℕ → Option ℕ → Bool
 is_answer k (Some j) = nat_eq j k
 is_answer k None = false
 
--- an answer is a number below n that passes
+-- the named number is below n and passes
 abbrev is_early : (ℕ → Bool) → ℕ → Option ℕ → Bool
 is_early p n (Some k) = nat_lt k n && p k
 is_early p n None = false

@@ -1,4 +1,4 @@
--- The runs are fair.
+-- The runs share the words equally.
 use Rattle.std.proofs.Common.{◌≡◌, ℕ, ◌+◌, ◌-◌, ◌*◌, ◌^◌, ◌<◌, ◌≤◌, Bool, true, false, length, filter, count_by, sym, ◌∙◌, ap, arith}
 use Rattle.std.specs.List.{range_with_len}
 use Rattle.std.proofs.lemmas.Bool.{and_from, and_left, and_right, le-leb, lt-leb, lt-ltb, le-ltb}
@@ -12,12 +12,12 @@ use Rattle.nanorand.proofs.lemmas.ranges.CeilingLemmas.{le_ceil}
 use Rattle.nanorand.proofs.lemmas.ranges.RangeLemmas.{filter-middle}
 use Rattle.nanorand.proofs.lemmas.ranges.RunLemmas.{Names-unique, named-Some, Some-named}
 
--- a run that begins r words in ends at the last word
+-- a run of q words starts at r = m - q at the latest, and so ends within the m words
 room : (m s q t k r : ℕ) → q * s + t ≡ m → r + q ≡ m → k < s → k * m + t ≤ r * s
 room m s q t k r split rest low =
     omega (arith, mul-le (k + 1) m s m (omega arith) (omega arith), ap (λ z. z * s) rest)
 
--- a test that holds from `first` on, of `kept` numbers
+-- a test that passes exactly `kept` numbers from `first` on counts `kept`
 count-middle : (p : ℕ → Bool) (n first kept : ℕ) → first + kept ≤ n
     → ((w : ℕ) → w < first → p w ≡ false)
     → ((w : ℕ) → first ≤ w → w < first + kept → p w ≡ true)
@@ -40,7 +40,7 @@ module _ (bits size : ℕ) (some : 1 ≤ size) (fits : size ≤ 2 ^ bits) where
   quota_some : 1 ≤ quota bits size
   quota_some = le-div 1 (2 ^ bits) size some (omega arith)
 
-  -- the last word of a run is a word
+  -- a run ends within the words
   run-within : (k : ℕ) → k < size → first_word bits size k + quota bits size ≤ 2 ^ bits
   run-within k low =
       let shorter : quota bits size * 1 ≤ quota bits size * size = mul-le _ _ _ _ (omega arith) some in

@@ -1,4 +1,4 @@
--- The limits of a ranged draw.
+-- The limits of a ranged draw: its bounds and the number of its words.
 use Rattle.std.proofs.Common.{◌≡◌, ℕ, zero, suc, ◌+◌, ◌^◌, ◌<◌, ◌≤◌, ◌&&◌, Bool, true, List, Option, Some, None, Result, Ok, Err, length, map, filter, nat_eq, slice_get, slice_index, is_some, ok_or, option_and_then, refl, sym, ◌∙◌, ap, inl, inr, arith, subst}
 use Rattle.std.specs.Result.{IfOk, IfErr}
 use Rattle.std.specs.Fn.{iterate}
@@ -44,7 +44,7 @@ not_drawn numbers (Some k) below is =
     ]
 not_drawn numbers None below is = refl
 
--- a filter keeps what passes
+-- a filter of numbers of which one passes is not empty
 filter-some : {T : Type 0} (p : T → Bool) (f : ℕ → T) (a n k : ℕ) → a ≤ k → k < a + n → p (f k) ≡ true → 0 < length (filter p (map f (range_with_len a n)))
 filter-some p f a zero k low high hit = absurd (omega arith)
 filter-some p f a (suc n) k low high hit =
@@ -55,7 +55,8 @@ filter-some p f a (suc n) k low high hit =
           rw miss (filter-some p f (a + 1) n k (omega (arith, other)) (omega arith) hit)
     ]
 
--- what a list of words decides is below the size, and every list that has a deciding place decides
+-- the decided number is below the size, and every list of words with a deciding word decides a
+-- number
 module _ (bits size : ℕ) (words : List ℕ) where
   decided-below : (k : ℕ) (place : Option ℕ) → option_and_then (λ i. named bits size (slice_index words i)) place ≡ Some k → k < size
   decided-below k (Some i) is = (Some-named bits size (slice_index words i) k is).below
@@ -68,7 +69,7 @@ module _ (bits size : ℕ) (words : List ℕ) where
       absurd (false≢true (sym (ap is_some none) ∙ found.1))
   decided-none None is none = refl
 
--- what is drawn from a list of numbers
+-- the result of a draw from a list of numbers, and the state that it leaves
 module _ {G T : Type 0} (word : G → ℕ) (after : G → G) (bits : ℕ) (numbers : List T) (g : G) where
   value_within : (P : T → Type 0) → All P numbers → IfOk (value_drawn word after bits numbers g) P
   unfolding value_drawn

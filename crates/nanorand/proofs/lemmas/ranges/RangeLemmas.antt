@@ -1,4 +1,4 @@
--- The numbers between two bounds, by their places, and what is drawn of them.
+-- The numbers between two bounds, by their ranks, and draws from them.
 use Rattle.std.proofs.Common.{◌≡◌, ℕ, zero, suc, ◌+◌, ◌-◌, ◌^◌, ◌<◌, ◌≤◌, ◌&&◌, Bool, true, false, List, [], ◌∷◌, Some, None, Ok, Err, length, map, filter, nat_eq, nat_le, nat_lt, slice_get, refl, ◌∙◌, ap, inl, inr, ◌⊎◌, arith}
 use Rattle.std.specs.List.{range_with_len}
 use Rattle.std.specs.declared.ops.Bound.{Bound}
@@ -9,7 +9,7 @@ use Rattle.nanorand.specs.values.Range.{is_above, is_below, range_within}
 use Rattle.nanorand.specs.values.Draws.{word_limit, number_drawn, left_after, value_drawn, left_by}
 use Rattle.nanorand.specs.declared.values.range.RangeError.TheVariants.{Empty, Exhausted}
 
--- a filter of the numbers from place a on keeps `kept` of them, from place `first` on
+-- a filter of the numbers from rank a on that keeps exactly `kept` of them, from rank `first` on
 module _ {T : Type 0} (p : T → Bool) (f : ℕ → T) where
   filter-none : (a n : ℕ) → ((k : ℕ) → a ≤ k → k < a + n → p (f k) ≡ false) → filter p (map f (range_with_len a n)) ≡ []
   filter-none a zero fails = refl
@@ -42,7 +42,8 @@ module _ {T : Type 0} (p : T → Bool) (f : ℕ → T) where
       (filter-middle (a + 1) n skipped first kept (omega arith) (omega arith) early passes
       (λ k low high. late k low (omega arith)))
 
--- `first` is the first place that the low bound admits, and `end` is past the last that the high one does
+-- `first` is the first rank within the low bound, and `end` is one past the last rank within the
+-- high bound
 module _ {T : Type 0} (le lt : T → T → Bool) (bits : ℕ) (number : ℕ → T) (low high : Bound T) (first end : ℕ)
     (above : (k : ℕ) → is_above le lt low (number k) ≡ nat_le first k)
     (below : (k : ℕ) → k < 2 ^ bits → is_below le lt high (number k) ≡ nat_lt k end)
@@ -75,7 +76,7 @@ module _ {T : Type 0} (le lt : T → T → Bool) (bits : ℕ) (number : ℕ → 
       (λ k from to. passes k (omega arith) from (omega arith))
       (λ k late in_type. fails k (omega arith) (inr (omega arith)))
 
--- what is drawn, from a list of numbers that is known by its length and its elements
+-- the result of a draw from a list of numbers, known by its length and its elements
 module _ {G T : Type 0} (word : G → ℕ) (after : G → G) (bits : ℕ) (numbers : List T) (g : G) where
   pub value-empty : numbers ≡ [] → Err Empty ≡ value_drawn word after bits numbers g
   unfolding value_drawn

@@ -1,4 +1,4 @@
--- The runs of a range, by multiplication.
+-- Runs computed by multiplication, after Lemire.
 use Rattle.std.proofs.Common.{◌≡◌, ℕ, zero, suc, ◌+◌, ◌-◌, ◌*◌, ◌/◌, ◌%◌, ◌^◌, ◌<◌, ◌≤◌, Bool, true, false, Option, Some, None, MatchOption, find, refl, sym, ◌∙◌, ap, inl, inr, arith}
 use Rattle.std.specs.List.{range_with_len}
 use Rattle.std.proofs.lemmas.Bool.{cases_lt, cases_Bool, and_parts, and_from, ltb-true, leb-true, lt-ltb, le-leb, false_from_ne_true}
@@ -7,7 +7,7 @@ use Rattle.std.proofs.Math.Nat.{add-mod_right, mod_self}
 use Rattle.nanorand.specs.values.Runs.{IsWordWidth, Names, named, is_in_run, quota, rejected}
 use Rattle.nanorand.proofs.lemmas.ranges.CeilingLemmas.{ceil_le, le_ceil, lt_ceil_add, ceil_add_lt}
 
--- the words that name k, by their products with the size: m words, each number has q, and t are left over
+-- word names k, in terms of the product word * s: of m words in all, t are rejected
 pub record HasPart (m s t word k : ℕ) : Type 0 where
   pub below : k < s
   pub from : k * m + t ≤ word * s
@@ -34,7 +34,7 @@ module _ (bits size word k : ℕ) (some : 0 < size) where
         before_end = ceil_add_lt x size some word (quota bits size) high;
       }
 
--- a word has the part that its product's quotient counts, if the remainder is not below t
+-- a word names the quotient of its product by m, if the remainder is at least t
 pub part_kept : (m s t word : ℕ) → 0 < m → 0 < s → word < m → t ≤ word * s % m → HasPart m s t word (word * s / m)
 part_kept m s t word full some fits kept =
     let split = div-add-mod' (word * s) m in
@@ -62,7 +62,7 @@ Names-unique bits size word j k some h i =
     let two = part_is (2 ^ bits) size (rejected bits size) word k (Names-parts bits size word k some i) in
     sym one.0 ∙ two.0
 
--- the test and the fact
+-- the test `is_in_run` and the relation `Names` agree
 pub in_run-Names : (bits size word k : ℕ) → k < size → is_in_run bits size word k ≡ true → Names bits size word k
 in_run-Names bits size word k low h =
     let parts = and_parts _ _ h in
@@ -71,7 +71,7 @@ in_run-Names bits size word k low h =
 pub Names-in_run : (bits size word k : ℕ) → Names bits size word k → is_in_run bits size word k ≡ true
 Names-in_run bits size word k h = and_from _ _ (le-leb _ _ h.after_first) (lt-ltb _ _ h.before_end)
 
--- a search among the numbers from a on
+-- a search in the numbers from a on
 pub find-none : (p : ℕ → Bool) (a n : ℕ) → ((k : ℕ) → a ≤ k → k < a + n → p k ≡ false) → find p (range_with_len a n) ≡ None
 find-none p a zero h = refl
 find-none p a (suc n) h =
@@ -107,7 +107,7 @@ find-Some p a (suc n) k h =
           (omega (arith, found.0), found.1)
     ]
 
--- the number that a word names, and the fact that it names it
+-- `named` gives k exactly if the word names k
 pub named-Some : (bits size word k : ℕ) → 0 < size → Names bits size word k → named bits size word ≡ Some k
 unfolding named
 named-Some bits size word k some h =
@@ -130,7 +130,8 @@ Some-named bits size word k h =
     let found = find-Some (is_in_run bits size word) 0 size k h in
     in_run-Names bits size word k (omega (arith, found.0)) found.1
 
--- the test by multiplication: the high part of the product is the number, the low part decides
+-- the test by multiplication: the high part of the product is the number, and the low part accepts
+-- or rejects
 pub picks : (bits size word : ℕ) → 0 < size → word < 2 ^ bits → rejected bits size ≤ word * size % 2 ^ bits
     → named bits size word ≡ Some (word * size / 2 ^ bits)
 picks bits size word some fits kept =
@@ -147,7 +148,7 @@ rejects bits size word some low =
 pub None-named : (bits size word : ℕ) → 0 < size → named bits size word ≡ None → (k : ℕ) → Names bits size word k → ⊥
 None-named bits size word some none k h = let hit = named-Some bits size word k some h in cc
 
--- of as many numbers as there are words, each word names itself
+-- for as many numbers as words, each word names itself
 pub names-itself : (bits word : ℕ) → word < 2 ^ bits → named bits (2 ^ bits) word ≡ Some word
 names-itself bits word fits =
     let none : rejected bits (2 ^ bits) ≡ 0 = mod_self (2 ^ bits) in
@@ -155,7 +156,7 @@ names-itself bits word fits =
     (Names-from_parts bits (2 ^ bits) word word (pow_pos bits)
     (record { below = fits; from = rw none (omega arith); to = omega (arith, pow_pos bits) }))
 
--- a size past 64 bits is the count of all words
+-- a size past 64 bits is the number of all words
 pub size-is_whole : (bits size : ℕ) → IsWordWidth bits → size ≤ 2 ^ bits → 18446744073709551615 < size → size ≡ 2 ^ bits
 size-is_whole bits size width within past =
     elim width [
@@ -165,13 +166,13 @@ size-is_whole bits size width within past =
       | inr (inr (inr is)) ↦ let low = rw is at within in rw is (omega arith)
     ]
 
--- the rejected words, with one run of `size` words less
+-- taking `size` words away leaves the number of rejected words unchanged
 pub rejected-less : (bits size : ℕ) → size ≤ 2 ^ bits → (2 ^ bits - size) % size ≡ rejected bits size
 rejected-less bits size within =
     let split : 2 ^ bits - size + size ≡ 2 ^ bits = omega arith in
     sym (add-mod_right (2 ^ bits - size) size) ∙ ap (λ n. n % size) split
 
--- the number that a word names, as the relation
+-- the number that a word names, as a relation
 module _ (bits size word : ℕ) (some : 0 < size) where
   names_what : (o : Option ℕ) → named bits size word ≡ o → MatchOption o ((k : ℕ) → Names bits size word k → ⊥) (λ k. Names bits size word k)
   names_what None none = None-named bits size word some none

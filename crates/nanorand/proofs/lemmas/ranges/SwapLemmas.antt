@@ -1,4 +1,4 @@
--- The exchange of two runs in a list of words.
+-- Exchanging two runs in a list of words.
 use Rattle.std.proofs.Common.{◌≡◌, ℕ, ◌+◌, ◌-◌, ◌^◌, ◌<◌, ◌≤◌, Bool, false, not, List, [], ◌∷◌, Option, Some, None, is_some, map, position, option_map, option_and_then, slice_index, nat_eq, refl, sym, ◌∙◌, ap, inl, inr, arith}
 use Rattle.std.specs.List.{prefix_len, position_or_len}
 use Rattle.std.proofs.lemmas.Bool.{cases_Bool, eq-eqb, ne_eqb, false≢true}
@@ -11,7 +11,7 @@ use Rattle.nanorand.proofs.lemmas.ranges.RunLemmas.{Names-unique, named-Some, So
 use Rattle.std.proofs.lemmas.List.Elements.{All-map}
 use Rattle.nanorand.proofs.lemmas.ranges.FairnessLemmas.{shares}
 
--- a word of one run, moved to its place in another
+-- a word of one run, moved to the same offset in another
 moved : (bits size word j k : ℕ) → k < size → Names bits size word j
     → Names bits size (first_word bits size k + (word - first_word bits size j)) k
 moved bits size word j k low h = record {
@@ -20,11 +20,11 @@ moved bits size word j k low h = record {
   before_end = omega (arith, h.after_first, h.before_end);
 }
 
--- the test of a name
+-- two different numbers are not equal by the test
 number-test : (j n : ℕ) → ((j ≡ n) → ⊥) → nat_eq n j ≡ false
 number-test j n differ = ne_eqb n j (λ same. differ (sym same))
 
--- tests that agree through f have one first place
+-- tests that agree through f have the same first index
 prefix_len-map : {X Y : Type 0} (f : X → Y) (p : Y → Bool) (q : X → Bool) → ((x : X) → p (f x) ≡ q x)
     → (xs : List X) → prefix_len p (map f xs) ≡ prefix_len q xs
 prefix_len-map f p q agree [] = refl

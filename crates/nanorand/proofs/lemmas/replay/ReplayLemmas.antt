@@ -1,4 +1,4 @@
--- A replay of two lists of calls.
+-- A replay of two lists of calls, one after the other.
 use Rattle.std.proofs.Common.{ℕ, List, [], ◌∷◌, ap, refl}
 use Rattle.nanorand.specs.generators.Blocks.{Requests}
 use Rattle.nanorand.specs.replay.Replay.{Replay, outcome, ReplaysJoin}

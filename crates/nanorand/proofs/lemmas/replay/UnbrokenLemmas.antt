@@ -1,4 +1,4 @@
--- What holds of two requests holds of any number of them, and of calls.
+-- Unbroken delivery: what holds of two requests holds of any number of them, and of calls.
 use Rattle.std.proofs.Common.{◌≡◌, ℕ, zero, suc, ◌+◌, ◌*◌, ◌/◌, List, [], ◌∷◌, ◌++◌, length, nat_eq, min, sum, refl, sym, ◌∙◌, ap, arith, inl, inr}
 use Rattle.std.specs.Fn.{iterate}
 use Rattle.std.specs.declared.ops.Bound.TheVariants.{Included, Excluded}
@@ -16,7 +16,7 @@ use Rattle.nanorand.specs.replay.Unbroken.{IsUnbroken, after_all, taken_all}
 use Rattle.nanorand.specs.declared.replay.Call.{Call}
 use Rattle.nanorand.specs.declared.replay.Call.TheVariants.{Gen, Range, Shuffle}
 
--- what a range leaves is the state so many words on
+-- a range leaves the state after as many words as it draws
 left-words : {G T : Type 0} (word : G → ℕ) (after : G → G) (bits : ℕ) (numbers : List T) (g : G)
     → left_by word after bits numbers g ≡ iterate after (words_drawn word after bits numbers g) g
 unfolding left_by left_after words_drawn
@@ -38,7 +38,7 @@ module _ {G : Type 0} (requests : Requests G)
   all_takes g [] = sym (nothing_taken g)
   all_takes g (n ∷ sizes) = ap (λ rest. requests.bytes g n ++ rest) (all_takes (requests.after g n) sizes) ∙ two_takes g n (sum sizes) ∙ ap (requests.bytes g) (sym (sum_by-cons (λ size. size) n sizes))
 
-  -- several requests of one size are one request
+  -- `count` requests of one size are one request of their sum
   repeated_state : (size count : ℕ) (g : G) → iterate (λ state. requests.after state size) count g ≡ requests.after g (count * size)
   repeated_state size zero g = rw zero-mul (sym (nothing_left g))
   repeated_state size (suc count) g = repeated_state size count (requests.after g size) ∙ two_states g size (count * size) ∙ ap (requests.after g) (omega (arith, suc-mul count size))

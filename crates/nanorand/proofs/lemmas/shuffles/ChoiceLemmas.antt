@@ -1,4 +1,4 @@
--- Choices and the arrangements that they make.
+-- Choices and the permutations that they make.
 use Rattle.std.proofs.Common.{◌≡◌, ℕ, suc, ◌+◌, ◌<◌, ◌≤◌, List, [], ◌∷◌, ◌++◌, length, get_or, swap, IsPermutation, refl, sym, ◌∙◌, ap, inl, inr, arith, add-zero, take, set, subst}
 use Rattle.std.proofs.lemmas.Bool.{cases_lt}
 use Rattle.std.proofs.lemmas.List.{take_more, take_more_set, take_all, length-take-le, get_or_append_left, get_or_push, length_push}
@@ -10,7 +10,7 @@ use Rattle.nanorand.specs.shuffles.Shuffles.{arranged_from, arranged}
 use Rattle.nanorand.specs.shuffles.Arrangements.{IsValid, rising, IsArrangement}
 use Rattle.nanorand.proofs.lemmas.shuffles.PlaceLemmas.{IsDistinct, IsDistinct-swap, IsDistinct-rising, IsDistinct-arrangement, AllBelow-arrangement, HasBelow-arrangement, get_or-swap_first, get_or-swap_other}
 
--- choices behind others are swaps behind theirs
+-- choices followed by more choices are swaps followed by more swaps
 pub arranged_from-append : {T : Type 0} (i : ℕ) (choices more : List ℕ) (items : List T)
     → arranged_from i (choices ++ more) items ≡ arranged_from (i + length choices) more (arranged_from i choices items)
 arranged_from-append i [] more items = rw (add-zero i) refl
@@ -18,7 +18,7 @@ arranged_from-append i (c ∷ cs) more items =
     let place : i + 1 + length cs ≡ i + suc (length cs) = omega arith in
     rw (← place) (arranged_from-append (i + 1) cs more (swap items i c))
 
--- one choice more is one swap more
+-- one more choice is one more swap
 pub arranged_from-push : {T : Type 0} (i j : ℕ) (choices : List ℕ) (items : List T)
     → arranged_from i (choices ++ j ∷ []) items ≡ swap (arranged_from i choices items) (i + length choices) j
 arranged_from-push i j choices items = arranged_from-append i choices (j ∷ []) items
@@ -29,7 +29,7 @@ arranged-more choices items i low =
     let size : 0 + length (take i choices) ≡ i = omega (arith, length-take-le i choices (omega arith)) in
     rw (take_more choices i 0 low, arranged_from-push 0 (get_or choices i 0) (take i choices) items, size) refl
 
--- the choices for the places from i on are those places or later ones, below n
+-- valid choices for the indices from i on: each is its own index or a later one, below n
 pub record Chosen (i n : ℕ) (choices : List ℕ) : Type 0 where
   pub each : (k : ℕ) → k < length choices → (i + k ≤ get_or choices k 0) × (get_or choices k 0 < n)
 
@@ -41,7 +41,7 @@ Chosen-tail i n j cs h = record {
 Chosen-head : (i n j : ℕ) (cs : List ℕ) → Chosen i n (j ∷ cs) → (i ≤ j) × (j < n)
 Chosen-head i n j cs h = let first = h.each 0 (omega arith) in (omega (arith, first.0), first.1)
 
--- what is made is an arrangement of the items
+-- choices make a permutation of the items
 pub arranged-permutation : {T : Type 0} (i : ℕ) (choices : List ℕ) (items : List T) → i + length choices ≤ length items
     → Chosen i (length items) choices → IsPermutation items (arranged_from i choices items)
 arranged-permutation i [] items room h = IsPermutation-refl items
@@ -53,7 +53,7 @@ arranged-permutation i (j ∷ cs) items room h =
     (IsPermutation-swap items (swap items i j) i j (omega arith) head.1 refl)
     (arranged-permutation (i + 1) cs (swap items i j) (omega arith) tail)
 
--- a place before i stays as it is
+-- an index before i keeps its item
 untouched : (i : ℕ) (choices items : List ℕ) (k : ℕ) → i + length choices ≤ length items
     → Chosen i (length items) choices → k < i → get_or (arranged_from i choices items) k 0 ≡ get_or items k 0
 untouched i [] items k room h before = refl
@@ -64,7 +64,7 @@ untouched i (j ∷ cs) items k room h before =
     untouched (i + 1) cs (swap items i j) k (omega arith) tail (omega arith)
     ∙ get_or-swap_other items i j k 0 (omega arith) head.1 (omega arith) (omega arith)
 
--- two lists of choices that make one arrangement of distinct numbers are one list
+-- two lists of choices that make the same permutation of distinct numbers are equal
 pub choices-unique : (i : ℕ) (cs ds items : List ℕ) → length cs ≡ length ds → i + length cs ≤ length items → IsDistinct items
     → Chosen i (length items) cs → Chosen i (length items) ds
     → arranged_from i cs items ≡ arranged_from i ds items → cs ≡ ds
@@ -87,7 +87,7 @@ choices-unique i (c ∷ cs) (d ∷ ds) items size room distinct g h same =
     (same ∙ ap (λ j. arranged_from (i + 1) ds (swap items i j)) (sym first)) in
     ap (λ x. x ∷ cs) first ∙ ap (λ xs. d ∷ xs) rest
 
--- the choices of the first i places, and the list that they make
+-- the invariant of `choices_of`: the first i choices, and the list that they make
 pub record Choosing (order out scratch : List ℕ) (i : ℕ) : Type 0 where
   pub made : scratch ≡ arranged (take i out) (rising (length order))
   pub chosen : Chosen 0 (length order) (take i out)
@@ -127,7 +127,7 @@ module _ (order out scratch : List ℕ) (out_size : length out ≡ length order)
         ];
       }
 
-  -- the next number of an arrangement stands at place i or a later one
+  -- the next number of a permutation is at index i or a later one
   pub next_place : (i : ℕ) → Choosing order out scratch i → i < length order → IsArrangement order
       → (j : ℕ) × (i ≤ j) × (j < length scratch) × (get_or scratch j 0 ≡ get_or order i 0)
   next_place i h low arrangement =
@@ -172,7 +172,7 @@ Chosen-valid n choices size h = record {
 pub valid_from_chosen : (n : ℕ) (choices : List ℕ) → length choices ≡ n → Chosen 0 n choices → IsValid choices
 valid_from_chosen n choices size h i low = let at = h.each i low in (omega (arith, at.0), omega (arith, at.1))
 
--- the choices are valid, and they alone make the order, which is an arrangement
+-- valid choices that make `order`: no others make it, and it is a permutation
 module _ (order out : List ℕ) (size : length out ≡ length order) (chosen : Chosen 0 (length order) out)
     (made : arranged out (rising (length order)) ≡ order) where
   id_size : length (rising (length order)) ≡ length order

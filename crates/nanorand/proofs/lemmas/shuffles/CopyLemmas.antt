@@ -1,4 +1,4 @@
--- How often a number stands in a list, and what that tells of permutations.
+-- How often a number occurs in a list, and what follows for permutations.
 use Rattle.std.proofs.Common.{◌≡◌, ℕ, zero, suc, ◌+◌, ◌<◌, ◌≤◌, ◌==◌, ◌⊎◌, List, [], ◌∷◌, ◌++◌, length, IsPermutation, refl, sym, ◌∙◌, ap, subst, arith, inl, inr, cond}
 use Rattle.std.specs.List.{range_with_len}
 use Rattle.std.proofs.lemmas.Bool.{cases_eq, cases_lt, ne_eqb, eq-eqb}
@@ -8,7 +8,7 @@ use Rattle.std.proofs.lemmas.List.Sums.{sum_by-cons}
 use Rattle.std.proofs.lemmas.List.Sorted.{IsPermutation-refl, IsPermutation-sym, IsPermutation-trans, IsPermutation-cons, IsPermutation-middle, sum_by-IsPermutation}
 use Rattle.nanorand.specs.shuffles.Arrangements.{rising, IsArrangement, copies, HoldEquallyOften, HoldsEachOnce}
 
--- a permutation holds each number as often
+-- a permutation holds each number equally often
 pub copies-permutation : (number : ℕ) (xs ys : List ℕ) → IsPermutation xs ys → copies number ys ≡ copies number xs
 copies-permutation number xs ys order = sum_by-IsPermutation (λ other. cond (other == number) 1 0) xs ys order
 
@@ -21,7 +21,7 @@ copies-same number x xs same = copies-cons number x xs ∙ rw (eq-eqb x number s
 copies-other : (number x : ℕ) (xs : List ℕ) → ((x ≡ number) → ⊥) → copies number (x ∷ xs) ≡ copies number xs
 copies-other number x xs differ = copies-cons number x xs ∙ rw (ne_eqb x number differ) omega arith
 
--- of the numbers from a on, none stands in front of them or behind them
+-- a number below a, or at least a + n, does not occur in the n numbers from a on
 copies-outside : (number a n : ℕ) → (number < a) ⊎ (a + n ≤ number) → copies number (range_with_len a n) ≡ 0
 copies-outside number a zero outside = refl
 copies-outside number a (suc n) outside =
@@ -34,7 +34,7 @@ copies-outside number a (suc n) outside =
           ∙ copies-outside number (a + 1) n (inr (omega arith))
     ]
 
--- and each of them stands there once
+-- each of the n numbers from a on occurs once
 copies-inside : (number a n : ℕ) → a ≤ number → number < a + n → copies number (range_with_len a n) ≡ 1
 copies-inside number a zero from below = absurd (omega arith)
 copies-inside number a (suc n) from below =
@@ -47,7 +47,7 @@ copies-inside number a (suc n) from below =
           ∙ copies-inside number (a + 1) n (omega arith) (omega arith)
     ]
 
--- the first copy of a number, and what stands before and behind it
+-- a list split at the first copy of a number: what comes before it and after it
 pub record Parted (number : ℕ) (xs : List ℕ) : Type 0 where
   pub before : List ℕ
   pub behind : List ℕ
@@ -63,7 +63,8 @@ parted number (x ∷ xs) some =
           record { before = x ∷ rest.before; behind = rest.behind; is = ap (λ ys. x ∷ ys) rest.is }
     ]
 
--- a list that is no longer than another and holds each number as often or more is a permutation of it
+-- a list that is no longer than another, and holds each number at least as often, is a permutation
+-- of it
 covered : (xs ys : List ℕ) → length ys ≤ length xs → ((number : ℕ) → copies number xs ≤ copies number ys) → IsPermutation xs ys
 covered [] [] short more = IsPermutation-refl []
 covered [] (y ∷ ys) short more = absurd (omega arith)

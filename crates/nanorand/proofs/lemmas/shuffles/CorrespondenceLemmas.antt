@@ -1,4 +1,4 @@
--- Every arrangement is made by valid choices.
+-- Every permutation is made by valid choices.
 use Rattle.std.proofs.Common.{◌≡◌, ℕ, zero, suc, ◌+◌, List, length, replicate, set, swap, IsPermutation, refl, sym, ◌∙◌, subst, arith}
 use Rattle.std.proofs.lemmas.List.{length-replicate, length-set}
 use Rattle.std.proofs.lemmas.List.Edits.{length-swap}
@@ -9,11 +9,11 @@ use Rattle.nanorand.specs.shuffles.Arrangements.{IsValid, rising, IsArrangement,
 use Rattle.nanorand.proofs.lemmas.shuffles.PlaceLemmas.{IsDistinct-rising}
 use Rattle.nanorand.proofs.lemmas.shuffles.ChoiceLemmas.{Chosen, Choosing, choosing_start, choosing_step, next_place, end_chosen, end_made, Chosen-valid, valid_from_chosen, arranged-permutation, choices-unique}
 
--- choices that make the order
+-- valid choices that make the order
 abbrev Makes : List ℕ → Type 0
 Makes order = (choices : List ℕ) × (length choices ≡ length order) × Chosen 0 (length order) choices × (arranged choices (rising (length order)) ≡ order)
 
--- the choices of the last `left` places
+-- the choices for the last `left` indices
 choose_rest : (order : List ℕ) → IsArrangement order → (left i : ℕ) (out scratch : List ℕ) → i + left ≡ length order
     → length out ≡ length order → length scratch ≡ length order → Choosing order out scratch i → Makes order
 choose_rest order arrangement zero i out scratch place out_size scratch_size h = (

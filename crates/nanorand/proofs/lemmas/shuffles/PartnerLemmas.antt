@@ -1,4 +1,4 @@
--- Partners that are drawn from the numbers of their ranges, and the shuffles of none and of three that they make.
+-- Partners as draws from their ranges, and shuffles of no items and of three.
 use Rattle.std.proofs.Common.{◌≡◌, ℕ, ◌+◌, ◌-◌, ◌^◌, ◌<◌, ◌≤◌, List, [], ◌∷◌, Result, Ok, Err, length, map, min, nat_le, nat_lt, refl, ap, ◌∙◌}
 use Rattle.std.specs.List.{range_with_len}
 use Rattle.nanorand.specs.generators.Blocks.{Requests}
@@ -15,21 +15,22 @@ pub numbers_between : (a b : ℕ) → a < b → b ≤ 2 ^ 64 → unsigned_range 
 numbers_between a b some within =
     range-places nat_le nat_lt 64 unsigned_number (Included a) (Excluded b) a b (λ k. refl) (λ k in_type. refl) within some
 
--- what a shuffle makes: its answer, its choices and the state that it leaves
+-- what a shuffle makes: its result, its choices and the state that it leaves
 pub record Makes {G : Type 0} (requests : Requests G) (first : ℕ → ℕ) (n : ℕ) (g : G) (answer : Result (Unit {0}) RangeError) (choices : List ℕ) (left : G) : Type 0 where
   pub answered : shuffle_answer requests first n g ≡ answer
   pub chosen : shuffle_choices requests first n g ≡ choices
   pub leaves : shuffle_state requests first n g ≡ left
 
 module _ {G : Type 0} (requests : Requests G) (first : ℕ → ℕ) where
-  -- a partner from the numbers of its range
+  -- a partner drawn from the numbers of its range
   pub partner_between : (n i : ℕ) (g : G) → first i < n → n ≤ 2 ^ 64
       → partner_drawn requests first n i g ≡ range_outcome requests 64 (map unsigned_number (range_with_len (first i) (n - first i))) g
   unfolding partner_drawn
   partner_between n i g some within =
       ap (λ numbers. range_outcome requests 64 numbers g) (numbers_between (first i) n some within)
 
-  -- a shuffle of none, of three by their partners, and one whose first or second partner is refused
+  -- shuffles of no items, of three items by their partners, and of three whose first or second
+  -- partner is refused
   pub none_to_shuffle : (g : G) → Makes requests first 0 g (Ok tt) [] g
   unfolding choices_from state_after_places
   none_to_shuffle g = record { answered = refl; chosen = refl; leaves = refl }

@@ -3,7 +3,7 @@ use Rattle.std.specs.List.{sum}
 use Rattle.nanorand_users.specs.Choice.{item_at}
 use Rattle.nanorand_users.proofs.choice.item_at.Given as goal
 
--- what is left of the number, after the weights so far
+-- what is left of the number after the weights so far
 abbrev pub invariant-loop-i : goal.invariant-loop-i
 invariant-loop-i l = record {
   passed : sum (take l.i l.weights) + l.left ≡ l.number;

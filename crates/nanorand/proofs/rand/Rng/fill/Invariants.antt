@@ -3,7 +3,7 @@ use Rattle.std.specs.Fn.{iterate}
 use Rattle.nanorand.specs.values.Values.{values_from}
 use Rattle.nanorand.proofs.rand.Rng.fill.Given as goal
 
--- the values so far and those that are left are all, and what is left leaves the same state
+-- the values so far and those still to be drawn are all values, and both leave the same state
 abbrev pub invariant-loop-item : goal.invariant-loop-item
 invariant-loop-item g l =
     let after = g.T.RandomGen.state_after in

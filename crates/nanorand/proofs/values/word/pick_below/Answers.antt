@@ -6,7 +6,7 @@ use Rattle.nanorand.specs.values.Runs.{rejected}
 use Rattle.nanorand.proofs.values.word.pick_below.Goals as goal
 use Rattle.nanorand.proofs.values.word.pick_below.Goals.{then-low-size, else-low-size}
 
--- fewer words than `size` are rejected, so a low part of `size` or more is enough
+-- fewer than `size` words are rejected, so a low part of at least `size` is accepted
 pub returns-then-low-rejected : goal.returns-then-low-rejected
 returns-then-low-rejected c =
     let width : c.args.bits < 128 = omega (arith, c.requires.width) in
