@@ -6,13 +6,13 @@
 //! first.
 
 mod block;
+mod four_blocks;
 mod inverse;
 mod lanes;
 mod state;
-mod four_blocks;
 
 pub use block::{chacha_block, chacha_rounds};
+pub(crate) use four_blocks::four_blocks;
 pub use inverse::chacha_unrounds;
 pub(crate) use state::{counter, set_counter};
 pub use state::{chacha_increment_counter, chacha_init};
-pub(crate) use four_blocks::four_blocks;

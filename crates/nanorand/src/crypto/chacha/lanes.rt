@@ -45,8 +45,12 @@ fn mix_diagonals(rows: Rows) -> Rows
 #[inline(always)]
 pub(crate) fn quarter_round(a: u32x4, b: u32x4, c: u32x4, d: u32x4) -> (u32x4, u32x4, u32x4, u32x4)
     ensures { (j : ℕ) → j < 4
-        → (slice_index result.0 j, slice_index result.1 j,
-        slice_index result.2 j, slice_index result.3 j)
+        → (
+          slice_index result.0 j,
+          slice_index result.1 j,
+          slice_index result.2 j,
+          slice_index result.3 j,
+        )
         ≡ quarter_round (slice_index a j, slice_index b j, slice_index c j, slice_index d j) }
 {
     let a1 = add(a, b);
