@@ -24,8 +24,8 @@ pub enum Generator {
     ChaCha20,
 }
 
-/// A generator with the bytes of its seed: a little-endian number for `WyRand` and `Pcg64`, and a key
-/// of 32 bytes followed by a nonce of 8 bytes for ChaCha.
+/// A generator with the bytes of its seed: a little-endian number for `WyRand` and `Pcg64`, and a
+/// key of 32 bytes followed by a nonce of 8 bytes for ChaCha.
 #[derive(Clone, Copy, Debug)]
 pub enum SeededGenerator {
     WyRand([u8; 8]),

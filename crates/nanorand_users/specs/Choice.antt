@@ -3,7 +3,7 @@
 use Rattle.std.specs.Prelude.{◌≡◌, ℕ, suc, ◌+◌, ◌-◌, ◌*◌, ◌<◌, ◌≤◌, ◌^◌, ◌==◌, List, [], ◌∷◌, length, Option, Result, Ok, Err, sum, take, slice_index, nat_le, nat_lt, ok_or, is_ok, option_map, if◌then◌else◌}
 use Rattle.nanorand.specs.generators.Blocks.{Requests}
 use Rattle.nanorand.specs.values.Runs.{IsWordWidth, named, quota, words_that}
-use Rattle.nanorand.specs.values.Draws.{after_word, left_after, next_word, number_drawn, word_limit}
+use Rattle.nanorand.specs.values.Draws.{drawn_below}
 use Rattle.nanorand.specs.values.Fairness.{passes}
 use Rattle.nanorand_users.specs.declared.choice.ChoiceError.{ChoiceError}
 use Rattle.nanorand_users.specs.declared.choice.ChoiceError.TheVariants.{NoWeight, TooHeavy, Exhausted}
@@ -29,7 +29,7 @@ total_of weights =
 module _ {G : Type 0} (requests : Requests G) where
   -- The number below the sum of the weights that the next 128 words decide, if they decide one.
   abbrev pub number_for : List ℕ → G → Option ℕ
-  number_for weights g = number_drawn (next_word requests 64) (after_word requests 64) word_limit 64 (sum weights) g
+  number_for weights g = (drawn_below requests 64 (sum weights) g).number
 
   -- The result of a choice: the item whose share contains that number, or the refusal.
   abbrev pub choice_answer : List ℕ → G → Result ℕ ChoiceError
@@ -42,8 +42,7 @@ module _ {G : Type 0} (requests : Requests G) where
   -- weights is refused, nothing is drawn.
   abbrev pub choice_state : List ℕ → G → G
   choice_state weights g =
-      if is_ok (total_of weights) then left_after (next_word requests 64) (after_word requests 64) word_limit 64 (sum weights) g
-      else g
+      if is_ok (total_of weights) then (drawn_below requests 64 (sum weights) g).state else g
 
 -- The item that a word of `bits` bits names, if it names one.
 abbrev pub item_named : ℕ → List ℕ → ℕ → Option ℕ
@@ -53,5 +52,7 @@ item_named bits weights word = option_map (item_at weights) (named bits (sum wei
 -- words as its weight times the words of one number.
 abbrev pub ChoicesAreFair : Type 0
 ChoicesAreFair =
-    (bits : ℕ) (weights : List ℕ) (i : ℕ) → IsWordWidth bits → 1 ≤ sum weights → sum weights ≤ 2 ^ bits → i < length weights
-    → words_that bits (λ word. passes (λ j. j == i) (item_named bits weights word)) ≡ slice_index weights i * quota bits (sum weights)
+    (bits : ℕ) (weights : List ℕ) (i : ℕ) → IsWordWidth bits → 1 ≤ sum weights
+        → sum weights ≤ 2 ^ bits → i < length weights
+    → words_that bits (λ word. passes (λ j. j == i) (item_named bits weights word))
+        ≡ slice_index weights i * quota bits (sum weights)

@@ -43,7 +43,8 @@ module _ {G : Type 0} (requests : Requests G) where
 -- for each of `left` indices from i on, and the draw for an index is any number up to that index.
 abbrev pub rows_that : ℕ → ℕ → List ℕ → (List ℕ → Bool) → ℕ
 rows_that i zero chosen test = if test chosen then 1 else 0
-rows_that i (suc left) chosen test = sum_by (λ drawn. rows_that (i + 1) left (placed chosen i drawn) test) (range_with_len 0 (i + 1))
+rows_that i (suc left) chosen test =
+    sum_by (λ drawn. rows_that (i + 1) left (placed chosen i drawn) test) (range_with_len 0 (i + 1))
 
 -- How many sequences of draws make a whole sample that passes a test.
 abbrev pub samples_that : ℕ → ℕ → (List ℕ → Bool) → ℕ
@@ -53,4 +54,5 @@ samples_that size count test = rows_that size (count - size) (range_with_len 0 s
 abbrev pub SamplesAreFair : Type 0
 SamplesAreFair =
     (size count place : ℕ) → size ≤ count → place < count
-    → samples_that size count (list_any (λ other. other == place)) * count ≡ size * samples_that size count (λ chosen. true)
+    → samples_that size count (list_any (λ other. other == place)) * count
+        ≡ size * samples_that size count (λ chosen. true)

@@ -28,4 +28,5 @@ module _ {G : Type 0} (requests : Requests G) where
     -- The state after these delays.
     abbrev pub state_after_delays : ℕ → ℕ → G → G
     state_after_delays k zero g = g
-    state_after_delays k (suc n) g = state_after_delays (k + 1) n (delay_drawn (ceiling_after first cap k) g).1
+    state_after_delays k (suc n) g =
+        state_after_delays (k + 1) n (delay_drawn (ceiling_after first cap k) g).1

@@ -6,8 +6,8 @@
 ghost use Rattle.std.specs.Prelude.{◌≡◌, ◌+◌, ◌*◌, ◌^◌, ◌<◌, ℕ, List, length, slice_index, refl};
 ghost use Rattle.nanorand.specs.generators.ChaCha.{next_state};
 ghost use Rattle.nanorand.specs.generators.ChaChaRounds.{IsMatrix};
-ghost use Rattle.nanorand.specs.generators.Pcg64.{Generator, next};
-ghost use Rattle.nanorand.specs.generators.WyRand.{next_seed};
+ghost use Rattle.nanorand.specs.generators.Pcg64 as pcg64;
+ghost use Rattle.nanorand.specs.generators.WyRand as wyrand;
 ghost use Rattle.nanorand_users.specs.Streams.{after_draws, word_of_draw, PartsAreApart};
 
 use nanorand::laws::{chacha_counter, pcg64_cycles, wyrand_cycle};
@@ -25,7 +25,7 @@ pub trait Skip<const OUTPUT: usize>: Rng<OUTPUT> {
 
 impl Skip<8> for WyRand {
     fn skip(&mut self, draws: u128)
-        ensures { self.new ≡ after_draws next_seed draws self.old }
+        ensures { self.new ≡ after_draws wyrand.next_seed draws self.old }
     {
         wyrand_cycle();
         let _seed = self.seed();
@@ -37,7 +37,7 @@ impl Skip<8> for WyRand {
 
 impl Skip<8> for Pcg64 {
     fn skip(&mut self, draws: u128)
-        ensures { self.new ≡ after_draws next draws self.old }
+        ensures { self.new ≡ after_draws pcg64.next draws self.old }
     {
         pcg64_cycles();
         self.jump(draws);
@@ -72,7 +72,8 @@ pub fn worker<G: Skip<OUTPUT>, const OUTPUT: usize>(stream: G, index: u64, share
 /// Writes the part of one worker: `words.len()` words, after as many for each worker before it.
 pub fn part<G: Skip<OUTPUT> + Drop, const OUTPUT: usize>(stream: G, index: u64, words: &mut [u64])
     ensures { (j : ℕ) → j < length words.old
-        → slice_index words.new j ≡ word_of_draw G.block G.step stream (index * length words.old + j) }
+        → slice_index words.new j
+        ≡ word_of_draw G.block G.step stream (index * length words.old + j) }
 {
     let mut own = worker(stream, index, words.len() as u64);
     own.fill(words);
@@ -81,7 +82,7 @@ pub fn part<G: Skip<OUTPUT> + Drop, const OUTPUT: usize>(stream: G, index: u64, 
 /// Parts of a `WyRand` stream within 2^64 draws do not overlap: no seed comes twice.
 pub fn wyrand_parts_are_apart()
     ensures { (seed : ℕ) → seed < 2 ^ 64
-        → PartsAreApart (2 ^ 64) (λ n. after_draws next_seed n seed) }
+        → PartsAreApart (2 ^ 64) (λ n. after_draws wyrand.next_seed n seed) }
 {
     wyrand_cycle();
 }
@@ -89,8 +90,8 @@ pub fn wyrand_parts_are_apart()
 /// Parts of a `Pcg64` stream within 2^126 draws do not overlap: no seed comes twice, and the seed
 /// alone decides the blocks.
 pub fn pcg64_parts_are_apart()
-    ensures { (g : Generator) → g.seed < 2 ^ 128
-        → PartsAreApart (2 ^ 126) (λ n. (after_draws next n g).seed) }
+    ensures { (g : pcg64.Generator) → g.seed < 2 ^ 128
+        → PartsAreApart (2 ^ 126) (λ n. (after_draws pcg64.next n g).seed) }
 {
     pcg64_cycles();
 }

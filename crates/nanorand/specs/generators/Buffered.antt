@@ -19,7 +19,8 @@ buffer_of rest inner = record { rest = rest; inner = inner }
 -- A state is encoded as the pair of its fields.
 abbrev pub buffered_code : {G : Type 0} → Coded G → Coded (Buffered G)
 buffered_code {G} code =
-    code_by (List ℕ × G) (coded× (coded_list coded_ℕ) code) (λ b. (b.rest, b.inner)) (λ p. record { rest = p.0; inner = p.1 }) (λ _. refl)
+    code_by (List ℕ × G) (coded× (coded_list coded_ℕ) code)
+    (λ b. (b.rest, b.inner)) (λ p. record { rest = p.0; inner = p.1 }) (λ _. refl)
 
 module _ {G : Type 0} (block : G → List ℕ) (step : G → G) (output : ℕ) where
   -- The buffered bytes, followed by the bytes of the next m blocks.
@@ -37,7 +38,10 @@ module _ {G : Type 0} (block : G → List ℕ) (step : G → G) (output : ℕ) w
   -- The state that it leaves: the bytes not taken stay buffered, and the inner generator has
   -- advanced by the blocks drawn.
   unfoldable pub buffered_after : Buffered G → ℕ → Buffered G
-  buffered_after b n = record { rest = drop n (row b (blocks_needed b n)); inner = iterate step (blocks_needed b n) b.inner }
+  buffered_after b n = record {
+    rest = drop n (row b (blocks_needed b n));
+    inner = iterate step (blocks_needed b n) b.inner;
+  }
 
   -- The next block of a buffered generator: a request of `output` bytes.
   abbrev pub buffered_block : Buffered G → List ℕ

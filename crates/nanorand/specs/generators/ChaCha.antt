@@ -18,7 +18,8 @@ bytes = flat_map (to_le_bytes w32)
 
 -- The state of a 32-byte key and an 8-byte nonce, with the counter at 0.
 unfoldable pub initial_state : List ℕ → List ℕ → List ℕ
-initial_state key nonce = words (codes "expand 32-byte k") ++ words key ++ (0 ∷ 0 ∷ []) ++ words nonce
+initial_state key nonce =
+    words (codes "expand 32-byte k") ++ words key ++ (0 ∷ 0 ∷ []) ++ words nonce
 
 -- The state that a 40-byte seed gives: its first 32 bytes are the key, and the other 8 the nonce.
 abbrev pub seeded_state : List ℕ → List ℕ

@@ -54,11 +54,13 @@ of_diagonals p q r s =
 
 -- f applied to each of the four columns of a matrix.
 unfoldable pub on_columns : (Words → Words) → List ℕ → List ℕ
-on_columns f x = of_columns (line f x 0 4 8 12) (line f x 1 5 9 13) (line f x 2 6 10 14) (line f x 3 7 11 15)
+on_columns f x =
+    of_columns (line f x 0 4 8 12) (line f x 1 5 9 13) (line f x 2 6 10 14) (line f x 3 7 11 15)
 
 -- f applied to each of the four diagonals of a matrix.
 unfoldable pub on_diagonals : (Words → Words) → List ℕ → List ℕ
-on_diagonals f x = of_diagonals (line f x 0 5 10 15) (line f x 1 6 11 12) (line f x 2 7 8 13) (line f x 3 4 9 14)
+on_diagonals f x =
+    of_diagonals (line f x 0 5 10 15) (line f x 1 6 11 12) (line f x 2 7 8 13) (line f x 3 4 9 14)
 
 -- A double round: the quarter round of each column, and then of each diagonal.
 abbrev pub pair_of_rounds : List ℕ → List ℕ

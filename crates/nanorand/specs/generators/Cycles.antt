@@ -6,7 +6,8 @@ use Rattle.std.specs.Int.{◌∣◌}
 
 -- d is a period of a state: after d draws it gives the same blocks as from the start. So 0 is one.
 abbrev pub IsPeriod : {G B : Type 0} → (G → G) → (G → B) → G → ℕ → Type 0
-IsPeriod step block g d = (n : ℕ) → block (iterate step n (iterate step d g)) ≡ block (iterate step n g)
+IsPeriod step block g d =
+    (n : ℕ) → block (iterate step n (iterate step d g)) ≡ block (iterate step n g)
 
 -- The periods of a state are exactly the multiples of one number.
 abbrev pub PeriodsAreMultiplesOf : {G B : Type 0} → ℕ → (G → G) → (G → B) → G → Type 0
@@ -26,7 +27,8 @@ DrawsAdd {G} after = (m n : ℕ) (g : G) → after n (after m g) ≡ after (m + 
 
 -- i draws and j draws lead from a seed to the same seed exactly if i and j agree modulo the period.
 abbrev pub AgreeModulo : ℕ → (ℕ → ℕ → ℕ) → ℕ → Type 0
-AgreeModulo period seed_after seed = (i j : ℕ) → (seed_after i seed ≡ seed_after j seed) ↔ (i % period ≡ j % period)
+AgreeModulo period seed_after seed =
+    (i j : ℕ) → (seed_after i seed ≡ seed_after j seed) ↔ (i % period ≡ j % period)
 
 -- Some number of draws leads from seed s to seed t.
 abbrev pub Reaches : (ℕ → ℕ → ℕ) → ℕ → ℕ → Type 0
@@ -35,4 +37,5 @@ Reaches seed_after s t = (n : ℕ) × (seed_after n s ≡ t)
 -- Exactly one number of draws below the period leads from seed s to seed t.
 abbrev pub ReachesOnceBelow : ℕ → (ℕ → ℕ → ℕ) → ℕ → ℕ → Type 0
 ReachesOnceBelow period seed_after s t =
-    (n : ℕ) × (n < period) × (seed_after n s ≡ t) × ((m : ℕ) → m < period → seed_after m s ≡ t → m ≡ n)
+    (n : ℕ) × (n < period) × (seed_after n s ≡ t)
+        × ((m : ℕ) → m < period → seed_after m s ≡ t → m ≡ n)

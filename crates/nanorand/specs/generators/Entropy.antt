@@ -5,8 +5,10 @@ use Rattle.std.specs.Io.KnownBytes.{Consumes}
 
 -- The value is made from `count` bytes of the reader. If its bytes can be named, they are the next
 -- ones, and no more were taken.
-abbrev pub IsMadeOf : {T : Type 0} → ℕ → (List ℕ → T) → Option (List ℕ) → Option (List ℕ) → T → Type 0
-IsMadeOf count make old new value = (bytes : List ℕ) × (length bytes ≡ count) × Consumes old new bytes × (value ≡ make bytes)
+abbrev pub IsMadeOf : {T : Type 0} → ℕ → (List ℕ → T) → Option (List ℕ) → Option (List ℕ) → T
+    → Type 0
+IsMadeOf count make old new value =
+    (bytes : List ℕ) × (length bytes ≡ count) × Consumes old new bytes × (value ≡ make bytes)
 
 -- A reader whose bytes can be named had fewer than `count` left. Of another reader this says
 -- nothing.

@@ -41,7 +41,11 @@ seeded_generator seed = initial_generator (number_of seed)
 -- The generator after one draw: `state` is the new seed, and `inc` is twice the old seed plus 1,
 -- modulo 2^128.
 abbrev pub next : Generator → Generator
-next g = record { seed = next_seed g.seed; state = next_seed g.seed; inc = (2 * g.seed + 1) % 2 ^ 128 }
+next g = record {
+  seed = next_seed g.seed;
+  state = next_seed g.seed;
+  inc = (2 * g.seed + 1) % 2 ^ 128;
+}
 
 -- The next block: the eight bytes of the new seed's word, least significant byte first. The word of
 -- a seed is the xor of its two 64-bit halves.

@@ -1,4 +1,5 @@
--- How many bytes a list of calls asks for: the sum of the sizes of the requests that its values, ranges and shuffles make.
+-- How many bytes a list of calls asks for: the sum of the sizes of the requests that its values,
+-- ranges and shuffles make.
 use Rattle.std.specs.Prelude.{ℕ, zero, suc, ◌+◌, ◌*◌, ◌/◌, ◌==◌, List, [], ◌∷◌, length, min, if◌then◌else◌}
 use Rattle.std.specs.Option.{option_map_or}
 use Rattle.std.specs.declared.ops.Bound.TheVariants.{Included, Excluded}
@@ -12,16 +13,20 @@ use Rattle.nanorand.specs.declared.replay.Call.{Call}
 use Rattle.nanorand.specs.declared.replay.Call.TheVariants.{Gen, Range, Shuffle}
 use Rattle.nanorand.specs.declared.replay.Span.{Span}
 
--- How many words are drawn for a range of these numbers: up to the deciding one, or all 128; none if there is no number.
+-- How many words are drawn for a range of these numbers: up to the deciding one, or all 128; none if
+-- the range is empty.
 unfoldable pub words_drawn : {G T : Type 0} → (G → ℕ) → (G → G) → ℕ → List T → G → ℕ
 words_drawn word after bits numbers g =
     if length numbers == 0 then 0
-    else option_map_or (λ i. i + 1) (deciding_place bits (length numbers) (words_from word after word_limit g)) word_limit
+    else
+      let place = deciding_place bits (length numbers) (words_from word after word_limit g) in
+      option_map_or (λ i. i + 1) place word_limit
 
 module _ {G : Type 0} (requests : Requests G) where
-  -- The bytes that a range of these numbers, of a type of so many bits, asks for.
+  -- The bytes that a range of these numbers, of a type of `bits` bits, asks for.
   abbrev pub asked_by_range : {T : Type 0} → ℕ → List T → G → ℕ
-  asked_by_range bits numbers g = words_drawn (next_word requests bits) (after_word requests bits) bits numbers g * (bits / 8)
+  asked_by_range bits numbers g =
+      words_drawn (next_word requests bits) (after_word requests bits) bits numbers g * (bits / 8)
 
   abbrev pub asked_by_bounds : G → TypedBounds → ℕ
   asked_by_bounds g (unsigned bits low high) = asked_by_range bits (unsigned_range bits low high) g
@@ -30,16 +35,17 @@ module _ {G : Type 0} (requests : Requests G) where
   abbrev pub asked_by_span : G → Span → ℕ
   asked_by_span g span = asked_by_bounds g (bounds_of span)
 
-  -- The bytes that the partners of `count` places from i on ask for, in a shuffle of n items.
+  -- The bytes that the partners of `count` indices from i on ask for, in a shuffle of n items.
   unfoldable pub asked_by_places : (ℕ → ℕ) → ℕ → ℕ → ℕ → G → ℕ
   asked_by_places first n i zero g = 0
   asked_by_places first n i (suc count) g =
       asked_by_range 64 (unsigned_range 64 (Included (first i)) (Excluded n)) g
       + asked_by_places first n (i + 1) count (partner_drawn requests first n i g).1
 
-  -- The bytes that a shuffle of n items asks for: a partner for each place, up to the refused one.
+  -- The bytes that a shuffle of n items asks for: a partner for each index, up to the refused one.
   abbrev pub asked_by_shuffle : (ℕ → ℕ) → ℕ → G → ℕ
-  asked_by_shuffle first n g = asked_by_places first n 0 (min n (length (shuffle_choices requests first n g) + 1)) g
+  asked_by_shuffle first n g =
+      asked_by_places first n 0 (min n (length (shuffle_choices requests first n g) + 1)) g
 
   -- The bytes that a call asks for.
   abbrev pub asked_by_call : G → List ℕ → Call → ℕ

@@ -1,5 +1,5 @@
--- Replay: a list of calls, the answers and items that it gives, and the state that it leaves. All of it is a function
--- of what requests deliver and leave: `bytes g n` is what a request of n delivers, and `after g n` the state after it.
+-- Replay: a list of calls, the answers and the items that it gives, and the state after it. All of
+-- it is determined by the requests: the bytes that each takes, and the state that it leaves.
 use Rattle.std.specs.Prelude.{◌≡◌, ℕ, ℤ, List, [], ◌∷◌, ◌++◌, length, Result, Ok, Err}
 use Rattle.std.specs.declared.ops.Bound.{Bound}
 use Rattle.std.specs.Int.{w8, w16, w32, w64, w128}
@@ -18,7 +18,7 @@ use Rattle.nanorand.specs.declared.replay.Call.TheVariants.{Gen, Range, Shuffle}
 use Rattle.nanorand.specs.declared.replay.Answer.{Answer}
 use Rattle.nanorand.specs.declared.replay.Answer.TheVariants.{Unsigned, Signed, Truth, Empty, Exhausted, Shuffled}
 
--- How many bytes a value of a type asks for.
+-- How many bytes a value of the type takes.
 abbrev pub size_of : Kind → ℕ
 size_of kinds.I8 = 1
 size_of kinds.I16 = 2
@@ -34,7 +34,7 @@ size_of kinds.U128 = 16
 size_of kinds.Usize = 8
 size_of kinds.Bool = 1
 
--- The value of a type that these bytes give.
+-- The value of the type that these bytes give, least significant byte first.
 abbrev pub value_of : Kind → List ℕ → Answer
 value_of kinds.I8 bytes = Signed (signed_number_of w8 bytes)
 value_of kinds.I16 bytes = Signed (signed_number_of w16 bytes)
@@ -50,7 +50,7 @@ value_of kinds.U128 bytes = Unsigned (number_of bytes)
 value_of kinds.Usize bytes = Unsigned (number_of bytes)
 value_of kinds.Bool bytes = Truth (truth_of bytes)
 
--- The bounds of a range, low and high, of the unsigned or the signed type of so many bits.
+-- The low and the high bound of a range of the unsigned or the signed type of n bits.
 pub data TypedBounds : Type 0 where
   unsigned : ℕ → Bound ℕ → Bound ℕ → TypedBounds
   signed : ℕ → Bound ℤ → Bound ℤ → TypedBounds
@@ -87,20 +87,20 @@ abbrev pub shuffle_call_answer : Result (Unit {0}) RangeError → Answer
 shuffle_call_answer (Ok tt) = Shuffled
 shuffle_call_answer (Err refusal) = refusal_answer refusal
 
--- What one call answers, and the items and the state that it leaves.
+-- The answer of one call, and the items and the state that it leaves.
 pub record Outcome (G : Type 0) : Type 0 where
   pub answer : Answer
   pub items : List ℕ
   pub state : G
 
--- What a list of calls answers, call by call, and the items and the state that it leaves.
+-- The answers of a list of calls, one for each, and the items and the state that it leaves.
 pub record Replay (G : Type 0) : Type 0 where
   pub answers : List Answer
   pub items : List ℕ
   pub state : G
 
 module _ {G : Type 0} (requests : Requests G) where
-  -- What a range answers, and the state that it leaves.
+  -- The answer of a range, and the state that it leaves.
   abbrev pub bounds_outcome : G → TypedBounds → Answer × G
   bounds_outcome g (unsigned bits low high) =
       let drawn = unsigned_outcome requests bits g low high in
@@ -113,13 +113,25 @@ module _ {G : Type 0} (requests : Requests G) where
   span_outcome g span = bounds_outcome g (bounds_of span)
 
   abbrev pub outcome : G → List ℕ → Call → Outcome G
-  outcome g items (Gen kind) = record { answer = value_of kind (requests.bytes g (size_of kind)); items = items; state = requests.after g (size_of kind) }
-  outcome g items (Range span) = record { answer = (span_outcome g span).0; items = items; state = (span_outcome g span).1 }
+  outcome g items (Gen kind) = record {
+    answer = value_of kind (requests.bytes g (size_of kind));
+    items = items;
+    state = requests.after g (size_of kind);
+  }
+  outcome g items (Range span) = record {
+    answer = (span_outcome g span).0;
+    items = items;
+    state = (span_outcome g span).1;
+  }
   outcome g items Shuffle =
       let shuffle = shuffled requests from_itself g items in
-      record { answer = shuffle_call_answer shuffle.answer; items = shuffle.items; state = shuffle.state }
+      record {
+        answer = shuffle_call_answer shuffle.answer;
+        items = shuffle.items;
+        state = shuffle.state;
+      }
 
-  -- Each call starts from what the one before it left.
+  -- Each call starts from the items and the state that the one before it left.
   abbrev pub replayed : G → List ℕ → List Call → Replay G
   replayed g items [] = record { answers = []; items = items; state = g }
   replayed g items (call ∷ calls) =
@@ -127,8 +139,8 @@ module _ {G : Type 0} (requests : Requests G) where
       let rest = replayed first.state first.items calls in
       record { answers = first.answer ∷ rest.answers; items = rest.items; state = rest.state }
 
-  -- A replay of two lists, one after the other, is a replay of the first and then of the second, from the state and the
-  -- items that the first left.
+  -- A replay of two lists, one after the other, is a replay of the first and then of the second,
+  -- from the state and the items that the first left.
   abbrev pub ReplaysJoin : Type 0
   ReplaysJoin = (g : G) (items : List ℕ) (calls others : List Call) →
       let first = replayed g items calls in

@@ -8,7 +8,8 @@ use Rattle.nanorand.specs.shuffles.Shuffles.{arranged}
 -- length.
 abbrev pub IsValid : List ℕ → Type 0
 IsValid choices =
-    (i : ℕ) → i < length choices → (i ≤ slice_index choices i) × (slice_index choices i < length choices)
+    (i : ℕ) → i < length choices
+        → (i ≤ slice_index choices i) × (slice_index choices i < length choices)
 
 -- The list 0, 1, .., n - 1.
 abbrev pub rising : ℕ → List ℕ
@@ -39,7 +40,9 @@ HoldsEachOnce n numbers = (number : ℕ) → number < n → copies number number
 pub record CorrespondsOneToOne (n : ℕ) : Type 0 where
   pub makes : (choices : List ℕ) → length choices ≡ n → IsValid choices
       → (length (arranged choices (rising n)) ≡ n) × IsArrangement (arranged choices (rising n))
-  pub alone : (choices others : List ℕ) → length choices ≡ n → length others ≡ n → IsValid choices → IsValid others
+  pub alone : (choices others : List ℕ) → length choices ≡ n → length others ≡ n → IsValid choices
+      → IsValid others
       → arranged choices (rising n) ≡ arranged others (rising n) → choices ≡ others
   pub each : (order : List ℕ) → length order ≡ n → IsArrangement order
-      → (choices : List ℕ) × (length choices ≡ n) × IsValid choices × (arranged choices (rising n) ≡ order)
+      → (choices : List ℕ) × (length choices ≡ n) × IsValid choices
+          × (arranged choices (rising n) ≡ order)

@@ -10,7 +10,8 @@ use Rattle.nanorand.specs.declared.values.range.RangeError.TheVariants.{Exhauste
 
 -- The items after choices for the indices from i on: each index in turn is swapped with its choice.
 abbrev pub arranged_from : {T : Type 0} → ℕ → List ℕ → List T → List T
-arranged_from i choices items = fold (λ xs move. swap xs move.0 move.1) items (enumerate_from i choices)
+arranged_from i choices items =
+    fold (λ xs move. swap xs move.0 move.1) items (enumerate_from i choices)
 
 -- The items after choices for the indices from 0 on.
 abbrev pub arranged : {T : Type 0} → List ℕ → List T → List T
@@ -39,7 +40,8 @@ module _ {G : Type 0} (requests : Requests G) (first : ℕ → ℕ) (n : ℕ) wh
   -- The choices for `left` indices from i on, up to the first refused draw.
   unfoldable pub choices_from : ℕ → ℕ → G → List ℕ
   choices_from i zero g = []
-  choices_from i (suc left) g = choice_before (partner_drawn i g).0 (choices_from (i + 1) left (partner_drawn i g).1)
+  choices_from i (suc left) g =
+      choice_before (partner_drawn i g).0 (choices_from (i + 1) left (partner_drawn i g).1)
 
   -- The state after a draw for each of `count` indices from i on.
   unfoldable pub state_after_places : ℕ → ℕ → G → G

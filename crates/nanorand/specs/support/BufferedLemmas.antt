@@ -1,5 +1,5 @@
--- A buffer delivers one unbroken row of bytes. Nothing in this file needs to be believed: it stands in specs/ since the
--- laws of the impls cite it.
+-- A buffer delivers one unbroken stream of bytes. Nobody has to believe this file: it has lemmas that
+-- the laws of impls cite.
 use Rattle.std.proofs.Common.{◌≡◌, ℕ, zero, suc, ◌+◌, ◌-◌, ◌*◌, ◌/◌, ◌%◌, ◌<◌, ◌≤◌, List, [], ◌++◌, length, take, drop, refl, sym, ◌∙◌, ap, arith, length-append, length-drop, append_assoc, add-zero, zero-add, ⊎_elim}
 use Rattle.std.specs.Fn.{iterate}
 use Rattle.std.specs.Int.{div_ceil}
@@ -14,7 +14,7 @@ use Rattle.nanorand.specs.generators.Buffered.{Buffered, buffer_of, row, blocks_
 use Rattle.nanorand.specs.support.IterateLemmas.{iterate-add}
 use Rattle.nanorand.specs.support.BlockLemmas.{blocks_add, length-blocks, div_ceil_more, le-mul_self, taken_front}
 
--- the only number of that size that covers x
+-- the least q with x ≤ q * k is the quotient rounded up
 div_ceil_unique : (x k q : ℕ) → 0 < k → x ≤ q * k → q * k < x + k → div_ceil x k ≡ q
 div_ceil_unique x k q positive covers least =
     let p : ℕ = div_ceil x k in
@@ -26,11 +26,11 @@ div_ceil_unique x k q positive covers least =
 div_ceil_zero : (k : ℕ) → div_ceil 0 k ≡ 0
 div_ceil_zero k = rw (zero-div, zero-mod) refl
 
--- nothing takes none
+-- no bytes take no block
 ceil_none : (x k : ℕ) → x ≡ 0 → div_ceil x k * k ≡ 0
 ceil_none x k none = rw (none, div_ceil_zero, zero-mul) refl
 
--- What is asked for in two requests takes the blocks of both. There are r bytes first.
+-- One request of m + n bytes takes the blocks of a request of m and one of n. r bytes are buffered.
 ceil_add : (r m n k : ℕ) → 0 < k → div_ceil (m + n - r) k ≡ div_ceil (m - r) k + div_ceil (n - (r + div_ceil (m - r) k * k - m)) k
 ceil_add r m n k positive =
     let first : ℕ = div_ceil (m - r) k in
@@ -47,7 +47,7 @@ ceil_add r m n k positive =
     rw (none, div_ceil_zero, add-zero) (div_ceil_unique (m + n - r) k first positive (omega (arith, one, start)) (omega (arith, one, start))))
     (cases_lt left n)
 
--- of r bytes and the blocks that are drawn less than a block is left
+-- after a request of n, less than a block is left of r buffered bytes and the blocks drawn
 left_below : (r n k : ℕ) → 0 < k → r < k → r + div_ceil (n - r) k * k - n < k
 left_below r n k positive below =
     let bounds = div_ceil_times (n - r) k positive in
@@ -62,7 +62,7 @@ module _ {G : Type 0} (block : G → List ℕ) (step : G → G) (output : ℕ) (
   length-row : (b : Buffered G) (m : ℕ) → length (row block step output b m) ≡ length b.rest + m * output
   length-row b m = rw length-append (ap (λ n. length b.rest + n) (length-blocks block step output positive size b.inner m))
 
-  -- a request is covered
+  -- the blocks drawn cover the request
   covered : (b : Buffered G) (n : ℕ) → n ≤ length b.rest + blocks_needed block step output b n * output
   covered b n = omega (arith, div_ceil_times (n - length b.rest) output positive)
 
@@ -79,11 +79,11 @@ module _ {G : Type 0} (block : G → List ℕ) (step : G → G) (output : ℕ) (
   rest_below b n below =
       rw (length-drop n (row block step output b (blocks_needed block step output b n)), length-row b (blocks_needed block step output b n)) (left_below (length b.rest) n output positive below)
 
-  -- further blocks stand at the end of the row
+  -- further blocks come at the end of the stream
   row_add : (b : Buffered G) (m k : ℕ) → row block step output b (m + k) ≡ row block step output b m ++ blocks block step (iterate step m b.inner) k
   row_add b m k = ap (λ bytes. b.rest ++ bytes) (blocks_add block step b.inner m k) ∙ sym (append_assoc b.rest _ _)
 
-  -- the row of what a request leaves is the rest of the row
+  -- the stream after a request is the rest of the stream
   row_after : (b : Buffered G) (n m : ℕ) → row block step output (buffered_after block step output b n) m ≡ drop n (row block step output b (blocks_needed block step output b n + m))
   unfolding buffered_after
   row_after b n m = rw (row_add b (blocks_needed block step output b n) m) (sym (drop-append-le n _ _ (row_covers b n)))
@@ -94,7 +94,7 @@ module _ {G : Type 0} (block : G → List ℕ) (step : G → G) (output : ℕ) (
       let needed : ℕ = blocks_needed block step output b m in
       rw (length-drop m (row block step output b needed), length-row b needed) (ceil_add (length b.rest) m n output positive)
 
-  -- Two requests take what one of both sizes takes,
+  -- Two requests take what one of their total size takes,
   pub taken_add : (b : Buffered G) (m n : ℕ) → buffered_taken block step output b (m + n) ≡ buffered_taken block step output b m ++ buffered_taken block step output (buffered_after block step output b m) n
   unfolding buffered_taken
   taken_add b m n =
@@ -121,14 +121,14 @@ module _ {G : Type 0} (block : G → List ℕ) (step : G → G) (output : ℕ) (
       let long : length (buffered_taken block step output b n) ≡ n = length-buffered_taken b n in
       ap (λ k. take n (buffered_taken block step output b k)) split ∙ ap (λ bytes. take n bytes) (taken_add b n (m - n)) ∙ take_at _ _ n long
 
-  -- several blocks of a buffer are a request of their length
+  -- n blocks of a buffer are one request of their length
   blocks_of : (b : Buffered G) (n : ℕ) → blocks (buffered_block block step output) (buffered_step block step output) b n ≡ buffered_taken block step output b (n * output)
   blocks_of b zero = rw zero-mul (sym (nil_from_length _ (length-buffered_taken b 0)))
   blocks_of b (suc n) =
       ap (λ bytes. buffered_block block step output b ++ bytes) (blocks_of (buffered_step block step output b) n)
       ∙ sym (taken_add b output (n * output)) ∙ ap (λ k. buffered_taken block step output b k) (sym (suc-mul n output ∙ add_comm (n * output) output))
 
-  -- What a request takes by the blocks of the buffer is what it takes of the unbroken row.
+  -- The bytes by the blocks of the buffer are those of the unbroken stream.
   pub taken_unbroken : (b : Buffered G) (n : ℕ) → taken (buffered_block block step output) (buffered_step block step output) b n ≡ buffered_taken block step output b n
   unfolding taken
   taken_unbroken b n = ap (λ bytes. take n bytes) (blocks_of b n) ∙ taken_within b n (n * output) (le-mul_self n output positive)
@@ -140,7 +140,7 @@ module _ {G : Type 0} (block : G → List ℕ) (step : G → G) (output : ℕ) (
   unfolding buffered_after
   after_refilled g n some = rw (sub-zero, div_ceil_more n output some positive, size g) refl
 
-  -- a request within what is kept
+  -- a request within the buffered bytes
   needs_none : (b : Buffered G) (n : ℕ) → n ≤ length b.rest → blocks_needed block step output b n ≡ 0
   needs_none b n within = let none : n - length b.rest ≡ 0 = omega arith in rw (none, div_ceil_zero) refl
 
@@ -157,7 +157,7 @@ module _ {G : Type 0} (block : G → List ℕ) (step : G → G) (output : ℕ) (
   pub after_nothing : (b : Buffered G) → buffered_after block step output b 0 ≡ b
   after_nothing b = after_kept b 0 (omega arith)
 
-  -- more than what is kept: all of it, and a request for the rest where nothing is kept
+  -- a larger request: all buffered bytes, and a request to the empty buffer for the rest
   module _ (b : Buffered G) (n : ℕ) (past : length b.rest ≤ n) where
     past_split : n ≡ length b.rest + (n - length b.rest)
     past_split = omega arith
@@ -177,7 +177,7 @@ module _ {G : Type 0} (block : G → List ℕ) (step : G → G) (output : ℕ) (
         ap (λ k. buffered_after block step output b k) past_split ∙ sym (after_add b (length b.rest) (n - length b.rest))
         ∙ ap (λ c. buffered_after block step output c (n - length b.rest)) past_kept
 
-  -- Where nothing is kept, a request takes what it takes of the generator.
+  -- From an empty buffer a request takes what it takes from the generator.
   ceil_fewer : (n : ℕ) → div_ceil n output ≤ n
   ceil_fewer n =
       ⊎_elim (λ (more : n < div_ceil n output).
@@ -194,7 +194,7 @@ module _ {G : Type 0} (block : G → List ℕ) (step : G → G) (output : ℕ) (
   unfolding buffered_taken taken
   taken_fresh g n = rw sub-zero (take_enough g n (div_ceil n output) (div_ceil_times n output positive).0 (ceil_fewer n))
 
-  -- whole blocks leave nothing
+  -- whole blocks leave an empty buffer
   ceil_even : (n : ℕ) → n % output ≡ 0 → div_ceil n output * output ≡ n
   ceil_even n even =
       let split = div-add-mod' n output in

@@ -1,5 +1,4 @@
--- Lemmas of draws made one after another. Nothing in this file needs to be believed: it stands in specs/ since laws of
--- impls cite it.
+-- Lemmas of repeated draws. Nobody has to believe this file: the laws of impls cite it.
 use Rattle.std.proofs.Common.{◌≡◌, ℕ, zero, suc, ◌+◌, refl, sym, ap, ◌∙◌, add-one}
 use Rattle.std.proofs.Math.Nat.{zero-add, suc-add}
 use Rattle.std.specs.Fn.{iterate}
@@ -14,7 +13,7 @@ module _ {G : Type 0} (step : G → G) where
   iterate-add zero n g = ap (λ (k : ℕ). iterate step k g) (zero-add n)
   iterate-add (suc m) n g = ap (λ (k : ℕ). iterate step k g) (suc-add m n) ∙ iterate-add m n (step g)
 
-  -- what no draw and one draw more leave decides what n draws leave
+  -- the states after no draw and after one draw more determine the state after n draws
   module _ (after : ℕ → G → G) (none : (g : G) → after 0 g ≡ g) (more : OneMoreDraw step after) where
     pub draws_leave : DrawsLeave step after
     draws_leave zero g = sym (none g)

@@ -17,7 +17,8 @@ deciding_place bits size words = position (λ word. is_some (named bits size wor
 
 -- The number that the deciding word names, if there is one.
 abbrev pub decided : ℕ → ℕ → List ℕ → Option ℕ
-decided bits size words = option_and_then (λ i. named bits size (slice_index words i)) (deciding_place bits size words)
+decided bits size words =
+    option_and_then (λ i. named bits size (slice_index words i)) (deciding_place bits size words)
 
 -- The most words that are drawn for one number.
 abbrev pub word_limit : ℕ
@@ -37,7 +38,8 @@ module _ {G : Type 0} (word : G → ℕ) (after : G → G) where
   -- The state after the deciding word, or after all `limit` words if none of them decides.
   unfoldable pub left_after : ℕ → ℕ → ℕ → G → G
   left_after limit bits size g =
-      iterate after (option_map_or (λ i. i + 1) (deciding_place bits size (words_from limit g)) limit) g
+      let place = deciding_place bits size (words_from limit g) in
+      iterate after (option_map_or (λ i. i + 1) place limit) g
 
   -- The result of a draw from a range with these numbers: the number whose index in the range,
   -- counted from 0, was drawn. An empty range is refused as `Empty`, and a draw whose 128 words are
@@ -45,11 +47,14 @@ module _ {G : Type 0} (word : G → ℕ) (after : G → G) where
   unfoldable pub value_drawn : {T : Type 0} → ℕ → List T → G → Result T RangeError
   value_drawn bits numbers g =
       if length numbers == 0 then Err Empty
-      else ok_or (option_and_then (slice_get numbers) (number_drawn word_limit bits (length numbers) g)) Exhausted
+      else
+        let drawn = number_drawn word_limit bits (length numbers) g in
+        ok_or (option_and_then (slice_get numbers) drawn) Exhausted
 
   -- The state that this draw leaves. An empty range draws nothing.
   unfoldable pub left_by : {T : Type 0} → ℕ → List T → G → G
-  left_by bits numbers g = if length numbers == 0 then g else left_after word_limit bits (length numbers) g
+  left_by bits numbers g =
+      if length numbers == 0 then g else left_after word_limit bits (length numbers) g
 
 -- The next word of `bits` bits: the unsigned number of the bytes of one request of bits / 8 bytes,
 -- least significant byte first. Signed types use it too.
@@ -75,13 +80,18 @@ module _ {G : Type 0} (requests : Requests G) where
   drawn_below bits size g =
       let word = next_word requests bits in
       let after = after_word requests bits in
-      record { number = number_drawn word after word_limit bits size g; state = left_after word after word_limit bits size g }
+      record {
+        number = number_drawn word after word_limit bits size g;
+        state = left_after word after word_limit bits size g;
+      }
 
   -- The result of a draw from a range with these numbers, of a type of `bits` bits, and the state
   -- that it leaves.
   abbrev pub range_outcome : {T : Type 0} → ℕ → List T → G → Result T RangeError × G
   range_outcome bits numbers g =
-      (value_drawn (next_word requests bits) (after_word requests bits) bits numbers g, left_by (next_word requests bits) (after_word requests bits) bits numbers g)
+      let word = next_word requests bits in
+      let after = after_word requests bits in
+      (value_drawn word after bits numbers g, left_by word after bits numbers g)
 
   -- The same for a range of the unsigned type of `bits` bits, given by its bounds.
   abbrev pub unsigned_outcome : ℕ → G → Bound ℕ → Bound ℕ → Result ℕ RangeError × G

@@ -10,7 +10,8 @@ use Rattle.nanorand.specs.values.Draws.{deciding_place, decided}
 pub record SharesWords (bits size : ℕ) : Type 0 where
   pub within : (k : ℕ) → k < size → first_word bits size k + quota bits size ≤ 2 ^ bits
   pub apart : (word j k : ℕ) → Names bits size word j → Names bits size word k → j ≡ k
-  pub counted : (k : ℕ) → k < size → words_that bits (λ word. is_in_run bits size word k) ≡ quota bits size
+  pub counted : (k : ℕ) → k < size
+      → words_that bits (λ word. is_in_run bits size word k) ≡ quota bits size
   pub naming : (word k : ℕ) → (named bits size word ≡ Some k) ↔ Names bits size word k
   pub some : 1 ≤ quota bits size
   pub all : 2 ^ bits ≡ size * quota bits size + rejected bits size
@@ -32,9 +33,11 @@ swapped_number j k n = if n == j then k else if n == k then j else n
 -- deciding word, exchanges the results j and k, and leaves every other result, and every failure,
 -- unchanged.
 pub record SwapsRuns (bits size j k : ℕ) (words : List ℕ) : Type 0 where
-  pub fits : All (λ word. word < 2 ^ bits) words → All (λ word. word < 2 ^ bits) (map (swapped_word bits size j k) words)
+  pub fits : All (λ word. word < 2 ^ bits) words
+      → All (λ word. word < 2 ^ bits) (map (swapped_word bits size j k) words)
   pub back : map (swapped_word bits size j k) (map (swapped_word bits size j k) words) ≡ words
-  pub place : deciding_place bits size (map (swapped_word bits size j k) words) ≡ deciding_place bits size words
+  pub place : deciding_place bits size (map (swapped_word bits size j k) words)
+      ≡ deciding_place bits size words
   pub result : decided bits size (map (swapped_word bits size j k) words)
       ≡ option_map (swapped_number j k) (decided bits size words)
 
@@ -46,7 +49,8 @@ passes test None = false
 -- Fairness, part one of three, for every word width and every size from 1 to 2^bits: the runs share
 -- the words equally.
 abbrev pub RunsAreFair : Type 0
-RunsAreFair = (bits size : ℕ) → IsWordWidth bits → 1 ≤ size → size ≤ 2 ^ bits → SharesWords bits size
+RunsAreFair =
+    (bits size : ℕ) → IsWordWidth bits → 1 ≤ size → size ≤ 2 ^ bits → SharesWords bits size
 
 -- Part two: in every list of words, exchanging the runs of two numbers exchanges these two results
 -- and nothing else.
@@ -60,4 +64,5 @@ NoNumberIsPreferred =
 abbrev pub EventsAreFair : Type 0
 EventsAreFair =
     (bits size : ℕ) (test : ℕ → Bool) → IsWordWidth bits → 1 ≤ size → size ≤ 2 ^ bits
-    → words_that bits (λ word. passes test (named bits size word)) ≡ count_by test (range_with_len 0 size) * quota bits size
+    → words_that bits (λ word. passes test (named bits size word))
+        ≡ count_by test (range_with_len 0 size) * quota bits size

@@ -11,13 +11,13 @@ use Rattle.nanorand.specs.shuffles.Shuffles.{arranged, arranged_from, from_itsel
 use Rattle.nanorand.proofs.lemmas.shuffles.ChoiceLemmas.{Chosen, arranged_from-append, valid_from_chosen}
 use Rattle.nanorand.proofs.lemmas.shuffles.ShuffleLemmas.{Shuffling, choice-drawn, choices-chosen}
 
--- a place that is swapped with itself stays as it is
+-- swapping an index with itself changes nothing
 swap-itself : {T : Type 0} (items : List T) (i : ℕ) → swap items i i ≡ items
 swap-itself [] i = refl
 swap-itself (x ∷ xs) i =
     ap (λ ys. set ys i (get_or (x ∷ xs) i x)) (set-get_or (x ∷ xs) i x) ∙ set-get_or (x ∷ xs) i x
 
--- places that are their own choices move nothing
+-- indices that are their own choices move nothing
 arranged_from-places : {T : Type 0} (i left : ℕ) (items : List T) → arranged_from i (range_with_len i left) items ≡ items
 arranged_from-places i zero items = refl
 arranged_from-places i (suc left) items = arranged_from-places (i + 1) left (swap items i i) ∙ swap-itself items i
@@ -39,7 +39,7 @@ completed-size : (n : ℕ) (choices : List ℕ) → length choices ≤ n → len
 completed-size n choices room =
     omega (arith, length-append choices (range_with_len (length choices) (n - length choices)), length-range_with_len (length choices) (n - length choices))
 
--- one choice more takes the place of the first place behind
+-- one choice more replaces the first index after the choices
 pub completed-more : (n i j : ℕ) (choices : List ℕ) → length choices ≡ i → i < n
     → set (completed n choices) i j ≡ completed n (choices ++ j ∷ [])
 completed-more n i j choices is room =
@@ -67,7 +67,7 @@ completed-valid n choices room h =
     valid_from_chosen n (completed n choices) (completed-size n choices room) (completed-chosen n choices room h)
 
 module _ {G T : Type 0} (requests : Requests G) (items : List T) (g : G) where
-  -- i choices were drawn and recorded, and the places behind them stand for themselves
+  -- i choices were drawn and recorded, and the later indices are their own choices
   pub record Recording (i : ℕ) (now : G) (list : List T) (choices : List ℕ) : Type 0 where
     pub shuffling : Shuffling requests from_itself items g i now list
     pub recorded : choices ≡ completed (length items) (take i (shuffle_choices requests from_itself (length items) g))
@@ -76,7 +76,7 @@ module _ {G T : Type 0} (requests : Requests G) (items : List T) (g : G) where
       → choices ≡ completed (length items) (take 0 (shuffle_choices requests from_itself (length items) g))
   recorded-start choices is = is ∙ sym (completed-nothing (length items))
 
-  -- what the choices that are recorded say of the items, once no more are drawn
+  -- the recorded choices and the items, when no more are drawn
   pub record Recorded (list : List T) (choices : List ℕ) : Type 0 where
     pub is : choices ≡ completed (length items) (shuffle_choices requests from_itself (length items) g)
     pub valid : IsValid choices

@@ -1,4 +1,4 @@
--- The draws of a shuffle so far, and what they lead to. `first` tells from which place on a partner is drawn.
+-- The draws of a shuffle so far, and what they lead to. The partner of index i is drawn from `first i` on.
 use Rattle.std.proofs.Common.{◌≡◌, ℕ, zero, suc, ◌+◌, ◌-◌, ◌^◌, ◌<◌, ◌≤◌, List, [], Result, ◌∷◌, Ok, Err, length, get_or, take, drop, min, max, swap, inl, inr, nat_le, nat_lt, true, refl, sym, ◌∙◌, ap, arith, add-zero, add-one, IsPermutation}
 use Rattle.std.specs.declared.ops.Bound.TheVariants.{Included, Excluded}
 use Rattle.std.proofs.lemmas.Bool.{cases_lt, ne_eqb, eq-eqb, le-leb, lt-ltb, leb-true, ltb-true}
@@ -16,7 +16,7 @@ use Rattle.nanorand.proofs.lemmas.ranges.LimitLemmas.{keeps_limits}
 use Rattle.nanorand.specs.shuffles.Arrangements.{IsValid}
 use Rattle.nanorand.proofs.lemmas.shuffles.ChoiceLemmas.{Chosen, arranged-more, valid_from_chosen}
 
--- what stands at i, and what follows it
+-- the item at index i, and the items after it
 drop-is : (xs : List ℕ) (i j : ℕ) (rest : List ℕ) → drop i xs ≡ j ∷ rest
     → (i < length xs) × (get_or xs i 0 ≡ j) × (drop (i + 1) xs ≡ rest)
 drop-is xs i j rest is =
@@ -29,19 +29,19 @@ module _ {G : Type 0} (requests : Requests G) (first : ℕ → ℕ) (n i : ℕ) 
   unfolding partner_drawn
   limits = keeps_limits (next_word requests 64) (after_word requests 64) nat_le nat_lt 64 unsigned_number (Included (first i)) (Excluded n) g
 
-  -- a partner is a place from `first i` on
+  -- a partner is an index from `first i` on
   partner-within : (j : ℕ) → (partner_drawn requests first n i g).0 ≡ Ok j → (nat_le (first i) j ≡ true) × (nat_lt j n ≡ true)
   partner-within j is = rw is at limits.within
 
   pub partner-below : (j : ℕ) → Ok j ≡ (partner_drawn requests first n i g).0 → j < n
   partner-below j is = ltb-true j n (partner-within j (sym is)).1
 
-  -- where there is a place, only words can be wanting
+  -- if there is an index to draw, a refusal is `Exhausted`
   partner-refused : first i < n → n < 2 ^ 64 → (e : RangeError) → (partner_drawn requests first n i g).0 ≡ Err e → e ≡ Exhausted
   partner-refused low fits e is =
       rw is at (limits.some (first i) (omega arith) (le-leb (first i) (first i) (omega arith)) (lt-ltb (first i) n low))
 
--- a choice for place i, and choices for the places after it
+-- a choice for index i, and choices for the later indices
 chosen-more : (i n j : ℕ) (rest : List ℕ) → i ≤ j → j < n → Chosen (i + 1) n rest
     → (k : ℕ) → k < length (j ∷ rest) → (i + k ≤ get_or (j ∷ rest) k 0) × (get_or (j ∷ rest) k 0 < n)
 chosen-more i n j rest from below h zero low = (omega (arith, from), below)
@@ -54,7 +54,7 @@ choice-chosen i n (Err refusal) rest within h = record { each = λ k low. absurd
 choice-chosen i n (Ok j) rest within h =
     let at = within j refl in record { each = chosen-more i n j rest (leb-true i j at.0) (ltb-true j n at.1) h }
 
--- partners that are drawn each from the place itself are valid choices
+-- partners drawn from the index itself on are valid choices
 module _ {G : Type 0} (requests : Requests G) (n : ℕ) where
   pub choices-chosen : (left i : ℕ) (g : G) → Chosen i n (choices_from requests from_itself n i left g)
   unfolding choices_from
@@ -77,7 +77,7 @@ module _ {G T : Type 0} (requests : Requests G) (first : ℕ → ℕ) (items : L
     pub made : list ≡ arranged (take i (shuffle_choices requests first (length items) g)) items
     pub shuffled : IsPermutation items list
 
-  -- what the shuffle answers, leaves and makes
+  -- the result of the shuffle, its state and its items
   pub record Shuffled (answer : Result (Unit {0}) RangeError) (now : G) (list : List T) : Type 0 where
     pub answered : answer ≡ shuffle_answer requests first (length items) g
     pub left : now ≡ shuffle_state requests first (length items) g
@@ -114,7 +114,7 @@ module _ {G T : Type 0} {requests : Requests G} {first : ℕ → ℕ} {items : L
   pub choice-below : {j : ℕ} → Ok j ≡ (partner_drawn requests first (length items) i now).0 → j < length items
   choice-below {j} drawn = partner-below requests first (length items) i now j drawn
 
-  -- what was drawn is the choice at i
+  -- the number drawn is the choice at i
   pub choice-drawn : {j : ℕ} → i < length items → Ok j ≡ (partner_drawn requests first (length items) i now).0
       → (i < length (shuffle_choices requests first (length items) g)) × (get_or (shuffle_choices requests first (length items) g) i 0 ≡ j)
       × (drop (i + 1) (shuffle_choices requests first (length items) g)
@@ -138,7 +138,7 @@ module _ {G T : Type 0} {requests : Requests G} {first : ℕ → ℕ} {items : L
             (IsPermutation-swap list (swap list i j) i j (omega (arith, size)) (omega (arith, size)) refl);
       }
 
-  -- the choices end where one is refused
+  -- the choices end at a refusal
   module _ {e : RangeError} (low : i < length items) (drawn : Err e ≡ (partner_drawn requests first (length items) i now).0) where
     pub count-refused : length (shuffle_choices requests first (length items) g) ≡ i
     count-refused =
@@ -177,7 +177,7 @@ module _ {G T : Type 0} {requests : Requests G} {first : ℕ → ℕ} {items : L
           left = rw draws m.reached;
         }
 
--- an exchange is the same from either place
+-- a swap is symmetric
 swap-other : {T : Type 0} (xs : List T) (i j : ℕ) → ((i ≡ j) → ⊥) → swap xs j i ≡ swap xs i j
 swap-other [] i j differ = refl
 swap-other (x ∷ xs) i j differ = set_comm (x ∷ xs) j i _ _ (λ same. differ (sym same))
