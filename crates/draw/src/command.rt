@@ -35,8 +35,8 @@ pub enum SeededGenerator {
     ChaCha20([u8; 40]),
 }
 
-/// Which bytes a request takes. In plain mode each request starts on a new block of the generator;
-/// in buffered mode it continues where the last one ended.
+/// Whether draws are buffered. In plain mode each value or word starts on a new block of the
+/// generator; in buffered mode it continues where the last one ended.
 #[derive(Clone, Copy, Debug, PartialEq, Eq)]
 pub enum Mode {
     Plain,
@@ -56,7 +56,7 @@ pub struct Command<A: Allocator> {
 const MOST_ITEMS: u64 = 1000;
 
 /// The generator of that name.
-fn generator_of(name: &str) -> Option<Generator>
+fn generator_named(name: &str) -> Option<Generator>
     ensures found { IfSome result (λ generator. name.now ≡ name_of_generator generator) }
     ensures only { (generator : AGenerator) → name.now ≡ name_of_generator generator →
         result ≡ Some generator }
@@ -99,7 +99,8 @@ fn mode_of(name: &str) -> Option<Mode>
     }
 }
 
-/// The number of items, in decimal digits.
+/// The number of items, from decimal digits. None if the text is no number, or one above
+/// `MOST_ITEMS`.
 fn count_of(text: &str) -> Option<u64>
     ensures found { IfSome result (IsCount text.now) }
     ensures only { (count : ℕ) → IsCount text.now count → result ≡ Some count }
@@ -144,14 +145,16 @@ pub fn read<A: Allocator>(alloc: A, arguments: &[String]) -> Result<Command<A>, 
     ensures bad { (k : ℕ) → result ≡ Err (DrawError.BadWord k) →
         IsFirstUnreadable (texts arguments.now) k }
 
-    // The first four arguments are read without allocating.
+    // An unreadable argument of the first four is named even if there is no memory: they are read
+    // without allocating.
     ensures early { (k : ℕ) → k ≤ 4 → IsFirstUnreadable (texts arguments.now) k →
         result ≡ Err (DrawError.BadWord k) }
 {
-    let generator = generator_of(argument(arguments, 0)).ok_or(DrawError::BadWord(1))?;
+    let generator = generator_named(argument(arguments, 0)).ok_or(DrawError::BadWord(1))?;
     let seeded = seeded_generator(generator, argument(arguments, 1)).ok_or(DrawError::BadWord(2))?;
     let mode = mode_of(argument(arguments, 2)).ok_or(DrawError::BadWord(3))?;
     let count = count_of(argument(arguments, 3)).ok_or(DrawError::BadWord(4))?;
+    // An empty count is refused, so there are four arguments.
     let calls = calls_of(alloc, &arguments[4..])?;
     Ok(Command {
         generator: seeded,

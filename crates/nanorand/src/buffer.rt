@@ -245,7 +245,7 @@ fn deliver<G: Rng<OUTPUT>, const OUTPUT: usize>(
     }
 }
 
-// Delivers whole blocks and the front of one more, whose other bytes are then buffered.
+// As `deliver` with an empty buffer: `block` and `cursor` are only written.
 fn deliver_blocks<G: Rng<OUTPUT>, const OUTPUT: usize>(
     inner: &mut G,
     block: &mut [u8; OUTPUT],

@@ -35,7 +35,7 @@ pub trait Blocks<const OUTPUT: usize> {
 
     ghost positive: { 0 < OUTPUT };
 
-    // The length of every array in memory is below this.
+    // True of every array that fits in memory.
     ghost in_memory: { OUTPUT < 2 ^ 63 };
 
     ghost block_length: { (g : Self) → length (block g) ≡ OUTPUT };
@@ -92,8 +92,8 @@ pub trait Rng<const OUTPUT: usize>: Clone + Blocks<OUTPUT> {
         T::random_range(self, low, high)
     }
 
-    /// Shuffles the slice: swaps each index in turn, from 0 up, with an index drawn from itself and
-    /// those after it.
+    /// Shuffles the slice: for each index, from 0 up, swaps the item there with the one at an index
+    /// drawn from that index and those after it.
     ///
     /// It is the shuffle of Fisher and Yates (1938) in Durstenfeld's form ("Algorithm 235: Random
     /// permutation", 1964), from the first index up. It leaves a permutation of the items. Each

@@ -53,8 +53,11 @@ pub enum Call {
 /// The answer to a call.
 #[derive(Clone, Copy, Debug, PartialEq, Eq)]
 pub enum Answer {
+    /// A value or a number of an unsigned type.
     Unsigned(u128),
+    /// A value or a number of a signed type.
     Signed(i128),
+    /// A `bool`.
     Truth(bool),
     /// The range has no number, and nothing was drawn.
     Empty,

@@ -13,7 +13,7 @@ use thiserror::Error;
 #[error("the list is no arrangement")]
 pub struct NotArrangement;
 
-/// Applies stored choices: swaps each index i in turn, from 0 up, with `choices[i]`.
+/// Applies stored choices: for each index i, from 0 up, swaps the items at i and `choices[i]`.
 ///
 /// Preconditions: there is one choice for each item, and the choice of index i is i or a later
 /// index. It leaves a permutation of the items. Applied to the items that a shuffle started from,
@@ -31,10 +31,10 @@ pub fn apply_choices<T>(choices: &[usize], items: &mut [T])
 
 /// Writes to `out` the unique valid choices that turn the identity 0, 1, .. into `order`.
 ///
-/// Precondition: `out` and `scratch` are as long as `order`. Both are overwritten, and nothing is
-/// allocated: `scratch` starts as the identity and becomes `order` index by index. The call returns
-/// `NotArrangement` exactly if `order` is not a permutation of the numbers below its length. The
-/// contents of `out` and `scratch` are unspecified after that.
+/// Precondition: `out` and `scratch` are as long as `order`. Their old contents do not matter, and
+/// nothing is allocated. It returns `NotArrangement` exactly if `order` is not a permutation of the
+/// numbers below its length; the contents of `out` are then unspecified. Those of `scratch` always
+/// are.
 pub fn choices_of(
     order: &[usize],
     out: &mut [usize],
@@ -72,7 +72,7 @@ fn write_places(slots: &mut [usize])
     }
 }
 
-// The first index from `from` up whose item is `wanted`.
+// An index from `from` up whose item is `wanted`.
 fn place_from(items: &[usize], from: usize, wanted: usize) -> Option<usize>
     requires { from ≤ length items.now }
     ensures { MatchOption result
@@ -121,8 +121,8 @@ pub fn shuffle_and_record<G: Rng<OUTPUT>, T, const OUTPUT: usize>(
     Ok(())
 }
 
-/// Shuffles the slice as the Rust crate `nanorand` 0.7.0 does: swaps each index in turn, from 0 up,
-/// with an index drawn from the whole slice.
+/// Shuffles the slice as the Rust crate `nanorand` 0.7.0 does: for each index, from 0 up, swaps the
+/// item there with the one at an index drawn from the whole slice.
 ///
 /// It leaves a permutation of the items, but several lists of choices make the same permutation. It
 /// returns `Exhausted` if 128 words in a row were rejected for one index. The swaps before that

@@ -33,8 +33,9 @@ pub fn ticket(seed: u64) -> u64
 /// A throw of a die, from any generator: a number from 1 to 6, and 1 if the range draw fails.
 pub fn throw<G: Rng<OUTPUT>, const OUTPUT: usize>(rng: &mut G) -> u8
     ensures face { (1 ≤ result) × (result ≤ 6) }
-    ensures thrown { let first = Included 1 in let last = Included 6 in
-        MatchResult (unsigned_outcome G.requests 8 rng.old first last).0 (λ pips. result ≡ pips) (λ _. result ≡ 1) }
+    ensures thrown { let outcome = unsigned_outcome G.requests 8 rng.old in
+        MatchResult (outcome (Included 1) (Included 6)).0
+        (λ pips. result ≡ pips) (λ _. result ≡ 1) }
 {
     match draw_number::<u8, G, OUTPUT>(rng, Bound::Included(1), Bound::Included(6)) {
         Ok(pips) => pips,

@@ -53,6 +53,6 @@ item_named bits weights word = option_map (item_at weights) (named bits (sum wei
 abbrev pub ChoicesAreFair : Type 0
 ChoicesAreFair =
     (bits : ℕ) (weights : List ℕ) (i : ℕ) → IsWordWidth bits → 1 ≤ sum weights
-        → sum weights ≤ 2 ^ bits → i < length weights
+    → sum weights ≤ 2 ^ bits → i < length weights
     → words_that bits (λ word. passes (λ j. j == i) (item_named bits weights word))
-        ≡ slice_index weights i * quota bits (sum weights)
+    ≡ slice_index weights i * quota bits (sum weights)

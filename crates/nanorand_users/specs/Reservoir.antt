@@ -55,4 +55,4 @@ abbrev pub SamplesAreFair : Type 0
 SamplesAreFair =
     (size count place : ℕ) → size ≤ count → place < count
     → samples_that size count (list_any (λ other. other == place)) * count
-        ≡ size * samples_that size count (λ chosen. true)
+    ≡ size * samples_that size count (λ chosen. true)

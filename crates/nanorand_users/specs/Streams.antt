@@ -19,5 +19,5 @@ word_of_draw block step g n = number_of (taken block step (after_draws step n g)
 abbrev pub PartsAreApart : {S : Type 0} → ℕ → (ℕ → S) → Type 0
 PartsAreApart period seen =
     (workers share i j k l : ℕ) → workers * share ≤ period → i < workers → k < workers → j < share
-        → l < share
+    → l < share
     → seen (i * share + j) ≡ seen (k * share + l) → (i ≡ k) × (j ≡ l)

@@ -1,5 +1,4 @@
-//! A reservoir sample: a log has more lines than a report can show, and one pass over them has to
-//! do.
+//! A reservoir sample: a log has more lines than a report can show, and they can be read only once.
 //!
 //! This is Alan Waterman's algorithm R (Knuth, "The Art of Computer Programming", volume 2; Vitter,
 //! "Random Sampling with a Reservoir", 1985).
@@ -16,8 +15,10 @@ use std::ops::Bound;
 /// Samples `chosen.len()` of the indices below `count`, without repetition, in one pass over them.
 ///
 /// The sample starts with the first indices. For each later index i, draw j in `0..=i`: if the
-/// sample has a slot j, index i replaces what is in it. A refusal can only be `Exhausted`. It ends
-/// the pass, and the sample is then one of the indices before the refused one.
+/// sample has a slot j, index i replaces what is in it.
+///
+/// Precondition: `chosen` has at most `count` slots. The only error is `Exhausted`. It ends the
+/// pass, and `chosen` then holds a sample of the indices before the one whose draw failed.
 pub fn sample_places<G: Rng<OUTPUT>, const OUTPUT: usize>(
     rng: &mut G,
     count: usize,

@@ -38,4 +38,4 @@ Reaches seed_after s t = (n : ℕ) × (seed_after n s ≡ t)
 abbrev pub ReachesOnceBelow : ℕ → (ℕ → ℕ → ℕ) → ℕ → ℕ → Type 0
 ReachesOnceBelow period seed_after s t =
     (n : ℕ) × (n < period) × (seed_after n s ≡ t)
-        × ((m : ℕ) → m < period → seed_after m s ≡ t → m ≡ n)
+    × ((m : ℕ) → m < period → seed_after m s ≡ t → m ≡ n)

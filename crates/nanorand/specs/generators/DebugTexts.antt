@@ -17,7 +17,7 @@ wyrand_debug seed = concat (codes "WyRand { seed: 0x" ∷ hexadecimal seed ∷ c
 abbrev pub pcg64_debug : Generator → List ℕ
 pcg64_debug g =
     concat (codes "Pcg64 { seed: 0x" ∷ hexadecimal g.seed ∷ codes ", state: 0x"
-        ∷ hexadecimal g.state
+    ∷ hexadecimal g.state
     ∷ codes ", inc: 0x" ∷ hexadecimal g.inc ∷ codes " }" ∷ [])
 
 -- The text for a ChaCha with this number of rounds and this counter. The name is `ChaCha20` for
@@ -25,4 +25,4 @@ pcg64_debug g =
 abbrev pub chacha_debug : ℕ → ℕ → List ℕ
 chacha_debug rounds counter =
     concat (codes "ChaCha20 { rounds: " ∷ decimal rounds ∷ codes ", counter: " ∷ decimal counter
-        ∷ codes " }" ∷ [])
+    ∷ codes " }" ∷ [])

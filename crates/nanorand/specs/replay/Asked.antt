@@ -13,14 +13,14 @@ use Rattle.nanorand.specs.declared.replay.Call.{Call}
 use Rattle.nanorand.specs.declared.replay.Call.TheVariants.{Gen, Range, Shuffle}
 use Rattle.nanorand.specs.declared.replay.Span.{Span}
 
--- How many words are drawn for a range of these numbers: up to the deciding one, or all 128; none if
--- the range is empty.
+-- How many words are drawn for a range of these numbers: up to the deciding one, or all 128; none
+-- if the range is empty.
 unfoldable pub words_drawn : {G T : Type 0} → (G → ℕ) → (G → G) → ℕ → List T → G → ℕ
 words_drawn word after bits numbers g =
     if length numbers == 0 then 0
     else
-      let place = deciding_place bits (length numbers) (words_from word after word_limit g) in
-      option_map_or (λ i. i + 1) place word_limit
+    let place = deciding_place bits (length numbers) (words_from word after word_limit g) in
+    option_map_or (λ i. i + 1) place word_limit
 
 module _ {G : Type 0} (requests : Requests G) where
   -- The bytes that a range of these numbers, of a type of `bits` bits, asks for.

@@ -9,7 +9,7 @@ use Rattle.nanorand.specs.shuffles.Shuffles.{arranged}
 abbrev pub IsValid : List ℕ → Type 0
 IsValid choices =
     (i : ℕ) → i < length choices
-        → (i ≤ slice_index choices i) × (slice_index choices i < length choices)
+    → (i ≤ slice_index choices i) × (slice_index choices i < length choices)
 
 -- The list 0, 1, .., n - 1.
 abbrev pub rising : ℕ → List ℕ
@@ -45,4 +45,4 @@ pub record CorrespondsOneToOne (n : ℕ) : Type 0 where
       → arranged choices (rising n) ≡ arranged others (rising n) → choices ≡ others
   pub each : (order : List ℕ) → length order ≡ n → IsArrangement order
       → (choices : List ℕ) × (length choices ≡ n) × IsValid choices
-          × (arranged choices (rising n) ≡ order)
+      × (arranged choices (rising n) ≡ order)

@@ -8,7 +8,8 @@ use Rattle.nanorand.specs.values.Draws.{unsigned_outcome}
 use Rattle.nanorand.specs.declared.values.range.RangeError.{RangeError}
 use Rattle.nanorand.specs.declared.values.range.RangeError.TheVariants.{Exhausted}
 
--- The items after choices for the indices from i on: each index in turn is swapped with its choice.
+-- The items after choices for the indices from i on: for each in turn, the items there and at its
+-- choice are swapped.
 abbrev pub arranged_from : {T : Type 0} → ℕ → List ℕ → List T → List T
 arranged_from i choices items =
     fold (λ xs move. swap xs move.0 move.1) items (enumerate_from i choices)
@@ -17,12 +18,12 @@ arranged_from i choices items =
 abbrev pub arranged : {T : Type 0} → List ℕ → List T → List T
 arranged choices items = arranged_from 0 choices items
 
--- The first index that may be the partner of index i, where any index may: 0.
+-- The lowest partner of index i if every index is allowed: 0.
 abbrev pub from_all : ℕ → ℕ
 from_all i = 0
 
--- The first index that may be the partner of index i, where only i and later ones may: i itself. An
--- index once passed then keeps its item.
+-- The lowest partner of index i if only i and later ones are allowed: i itself. An index once
+-- passed then keeps its item.
 abbrev pub from_itself : ℕ → ℕ
 from_itself i = i
 
@@ -52,7 +53,8 @@ module _ {G : Type 0} (requests : Requests G) (first : ℕ → ℕ) (n : ℕ) wh
   abbrev pub shuffle_choices : G → List ℕ
   shuffle_choices g = choices_from 0 n g
 
-  -- The result of the shuffle: `Ok` if there are n choices, otherwise `Exhausted`.
+  -- The result of the shuffle: `Ok` if there are n choices, otherwise `Exhausted`. It is never
+  -- `Empty`: the range of a partner holds at least i.
   abbrev pub shuffle_answer : G → Result (Unit {0}) RangeError
   shuffle_answer g = if length (shuffle_choices g) == n then Ok tt else Err Exhausted
 

@@ -48,8 +48,8 @@ module _ {G : Type 0} (word : G → ℕ) (after : G → G) where
   value_drawn bits numbers g =
       if length numbers == 0 then Err Empty
       else
-        let drawn = number_drawn word_limit bits (length numbers) g in
-        ok_or (option_and_then (slice_get numbers) drawn) Exhausted
+      let drawn = number_drawn word_limit bits (length numbers) g in
+      ok_or (option_and_then (slice_get numbers) drawn) Exhausted
 
   -- The state that this draw leaves. An empty range draws nothing.
   unfoldable pub left_by : {T : Type 0} → ℕ → List T → G → G

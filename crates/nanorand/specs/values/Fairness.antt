@@ -65,4 +65,4 @@ abbrev pub EventsAreFair : Type 0
 EventsAreFair =
     (bits size : ℕ) (test : ℕ → Bool) → IsWordWidth bits → 1 ≤ size → size ≤ 2 ^ bits
     → words_that bits (λ word. passes test (named bits size word))
-        ≡ count_by test (range_with_len 0 size) * quota bits size
+    ≡ count_by test (range_with_len 0 size) * quota bits size

@@ -1,6 +1,7 @@
 -- Runs: how the words of N bits are divided among the numbers below a size, after Daniel Lemire
 -- ("Fast Random Integer Generation in an Interval", 2019). Each number has one run of consecutive
--- words, and all runs are equally long. The few words in no run name no number: they are rejected.
+-- words, and all runs are equally long. The remaining words, fewer than half, name no number: they
+-- are rejected.
 use Rattle.std.specs.Prelude.{◌≡◌, ℕ, ◌+◌, ◌*◌, ◌/◌, ◌%◌, ◌^◌, ◌<◌, ◌≤◌, ◌⊎◌, ◌&&◌, Bool, Option, nat_le, nat_lt, find, count_by}
 use Rattle.std.specs.Int.{div_ceil}
 use Rattle.std.specs.List.{range_with_len}
@@ -17,7 +18,7 @@ quota bits size = 2 ^ bits / size
 abbrev pub rejected : ℕ → ℕ → ℕ
 rejected bits size = 2 ^ bits % size
 
--- The first word of the run of k.
+-- The first word of the run of k, as multiplication and rejection give it.
 abbrev pub first_word : ℕ → ℕ → ℕ → ℕ
 first_word bits size k = div_ceil (k * 2 ^ bits + rejected bits size) size
 
@@ -32,7 +33,7 @@ abbrev pub is_in_run : ℕ → ℕ → ℕ → ℕ → Bool
 is_in_run bits size word k =
     nat_le (first_word bits size k) word && nat_lt word (first_word bits size k + quota bits size)
 
--- The number that the word names, if it names one: the least in whose run it lies.
+-- The number that the word names, if it names one. Runs do not overlap, so there is at most one.
 unfoldable pub named : ℕ → ℕ → ℕ → Option ℕ
 named bits size word = find (is_in_run bits size word) (range_with_len 0 size)
 

@@ -27,11 +27,11 @@ pub enum RangeError {
     Exhausted,
 }
 
-/// A type whose values can be drawn from between two bounds.
+/// A type whose values can be drawn within two bounds.
 ///
 /// A range of an integer type holds the numbers that both bounds admit. Words of the type's width
 /// are drawn, each by one request, until one names a number, at most 128; each number of the range
-/// is named by equally many words. A user's type defines what its bounds mean and when a draw
+/// is produced by equally many words. A user's type defines what its bounds mean and when a draw
 /// fails.
 pub trait RandomRange<G: Rng<OUTPUT>, const OUTPUT: usize>: RandomGen<G, OUTPUT> {
     // The result of a draw between two bounds, and the state after it.
@@ -43,7 +43,7 @@ pub trait RandomRange<G: Rng<OUTPUT>, const OUTPUT: usize>: RandomGen<G, OUTPUT>
         ensures state { rng.new ≡ (outcome rng.old low high).1 };
 }
 
-/// Draws a number that both bounds admit; each is named by equally many words.
+/// Draws a number that both bounds admit; each is produced by equally many words.
 ///
 /// It draws at most 128 words of the type's width, each by one request, and the first word that
 /// names a number decides. It returns `Empty` if no number is admitted, and draws nothing then. It

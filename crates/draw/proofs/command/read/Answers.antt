@@ -8,7 +8,7 @@ use Rattle.draw.proofs.command.read.Goals as goal
 pub returns-in_err-calls-clause-bad : goal.returns-in_err-calls-clause-bad
 returns-in_err-calls-clause-bad g c = λ k failed.
     let arguments = texts c.args.arguments.now in
-    let named = sym c.argument.ensures ∙ rw c.in_ok-generator.ensures.ok_part at c.generator_of.ensures.found in
+    let named = sym c.argument.ensures ∙ rw c.in_ok-generator.ensures.ok_part at c.generator_named.ensures.found in
     let seeded = rw c.in_ok-seeded.ensures.ok_part at c.seeded_generator.ensures.found in
     let mode = sym c.argument-3.ensures ∙ rw c.in_ok-mode.ensures.ok_part at c.mode_of.ensures.found in
     let count = rw c.in_ok-count.ensures.ok_part at c.count_of.ensures.found in
@@ -23,9 +23,9 @@ returns-in_err-calls-clause-bad g c = λ k failed.
 pub returns-in_err-seeded-clause-early : goal.returns-in_err-seeded-clause-early
 returns-in_err-seeded-clause-early g c = λ k small first.
     let arguments = texts c.args.arguments.now in
-    let named = sym c.argument.ensures ∙ rw c.in_ok-generator.ensures.ok_part at c.generator_of.ensures.found in
+    let named = sym c.argument.ensures ∙ rw c.in_ok-generator.ensures.ok_part at c.generator_named.ensures.found in
     let bad : IsReadable arguments 1 → ⊥ = λ said.
-    let same = c.generator_of.ensures.only (generator_of said.0) (c.argument.ensures ∙ said.1) in
+    let same = c.generator_named.ensures.only (generator_of said.0) (c.argument.ensures ∙ said.1) in
     let generator : generator_of said.0 ≡ c.in_ok-generator.generator = let part = c.in_ok-generator.ensures.ok_part in cc in
     let seeded = c.seeded_generator.ensures.only said.0 generator (subst (λ t. IsSeed t said.0) (sym c.argument-2.ensures) said.2) in
     let variant = c.in_err-seeded.ensures.variant in
@@ -36,7 +36,7 @@ returns-in_err-seeded-clause-early g c = λ k small first.
 pub returns-in_err-mode-clause-early : goal.returns-in_err-mode-clause-early
 returns-in_err-mode-clause-early g c = λ k small first.
     let arguments = texts c.args.arguments.now in
-    let named = sym c.argument.ensures ∙ rw c.in_ok-generator.ensures.ok_part at c.generator_of.ensures.found in
+    let named = sym c.argument.ensures ∙ rw c.in_ok-generator.ensures.ok_part at c.generator_named.ensures.found in
     let seeded = rw c.in_ok-seeded.ensures.ok_part at c.seeded_generator.ensures.found in
     let bad : IsReadable arguments 2 → ⊥ = λ said.
     let moded = c.mode_of.ensures.only said.0 (c.argument-3.ensures ∙ said.1) in
@@ -48,7 +48,7 @@ returns-in_err-mode-clause-early g c = λ k small first.
 
 pub returns-clause-only : goal.returns-clause-only
 returns-clause-only g c = λ other said.
-    let named = c.generator_of.ensures.only (generator_of other.generator) (c.argument.ensures ∙ said.generator) in
+    let named = c.generator_named.ensures.only (generator_of other.generator) (c.argument.ensures ∙ said.generator) in
     let generator : generator_of other.generator ≡ c.in_ok-generator.generator = let part = c.in_ok-generator.ensures.ok_part in cc in
     let seeded = c.seeded_generator.ensures.only other.generator generator (subst (λ t. IsSeed t other.generator) (sym c.argument-2.ensures) said.seed) in
     let moded = c.mode_of.ensures.only other.mode (c.argument-3.ensures ∙ said.mode) in
