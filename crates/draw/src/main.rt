@@ -8,6 +8,9 @@
 //!
 //! It prints a line for each request, and a line of the items if there are any. The exit status is
 //! 0 on success, 2 if an argument cannot be read, 3 if out of memory, and 4 if a write failed.
+//!
+//! Draw no keys or passwords with it: WyRand and Pcg64 are not cryptographically secure, and others
+//! may see the arguments of a process.
 #![tactic(auto)]
 
 mod bounds;

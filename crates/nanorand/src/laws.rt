@@ -87,7 +87,7 @@ pub fn permutations_by_counting()
 /// than a block is buffered after each request.
 pub fn unbroken_delivery<G: Rng<OUTPUT>, const OUTPUT: usize>()
     ensures unbroken { IsUnbroken ⟦<BufferedRng<G, OUTPUT> as Rng<OUTPUT>>⟧.requests }
-    ensures row { (b : Buffered G) (n : ℕ) →
+    ensures stream { (b : Buffered G) (n : ℕ) →
         let buffer = ⟦<BufferedRng<G, OUTPUT> as Blocks<OUTPUT>>⟧ in
         taken buffer.block buffer.step b n ≡ buffered_taken G.block G.step OUTPUT b n }
     ensures below { (b : Buffered G) (n : ℕ) → length b.rest < OUTPUT

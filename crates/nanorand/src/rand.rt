@@ -77,6 +77,9 @@ pub trait Rng<const OUTPUT: usize>: Clone + Blocks<OUTPUT> {
 
     /// Draws a value between the bounds `low` and `high`.
     ///
+    /// The integer types map words to numbers after Daniel Lemire ("Fast Random Integer Generation in
+    /// an Interval", 2019).
+    ///
     /// For the integer types it returns `Empty` if the range has no number, and draws nothing then.
     /// It returns `Exhausted` if 128 words in a row were rejected; these stay drawn. A user's type
     /// defines when it returns each of the two.

@@ -124,6 +124,7 @@ pub fn shuffle_and_record<G: Rng<OUTPUT>, T, const OUTPUT: usize>(
 /// Shuffles the slice as the Rust crate `nanorand` 0.7.0 does: for each index, from 0 up, swaps the
 /// item there with the one at an index drawn from the whole slice.
 ///
+/// It is not the shuffle of Fisher and Yates, whose partners come from the rest of the slice alone.
 /// It leaves a permutation of the items, but several lists of choices make the same permutation. It
 /// returns `Exhausted` if 128 words in a row were rejected for one index. The swaps before that
 /// stay, and so do all draws. An empty slice draws nothing.

@@ -2,14 +2,13 @@
 //! quotes them. Larger callers have a module each.
 ghost use Rattle.std.specs.Prelude.{◌≡◌, ◌≤◌, ◌+◌, ◌++◌, [], length, MatchResult, IsPermutation};
 ghost use Rattle.std.specs.declared.ops.Bound.TheVariants.{Included};
-ghost use Rattle.nanorand.specs.generators.Blocks.{taken};
 ghost use Rattle.nanorand.specs.generators.Buffered.{buffered_taken};
 ghost use Rattle.nanorand.specs.values.Draws.{unsigned_outcome};
 ghost use Rattle.nanorand.specs.generators.Pcg64.{pcg64_after};
 ghost use Rattle.nanorand.specs.replay.Replay.{replayed};
-ghost use Rattle.nanorand.specs.shuffles.Shuffles.{from_itself, shuffle_answer};
+ghost use Rattle.nanorand.specs.shuffles.Shuffles.{from_itself, shuffled};
 ghost use Rattle.nanorand.specs.values.Values.{number_of};
-ghost use Rattle.nanorand.specs.generators.WyRand.{next_seed, wyrand_block, wyrand_requests};
+ghost use Rattle.nanorand.specs.generators.WyRand.{wyrand_requests};
 
 pub mod die;
 pub mod examples;
@@ -24,7 +23,7 @@ use std::ops::Bound;
 
 /// The first `u64` of a seed of WyRand.
 pub fn ticket(seed: u64) -> u64
-    ensures { result ≡ number_of (taken wyrand_block next_seed seed 8) }
+    ensures { result ≡ number_of (wyrand_requests.bytes seed 8) }
 {
     let mut rng = WyRand::new_seed(seed);
     rng.generate::<u64>()
@@ -46,7 +45,7 @@ pub fn throw<G: Rng<OUTPUT>, const OUTPUT: usize>(rng: &mut G) -> u8
 /// Shuffles a pack of cards. The result is a permutation of the cards, also if the shuffle fails.
 pub fn shuffle_cards(seed: u64, cards: &mut [u8]) -> Result<(), RangeError>
     ensures pack { IsPermutation cards.old cards.new }
-    ensures answer { result ≡ shuffle_answer wyrand_requests from_itself (length cards.old) seed }
+    ensures answer { result ≡ (shuffled wyrand_requests from_itself seed cards.old).answer }
 {
     let mut rng = WyRand::new_seed(seed);
     rng.shuffle(cards)
@@ -58,7 +57,7 @@ pub fn fill_two<G: Rng<OUTPUT>, const OUTPUT: usize>(
     first: &mut [u8],
     second: &mut [u8],
 )
-    ensures row { let count = length first.old + length second.old in
+    ensures stream { let count = length first.old + length second.old in
         first.new ++ second.new ≡ buffered_taken G.block G.step OUTPUT rng.old count }
 {
     unbroken_delivery::<G, OUTPUT>();

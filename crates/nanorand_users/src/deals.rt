@@ -4,7 +4,7 @@
 //! The cards of a deck of n cards are the numbers 0, 1, .., n - 1.
 ghost use Rattle.std.specs.Prelude.{◌≡◌, ◌+◌, ◌*◌, ◌≤◌, ◌++◌, ℕ, List, length, drop, OnOk, IfErr};
 ghost use Rattle.nanorand.specs.shuffles.Arrangements.{rising, IsValid, IsArrangement, HoldsEachOnce};
-ghost use Rattle.nanorand.specs.shuffles.Shuffles.{arranged, from_itself, shuffle_answer, shuffle_choices, shuffle_state, shuffled};
+ghost use Rattle.nanorand.specs.shuffles.Shuffles.{arranged, from_itself, shuffled};
 ghost use Rattle.nanorand.specs.declared.values.range.RangeError.TheVariants.{Exhausted};
 ghost use Rattle.nanorand_users.specs.Deals.{HoldsNoneTwice, HandsAreApart, hand_of, hands};
 
@@ -29,11 +29,11 @@ pub fn shuffle_deck<G: Rng<OUTPUT>, const OUTPUT: usize>(
     rng: &mut G,
     deck: &mut [usize],
 ) -> Result<(), RangeError>
-    ensures answer { result ≡ shuffle_answer G.requests from_itself (length deck.old) rng.old }
+    ensures answer { result ≡ (shuffled G.requests from_itself rng.old deck.old).answer }
     ensures refusal { IfErr result (λ e. e ≡ Exhausted) }
-    ensures drawn { let count = length deck.old in
-        deck.new ≡ arranged (shuffle_choices G.requests from_itself count rng.old) (rising count) }
-    ensures state { rng.new ≡ shuffle_state G.requests from_itself (length deck.old) rng.old }
+    ensures drawn { let shuffle = shuffled G.requests from_itself rng.old deck.old in
+        deck.new ≡ arranged shuffle.choices (rising (length deck.old)) }
+    ensures state { rng.new ≡ (shuffled G.requests from_itself rng.old deck.old).state }
     ensures whole { let shuffle = shuffled G.requests from_itself rng.old deck.old in
         OnOk result (length shuffle.choices ≡ length deck.old) }
     ensures valid { let shuffle = shuffled G.requests from_itself rng.old deck.old in
@@ -57,10 +57,10 @@ pub fn shuffle_and_store<G: Rng<OUTPUT>, const OUTPUT: usize>(
     choices: &mut [usize],
 ) -> Result<(), RangeError>
     requires { length choices.old ≡ length deck.old }
-    ensures answer { result ≡ shuffle_answer G.requests from_itself (length deck.old) rng.old }
-    ensures deck { let count = length deck.old in
-        deck.new ≡ arranged (shuffle_choices G.requests from_itself count rng.old) (rising count) }
-    ensures state { rng.new ≡ shuffle_state G.requests from_itself (length deck.old) rng.old }
+    ensures answer { result ≡ (shuffled G.requests from_itself rng.old deck.old).answer }
+    ensures deck { let shuffle = shuffled G.requests from_itself rng.old deck.old in
+        deck.new ≡ arranged shuffle.choices (rising (length deck.old)) }
+    ensures state { rng.new ≡ (shuffled G.requests from_itself rng.old deck.old).state }
     ensures valid { IsValid choices.new }
     ensures stored { arranged choices.new (rising (length deck.old)) ≡ deck.new }
     ensures drawn { let shuffle = shuffled G.requests from_itself rng.old deck.old in

@@ -24,8 +24,8 @@ buffered_code {G} code =
 
 module _ {G : Type 0} (block : G → List ℕ) (step : G → G) (output : ℕ) where
   -- The buffered bytes, followed by the bytes of the next m blocks.
-  abbrev pub row : Buffered G → ℕ → List ℕ
-  row b m = b.rest ++ blocks block step b.inner m
+  abbrev pub stream : Buffered G → ℕ → List ℕ
+  stream b m = b.rest ++ blocks block step b.inner m
 
   -- How many blocks a request of n bytes draws: the fewest that supply the bytes not yet buffered.
   abbrev pub blocks_needed : Buffered G → ℕ → ℕ
@@ -33,13 +33,13 @@ module _ {G : Type 0} (block : G → List ℕ) (step : G → G) (output : ℕ) w
 
   -- The bytes that a request of n bytes takes.
   unfoldable pub buffered_taken : Buffered G → ℕ → List ℕ
-  buffered_taken b n = take n (row b (blocks_needed b n))
+  buffered_taken b n = take n (stream b (blocks_needed b n))
 
   -- The state that it leaves: the bytes not taken stay buffered, and the inner generator has
   -- advanced by the blocks drawn.
   unfoldable pub buffered_after : Buffered G → ℕ → Buffered G
   buffered_after b n = record {
-    rest = drop n (row b (blocks_needed b n));
+    rest = drop n (stream b (blocks_needed b n));
     inner = iterate step (blocks_needed b n) b.inner;
   }
 

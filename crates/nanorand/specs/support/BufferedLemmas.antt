@@ -10,7 +10,7 @@ use Rattle.std.proofs.lemmas.Nat.{div-add-mod', mod_below, mod-mul-add}
 use Rattle.std.proofs.lemmas.List.{append-nil, take-append-le, drop-append-le, drop-drop, length-take-le, take_at, take_all, drop_all, nil_from_length}
 use Rattle.std.proofs.Math.Nat.{zero-div, zero-mod, add-mul, suc-mul, zero-mul, suc-add, sub-zero, add_comm, mul-le-mul_right}
 use Rattle.nanorand.specs.generators.Blocks.{blocks, taken, plain_after}
-use Rattle.nanorand.specs.generators.Buffered.{Buffered, buffer_of, row, blocks_needed, buffered_taken, buffered_after, buffered_block, buffered_step}
+use Rattle.nanorand.specs.generators.Buffered.{Buffered, buffer_of, stream, blocks_needed, buffered_taken, buffered_after, buffered_block, buffered_step}
 use Rattle.nanorand.specs.support.IterateLemmas.{iterate-add}
 use Rattle.nanorand.specs.support.BlockLemmas.{blocks_add, length-blocks, div_ceil_more, le-mul_self, taken_front}
 
@@ -59,40 +59,40 @@ pub same_buffer : {G : Type 0} {rest other : List ℕ} {inner another : G} → r
 same_buffer e f = cc
 
 module _ {G : Type 0} (block : G → List ℕ) (step : G → G) (output : ℕ) (positive : 0 < output) (size : (g : G) → length (block g) ≡ output) where
-  length-row : (b : Buffered G) (m : ℕ) → length (row block step output b m) ≡ length b.rest + m * output
-  length-row b m = rw length-append (ap (λ n. length b.rest + n) (length-blocks block step output positive size b.inner m))
+  length-stream : (b : Buffered G) (m : ℕ) → length (stream block step output b m) ≡ length b.rest + m * output
+  length-stream b m = rw length-append (ap (λ n. length b.rest + n) (length-blocks block step output positive size b.inner m))
 
   -- the blocks drawn cover the request
   covered : (b : Buffered G) (n : ℕ) → n ≤ length b.rest + blocks_needed block step output b n * output
   covered b n = omega (arith, div_ceil_times (n - length b.rest) output positive)
 
-  row_covers : (b : Buffered G) (n : ℕ) → n ≤ length (row block step output b (blocks_needed block step output b n))
-  row_covers b n = rw (length-row b (blocks_needed block step output b n)) (covered b n)
+  stream_covers : (b : Buffered G) (n : ℕ) → n ≤ length (stream block step output b (blocks_needed block step output b n))
+  stream_covers b n = rw (length-stream b (blocks_needed block step output b n)) (covered b n)
 
   pub length-buffered_taken : (b : Buffered G) (n : ℕ) → length (buffered_taken block step output b n) ≡ n
   unfolding buffered_taken
-  length-buffered_taken b n = length-take-le n _ (row_covers b n)
+  length-buffered_taken b n = length-take-le n _ (stream_covers b n)
 
   -- what a request leaves is shorter than a block
   pub rest_below : (b : Buffered G) (n : ℕ) → length b.rest < output → length (buffered_after block step output b n).rest < output
   unfolding buffered_after
   rest_below b n below =
-      rw (length-drop n (row block step output b (blocks_needed block step output b n)), length-row b (blocks_needed block step output b n)) (left_below (length b.rest) n output positive below)
+      rw (length-drop n (stream block step output b (blocks_needed block step output b n)), length-stream b (blocks_needed block step output b n)) (left_below (length b.rest) n output positive below)
 
   -- further blocks come at the end of the stream
-  row_add : (b : Buffered G) (m k : ℕ) → row block step output b (m + k) ≡ row block step output b m ++ blocks block step (iterate step m b.inner) k
-  row_add b m k = ap (λ bytes. b.rest ++ bytes) (blocks_add block step b.inner m k) ∙ sym (append_assoc b.rest _ _)
+  stream_add : (b : Buffered G) (m k : ℕ) → stream block step output b (m + k) ≡ stream block step output b m ++ blocks block step (iterate step m b.inner) k
+  stream_add b m k = ap (λ bytes. b.rest ++ bytes) (blocks_add block step b.inner m k) ∙ sym (append_assoc b.rest _ _)
 
   -- the stream after a request is the rest of the stream
-  row_after : (b : Buffered G) (n m : ℕ) → row block step output (buffered_after block step output b n) m ≡ drop n (row block step output b (blocks_needed block step output b n + m))
+  stream_after : (b : Buffered G) (n m : ℕ) → stream block step output (buffered_after block step output b n) m ≡ drop n (stream block step output b (blocks_needed block step output b n + m))
   unfolding buffered_after
-  row_after b n m = rw (row_add b (blocks_needed block step output b n) m) (sym (drop-append-le n _ _ (row_covers b n)))
+  stream_after b n m = rw (stream_add b (blocks_needed block step output b n) m) (sym (drop-append-le n _ _ (stream_covers b n)))
 
   needed_add : (b : Buffered G) (m n : ℕ) → blocks_needed block step output b (m + n) ≡ blocks_needed block step output b m + blocks_needed block step output (buffered_after block step output b m) n
   unfolding buffered_after
   needed_add b m n =
       let needed : ℕ = blocks_needed block step output b m in
-      rw (length-drop m (row block step output b needed), length-row b needed) (ceil_add (length b.rest) m n output positive)
+      rw (length-drop m (stream block step output b needed), length-stream b needed) (ceil_add (length b.rest) m n output positive)
 
   -- Two requests take what one of their total size takes,
   pub taken_add : (b : Buffered G) (m n : ℕ) → buffered_taken block step output b (m + n) ≡ buffered_taken block step output b m ++ buffered_taken block step output (buffered_after block step output b m) n
@@ -100,11 +100,11 @@ module _ {G : Type 0} (block : G → List ℕ) (step : G → G) (output : ℕ) (
   taken_add b m n =
       let first : ℕ = blocks_needed block step output b m in
       let second : ℕ = blocks_needed block step output (buffered_after block step output b m) n in
-      let front : take m (row block step output b (first + second)) ≡ take m (row block step output b first) = ap (λ bytes. take m bytes) (row_add b first second) ∙ take-append-le m _ _ (row_covers b m) in
-      ap (λ k. take (m + n) (row block step output b k)) (needed_add b m n)
-      ∙ take-add m n (row block step output b (first + second))
-      ∙ ap (λ bytes. bytes ++ take n (drop m (row block step output b (first + second)))) front
-      ∙ ap (λ bytes. take m (row block step output b first) ++ take n bytes) (sym (row_after b m second))
+      let front : take m (stream block step output b (first + second)) ≡ take m (stream block step output b first) = ap (λ bytes. take m bytes) (stream_add b first second) ∙ take-append-le m _ _ (stream_covers b m) in
+      ap (λ k. take (m + n) (stream block step output b k)) (needed_add b m n)
+      ∙ take-add m n (stream block step output b (first + second))
+      ∙ ap (λ bytes. bytes ++ take n (drop m (stream block step output b (first + second)))) front
+      ∙ ap (λ bytes. take m (stream block step output b first) ++ take n bytes) (sym (stream_after b m second))
 
   -- and leave the same.
   pub after_add : (b : Buffered G) (m n : ℕ) → buffered_after block step output (buffered_after block step output b m) n ≡ buffered_after block step output b (m + n)
@@ -112,8 +112,8 @@ module _ {G : Type 0} (block : G → List ℕ) (step : G → G) (output : ℕ) (
   after_add b m n =
       let first : ℕ = blocks_needed block step output b m in
       let second : ℕ = blocks_needed block step output (buffered_after block step output b m) n in
-      let rest : drop n (row block step output (buffered_after block step output b m) second) ≡ drop (m + n) (row block step output b (first + second)) = ap (λ bytes. drop n bytes) (row_after b m second) ∙ drop-drop n m _ in
-      same_buffer rest (sym (iterate-add step first second b.inner)) ∙ ap (λ k. record { rest = drop (m + n) (row block step output b k); inner = iterate step k b.inner }) (sym (needed_add b m n))
+      let rest : drop n (stream block step output (buffered_after block step output b m) second) ≡ drop (m + n) (stream block step output b (first + second)) = ap (λ bytes. drop n bytes) (stream_after b m second) ∙ drop-drop n m _ in
+      same_buffer rest (sym (iterate-add step first second b.inner)) ∙ ap (λ k. record { rest = drop (m + n) (stream block step output b k); inner = iterate step k b.inner }) (sym (needed_add b m n))
 
   taken_within : (b : Buffered G) (n m : ℕ) → n ≤ m → take n (buffered_taken block step output b m) ≡ buffered_taken block step output b n
   taken_within b n m within =
@@ -146,12 +146,12 @@ module _ {G : Type 0} (block : G → List ℕ) (step : G → G) (output : ℕ) (
 
   pub taken_kept : (b : Buffered G) (n : ℕ) → n ≤ length b.rest → buffered_taken block step output b n ≡ take n b.rest
   unfolding buffered_taken
-  taken_kept b n within = ap (λ k. take n (row block step output b k)) (needs_none b n within) ∙ ap (λ bytes. take n bytes) (append-nil b.rest)
+  taken_kept b n within = ap (λ k. take n (stream block step output b k)) (needs_none b n within) ∙ ap (λ bytes. take n bytes) (append-nil b.rest)
 
   pub after_kept : (b : Buffered G) (n : ℕ) → n ≤ length b.rest → buffered_after block step output b n ≡ buffer_of (drop n b.rest) b.inner
   unfolding buffered_after
   after_kept b n within =
-      ap (λ k. record { rest = drop n (row block step output b k); inner = iterate step k b.inner }) (needs_none b n within)
+      ap (λ k. record { rest = drop n (stream block step output b k); inner = iterate step k b.inner }) (needs_none b n within)
       ∙ ap (λ bytes. record { rest = drop n bytes; inner = b.inner }) (append-nil b.rest)
 
   pub after_nothing : (b : Buffered G) → buffered_after block step output b 0 ≡ b

@@ -9,6 +9,9 @@ module _ {G : Type 0} (step : G → G) where
   iterate-suc zero g = refl
   iterate-suc (suc n) g = iterate-suc n (step g)
 
+  pub iterate-more : (n : ℕ) (g : G) → iterate step (n + 1) g ≡ step (iterate step n g)
+  iterate-more n g = ap (λ (k : ℕ). iterate step k g) (add-one n) ∙ iterate-suc n g
+
   pub iterate-add : (m n : ℕ) (g : G) → iterate step (m + n) g ≡ iterate step n (iterate step m g)
   iterate-add zero n g = ap (λ (k : ℕ). iterate step k g) (zero-add n)
   iterate-add (suc m) n g = ap (λ (k : ℕ). iterate step k g) (suc-add m n) ∙ iterate-add m n (step g)

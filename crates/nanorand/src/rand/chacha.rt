@@ -3,7 +3,6 @@ ghost use Rattle.std.specs.Prelude.{◌≡◌, ℕ, ◌%◌, ◌⊎◌, List, �
 ghost use Rattle.std.specs.Fmt.{decimal};
 ghost use Rattle.std.proofs.Common.{rules};
 ghost use Rattle.std.specs.Fn.{iterate};
-ghost use Rattle.nanorand.specs.generators.Blocks.{taken};
 ghost use Rattle.nanorand.specs.generators.ChaCha.{initial_state, seeded_state, bytes, counter, chacha_block, next_state, advanced, chacha_after, chacha_requests};
 ghost use Rattle.nanorand.specs.generators.ChaChaRounds.{IsMatrix};
 ghost use Rattle.nanorand.specs.support.ChaChaDrawLemmas.{length-chacha_block};
@@ -120,7 +119,7 @@ impl<const ROUNDS: u8> ChaCha<ROUNDS> {
     // The next four blocks, as one request of 256 bytes.
     fn fill_group(&mut self, out: &mut [u8])
         requires { length out.old ≡ 256 }
-        ensures bytes { out.new ≡ taken (chacha_block ROUNDS) next_state self.old 256 }
+        ensures bytes { out.new ≡ (chacha_requests ROUNDS).bytes self.old 256 }
         ensures state { self.new ≡ iterate next_state 4 self.old }
     {
         let (first, second, third, fourth) = four_blocks::<ROUNDS>(&self.state);

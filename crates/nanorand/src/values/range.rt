@@ -43,7 +43,8 @@ pub trait RandomRange<G: Rng<OUTPUT>, const OUTPUT: usize>: RandomGen<G, OUTPUT>
         ensures state { rng.new ≡ (outcome rng.old low high).1 };
 }
 
-/// Draws a number that both bounds admit; each is produced by equally many words.
+/// Draws a number that both bounds admit; each is produced by equally many words, after Daniel Lemire
+/// ("Fast Random Integer Generation in an Interval", 2019).
 ///
 /// It draws at most 128 words of the type's width, each by one request, and the first word that
 /// names a number decides. It returns `Empty` if no number is admitted, and draws nothing then. It

@@ -17,8 +17,8 @@ returns-clause-unbroken g c =
     (after_add block step g.row.OUTPUT positive size)
     (λ b m n. sym (taken_add block step g.row.OUTPUT positive size b m n))
 
-pub returns-clause-row : goal.returns-clause-row
-returns-clause-row g c = taken_unbroken g.G.Blocks.block g.G.Blocks.step g.row.OUTPUT g.met.G.Blocks.positive g.met.G.Blocks.block_length
+pub returns-clause-stream : goal.returns-clause-stream
+returns-clause-stream g c = taken_unbroken g.G.Blocks.block g.G.Blocks.step g.row.OUTPUT g.met.G.Blocks.positive g.met.G.Blocks.block_length
 
 pub returns-clause-below : goal.returns-clause-below
 returns-clause-below g c = rest_below g.G.Blocks.block g.G.Blocks.step g.row.OUTPUT g.met.G.Blocks.positive g.met.G.Blocks.block_length

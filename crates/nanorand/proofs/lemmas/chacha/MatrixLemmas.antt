@@ -52,14 +52,6 @@ with_diagonals f =
     sixteen (λ x. with_line f (with_line f (with_line f (with_line f x 0 5 10 15) 1 6 11 12) 2 7 8 13) 3 4 9 14 ≡ on_diagonals f x)
     (λ a b c d e f g h i j k l m n o p. refl)
 
--- one more application of f, outermost
-iterate-suc : (f : List ℕ → List ℕ) (n : ℕ) (x : List ℕ) → iterate f (suc n) x ≡ f (iterate f n x)
-iterate-suc f zero x = refl
-iterate-suc f (suc n) x = iterate-suc f n (f x)
-
-pub iterate_more : (f : List ℕ → List ℕ) (n : ℕ) (x : List ℕ) → iterate f (n + 1) x ≡ f (iterate f n x)
-iterate_more f n x = rw add-one (iterate-suc f n x)
-
 -- matrices made from equal lines are equal
 pub of_four : {A : Type 0} (of : Words → Words → Words → Words → A) (p p' q q' r r' s s' : Words)
     → p ≡ p' → q ≡ q' → r ≡ r' → s ≡ s' → of p q r s ≡ of p' q' r' s'

@@ -6,6 +6,7 @@ use Rattle.std.specs.Option.{option_map_or}
 use Rattle.std.proofs.lemmas.Bool.{lt-ltb, le-ltb, cases_lt, cases_Bool, ltb-true}
 use Rattle.std.proofs.lemmas.List.Sums.{position_or_len_is}
 use Rattle.std.proofs.lemmas.List.FromFn.{length-map-range_with_len, get_or-map-range_with_len}
+use Rattle.nanorand.specs.support.IterateLemmas.{iterate-more}
 use Rattle.nanorand.specs.values.Runs.{named}
 use Rattle.nanorand.specs.values.Draws.{deciding_place}
 use Rattle.nanorand.specs.values.Draws.{words_from, number_drawn, left_after}
@@ -23,14 +24,6 @@ position-none p xs d before =
     let place : position_or_len p xs ≡ length xs =
     position_or_len_is p xs (length xs) d (omega arith) before (λ same. absurd (omega arith)) in
     rw (place, le-ltb (length xs) (length xs) (omega arith)) refl
-
--- one more step, at the end
-iterate-suc : {A : Type 0} (h : A → A) (n : ℕ) (x : A) → iterate h (suc n) x ≡ h (iterate h n x)
-iterate-suc h zero x = refl
-iterate-suc h (suc n) x = iterate-suc h n (h x)
-
-pub iterate-more : {A : Type 0} (h : A → A) (n : ℕ) (x : A) → iterate h (n + 1) x ≡ h (iterate h n x)
-iterate-more h n x = rw add-one (iterate-suc h n x)
 
 -- at most `limit` words are drawn to reach the first that passes
 drawn_words : {X : Type 0} (p : X → Bool) (xs : List X) (limit : ℕ) → length xs ≡ limit → option_map_or (λ i. i + 1) (position p xs) limit ≤ limit

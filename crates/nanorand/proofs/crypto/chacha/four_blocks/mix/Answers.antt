@@ -1,11 +1,11 @@
 use Rattle.std.proofs.Common.{◌≡◌, ◌/◌, arith, ap, ◌∙◌}
 use Rattle.nanorand.specs.generators.ChaChaRounds.{quarter_round, on_diagonals, rounds}
-use Rattle.nanorand.proofs.lemmas.chacha.MatrixLemmas.{iterate_more}
+use Rattle.nanorand.specs.support.IterateLemmas.{iterate-more}
 use Rattle.nanorand.proofs.crypto.chacha.four_blocks.mix.Goals as goal
 
 pub pairs-preserved : goal.pairs-preserved
 pairs-preserved g c j h =
-    rw (iterate_more, ← c.pairs.invariant j h) (c.mix_diagonals-mixed.ensures j h ∙ ap (on_diagonals quarter_round) (c.mix_columns.ensures j h))
+    rw (iterate-more, ← c.pairs.invariant j h) (c.mix_diagonals-mixed.ensures j h ∙ ap (on_diagonals quarter_round) (c.mix_columns.ensures j h))
 
 pub returns : goal.returns
 unfolding rounds

@@ -1,11 +1,11 @@
 use Rattle.std.proofs.Common.{◌≡◌, ◌/◌, arith, ap, ◌∙◌}
 use Rattle.nanorand.specs.generators.ChaChaRounds.{quarter_round, on_diagonals, rounds}
-use Rattle.nanorand.proofs.lemmas.chacha.MatrixLemmas.{iterate_more}
+use Rattle.nanorand.specs.support.IterateLemmas.{iterate-more}
 use Rattle.nanorand.proofs.crypto.chacha.lanes.mix.Goals as goal
 
 pub pairs-preserved : goal.pairs-preserved
 pairs-preserved g c =
-    rw (iterate_more, ← c.pairs.invariant) (c.mix_diagonals-mixed.ensures ∙ ap (on_diagonals quarter_round) c.mix_columns.ensures)
+    rw (iterate-more, ← c.pairs.invariant) (c.mix_diagonals-mixed.ensures ∙ ap (on_diagonals quarter_round) c.mix_columns.ensures)
 
 pub returns : goal.returns
 unfolding rounds
