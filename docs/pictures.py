@@ -102,7 +102,7 @@ def layers():
     parts = [text(MARGIN, 28, "An arrow goes from a module to what it uses.", "quiet")]
 
     parts += module(190, programs, 180, 54, "draw", "a command line to a text")
-    parts += module(390, programs, 200, 54, "nanorand_users", "programs, one a kind of user")
+    parts += module(390, programs, 200, 54, "nanorand_users", "one program per kind of user")
     parts += module(610, programs, 170, 54, "nanorand_c", "exports for C and Rust")
     parts += module(836, programs, 184, 54, "rust/", "a safe Rust crate")
     parts.append(arrow(f"M836 {programs + 27} H789", (781, programs + 27), "left"))
@@ -149,7 +149,7 @@ def layers():
     parts.append(arrow(f"M95 {below} V{specs - 8}", (95, specs - 1), "down"))
     return picture(
         "The layers",
-        "The programs stand on the public contracts. replay and shuffles stand side by side on values and rand, "
+        "The programs use the public contracts alone. replay and shuffles both use values and rand, "
         "which call each other. The generators and the buffer implement the traits of rand.",
         1040,
         specs + 44 + MARGIN,
