@@ -112,7 +112,9 @@ def layers():
     parts.append(text(MARGIN, line - 8, "public contracts", "quiet"))
     for x in (280, 490, 695):
         parts.append(arrow(f"M{x} {programs + 54} V{line - 9}", (x, line - 1), "down"))
-    parts.append(text(MARGIN, line + 20, "crates/nanorand", "quiet"))
+    parts.append(text(MARGIN, line + 20, "crates/nanorand_core: for every generator", "quiet"))
+    parts.append(text(734, line + 20, "crates/nanorand: the generators, and their laws", "quiet"))
+    parts.append(f'<path d="M726 {line} V{specs - 14}" class="frame"/>')
 
     parts += module(MARGIN, modules, 150, 70, "laws", "laws of definitions;", "nothing to run")
     parts += module(190, modules, 140, 70, "replay", "a list of calls,", "one answer each")
@@ -150,7 +152,8 @@ def layers():
     return picture(
         "The layers",
         "The programs use the public contracts alone. replay and shuffles both use values and rand, "
-        "which call each other. The generators and the buffer implement the traits of rand.",
+        "which call each other. The generators and the buffer implement the traits of rand. The crate "
+        "nanorand_core names no generator; the crate nanorand has the generators, entropy and crypto.",
         1040,
         specs + 44 + MARGIN,
         parts,
@@ -163,7 +166,7 @@ BITS = 8
 
 
 def quota(size):
-    """crates/nanorand/specs/values/Runs.antt: quota."""
+    """crates/nanorand_core/specs/values/Runs.antt: quota."""
     return 2**BITS // size
 
 

@@ -2,8 +2,8 @@
 
 ghost use Rattle.std.specs.Prelude.{◌≡◌, ◌%◌, length};
 ghost use Rattle.nanorand.specs.generators.ChaCha.{seeded_state};
-ghost use Rattle.nanorand.specs.replay.Replay.{replayed};
-ghost use Rattle.nanorand.specs.values.Values.{number_of};
+ghost use Rattle.nanorand_core.specs.replay.Replay.{replayed};
+ghost use Rattle.nanorand_core.specs.values.Values.{number_of};
 ghost use Rattle.draw.specs.Text.{from_seeded};
 ghost use Rattle.draw.specs.declared.command.Mode.TheVariants.{Plain, Buffered};
 

@@ -1,8 +1,5 @@
--- Generators: their blocks and requests, what many draws leave, their periods and their texts.
-pub mod Blocks
-pub mod Buffered
+-- The generators: their blocks and requests, what many draws leave, their seeds and their texts.
 pub mod Halves
-pub mod Cycles
 pub mod WyRand
 pub mod ChaChaRounds
 pub mod ChaCha

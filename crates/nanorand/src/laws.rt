@@ -1,98 +1,19 @@
-//! Laws of the definitions. Each contract states a law. The functions do nothing; a proof calls one
-//! to use its law.
-ghost use Rattle.std.specs.Prelude.{◌≡◌, ◌<◌, length, ℕ, ℤ, nat_le, nat_lt, int_le, int_lt, ◌+◌, ◌^◌, bit_xor, ◌≢◌, ◌%◌, ◌↔◌, List, slice_index, IsPermutation};
-ghost use Rattle.std.specs.declared.ops.Bound.{Bound};
+//! Laws of the three generators, beside those of every generator. Each contract states a law. The
+//! functions do nothing; a proof calls one to use its law.
+ghost use Rattle.std.specs.Prelude.{◌≡◌, ◌<◌, ℕ, ◌+◌, ◌^◌, bit_xor, ◌≢◌, ◌%◌, ◌↔◌, List, slice_index};
 ghost use Rattle.std.specs.Fn.{iterate};
 ghost use Rattle.std.specs.Int.{w64, to_le_bytes, ◌∣◌};
-ghost use Rattle.nanorand.specs.generators.Blocks.{taken};
-ghost use Rattle.nanorand.specs.generators.Buffered.{Buffered, buffered_after, buffered_taken};
-ghost use Rattle.nanorand.specs.shuffles.Arrangements.{CorrespondsOneToOne, HoldEquallyOften, HoldsEachOnce, IsArrangement};
-ghost use Rattle.nanorand.specs.replay.Replay.{ReplaysJoin};
-ghost use Rattle.nanorand.specs.replay.Unbroken.{IsUnbroken};
-ghost use Rattle.nanorand.specs.values.Range.{unsigned_number, signed_number};
-ghost use Rattle.nanorand.specs.values.RangeLimits.{KeepsLimits};
-ghost use Rattle.nanorand.specs.values.Draws.{after_word, unsigned_outcome, signed_outcome};
-ghost use Rattle.nanorand.specs.values.Fairness.{RunsAreFair, NoNumberIsPreferred, EventsAreFair};
-ghost use Rattle.nanorand.specs.generators.Cycles.{AgreeModulo, DrawsAdd, DrawsLeave, OneMoreDraw, PeriodsAreMultiplesOf, IsPeriod, Reaches, ReachesOnceBelow};
+ghost use Rattle.nanorand_core.specs.generators.Cycles.{AgreeModulo, DrawsAdd, DrawsLeave, OneMoreDraw, PeriodsAreMultiplesOf, IsPeriod, Reaches, ReachesOnceBelow};
 ghost use Rattle.nanorand.specs.generators.Halves.{folded};
 ghost use Rattle.nanorand.specs.generators.ChaCha.{counter, advanced, next_state, chacha_after, chacha_block};
 ghost use Rattle.nanorand.specs.generators.ChaChaRounds.{IsMatrix, RoundsAreInjective};
 ghost use Rattle.nanorand.specs.generators.Pcg64 as pcg64;
 ghost use Rattle.nanorand.specs.generators.WyRand as wyrand;
 
-use crate::buffer::BufferedRng;
-use crate::rand::{Blocks, Rng};
-
-/// A bounded draw prefers no number, for words of N = 8, 16, 32 and 64 bits and every size from 1
-/// to 2^N.
-///
-/// `runs`: each number below the size has a run of floor(2^N / size) words, the runs do not
-/// overlap, and fewer than half of all words name no number. `swaps`: swapping the runs of two
-/// numbers word by word is an involution on lists of words. It keeps the index of the deciding
-/// word, swaps the two numbers in the result, and leaves every other result, and every failure,
-/// unchanged. `events`: an event, a test that m of the numbers pass, is named by exactly m times as
-/// many words as one number.
-pub fn fairness()
-    ensures runs { RunsAreFair }
-    ensures swaps { NoNumberIsPreferred }
-    ensures events { EventsAreFair }
-{}
-
-/// The limits that every ranged draw of an integer type keeps, over every generator.
-///
-/// A number that is drawn lies within both bounds, and at most 128 words are drawn. `Empty` is
-/// returned only if the range has no number, and then nothing was drawn. `Exhausted` is returned
-/// after exactly 128 words. The outcomes of this law are those that the contract of
-/// `generate_range` states.
-pub fn range_limits<G: Rng<OUTPUT>, const OUTPUT: usize>()
-    ensures unsigned { (bits : ℕ) (g : G) (low high : Bound ℕ) →
-        KeepsLimits nat_le nat_lt bits unsigned_number (after_word G.requests bits) low high g
-        (unsigned_outcome G.requests bits g low high) }
-    ensures signed { (bits : ℕ) (g : G) (low high : Bound ℤ) →
-        KeepsLimits int_le int_lt bits (signed_number bits) (after_word G.requests bits) low high g
-        (signed_outcome G.requests bits g low high) }
-{}
-
-/// Replaying two lists of calls one after the other is replaying their concatenation, over every
-/// generator: a replay that is stopped, stored and resumed gives what the whole replay gives.
-pub fn replays_join<G: Rng<OUTPUT>, const OUTPUT: usize>()
-    ensures { ReplaysJoin G.requests }
-{}
-
-/// For every n, valid lists of n choices and permutations of 0, 1, .., n - 1 correspond one to one:
-/// a valid list makes a permutation, no other valid list makes the same one, and each permutation
-/// is made by one.
-pub fn choices_and_arrangements()
-    ensures { (n : ℕ) → CorrespondsOneToOne n }
-{}
-
-/// Permutations are recognized by counting.
-///
-/// `permutations`: one list of numbers is a permutation of another exactly if every number occurs
-/// equally often in both. `arrangements`: a list is a permutation of the numbers below its length
-/// exactly if each of them occurs in it once; nothing has to be said of other numbers.
-pub fn permutations_by_counting()
-    ensures permutations { (xs ys : List ℕ) → IsPermutation xs ys ↔ HoldEquallyOften xs ys }
-    ensures arrangements { (order : List ℕ) →
-        IsArrangement order ↔ HoldsEachOnce (length order) order }
-{}
-
-/// A `BufferedRng` over any generator delivers one unbroken stream, whatever requests it is split
-/// into.
-///
-/// `unbroken`: two requests in a row take the same bytes and leave the same state as one request
-/// for the sum of their sizes, and so does any list of requests. A replay leaves the state that one
-/// request for all the bytes of its calls would leave. `row`: the buffer's own blocks, joined, are
-/// the buffered bytes and then the inner blocks. `below`: if less than a block is buffered, less
-/// than a block is buffered after each request.
-pub fn unbroken_delivery<G: Rng<OUTPUT>, const OUTPUT: usize>()
-    ensures unbroken { IsUnbroken ⟦<BufferedRng<G, OUTPUT> as Rng<OUTPUT>>⟧.requests }
-    ensures stream { (b : Buffered G) (n : ℕ) →
-        let buffer = ⟦<BufferedRng<G, OUTPUT> as Blocks<OUTPUT>>⟧ in
-        taken buffer.block buffer.step b n ≡ buffered_taken G.block G.step OUTPUT b n }
-    ensures below { (b : Buffered G) (n : ℕ) → length b.rest < OUTPUT
-        → length (buffered_after G.block G.step OUTPUT b n).rest < OUTPUT }
-{}
+pub use nanorand_core::laws::{
+    choices_and_arrangements, fairness, permutations_by_counting, range_limits, replays_join,
+    unbroken_delivery,
+};
 
 /// ChaCha's rounds are injective on matrices, for every even number of rounds.
 pub fn rounds_are_injective()

@@ -1,7 +1,7 @@
 -- How a result is passed to C: as a status, with the number beside it.
 use Rattle.std.specs.Prelude.{ℕ, Result, Ok, Err}
-use Rattle.nanorand.specs.declared.values.range.RangeError.{RangeError}
-use Rattle.nanorand.specs.declared.values.range.RangeError.TheVariants.{Empty, Exhausted}
+use Rattle.nanorand_core.specs.declared.values.range.RangeError.{RangeError}
+use Rattle.nanorand_core.specs.declared.values.range.RangeError.TheVariants.{Empty, Exhausted}
 
 abbrev pub status : {T : Type 0} → Result T RangeError → ℕ
 status (Ok value) = 0

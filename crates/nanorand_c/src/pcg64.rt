@@ -1,8 +1,8 @@
 //! Pcg64. Its seed is the caller's memory, and each draw advances it. Not cryptographically secure.
 ghost use Rattle.std.specs.Prelude.{◌≡◌, ◌≤◌, length, IsPermutation};
 ghost use Rattle.nanorand.specs.generators.Pcg64.{seed_after, pcg64_requests};
-ghost use Rattle.nanorand.specs.shuffles.Shuffles.{from_all, from_itself, shuffled};
-ghost use Rattle.nanorand.specs.values.Values.{number_of};
+ghost use Rattle.nanorand_core.specs.shuffles.Shuffles.{from_all, from_itself, shuffled};
+ghost use Rattle.nanorand_core.specs.values.Values.{number_of};
 ghost use Rattle.nanorand_c.specs.Between.{between};
 ghost use Rattle.nanorand_c.specs.Status.{drawn_or, status};
 ghost use Rattle.nanorand_c.specs.WideNumber.{at_seed, wide_number};

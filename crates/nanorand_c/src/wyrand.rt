@@ -1,7 +1,7 @@
 //! WyRand. The generator itself is the caller's memory. Not cryptographically secure.
 ghost use Rattle.std.specs.Prelude.{◌≡◌, ◌≤◌, length, IsPermutation};
-ghost use Rattle.nanorand.specs.shuffles.Shuffles.{from_all, from_itself, shuffled};
-ghost use Rattle.nanorand.specs.values.Values.{number_of};
+ghost use Rattle.nanorand_core.specs.shuffles.Shuffles.{from_all, from_itself, shuffled};
+ghost use Rattle.nanorand_core.specs.values.Values.{number_of};
 ghost use Rattle.nanorand.specs.generators.WyRand.{seed_after, wyrand_requests};
 ghost use Rattle.nanorand_c.specs.Status.{drawn_or, status};
 ghost use Rattle.nanorand_c.specs.Between.{between};

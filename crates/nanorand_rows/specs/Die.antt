@@ -2,9 +2,9 @@
 use Rattle.std.specs.Prelude.{ℕ, ◌≤◌, List, Result, Ok, Err}
 use Rattle.std.specs.declared.ops.Bound.{Bound}
 use Rattle.std.specs.declared.ops.Bound.TheVariants.{Included, Excluded, Unbounded}
-use Rattle.nanorand.specs.generators.Blocks.{Requests}
-use Rattle.nanorand.specs.values.Draws.{unsigned_outcome}
-use Rattle.nanorand.specs.declared.values.range.RangeError.{RangeError}
+use Rattle.nanorand_core.specs.generators.Blocks.{Requests}
+use Rattle.nanorand_core.specs.values.Draws.{unsigned_outcome}
+use Rattle.nanorand_core.specs.declared.values.range.RangeError.{RangeError}
 
 -- The number drawn, or 1 after a failed draw.
 abbrev pub pips_or_one : Result ℕ RangeError → ℕ

@@ -1,7 +1,7 @@
 -- The generator `Waste`: the blocks of `Steps`, of which most requests waste one. The state is the
 -- number of blocks drawn.
 use Rattle.std.specs.Prelude.{ℕ, ◌==◌, ◌||◌, if◌then◌else◌}
-use Rattle.nanorand.specs.generators.Blocks.{Requests, plain_after, taken}
+use Rattle.nanorand_core.specs.generators.Blocks.{Requests, plain_after, taken}
 use Rattle.nanorand_rows.specs.Steps.{next_count, steps_block}
 
 -- A request of 0 or 8 bytes leaves what a plain generator leaves. Any other draws one block more.

@@ -2,12 +2,12 @@
 //! quotes them. Larger callers have a module each.
 ghost use Rattle.std.specs.Prelude.{◌≡◌, ◌≤◌, ◌+◌, ◌++◌, [], length, MatchResult, IsPermutation};
 ghost use Rattle.std.specs.declared.ops.Bound.TheVariants.{Included};
-ghost use Rattle.nanorand.specs.generators.Buffered.{buffered_taken};
-ghost use Rattle.nanorand.specs.values.Draws.{unsigned_outcome};
+ghost use Rattle.nanorand_core.specs.generators.Buffered.{buffered_taken};
+ghost use Rattle.nanorand_core.specs.values.Draws.{unsigned_outcome};
 ghost use Rattle.nanorand.specs.generators.Pcg64.{pcg64_after};
-ghost use Rattle.nanorand.specs.replay.Replay.{replayed};
-ghost use Rattle.nanorand.specs.shuffles.Shuffles.{from_itself, shuffled};
-ghost use Rattle.nanorand.specs.values.Values.{number_of};
+ghost use Rattle.nanorand_core.specs.replay.Replay.{replayed};
+ghost use Rattle.nanorand_core.specs.shuffles.Shuffles.{from_itself, shuffled};
+ghost use Rattle.nanorand_core.specs.values.Values.{number_of};
 ghost use Rattle.nanorand.specs.generators.WyRand.{wyrand_requests};
 
 pub mod die;

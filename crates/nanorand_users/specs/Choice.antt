@@ -1,10 +1,10 @@
 -- Weighted choice: the numbers below the sum of the weights are divided into consecutive shares,
 -- one for each item, each as long as the item's weight.
 use Rattle.std.specs.Prelude.{◌≡◌, ℕ, suc, ◌+◌, ◌-◌, ◌*◌, ◌<◌, ◌≤◌, ◌^◌, ◌==◌, List, [], ◌∷◌, length, Option, Result, Ok, Err, sum, take, slice_index, nat_le, nat_lt, ok_or, is_ok, option_map, if◌then◌else◌}
-use Rattle.nanorand.specs.generators.Blocks.{Requests}
-use Rattle.nanorand.specs.values.Runs.{IsWordWidth, named, quota, words_that}
-use Rattle.nanorand.specs.values.Draws.{drawn_below}
-use Rattle.nanorand.specs.values.Fairness.{passes}
+use Rattle.nanorand_core.specs.generators.Blocks.{Requests}
+use Rattle.nanorand_core.specs.values.Runs.{IsWordWidth, named, quota, words_that}
+use Rattle.nanorand_core.specs.values.Draws.{drawn_below}
+use Rattle.nanorand_core.specs.values.Fairness.{passes}
 use Rattle.nanorand_users.specs.declared.choice.ChoiceError.{ChoiceError}
 use Rattle.nanorand_users.specs.declared.choice.ChoiceError.TheVariants.{NoWeight, TooHeavy, Exhausted}
 

@@ -3,9 +3,9 @@
 use Rattle.std.specs.Prelude.{◌≡◌, ℕ, zero, suc, ◌+◌, ◌-◌, ◌*◌, ◌<◌, ◌≤◌, ◌==◌, Bool, true, List, length, Result, Ok, Err, nat_lt, slice_set, sum_by, if◌then◌else◌}
 use Rattle.std.specs.List.{list_any, range_with_len}
 use Rattle.std.specs.declared.ops.Bound.TheVariants.{Included}
-use Rattle.nanorand.specs.generators.Blocks.{Requests}
-use Rattle.nanorand.specs.values.Draws.{unsigned_outcome}
-use Rattle.nanorand.specs.declared.values.range.RangeError.{RangeError}
+use Rattle.nanorand_core.specs.generators.Blocks.{Requests}
+use Rattle.nanorand_core.specs.values.Draws.{unsigned_outcome}
+use Rattle.nanorand_core.specs.declared.values.range.RangeError.{RangeError}
 
 -- The result of a pass, the sample that it leaves, and the state of the generator after it.
 pub record Sample (G : Type 0) : Type 0 where

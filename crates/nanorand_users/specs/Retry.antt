@@ -3,9 +3,9 @@
 use Rattle.std.specs.Prelude.{ℕ, zero, suc, ◌+◌, ◌*◌, ◌/◌, ◌^◌, List, [], ◌∷◌, Result, min}
 use Rattle.std.specs.Result.{result_unwrap_or}
 use Rattle.std.specs.declared.ops.Bound.TheVariants.{Included}
-use Rattle.nanorand.specs.generators.Blocks.{Requests}
-use Rattle.nanorand.specs.values.Draws.{unsigned_outcome}
-use Rattle.nanorand.specs.declared.values.range.RangeError.{RangeError}
+use Rattle.nanorand_core.specs.generators.Blocks.{Requests}
+use Rattle.nanorand_core.specs.values.Draws.{unsigned_outcome}
+use Rattle.nanorand_core.specs.declared.values.range.RangeError.{RangeError}
 
 -- The ceiling of delay k, counted from 0.
 abbrev pub ceiling_after : ℕ → ℕ → ℕ → ℕ

@@ -1,8 +1,8 @@
 -- Parallel streams: workers share one stream of draws, and each takes a part of its own.
 use Rattle.std.specs.Prelude.{◌≡◌, ℕ, ◌+◌, ◌*◌, ◌<◌, ◌≤◌, List}
 use Rattle.std.specs.Fn.{iterate}
-use Rattle.nanorand.specs.generators.Blocks.{taken}
-use Rattle.nanorand.specs.values.Values.{number_of}
+use Rattle.nanorand_core.specs.generators.Blocks.{taken}
+use Rattle.nanorand_core.specs.values.Values.{number_of}
 
 -- The state after this many draws, made one by one. It does not unfold by itself, because the
 -- number may be a large literal.

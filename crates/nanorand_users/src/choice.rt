@@ -1,7 +1,7 @@
 //! A load balancer: it sends each request to one of its servers, and a stronger server should get
 //! more requests. An item is chosen by its weight, exactly, without floating point.
 ghost use Rattle.std.specs.Prelude.{◌≡◌, ℕ, ◌^◌, ◌<◌, ◌≤◌, ◌↔◌, ◌⊎◌, length, slice_index, sum, Err, IfOk, IfSome};
-ghost use Rattle.nanorand.specs.values.Draws.{after_words};
+ghost use Rattle.nanorand_core.specs.values.Draws.{after_words};
 ghost use Rattle.nanorand_users.specs.declared.choice.ChoiceError.TheVariants.{NoWeight, TooHeavy, Exhausted};
 ghost use Rattle.nanorand_users.specs.Choice.{ChoicesAreFair, IsInShare, choice_answer, choice_state, item_at, number_for, total_of};
 

@@ -3,9 +3,9 @@
 //!
 //! The cards of a deck of n cards are the numbers 0, 1, .., n - 1.
 ghost use Rattle.std.specs.Prelude.{◌≡◌, ◌+◌, ◌*◌, ◌≤◌, ◌++◌, ℕ, List, length, drop, OnOk, IfErr};
-ghost use Rattle.nanorand.specs.shuffles.Arrangements.{rising, IsValid, IsArrangement, HoldsEachOnce};
-ghost use Rattle.nanorand.specs.shuffles.Shuffles.{arranged, from_itself, shuffled};
-ghost use Rattle.nanorand.specs.declared.values.range.RangeError.TheVariants.{Exhausted};
+ghost use Rattle.nanorand_core.specs.shuffles.Arrangements.{rising, IsValid, IsArrangement, HoldsEachOnce};
+ghost use Rattle.nanorand_core.specs.shuffles.Shuffles.{arranged, from_itself, shuffled};
+ghost use Rattle.nanorand_core.specs.declared.values.range.RangeError.TheVariants.{Exhausted};
 ghost use Rattle.nanorand_users.specs.Deals.{HoldsNoneTwice, HandsAreApart, hand_of, hands};
 
 use nanorand::laws::permutations_by_counting;

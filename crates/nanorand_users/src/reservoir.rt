@@ -4,8 +4,8 @@
 //! "Random Sampling with a Reservoir", 1985).
 ghost use Rattle.std.specs.Prelude.{◌≡◌, ◌≢◌, ℕ, ◌-◌, ◌*◌, ◌<◌, ◌≤◌, All, length, IfOk, IfErr};
 ghost use Rattle.std.specs.List.{AllPairs, range_with_len};
-ghost use Rattle.nanorand.specs.values.Draws.{after_words};
-ghost use Rattle.nanorand.specs.declared.values.range.RangeError.TheVariants.{Exhausted};
+ghost use Rattle.nanorand_core.specs.values.Draws.{after_words};
+ghost use Rattle.nanorand_core.specs.declared.values.range.RangeError.TheVariants.{Exhausted};
 ghost use Rattle.nanorand_users.specs.Reservoir.{SamplesAreFair, place_up_to, placed, sampled};
 
 use nanorand::laws::range_limits;

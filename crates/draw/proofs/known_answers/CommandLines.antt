@@ -5,16 +5,16 @@ use Rattle.std.specs.List.{range_with_len}
 use Rattle.std.proofs.Common.{arith}
 use Rattle.hex.specs.Hex.{decode_pairs}
 use Rattle.std.specs.declared.ops.Bound.TheVariants.{Included, Excluded}
-use Rattle.nanorand.specs.generators.Blocks.{taken}
-use Rattle.nanorand.specs.generators.Buffered.{buffered_taken, buffered_after}
+use Rattle.nanorand_core.specs.generators.Blocks.{taken}
+use Rattle.nanorand_core.specs.generators.Buffered.{buffered_taken, buffered_after}
 use Rattle.nanorand.specs.generators.ChaChaRounds.{quarter_round, on_columns, on_diagonals, rounds, block}
 use Rattle.nanorand.specs.generators.ChaCha.{initial_state}
-use Rattle.nanorand.specs.values.Runs.{named}
-use Rattle.nanorand.specs.values.Range.{range_within}
-use Rattle.nanorand.specs.values.Draws.{words_from, value_drawn, left_by, left_after}
-use Rattle.nanorand.specs.declared.replay.Kind.TheVariants as kinds
-use Rattle.nanorand.specs.declared.replay.Span.TheVariants as spans
-use Rattle.nanorand.specs.declared.replay.Call.TheVariants.{Gen, Range, Shuffle}
+use Rattle.nanorand_core.specs.values.Runs.{named}
+use Rattle.nanorand_core.specs.values.Range.{range_within}
+use Rattle.nanorand_core.specs.values.Draws.{words_from, value_drawn, left_by, left_after}
+use Rattle.nanorand_core.specs.declared.replay.Kind.TheVariants as kinds
+use Rattle.nanorand_core.specs.declared.replay.Span.TheVariants as spans
+use Rattle.nanorand_core.specs.declared.replay.Call.TheVariants.{Gen, Range, Shuffle}
 use Rattle.draw.specs.declared.command.Mode.TheVariants.{Plain, Buffered}
 use Rattle.draw.specs.declared.command.SeededGenerator.TheVariants.{WyRand, Pcg64, ChaCha20}
 use Rattle.draw.specs.Arguments.{Asked, AsksFor, IsCount}

@@ -2,7 +2,7 @@
 use Rattle.std.specs.Prelude.{◌≡◌, ℕ, ◌++◌, List, [], ◌∷◌, codes, replicate, take, refl}
 use Rattle.std.specs.Fn.{iterate}
 use Rattle.std.specs.List.{range_with_len}
-use Rattle.nanorand.specs.generators.Blocks.{taken, plain_after}
+use Rattle.nanorand_core.specs.generators.Blocks.{taken, plain_after}
 use Rattle.nanorand.specs.generators.ChaChaRounds.{quarter_round, on_columns, on_diagonals, rounds, block}
 use Rattle.nanorand.specs.support.ChaChaInverse.{unquarter_round}
 use Rattle.nanorand.specs.generators.ChaCha.{words, chacha_block, chacha_after, next_state, initial_state, seeded_state}

@@ -1,7 +1,7 @@
 -- Known answers: how many draws lead from one seed to another, and seeds that none lead to.
 use Rattle.std.specs.Prelude.{◌≡◌, ◌⊎◌, ◌↔◌, ℕ, ◌+◌, ◌-◌, ◌%◌, ◌^◌, ◌<◌, refl}
 use Rattle.std.proofs.Common.{ap, inl, inr, sym, ◌∙◌, arith}
-use Rattle.nanorand.specs.generators.Cycles.{Reaches, ReachesOnceBelow}
+use Rattle.nanorand_core.specs.generators.Cycles.{Reaches, ReachesOnceBelow}
 use Rattle.nanorand.specs.generators.WyRand.{wyrand_after}
 use Rattle.nanorand.specs.generators.WyRand as wyrand
 use Rattle.nanorand.specs.generators.Pcg64.{Generator, seed_after, pcg64_after}

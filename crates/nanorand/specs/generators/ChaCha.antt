@@ -3,7 +3,7 @@
 use Rattle.std.specs.Prelude.{ℕ, zero, suc, ◌+◌, ◌*◌, ◌/◌, ◌%◌, ◌^◌, List, [], ◌∷◌, ◌++◌, take, drop, codes, slice_index, slice_set}
 use Rattle.std.specs.Int.{w32, from_le_bytes, to_le_bytes}
 use Rattle.std.specs.List.{flat_map}
-use Rattle.nanorand.specs.generators.Blocks.{Requests, plain}
+use Rattle.nanorand_core.specs.generators.Blocks.{Requests, plain}
 use Rattle.nanorand.specs.generators.ChaChaRounds.{block}
 
 -- The 32-bit words of a list of bytes: four bytes a word, least significant byte first. One to

@@ -2,9 +2,9 @@
 -- `factor` and adds `term`, modulo 2^128.
 use Rattle.std.specs.Prelude.{◌≡◌, ◌⊎◌, ℕ, zero, suc, ◌+◌, ◌*◌, ◌%◌, ◌^◌, List}
 use Rattle.std.specs.Int.{w64, to_le_bytes}
-use Rattle.nanorand.specs.generators.Blocks.{Requests, plain}
+use Rattle.nanorand_core.specs.generators.Blocks.{Requests, plain}
 use Rattle.nanorand.specs.generators.Halves.{folded}
-use Rattle.nanorand.specs.values.Values.{number_of}
+use Rattle.nanorand_core.specs.values.Values.{number_of}
 
 -- The constant from which `factor` and `term` are computed.
 abbrev pub multiplier : ℕ

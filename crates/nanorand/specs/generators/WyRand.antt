@@ -1,7 +1,7 @@
 -- WyRand: its state is its seed, a number below 2^64, to which each draw adds a constant.
 use Rattle.std.specs.Prelude.{ℕ, zero, suc, ◌+◌, ◌*◌, ◌%◌, ◌^◌, List, bit_xor}
 use Rattle.std.specs.Int.{w64, to_le_bytes}
-use Rattle.nanorand.specs.generators.Blocks.{Requests, plain}
+use Rattle.nanorand_core.specs.generators.Blocks.{Requests, plain}
 use Rattle.nanorand.specs.generators.Halves.{folded}
 
 -- What one draw adds to the seed, modulo 2^64.

@@ -6,8 +6,8 @@ use Rattle.std.proofs.lemmas.List.{get_or-set_same, get_or_past, set-set, set_co
 use Rattle.std.proofs.lemmas.Nat.Gcd.{mod-eq-zero_of_dvd}
 use Rattle.std.specs.Fn.{iterate}
 use Rattle.std.specs.Int.{◌∣◌}
-use Rattle.nanorand.specs.generators.Cycles.{IsPeriod, DrawsLeave, OneMoreDraw, DrawsAdd}
-use Rattle.nanorand.specs.support.IterateLemmas.{draws_leave, draws_add}
+use Rattle.nanorand_core.specs.generators.Cycles.{IsPeriod, DrawsLeave, OneMoreDraw, DrawsAdd}
+use Rattle.nanorand_core.specs.support.IterateLemmas.{draws_leave, draws_add}
 use Rattle.nanorand.specs.generators.ChaChaRounds.{block, IsMatrix}
 use Rattle.nanorand.specs.generators.ChaCha.{counter, with_counter, advanced, next_state, chacha_block, chacha_after}
 

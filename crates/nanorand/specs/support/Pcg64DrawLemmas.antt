@@ -4,8 +4,8 @@ use Rattle.std.proofs.Common.{◌≡◌, ℕ, zero, suc, ◌+◌, ◌*◌, ◌%�
 use Rattle.std.proofs.Math.Nat.{pow-zero, pow-suc, mod-eq_of_lt, add-zero, add-suc}
 use Rattle.std.specs.Fn.{iterate}
 use Rattle.std.specs.Int.{w64, to_le_bytes}
-use Rattle.nanorand.specs.generators.Cycles.{DrawsLeave, OneMoreDraw, DrawsAdd}
-use Rattle.nanorand.specs.support.IterateLemmas.{draws_leave, draws_add}
+use Rattle.nanorand_core.specs.generators.Cycles.{DrawsLeave, OneMoreDraw, DrawsAdd}
+use Rattle.nanorand_core.specs.support.IterateLemmas.{draws_leave, draws_add}
 use Rattle.nanorand.specs.generators.Halves.{folded}
 use Rattle.nanorand.specs.generators.Pcg64.{factor, term, next_seed, Generator, next, pcg64_block, geometric_sum, affine_after, seed_after, pcg64_after}
 

@@ -3,8 +3,8 @@
 use Rattle.std.proofs.Common.{◌≡◌, ℕ, zero, suc, ◌+◌, ◌^◌, ◌<◌, refl, sym, ap, ◌∙◌, arith, add-one}
 use Rattle.std.specs.Fn.{iterate}
 use Rattle.std.specs.Int.{w64, to_le_bytes}
-use Rattle.nanorand.specs.generators.Cycles.{DrawsLeave, OneMoreDraw, DrawsAdd}
-use Rattle.nanorand.specs.support.IterateLemmas.{draws_leave, draws_add}
+use Rattle.nanorand_core.specs.generators.Cycles.{DrawsLeave, OneMoreDraw, DrawsAdd}
+use Rattle.nanorand_core.specs.support.IterateLemmas.{draws_leave, draws_add}
 use Rattle.nanorand.specs.generators.WyRand.{next_seed, seed_after, word, wyrand_after, wyrand_block}
 
 pub wyrand_none : (seed : ℕ) → wyrand_after 0 seed ≡ seed

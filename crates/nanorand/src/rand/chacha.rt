@@ -14,7 +14,7 @@ use crate::crypto::chacha::{
     chacha_block, chacha_increment_counter, chacha_init, counter, four_blocks, set_counter,
 };
 use crate::entropy::{EntropyError, system};
-use crate::rand::{Blocks, Rng, SeedableRng, fill_by_blocks};
+use nanorand_core::rand::{Blocks, Rng, SeedableRng, fill_by_blocks};
 use std::alloc::AllocError;
 use std::fmt;
 use std::io::Read;

@@ -9,7 +9,7 @@ ghost use Rattle.nanorand.specs.declared.entropy.EntropyError.TheVariants.{Short
 use crate::entropy::{EntropyError, system};
 use crate::rand::halves::folded;
 use crate::rand::hexadecimal::Hexadecimal;
-use crate::rand::{Blocks, Rng, SeedableRng, fill_by_blocks};
+use nanorand_core::rand::{Blocks, Rng, SeedableRng, fill_by_blocks};
 use std::alloc::AllocError;
 use std::fmt;
 use std::io::Read;

@@ -3,13 +3,13 @@ ghost use Rattle.std.specs.Prelude.{◌≡◌, length, ◌⊎◌, ⊤, refl, Som
 ghost use Rattle.std.proofs.Common.{rules};
 ghost use Rattle.nanorand.specs.generators.Entropy.{HasFewer, IsMadeOf};
 ghost use Rattle.nanorand.specs.generators.DebugTexts.{wyrand_debug};
-ghost use Rattle.nanorand.specs.values.Values.{number_of};
+ghost use Rattle.nanorand_core.specs.values.Values.{number_of};
 ghost use Rattle.nanorand.specs.generators.WyRand.{next_seed, wyrand_block, word, seed_after, wyrand_after, wyrand_requests};
 ghost use Rattle.nanorand.specs.declared.entropy.EntropyError.TheVariants.{Short, Fault};
 
 use crate::entropy::{EntropyError, system};
 use crate::rand::halves::folded;
-use crate::rand::{Blocks, Rng, SeedableRng, fill_by_blocks};
+use nanorand_core::rand::{Blocks, Rng, SeedableRng, fill_by_blocks};
 use std::alloc::AllocError;
 use std::fmt;
 use std::io::Read;

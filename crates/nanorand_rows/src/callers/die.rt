@@ -1,6 +1,6 @@
 //! A user's own value type: a die.
 ghost use Rattle.std.specs.Prelude.{◌≡◌, ◌≤◌};
-ghost use Rattle.nanorand.specs.values.Draws.{unsigned_outcome};
+ghost use Rattle.nanorand_core.specs.values.Draws.{unsigned_outcome};
 ghost use Rattle.nanorand_rows.specs.Die.{HasPips, die_after, die_bound, die_value};
 
 use nanorand::values::range::draw_number;

@@ -1,7 +1,7 @@
 //! A generator of one byte.
 ghost use Rattle.std.specs.Prelude.{◌≡◌, ⊤, refl, replicate};
 ghost use Rattle.std.proofs.Common.{rules};
-ghost use Rattle.nanorand.specs.generators.Blocks.{plain};
+ghost use Rattle.nanorand_core.specs.generators.Blocks.{plain};
 ghost use Rattle.nanorand_rows.specs.Constant.{constant_block, constant_step};
 
 use nanorand::rand::fill_by_blocks;

@@ -1,7 +1,7 @@
 //! Generators of the bytes 0, 1, 2, .. in blocks of one byte and of 64.
 ghost use Rattle.std.specs.Prelude.{◌≡◌, ◌^◌, ◌<◌, ⊤, refl};
 ghost use Rattle.std.proofs.Common.{rules};
-ghost use Rattle.nanorand.specs.generators.Blocks.{plain};
+ghost use Rattle.nanorand_core.specs.generators.Blocks.{plain};
 ghost use Rattle.nanorand_rows.specs.Rising.{rising_block};
 ghost use Rattle.nanorand_rows.specs.support.RisingLemmas.{length-rising_block};
 ghost use Rattle.nanorand_rows.specs.Steps.{next_count};

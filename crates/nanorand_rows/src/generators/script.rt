@@ -1,7 +1,7 @@
 //! A generator of the bytes of a list.
 ghost use Rattle.std.specs.Prelude.{◌≡◌, ⊤, refl};
 ghost use Rattle.std.proofs.Common.{rules};
-ghost use Rattle.nanorand.specs.generators.Blocks.{plain};
+ghost use Rattle.nanorand_core.specs.generators.Blocks.{plain};
 ghost use Rattle.nanorand_rows.specs.Script.{script_block, script_step};
 
 use nanorand::rand::fill_by_blocks;

@@ -1,7 +1,7 @@
 //! A generator of the bytes 0, 1, 2, .. in blocks of eight.
 ghost use Rattle.std.specs.Prelude.{◌≡◌, ⊤, refl};
 ghost use Rattle.std.proofs.Common.{rules};
-ghost use Rattle.nanorand.specs.generators.Blocks.{plain};
+ghost use Rattle.nanorand_core.specs.generators.Blocks.{plain};
 ghost use Rattle.nanorand_rows.specs.Steps.{next_count, steps_block};
 
 use nanorand::rand::fill_by_blocks;

@@ -1,7 +1,7 @@
 //! A generator of zeros. The word 0 is rejected by every range whose size is no power of two.
 ghost use Rattle.std.specs.Prelude.{◌≡◌, ⊤, refl};
 ghost use Rattle.std.proofs.Common.{rules};
-ghost use Rattle.nanorand.specs.generators.Blocks.{plain};
+ghost use Rattle.nanorand_core.specs.generators.Blocks.{plain};
 ghost use Rattle.nanorand_rows.specs.Steps.{next_count};
 ghost use Rattle.nanorand_rows.specs.Zeros.{zeros_block};
 

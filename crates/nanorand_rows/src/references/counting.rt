@@ -1,6 +1,6 @@
 //! Permutations, recognized by counting: each number below the length occurs once.
 ghost use Rattle.std.specs.Prelude.{◌≡◌, ◌≤◌};
-ghost use Rattle.nanorand.specs.shuffles.Arrangements.{copies};
+ghost use Rattle.nanorand_core.specs.shuffles.Arrangements.{copies};
 
 use nanorand::shuffles::choices_of;
 use std::process::Abort;

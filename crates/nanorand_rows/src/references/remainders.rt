@@ -1,7 +1,7 @@
 //! The number that a word of N bits names, by a remainder for each word. `pick_word` is compared
 //! with it.
 ghost use Rattle.std.specs.Prelude.{◌^◌, ◌<◌, ◌≤◌};
-ghost use Rattle.nanorand.specs.values.Runs.{IsWordWidth};
+ghost use Rattle.nanorand_core.specs.values.Runs.{IsWordWidth};
 
 use nanorand::values::pick_word;
 

@@ -5,7 +5,7 @@ use Rattle.std.proofs.lemmas.Bool.{cases_lt, ne_eqb, eqb-false}
 use Rattle.std.proofs.lemmas.Bool.Decides.{nat_tests}
 use Rattle.std.proofs.lemmas.List.FromFn.{get_or-range_with_len, length-range_with_len}
 use Rattle.std.proofs.lemmas.Map.Keys.{IsDistinct-from_apart, IsDistinct-IsPermutation, apart_from_distinct}
-use Rattle.nanorand.specs.shuffles.Arrangements.{rising}
+use Rattle.nanorand_core.specs.shuffles.Arrangements.{rising}
 use Rattle.nanorand_users.specs.Deals.{HoldsNoneTwice}
 
 flips : (a b : ℕ) → eqb a b ≡ eqb b a

@@ -3,7 +3,7 @@ use Rattle.std.proofs.Common.{◌≡◌, ℕ, suc, ◌+◌, ◌-◌, ◌*◌, �
 use Rattle.std.proofs.Math.Nat.{pow-suc}
 use Rattle.std.proofs.lemmas.List.{take_more_set}
 use Rattle.std.specs.Result.{result_unwrap_or}
-use Rattle.nanorand.specs.generators.Blocks.{Requests}
+use Rattle.nanorand_core.specs.generators.Blocks.{Requests}
 use Rattle.nanorand_users.specs.Retry.{ceiling_after, delay_drawn, delays_after, state_after_delays}
 
 -- the ceiling doubles up to the cap; a product past 64 bits is past the cap

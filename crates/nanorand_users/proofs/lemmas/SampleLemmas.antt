@@ -5,9 +5,9 @@ use Rattle.std.proofs.lemmas.Bool.{cases_lt, cases_eq, lt-ltb, le-ltb}
 use Rattle.std.proofs.lemmas.List.{get_or-set_same, get_or-set_other, length-set}
 use Rattle.std.proofs.lemmas.List.Elements.{All-set}
 use Rattle.std.proofs.lemmas.List.FromFn.{get_or-range_with_len}
-use Rattle.nanorand.specs.generators.Blocks.{Requests}
+use Rattle.nanorand_core.specs.generators.Blocks.{Requests}
 use Rattle.nanorand_users.specs.Reservoir.{Sample, place_up_to, placed, passed}
-use Rattle.nanorand.specs.declared.values.range.RangeError.{RangeError}
+use Rattle.nanorand_core.specs.declared.values.range.RangeError.{RangeError}
 
 pub first_below : (n k d : ℕ) → k < n → get_or (range_with_len 0 n) k d < n
 first_below n k d within = rw get_or-range_with_len (omega arith)

@@ -4,8 +4,8 @@ use Rattle.std.specs.List.{range_with_len, count_by, sum}
 use Rattle.std.proofs.lemmas.Bool.{cases_lt, lt-ltb, le-ltb}
 use Rattle.std.proofs.lemmas.Bool.Decides.{nat_tests}
 use Rattle.std.proofs.lemmas.List.Sums.{sum_by-cons, sum_by_more_le}
-use Rattle.nanorand.specs.values.Runs.{named, quota, words_that}
-use Rattle.nanorand.specs.values.Fairness.{EventsAreFair, passes}
+use Rattle.nanorand_core.specs.values.Runs.{named, quota, words_that}
+use Rattle.nanorand_core.specs.values.Fairness.{EventsAreFair, passes}
 use Rattle.nanorand_users.specs.Choice.{item_at, ChoicesAreFair}
 
 -- how many of the n numbers from c on are at least a and below b

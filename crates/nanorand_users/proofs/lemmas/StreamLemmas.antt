@@ -1,7 +1,7 @@
 -- Draws one after another, and the words that they give.
 use Rattle.std.proofs.Common.{◌≡◌, ℕ, zero, suc, ◌+◌, ◌<◌, List, get_or, refl, ◌∙◌, ap, arith}
 use Rattle.std.specs.Fn.{iterate}
-use Rattle.nanorand.specs.values.Values.{values_from}
+use Rattle.nanorand_core.specs.values.Values.{values_from}
 use Rattle.nanorand_users.specs.Streams.{after_draws}
 
 -- the value at index i is that of the state after i others

@@ -1,7 +1,7 @@
 //! A generator of zeros. Word 0 is rejected unless the size of a range divides the number of words.
 ghost use Rattle.std.specs.Prelude.{◌≡◌, ◌+◌, ◌%◌, ◌^◌, ⊤, refl, replicate};
 ghost use Rattle.std.proofs.Common.{rules};
-ghost use Rattle.nanorand.specs.generators.Blocks.{plain};
+ghost use Rattle.nanorand_core.specs.generators.Blocks.{plain};
 
 use nanorand::rand::fill_by_blocks;
 use nanorand::{Blocks, Rng};

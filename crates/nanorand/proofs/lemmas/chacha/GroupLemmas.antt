@@ -5,8 +5,8 @@ use Rattle.std.proofs.lemmas.Grind.{common_steps}
 use Rattle.std.proofs.lemmas.Slice.{take-put_mid}
 use Rattle.std.specs.Fn.{iterate}
 use borrow.Rule.Slice.PartMut.{put_mid, post_of}
-use Rattle.nanorand.specs.generators.Blocks.{taken, plain_after}
-use Rattle.nanorand.specs.support.BlockLemmas.{taken_nothing, taken_more, plain_after_more, length-taken}
+use Rattle.nanorand_core.specs.generators.Blocks.{taken, plain_after}
+use Rattle.nanorand_core.specs.support.BlockLemmas.{taken_nothing, taken_more, plain_after_more, length-taken}
 
 -- writing the next piece after the n elements that are done
 write_next : (n k : ℕ) (done left piece : List ℕ) → length done ≡ n → put_mid n k (done ++ left) piece ≡ (done ++ piece) ++ drop k left

@@ -4,8 +4,8 @@ use Rattle.std.proofs.Math.Nat.{mod-add-mod, mod-eq-zero_of_dvd}
 use Rattle.std.proofs.lemmas.Nat.{from_le_bytes-to_le_bytes_8}
 use Rattle.std.specs.Fn.{iterate}
 use Rattle.std.specs.Int.{◌∣◌, w64, to_le_bytes, from_le_bytes}
-use Rattle.nanorand.specs.generators.Cycles.{IsPeriod, PeriodsAreMultiplesOf, AgreeModulo}
-use Rattle.nanorand.specs.support.IterateLemmas.{iterate-add}
+use Rattle.nanorand_core.specs.generators.Cycles.{IsPeriod, PeriodsAreMultiplesOf, AgreeModulo}
+use Rattle.nanorand_core.specs.support.IterateLemmas.{iterate-add}
 use Rattle.nanorand.specs.generators.Halves.{folded}
 use Rattle.nanorand.specs.generators.Pcg64.{factor, term, next_seed, Generator, next, pcg64_block, seed_after, pcg64_after}
 use Rattle.nanorand.specs.support.Pcg64DrawLemmas.{seed_after-suc, pcg64_words}

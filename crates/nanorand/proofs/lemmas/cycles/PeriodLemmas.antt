@@ -4,8 +4,8 @@ use Rattle.std.proofs.Math.Nat.{suc-mul, zero-mul, dvd_of_mod-eq-zero}
 use Rattle.std.proofs.lemmas.Bool.{cases_eq}
 use Rattle.std.specs.Int.{◌∣◌}
 use Rattle.std.specs.Fn.{iterate}
-use Rattle.nanorand.specs.generators.Cycles.{IsPeriod, PeriodsAreMultiplesOf}
-use Rattle.nanorand.specs.support.IterateLemmas.{iterate-add}
+use Rattle.nanorand_core.specs.generators.Cycles.{IsPeriod, PeriodsAreMultiplesOf}
+use Rattle.nanorand_core.specs.support.IterateLemmas.{iterate-add}
 use Rattle.nanorand.proofs.lemmas.cycles.ModulusLemmas.{half_multiple}
 
 module _ {G B : Type 0} (step : G → G) (block : G → B) (g : G) where

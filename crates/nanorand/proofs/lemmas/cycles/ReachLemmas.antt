@@ -1,7 +1,7 @@
 -- Which seeds of Pcg64 lead to which.
 use Rattle.std.proofs.Common.{◌≡◌, ℕ, ◌%◌, ◌^◌, ◌<◌, ◌↔◌, inl, inr, sym, ◌∙◌, arith, subst}
 use Rattle.std.proofs.Math.Nat.{mod-eq_of_lt, mod-mod}
-use Rattle.nanorand.specs.generators.Cycles.{Reaches, ReachesOnceBelow}
+use Rattle.nanorand_core.specs.generators.Cycles.{Reaches, ReachesOnceBelow}
 use Rattle.nanorand.specs.generators.Pcg64.{seed_after, SameCycle}
 use Rattle.nanorand.proofs.lemmas.cycles.CycleLemmas.{reaches}
 use Rattle.nanorand.proofs.lemmas.cycles.DoublingLemmas.{walk_mod_8}

@@ -4,7 +4,7 @@ use Rattle.std.proofs.Math.Nat.{mod-add-mod, add-mod-mod, add-mul-mod_self_right
 use Rattle.std.proofs.lemmas.Nat.{mul-mod_first}
 use Rattle.std.specs.Int.{◌∣◌}
 use Rattle.std.specs.Fn.{iterate}
-use Rattle.nanorand.specs.generators.Cycles.{IsPeriod, PeriodsAreMultiplesOf, AgreeModulo}
+use Rattle.nanorand_core.specs.generators.Cycles.{IsPeriod, PeriodsAreMultiplesOf, AgreeModulo}
 use Rattle.nanorand.specs.generators.WyRand.{increment, next_seed, seed_after, wyrand_block}
 use Rattle.nanorand.specs.support.WyRandDrawLemmas.{wyrand_steps, wyrand_closed}
 use Rattle.nanorand.proofs.lemmas.cycles.PeriodLemmas.{periods_are_multiples}

@@ -4,7 +4,7 @@ use Rattle.std.proofs.Math.Seq.{drop-cons}
 use Rattle.std.proofs.lemmas.List.{drop_all}
 use Rattle.std.specs.List.{slice_index}
 use Rattle.std.specs.Int.{w128, from_le_bytes}
-use Rattle.nanorand.specs.values.Values.{number_of}
+use Rattle.nanorand_core.specs.values.Values.{number_of}
 
 -- the number of the bytes from index i on: the byte at i, and the number of those after it
 number_from : (bs : List ℕ) (i : ℕ) → i < length bs → number_of (drop i bs) ≡ slice_index bs i + 256 * number_of (drop (suc i) bs)

@@ -1,7 +1,7 @@
 use Rattle.std.proofs.Common.{◌≡◌, ◌<◌, ◌∙◌, length, sym, zero-add, arith}
 use Rattle.std.proofs.lemmas.Grind.{same_number_lists}
 use Rattle.std.proofs.lemmas.List.FromFn.{get_or-range_with_len, length-range_with_len}
-use Rattle.nanorand.specs.shuffles.Arrangements.{rising}
+use Rattle.nanorand_core.specs.shuffles.Arrangements.{rising}
 use Rattle.nanorand_users.proofs.deals.write_deck.Goals as goal
 
 pub returns : goal.returns

@@ -1,6 +1,6 @@
 use Rattle.std.proofs.Common.{◌≡◌, ◌≢◌, ℕ, ◌<◌, ◌≤◌, ◌*◌, ◌-◌, length}
 use Rattle.std.specs.List.{All, AllPairs, range_with_len}
-use Rattle.nanorand.specs.values.Draws.{after_words}
+use Rattle.nanorand_core.specs.values.Draws.{after_words}
 use Rattle.nanorand_users.specs.Reservoir.{passed}
 use Rattle.nanorand_users.proofs.reservoir.sample_places.Given as goal
 

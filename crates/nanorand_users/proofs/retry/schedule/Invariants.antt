@@ -1,5 +1,5 @@
 use Rattle.std.proofs.Common.{◌≡◌, ℕ, ◌*◌, ◌/◌, ◌-◌, ◌<◌, ◌≤◌, ◌++◌, length, take, slice_index}
-use Rattle.nanorand.specs.values.Draws.{after_words}
+use Rattle.nanorand_core.specs.values.Draws.{after_words}
 use Rattle.nanorand_users.specs.Retry.{ceiling_after, delays_after, state_after_delays}
 use Rattle.nanorand_users.proofs.retry.schedule.Given as goal
 

@@ -1,5 +1,5 @@
 use Rattle.std.proofs.Common.{◌*◌, length, ap, ◌∙◌}
-use Rattle.nanorand.specs.values.Values.{number_of}
+use Rattle.nanorand_core.specs.values.Values.{number_of}
 use Rattle.nanorand_users.proofs.lemmas.StreamLemmas.{word-behind}
 use Rattle.nanorand_users.proofs.streams.part.Goals as goal
 

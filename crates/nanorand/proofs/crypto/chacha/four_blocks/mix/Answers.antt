@@ -1,6 +1,6 @@
 use Rattle.std.proofs.Common.{◌≡◌, ◌/◌, arith, ap, ◌∙◌}
 use Rattle.nanorand.specs.generators.ChaChaRounds.{quarter_round, on_diagonals, rounds}
-use Rattle.nanorand.specs.support.IterateLemmas.{iterate-more}
+use Rattle.nanorand_core.specs.support.IterateLemmas.{iterate-more}
 use Rattle.nanorand.proofs.crypto.chacha.four_blocks.mix.Goals as goal
 
 pub pairs-preserved : goal.pairs-preserved

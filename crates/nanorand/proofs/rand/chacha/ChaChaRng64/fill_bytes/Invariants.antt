@@ -1,5 +1,5 @@
 use Rattle.std.proofs.Common.{length, ◌-◌, ◌≡◌, ◌≤◌, ◌++◌, take}
-use Rattle.nanorand.specs.generators.Blocks.{taken, plain_after}
+use Rattle.nanorand_core.specs.generators.Blocks.{taken, plain_after}
 use Rattle.nanorand.specs.generators.ChaCha.{chacha_block, next_state}
 use Rattle.nanorand.proofs.rand.chacha.ChaChaRng64.fill_bytes.Given as goal
 

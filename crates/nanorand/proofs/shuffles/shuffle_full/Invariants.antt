@@ -1,7 +1,0 @@
-use Rattle.nanorand.specs.shuffles.Shuffles.{from_all}
-use Rattle.nanorand.proofs.lemmas.shuffles.ShuffleLemmas.{Shuffling}
-use Rattle.nanorand.proofs.shuffles.shuffle_full.Given as goal
-
-abbrev pub invariant-loop-place : goal.invariant-loop-place
-invariant-loop-place g l =
-    Shuffling g.G.Rng.requests from_all l.fn.target l.fn.rng l.place l.rng l.target

@@ -1,0 +1,14 @@
+pub mod SmallGenerators
+pub mod BlocksAndValues
+pub mod RangeNumbers
+pub mod DecidingWords
+pub mod RangeBounds
+pub mod RunsOfWords
+pub mod WholeTypes
+pub mod BufferedRequests
+pub mod ShuffledItems
+pub mod ShufflePartners
+pub mod Replays
+pub mod ReplayRefusals
+pub mod AskedBytes
+pub mod ChoicesOfThree

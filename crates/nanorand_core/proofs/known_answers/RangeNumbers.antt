@@ -1,0 +1,105 @@
+-- Known answers: ranges and draws from them, computed from the definitions alone.
+use Rattle.std.specs.Prelude.{◌≡◌, ◌+◌, [], ◌∷◌, true, Some, None, Ok, Err, replicate, pos, negsuc, ◌++◌, map, refl}
+use Rattle.std.specs.declared.ops.Bound.TheVariants.{Included, Excluded, Unbounded}
+use Rattle.nanorand_core.specs.generators.Blocks.{taken, plain_after, plain}
+use Rattle.nanorand_core.specs.values.Runs.{named}
+use Rattle.nanorand_core.specs.values.Range.{unsigned_range, signed_range, range_within}
+use Rattle.nanorand_core.specs.values.Draws.{unsigned_outcome, signed_outcome, deciding_place, value_drawn, left_by, left_after, words_from}
+use Rattle.nanorand_core.specs.declared.values.range.RangeError.TheVariants.{Empty, Exhausted}
+use Rattle.nanorand_core.specs.replay.Replay.{replayed}
+use Rattle.nanorand_core.specs.declared.replay.Kind.TheVariants as kinds
+use Rattle.nanorand_core.specs.declared.replay.Span.TheVariants as spans
+use Rattle.nanorand_core.specs.declared.replay.Call.TheVariants.{Gen, Range}
+use Rattle.nanorand_core.specs.declared.replay.Answer.TheVariants as answers
+use Rattle.nanorand_core.proofs.known_answers.SmallGenerators.{steps}
+
+-- the numbers that words of 8 bits name, for the sizes 3, 171 and 256
+thirds_of_a_byte : map (named 8 3) (0 ∷ 1 ∷ 85 ∷ 86 ∷ 170 ∷ 171 ∷ 255 ∷ []) ≡ None ∷ Some 0 ∷ Some 0 ∷ Some 1 ∷ Some 1 ∷ Some 2 ∷ Some 2 ∷ []
+unfolding named
+thirds_of_a_byte = refl
+
+two_thirds_of_a_byte : map (named 8 171) (0 ∷ 1 ∷ 2 ∷ 3 ∷ 4 ∷ 255 ∷ []) ≡ None ∷ Some 0 ∷ Some 1 ∷ None ∷ Some 2 ∷ Some 170 ∷ []
+unfolding named
+two_thirds_of_a_byte = refl
+
+every_byte : map (named 8 256) (0 ∷ 255 ∷ []) ≡ Some 0 ∷ Some 255 ∷ []
+unfolding named
+every_byte = refl
+
+-- ranges of u8
+closed_range : unsigned_range 8 (Included 10) (Included 12) ≡ 10 ∷ 11 ∷ 12 ∷ []
+unfolding range_within
+closed_range = refl
+
+reversed_range : unsigned_range 8 (Included 10) (Included 5) ≡ []
+unfolding range_within
+reversed_range = refl
+
+range_past_the_greatest : unsigned_range 8 (Excluded 255) Unbounded ≡ []
+unfolding range_within
+range_past_the_greatest = refl
+
+range_of_the_greatest : unsigned_range 8 (Excluded 254) Unbounded ≡ 255 ∷ []
+unfolding range_within
+range_of_the_greatest = refl
+
+-- ranges of i8
+range_about_zero : signed_range 8 (Excluded (negsuc 1)) (Excluded (pos 2)) ≡ negsuc 0 ∷ pos 0 ∷ pos 1 ∷ []
+unfolding range_within
+range_about_zero = refl
+
+range_of_one : signed_range 8 (Excluded (pos 5)) (Included (pos 6)) ≡ pos 6 ∷ []
+unfolding range_within
+range_of_one = refl
+
+range_below_the_least : signed_range 8 Unbounded (Excluded (negsuc 127)) ≡ []
+unfolding range_within
+range_below_the_least = refl
+
+range_past_the_greatest_signed : signed_range 8 (Excluded (pos 127)) Unbounded ≡ []
+unfolding range_within
+range_past_the_greatest_signed = refl
+
+-- of 127 zeros and a one, the last word decides; of 128 zeros, none
+last_word_decides : deciding_place 8 3 (replicate 127 0 ++ 1 ∷ []) ≡ Some 127
+unfolding named
+last_word_decides = refl
+
+no_word_decides : deciding_place 8 3 (replicate 128 0) ≡ None
+unfolding named
+no_word_decides = refl
+
+-- u8 10..=12 from the bytes 0, 1, 2, .. in blocks of eight: word 0 is rejected, and word 8 names
+-- rank 0
+second_word_decides : unsigned_outcome steps 8 0 (Included 10) (Included 12) ≡ (Ok 10, 2)
+unfolding named range_within words_from value_drawn left_by left_after taken
+second_word_decides = refl
+
+-- the same from zeros: 128 words are rejected
+zeros_exhaust : unsigned_outcome (plain (λ n. replicate 8 0) (λ n. n + 1) 8) 8 0 (Included 10) (Included 12) ≡ (Err Exhausted, 128)
+unfolding named range_within words_from value_drawn left_by left_after taken
+zeros_exhaust = refl
+
+nothing_drawn : unsigned_outcome steps 8 0 (Included 5) (Excluded 5) ≡ (Err Empty, 0)
+unfolding named range_within words_from value_drawn left_by left_after taken
+nothing_drawn = refl
+
+-- i8 -1..=1 by the word 1, from a generator whose bytes are all 1
+least_by_one : signed_outcome (plain (λ n. replicate 8 1) (λ n. n + 1) 8) 8 0 (Included (negsuc 0)) (Included (pos 1)) ≡ (Ok (negsuc 0), 1)
+unfolding named range_within words_from value_drawn left_by left_after taken
+least_by_one = refl
+
+-- i8 -1..=1 by the word 8, and the whole of i8 by the word 0
+signed_by_the_word : signed_outcome steps 8 1 (Included (negsuc 0)) (Included (pos 1)) ≡ (Ok (negsuc 0), 2)
+unfolding named range_within words_from value_drawn left_by left_after taken
+signed_by_the_word = refl
+
+least_of_all : signed_outcome steps 8 0 Unbounded Unbounded ≡ (Ok (negsuc 127), 1)
+unfolding named range_within words_from value_drawn left_by left_after taken
+least_of_all = refl
+
+-- a refused call does not end a replay
+refused_call_goes_on : (replayed steps 0 [] (Gen kinds.U8 ∷ Range (spans.U8 (Included 5) (Excluded 5)) ∷ Range (spans.U8 (Included 10) (Included 12)) ∷ Gen kinds.Bool ∷ [])).answers
+    ≡ answers.Unsigned 0 ∷ answers.Empty ∷ answers.Unsigned 10 ∷ answers.Truth true ∷ []
+unfolding named range_within words_from value_drawn left_by left_after taken
+refused_call_goes_on = refl

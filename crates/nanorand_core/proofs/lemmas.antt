@@ -1,0 +1,3 @@
+pub mod ranges
+pub mod shuffles
+pub mod replay

@@ -1,0 +1,48 @@
+use Rattle.std.proofs.Common.{◌+◌, ap, ◌∙◌, Ok, arith, ℕ, sym}
+use Rattle.std.proofs.lemmas.Bool.{le-leb, lt-ltb, leb-true, ltb-true}
+use Rattle.nanorand_core.proofs.lemmas.ranges.RangeLemmas.{range-empty, range-places, value-empty, left-empty, value-number, value-exhausted, left-drawn}
+use Rattle.nanorand_core.proofs.values.range.draw_number.Goals as goal
+
+pub returns-then-end-first-clause-value : goal.returns-then-end-first-clause-value
+returns-then-end-first-clause-value g c =
+    value-empty _ _ _ _ _
+    (range-empty g.T.Number.le g.T.Number.lt g.T.Number.BITS g.T.Number.number c.args.low c.args.high _ _
+    c.first_place-first.ensures.admits c.end_place-end.ensures.admits c.end_place-end.ensures.within c.if-end-first.true)
+
+pub returns-then-end-first-clause-state : goal.returns-then-end-first-clause-state
+returns-then-end-first-clause-state g c =
+    left-empty _ _ _ _ _
+    (range-empty g.T.Number.le g.T.Number.lt g.T.Number.BITS g.T.Number.number c.args.low c.args.high _ _
+    c.first_place-first.ensures.admits c.end_place-end.ensures.admits c.end_place-end.ensures.within c.if-end-first.true)
+
+pub returns-then-end-first-clause-some : goal.returns-then-end-first-clause-some
+returns-then-end-first-clause-some g c k fits low high =
+    let first = leb-true c.first_place-first.result k (sym (c.first_place-first.ensures.admits k) ∙ low) in
+    let end = ltb-true k c.end_place-end.result (sym (c.end_place-end.ensures.admits k fits) ∙ high) in
+    absurd (omega (arith, first, end))
+
+pub returns-in-Some-clause-value : goal.returns-in-Some-clause-value
+returns-in-Some-clause-value g c =
+    let is = range-places g.T.Number.le g.T.Number.lt g.T.Number.BITS g.T.Number.number c.args.low c.args.high _ _
+    c.first_place-first.ensures.admits c.end_place-end.ensures.admits c.end_place-end.ensures.within c.if-end-first.false in
+    let place = c.at_place.ensures ∙ ap (λ (k : ℕ). g.T.Number.number (c.first_place-first.result + k)) c.from.ensures in
+    ap Ok place
+    ∙ value-number _ _ _ _ _ _ (omega arith) _ is _ c.in-Some.k c.in-Some.ensures.below (rw c.BITS.ensures at c.in-Some.ensures.number)
+
+pub returns-in-Some-clause-state : goal.returns-in-Some-clause-state
+returns-in-Some-clause-state g c =
+    let is = range-places g.T.Number.le g.T.Number.lt g.T.Number.BITS g.T.Number.number c.args.low c.args.high _ _
+    c.first_place-first.ensures.admits c.end_place-end.ensures.admits c.end_place-end.ensures.within c.if-end-first.false in
+    left-drawn _ _ _ _ _ _ (omega arith) _ is _ _ (rw c.BITS.ensures at c.draw_below.ensures.state)
+
+pub returns-in-None-clause-value : goal.returns-in-None-clause-value
+returns-in-None-clause-value g c =
+    let is = range-places g.T.Number.le g.T.Number.lt g.T.Number.BITS g.T.Number.number c.args.low c.args.high _ _
+    c.first_place-first.ensures.admits c.end_place-end.ensures.admits c.end_place-end.ensures.within c.if-end-first.false in
+    value-exhausted _ _ _ _ _ _ (omega arith) _ is _ (rw c.BITS.ensures at c.in-None.ensures.number)
+
+pub returns-in-None-clause-state : goal.returns-in-None-clause-state
+returns-in-None-clause-state g c =
+    let is = range-places g.T.Number.le g.T.Number.lt g.T.Number.BITS g.T.Number.number c.args.low c.args.high _ _
+    c.first_place-first.ensures.admits c.end_place-end.ensures.admits c.end_place-end.ensures.within c.if-end-first.false in
+    left-drawn _ _ _ _ _ _ (omega arith) _ is _ _ (rw c.BITS.ensures at c.draw_below.ensures.state)

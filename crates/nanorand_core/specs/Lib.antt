@@ -1,0 +1,7 @@
+-- What a reader of the contracts must believe, by topic, except `support`, which nobody has to
+-- believe.
+pub mod generators
+pub mod support
+pub mod values
+pub mod shuffles
+pub mod replay

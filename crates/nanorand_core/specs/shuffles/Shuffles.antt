@@ -1,0 +1,82 @@
+-- Shuffles by swaps in place, after Fisher and Yates (in Durstenfeld's form): first the choices,
+-- one for each index, and then the permutation that they make.
+use Rattle.std.specs.Prelude.{ℕ, zero, suc, ◌+◌, ◌==◌, List, [], ◌∷◌, length, min, fold, swap, Result, Ok, Err, if◌then◌else◌}
+use Rattle.std.specs.List.{enumerate_from}
+use Rattle.std.specs.declared.ops.Bound.TheVariants.{Included, Excluded}
+use Rattle.nanorand_core.specs.generators.Blocks.{Requests}
+use Rattle.nanorand_core.specs.values.Draws.{unsigned_outcome}
+use Rattle.nanorand_core.specs.declared.values.range.RangeError.{RangeError}
+use Rattle.nanorand_core.specs.declared.values.range.RangeError.TheVariants.{Exhausted}
+
+-- The items after choices for the indices from i on: for each in turn, the items there and at its
+-- choice are swapped.
+abbrev pub arranged_from : {T : Type 0} → ℕ → List ℕ → List T → List T
+arranged_from i choices items =
+    fold (λ xs move. swap xs move.0 move.1) items (enumerate_from i choices)
+
+-- The items after choices for the indices from 0 on.
+abbrev pub arranged : {T : Type 0} → List ℕ → List T → List T
+arranged choices items = arranged_from 0 choices items
+
+-- The lowest partner of index i if every index is allowed: 0.
+abbrev pub from_all : ℕ → ℕ
+from_all i = 0
+
+-- The lowest partner of index i if only i and later ones are allowed: i itself. An index once
+-- passed then keeps its item.
+abbrev pub from_itself : ℕ → ℕ
+from_itself i = i
+
+-- A choice and the choices that follow it. A refused draw ends the list.
+abbrev pub choice_before : Result ℕ RangeError → List ℕ → List ℕ
+choice_before (Ok choice) choices = choice ∷ choices
+choice_before (Err refusal) choices = []
+
+-- A shuffle of n items. The partner of index i is drawn from the indices `first i` to n - 1.
+module _ {G : Type 0} (requests : Requests G) (first : ℕ → ℕ) (n : ℕ) where
+  -- The partner drawn for index i, or the refusal, and the state after the draw.
+  unfoldable pub partner_drawn : ℕ → G → Result ℕ RangeError × G
+  partner_drawn i g = unsigned_outcome requests 64 g (Included (first i)) (Excluded n)
+
+  -- The choices for `left` indices from i on, up to the first refused draw.
+  unfoldable pub choices_from : ℕ → ℕ → G → List ℕ
+  choices_from i zero g = []
+  choices_from i (suc left) g =
+      choice_before (partner_drawn i g).0 (choices_from (i + 1) left (partner_drawn i g).1)
+
+  -- The state after a draw for each of `count` indices from i on.
+  unfoldable pub state_after_places : ℕ → ℕ → G → G
+  state_after_places i zero g = g
+  state_after_places i (suc count) g = state_after_places (i + 1) count (partner_drawn i g).1
+
+  -- The choices of the shuffle: all n of them, or those before the refused draw.
+  abbrev pub shuffle_choices : G → List ℕ
+  shuffle_choices g = choices_from 0 n g
+
+  -- The result of the shuffle: `Ok` if there are n choices, otherwise `Exhausted`. It is never
+  -- `Empty`: the range of a partner holds at least i.
+  abbrev pub shuffle_answer : G → Result (Unit {0}) RangeError
+  shuffle_answer g = if length (shuffle_choices g) == n then Ok tt else Err Exhausted
+
+  -- The state after all draws, the refused one included.
+  abbrev pub shuffle_state : G → G
+  shuffle_state g = state_after_places 0 (min n (length (shuffle_choices g) + 1)) g
+
+-- The result of a shuffle, the choices that it makes, and the items and the state that it leaves.
+pub record Shuffle (G T : Type 0) : Type 0 where
+  pub answer : Result (Unit {0}) RangeError
+  pub choices : List ℕ
+  pub items : List T
+  pub state : G
+
+-- A shuffle of the items from state g, in which the partner of index i has index `first i` or more.
+abbrev pub shuffled : {G T : Type 0} → Requests G → (ℕ → ℕ) → G → List T → Shuffle G T
+shuffled requests first g items =
+    let count = length items in
+    let choices = shuffle_choices requests first count g in
+    record {
+      answer = shuffle_answer requests first count g;
+      choices = choices;
+      items = arranged choices items;
+      state = shuffle_state requests first count g;
+    }

@@ -1,0 +1,154 @@
+//! The traits that every generator implements, and the `fill_bytes` that plain generators share.
+ghost use Rattle.std.specs.Prelude.{◌≡◌, ℕ, ◌^◌, ◌<◌, List, length, OnOk, IsPermutation};
+ghost use Rattle.std.specs.Fn.{iterate};
+ghost use Rattle.nanorand_core.specs.shuffles.Arrangements.{IsValid};
+ghost use Rattle.nanorand_core.specs.generators.Blocks.{Requests, taken, plain_after};
+ghost use Rattle.nanorand_core.specs.shuffles.Shuffles.{from_itself, shuffled};
+ghost use Rattle.nanorand_core.specs.values.Values.{values_from};
+
+use crate::values::{RandomGen, RandomRange, RangeError};
+use std::ops::Bound;
+
+/// A source of blocks of `OUTPUT` bytes.
+///
+/// `OUTPUT` is at least 1 and below 2^63: each implementation proves it.
+pub trait Blocks<const OUTPUT: usize> {
+    // The next block of a state.
+    ghost block: { Self → List ℕ };
+
+    // The state after that block.
+    ghost step: { Self → Self };
+
+    /// Draws the next block.
+    fn rand(&mut self) -> [u8; OUTPUT]
+        ensures bytes { result ≡ block self.old }
+        ensures state { self.new ≡ step self.old };
+
+    ghost positive: { 0 < OUTPUT };
+
+    // True of every array that fits in memory.
+    ghost in_memory: { OUTPUT < 2 ^ 63 };
+
+    ghost block_length: { (g : Self) → length (block g) ≡ OUTPUT };
+}
+
+/// A generator of random values.
+///
+/// To implement it, implement `Clone` and `Blocks`, write `fill_bytes`, define `requests` (the
+/// bytes that a request of n bytes takes, and the state that it leaves), and prove the three laws
+/// at the end of the trait. The other functions follow from these.
+pub trait Rng<const OUTPUT: usize>: Clone + Blocks<OUTPUT> {
+    // The bytes that a request of n bytes takes, and the state that it leaves, for every n.
+    ghost requests: { Requests Self };
+
+    /// Fills the slice with the next bytes, by one request. An empty slice draws nothing.
+    fn fill_bytes(&mut self, buffer: &mut [u8])
+        ensures bytes { buffer.new ≡ requests.bytes self.old (length buffer.old) }
+        ensures state { self.new ≡ requests.after self.old (length buffer.old) };
+
+    /// Draws a value, as `RandomGen` defines it for the type.
+    #[inline]
+    fn generate<T: RandomGen<Self, OUTPUT>>(&mut self) -> T
+        ensures value { result ≡ T.value self.old }
+        ensures state { self.new ≡ T.state_after self.old }
+    {
+        T::random(self)
+    }
+
+    /// Fills the slice with values, drawn one after another in the order of the items.
+    fn fill<T: RandomGen<Self, OUTPUT> + Drop>(&mut self, target: &mut [T])
+        ensures values { let count = length target.old in
+            target.new ≡ values_from T.value T.state_after count self.old }
+        ensures state { self.new ≡ iterate T.state_after (length target.old) self.old }
+    {
+        for item in target.iter_mut() {
+            *item = self.generate();
+        }
+    }
+
+    /// Draws a value between the bounds `low` and `high`.
+    ///
+    /// The integer types map words to numbers after Daniel Lemire ("Fast Random Integer Generation in
+    /// an Interval", 2019).
+    ///
+    /// For the integer types it returns `Empty` if the range has no number, and draws nothing then.
+    /// It returns `Exhausted` if 128 words in a row were rejected; these stay drawn. A user's type
+    /// defines when it returns each of the two.
+    #[inline]
+    fn generate_range<T: RandomRange<Self, OUTPUT>>(
+        &mut self,
+        low: Bound<T>,
+        high: Bound<T>,
+    ) -> Result<T, RangeError>
+        ensures value { result ≡ (T.outcome self.old low high).0 }
+        ensures state { self.new ≡ (T.outcome self.old low high).1 }
+    {
+        T::random_range(self, low, high)
+    }
+
+    /// Shuffles the slice: for each index, from 0 up, swaps the item there with the one at an index
+    /// drawn from that index and those after it.
+    ///
+    /// It is the shuffle of Fisher and Yates (1938) in Durstenfeld's form ("Algorithm 235: Random
+    /// permutation", 1964), from the first index up. It leaves a permutation of the items. Each
+    /// permutation of the indices 0, 1, .. is made by exactly one list of drawn indices.
+    ///
+    /// It returns `Exhausted` if 128 words in a row were rejected for one index. The swaps before
+    /// that stay, and so do all draws. An empty slice draws nothing.
+    final fn shuffle<T>(&mut self, target: &mut [T]) -> Result<(), RangeError>
+        ensures answer { result ≡ (shuffled requests from_itself self.old target.old).answer }
+        ensures items { target.new ≡ (shuffled requests from_itself self.old target.old).items }
+        ensures state { self.new ≡ (shuffled requests from_itself self.old target.old).state }
+        ensures arrangement { IsPermutation target.old target.new }
+        ensures whole { let shuffle = shuffled requests from_itself self.old target.old in
+            OnOk result (length shuffle.choices ≡ length target.old) }
+        ensures valid { let shuffle = shuffled requests from_itself self.old target.old in
+            OnOk result (IsValid shuffle.choices) }
+    {
+        let count = target.len();
+        for place in 0..count {
+            let partner = self.generate_range(Bound::Included(place), Bound::Excluded(count))?;
+            target.swap(place, partner);
+        }
+        Ok(())
+    }
+
+    // A request of n bytes takes the first n bytes of the blocks.
+    ghost delivers: { (g : Self) (n : ℕ) → requests.bytes g n ≡ taken Self.block Self.step g n };
+
+    ghost after_nothing: { (g : Self) → requests.after g 0 ≡ g };
+
+    ghost after_block: { (g : Self) → requests.after g OUTPUT ≡ Self.step g };
+}
+
+/// A generator that can be reseeded.
+pub trait SeedableRng<const SEED_SIZE: usize, const OUTPUT: usize>: Rng<OUTPUT> {
+    // The state after a reseed, by the state before it and the bytes of the seed.
+    ghost seeded: { Self → List ℕ → Self };
+
+    /// Seeds the generator anew from the bytes of `seed`.
+    fn reseed(&mut self, seed: [u8; SEED_SIZE])
+        ensures { self.new ≡ seeded self.old seed.entry };
+}
+
+/// Fills the slice block by block through `rand`, and drops the unused bytes of the last block.
+///
+/// It is the `fill_bytes` of a plain generator, which starts each request on a new block. `WyRand`
+/// and `Pcg64` use it, `ChaCha` uses it for the bytes after the last whole group of four blocks,
+/// and a user's generator may.
+pub fn fill_by_blocks<G: Blocks<OUTPUT>, const OUTPUT: usize>(rng: &mut G, buffer: &mut [u8])
+    ensures bytes { buffer.new ≡ taken G.block G.step rng.old (length buffer.old) }
+    ensures state { rng.new ≡ plain_after G.step OUTPUT rng.old (length buffer.old) }
+{
+    let mut filled = 0;
+    while OUTPUT <= buffer.len() - filled {
+        let block = rng.rand();
+        buffer[filled..filled + OUTPUT].copy_from_slice(&block);
+        filled += OUTPUT;
+    }
+    let left = buffer.len() - filled;
+    if left > 0 {
+        let block = rng.rand();
+        buffer[filled..].copy_from_slice(&block[..left]);
+    }
+}

@@ -1,0 +1,147 @@
+//! Shuffles as lists of choices, and the shuffle that draws from all indices.
+ghost use Rattle.std.specs.Prelude.{◌≡◌, ◌≢◌, ℕ, ◌<◌, ◌≤◌, length, slice_index, MatchOption, OnOk, OnErr, List, IsPermutation};
+ghost use Rattle.nanorand_core.specs.shuffles.Arrangements.{completed, rising, IsValid, IsArrangement};
+ghost use Rattle.nanorand_core.specs.shuffles.Shuffles.{arranged, from_all, from_itself, shuffled};
+
+use crate::rand::Rng;
+use crate::values::RangeError;
+use std::ops::Bound;
+use thiserror::Error;
+
+/// The list is not a permutation of the numbers below its length.
+#[derive(Clone, Copy, Debug, PartialEq, Eq, Error)]
+#[error("the list is no arrangement")]
+pub struct NotArrangement;
+
+/// Applies stored choices: for each index i, from 0 up, swaps the items at i and `choices[i]`.
+///
+/// Preconditions: there is one choice for each item, and the choice of index i is i or a later
+/// index. It leaves a permutation of the items. Applied to the items that a shuffle started from,
+/// the choices that `shuffle_and_record` recorded leave the items that the shuffle left.
+pub fn apply_choices<T>(choices: &[usize], items: &mut [T])
+    requires lengths { length choices.now ≡ length items.old }
+    requires valid { IsValid choices.now }
+    ensures items { items.new ≡ arranged choices.now items.old }
+    ensures arrangement { IsPermutation items.old items.new }
+{
+    for (place, choice) in choices.iter().enumerate() {
+        items.swap(place, *choice);
+    }
+}
+
+/// Writes to `out` the unique valid choices that turn the identity 0, 1, .. into `order`.
+///
+/// Precondition: `out` and `scratch` are as long as `order`. Their old contents do not matter, and
+/// nothing is allocated. It returns `NotArrangement` exactly if `order` is not a permutation of the
+/// numbers below its length; the contents of `out` are then unspecified. Those of `scratch` always
+/// are.
+pub fn choices_of(
+    order: &[usize],
+    out: &mut [usize],
+    scratch: &mut [usize],
+) -> Result<(), NotArrangement>
+    requires out { length out.old ≡ length order.now }
+    requires scratch { length scratch.old ≡ length order.now }
+    ensures valid { OnOk result (IsValid out.new) }
+    ensures makes { OnOk result (arranged out.new (rising (length order.now)) ≡ order.now) }
+    ensures alone { OnOk result ((choices : List ℕ)
+        → length choices ≡ length order.now → IsValid choices
+        → arranged choices (rising (length order.now)) ≡ order.now → choices ≡ out.new) }
+    ensures exact { OnOk result (IsArrangement order.now) }
+    ensures refused { OnErr result (¬ IsArrangement order.now) }
+{
+    write_places(scratch);
+    for (place, wanted) in order.iter().enumerate() {
+        match place_from(scratch, place, *wanted) {
+            Some(choice) => {
+                out[place] = choice;
+                scratch.swap(place, choice);
+            }
+            None => return Err(NotArrangement),
+        }
+    }
+    Ok(())
+}
+
+// Writes the identity 0, 1, .. to the slice.
+fn write_places(slots: &mut [usize])
+    ensures { slots.new ≡ rising (length slots.old) }
+{
+    for (place, slot) in slots.iter_mut().enumerate() {
+        *slot = place;
+    }
+}
+
+// An index from `from` up whose item is `wanted`.
+fn place_from(items: &[usize], from: usize, wanted: usize) -> Option<usize>
+    requires { from ≤ length items.now }
+    ensures { MatchOption result
+        ((k : ℕ) → from ≤ k → k < length items.now → slice_index items.now k ≢ wanted)
+        (λ j. (from ≤ j) × (j < length items.now) × (slice_index items.now j ≡ wanted)) }
+{
+    for place in from..items.len() {
+        if items[place] == wanted {
+            return Some(place);
+        }
+    }
+    None
+}
+
+/// Shuffles the slice as `Rng::shuffle` does, and records the choices that it draws.
+///
+/// Precondition: `choices` is as long as `target`; its old contents are overwritten. Result, items
+/// and generator are those of `Rng::shuffle`. On success `choices` holds the drawn choices. After
+/// `Exhausted` it holds the choices drawn before the failure, and for each index from there on that
+/// index itself, which moves nothing. So the choices are valid in both cases, and `apply_choices`
+/// repeats with them what was done here. Nothing is allocated.
+pub fn shuffle_and_record<G: Rng<OUTPUT>, T, const OUTPUT: usize>(
+    rng: &mut G,
+    target: &mut [T],
+    choices: &mut [usize],
+) -> Result<(), RangeError>
+    requires { length choices.old ≡ length target.old }
+    ensures answer { result ≡ (shuffled G.requests from_itself rng.old target.old).answer }
+    ensures items { target.new ≡ (shuffled G.requests from_itself rng.old target.old).items }
+    ensures state { rng.new ≡ (shuffled G.requests from_itself rng.old target.old).state }
+    ensures arrangement { IsPermutation target.old target.new }
+    ensures drawn { let shuffle = shuffled G.requests from_itself rng.old target.old in
+        OnOk result (choices.new ≡ shuffle.choices) }
+    ensures recorded { let shuffle = shuffled G.requests from_itself rng.old target.old in
+        choices.new ≡ completed (length target.old) shuffle.choices }
+    ensures valid { IsValid choices.new }
+    ensures makes { arranged choices.new target.old ≡ target.new }
+{
+    write_places(choices);
+    let count = target.len();
+    for place in 0..count {
+        let partner = rng.generate_range(Bound::Included(place), Bound::Excluded(count))?;
+        target.swap(place, partner);
+        choices[place] = partner;
+    }
+    Ok(())
+}
+
+/// Shuffles the slice as the Rust crate `nanorand` 0.7.0 does: for each index, from 0 up, swaps the
+/// item there with the one at an index drawn from the whole slice.
+///
+/// It is not the shuffle of Fisher and Yates, whose partners come from the rest of the slice alone.
+/// It leaves a permutation of the items, but several lists of choices make the same permutation. It
+/// returns `Exhausted` if 128 words in a row were rejected for one index. The swaps before that
+/// stay, and so do all draws. An empty slice draws nothing.
+pub fn shuffle_full<G: Rng<OUTPUT>, T, const OUTPUT: usize>(
+    rng: &mut G,
+    target: &mut [T],
+) -> Result<(), RangeError>
+    ensures answer { result ≡ (shuffled G.requests from_all rng.old target.old).answer }
+    ensures items { target.new ≡ (shuffled G.requests from_all rng.old target.old).items }
+    ensures state { rng.new ≡ (shuffled G.requests from_all rng.old target.old).state }
+    ensures arrangement { IsPermutation target.old target.new }
+{
+    let count = target.len();
+    for place in 0..count {
+        let partner = rng.generate_range(Bound::Included(0), Bound::Excluded(count))?;
+        // `swap` branches on which index is smaller, which is random here: order the two first.
+        target.swap(place.min(partner), place.max(partner));
+    }
+    Ok(())
+}

@@ -1,0 +1,40 @@
+//! The integer types that have ranges.
+ghost use Rattle.std.specs.Prelude.{◌≡◌, ℕ, Bool, ◌^◌, ◌<◌, nat_le, nat_lt};
+ghost use Rattle.nanorand_core.specs.values.Runs.{IsWordWidth};
+
+mod signed;
+mod unsigned;
+
+/// An integer type of `BITS` bits: 8, 16, 32 or 64.
+///
+/// Each number has a rank, from 0 for the least to 2^BITS - 1 for the greatest.
+pub trait Number: Copy + Drop {
+    /// The width of the type, in bits.
+    const BITS: u32;
+
+    ghost BITS: { ℕ };
+
+    // The number of a rank.
+    ghost number: { ℕ → Self };
+
+    ghost le: { Self → Self → Bool };
+
+    ghost lt: { Self → Self → Bool };
+
+    /// The rank of a number.
+    fn place(self) -> u64
+        ensures number { number result ≡ self }
+        ensures fits { result < 2 ^ BITS };
+
+    /// The number of a rank. Precondition: the rank is below 2^BITS.
+    fn at_place(place: u64) -> Self
+        requires { place < 2 ^ BITS }
+        ensures { result ≡ number place };
+
+    ghost width: { IsWordWidth BITS };
+
+    // The numbers are ordered as their ranks are.
+    ghost le_rises: { (j k : ℕ) → le (number j) (number k) ≡ nat_le j k };
+
+    ghost lt_rises: { (j k : ℕ) → lt (number j) (number k) ≡ nat_lt j k };
+}

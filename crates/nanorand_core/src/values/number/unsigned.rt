@@ -1,0 +1,146 @@
+//! The unsigned types: the rank of a number is the number itself.
+ghost use Rattle.std.specs.Prelude.{nat_le, nat_lt, refl};
+ghost use Rattle.nanorand_core.specs.values.Range.{unsigned_number};
+ghost use Rattle.nanorand_core.specs.support.NumberOrderLemmas.{width_8, width_16, width_32, width_64};
+
+use super::Number;
+
+impl Number for u8 {
+    const BITS: u32 = 8;
+
+    ghost BITS = { 8 };
+
+    ghost number = { unsigned_number };
+
+    ghost le = { nat_le };
+
+    ghost lt = { nat_lt };
+
+    ghost width = { width_8 };
+
+    ghost le_rises = { λ j k. refl };
+
+    ghost lt_rises = { λ j k. refl };
+
+    #[inline]
+    fn place(self) -> u64 {
+        u64::from(self)
+    }
+
+    #[inline]
+    fn at_place(place: u64) -> u8 {
+        place as u8
+    }
+}
+
+impl Number for u16 {
+    const BITS: u32 = 16;
+
+    ghost BITS = { 16 };
+
+    ghost number = { unsigned_number };
+
+    ghost le = { nat_le };
+
+    ghost lt = { nat_lt };
+
+    ghost width = { width_16 };
+
+    ghost le_rises = { λ j k. refl };
+
+    ghost lt_rises = { λ j k. refl };
+
+    #[inline]
+    fn place(self) -> u64 {
+        u64::from(self)
+    }
+
+    #[inline]
+    fn at_place(place: u64) -> u16 {
+        place as u16
+    }
+}
+
+impl Number for u32 {
+    const BITS: u32 = 32;
+
+    ghost BITS = { 32 };
+
+    ghost number = { unsigned_number };
+
+    ghost le = { nat_le };
+
+    ghost lt = { nat_lt };
+
+    ghost width = { width_32 };
+
+    ghost le_rises = { λ j k. refl };
+
+    ghost lt_rises = { λ j k. refl };
+
+    #[inline]
+    fn place(self) -> u64 {
+        u64::from(self)
+    }
+
+    #[inline]
+    fn at_place(place: u64) -> u32 {
+        place as u32
+    }
+}
+
+impl Number for u64 {
+    const BITS: u32 = 64;
+
+    ghost BITS = { 64 };
+
+    ghost number = { unsigned_number };
+
+    ghost le = { nat_le };
+
+    ghost lt = { nat_lt };
+
+    ghost width = { width_64 };
+
+    ghost le_rises = { λ j k. refl };
+
+    ghost lt_rises = { λ j k. refl };
+
+    #[inline]
+    fn place(self) -> u64 {
+        self
+    }
+
+    #[inline]
+    fn at_place(place: u64) -> u64 {
+        place
+    }
+}
+
+impl Number for usize {
+    const BITS: u32 = 64;
+
+    ghost BITS = { 64 };
+
+    ghost number = { unsigned_number };
+
+    ghost le = { nat_le };
+
+    ghost lt = { nat_lt };
+
+    ghost width = { width_64 };
+
+    ghost le_rises = { λ j k. refl };
+
+    ghost lt_rises = { λ j k. refl };
+
+    #[inline]
+    fn place(self) -> u64 {
+        self as u64
+    }
+
+    #[inline]
+    fn at_place(place: u64) -> usize {
+        place as usize
+    }
+}

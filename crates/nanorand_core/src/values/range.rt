@@ -1,0 +1,106 @@
+//! Numbers between two bounds.
+ghost use Rattle.std.specs.Prelude.{◌≡◌, ℕ, ◌^◌, ◌<◌, ◌≤◌, true, Result, Err, IfOk, IfErr, nat_le, nat_lt};
+ghost use Rattle.std.specs.declared.ops.Bound.{Bound};
+ghost use Rattle.nanorand_core.specs.values.Range.{is_above, is_below, range_within};
+ghost use Rattle.nanorand_core.specs.values.Draws.{word_limit, after_words, range_outcome};
+ghost use Rattle.nanorand_core.specs.declared.values.range.RangeError.{RangeError};
+ghost use Rattle.nanorand_core.specs.declared.values.range.RangeError.TheVariants.{Empty, Exhausted};
+
+mod signed;
+mod unsigned;
+
+use crate::rand::Rng;
+use crate::values::RandomGen;
+use crate::values::number::Number;
+use crate::values::word::draw_below;
+use std::ops::Bound;
+use thiserror::Error;
+
+/// Why a ranged draw returned no number.
+#[derive(Clone, Copy, Debug, PartialEq, Eq, Error)]
+pub enum RangeError {
+    /// The range has no number. Nothing was drawn.
+    #[error("the range contains no number")]
+    Empty,
+    /// 128 words were drawn, and none named a number of the range. They stay drawn.
+    #[error("128 words in a row were rejected")]
+    Exhausted,
+}
+
+/// A type whose values can be drawn within two bounds.
+///
+/// A range of an integer type holds the numbers that both bounds admit. Words of the type's width
+/// are drawn, each by one request, until one names a number, at most 128; each number of the range
+/// is produced by equally many words. A user's type defines what its bounds mean and when a draw
+/// fails.
+pub trait RandomRange<G: Rng<OUTPUT>, const OUTPUT: usize>: RandomGen<G, OUTPUT> {
+    // The result of a draw between two bounds, and the state after it.
+    ghost outcome: { G → Bound Self → Bound Self → Result Self RangeError × G };
+
+    /// Draws a value between the bounds.
+    fn random_range(rng: &mut G, low: Bound<Self>, high: Bound<Self>) -> Result<Self, RangeError>
+        ensures value { result ≡ (outcome rng.old low high).0 }
+        ensures state { rng.new ≡ (outcome rng.old low high).1 };
+}
+
+/// Draws a number that both bounds admit; each is produced by equally many words, after Daniel Lemire
+/// ("Fast Random Integer Generation in an Interval", 2019).
+///
+/// It draws at most 128 words of the type's width, each by one request, and the first word that
+/// names a number decides. It returns `Empty` if no number is admitted, and draws nothing then. It
+/// returns `Exhausted` if 128 words in a row were rejected; they stay drawn.
+pub fn draw_number<T: Number, G: Rng<OUTPUT>, const OUTPUT: usize>(
+    rng: &mut G,
+    low: Bound<T>,
+    high: Bound<T>,
+) -> Result<T, RangeError>
+    ensures value { let numbers = range_within T.le T.lt T.BITS T.number low high in
+        result ≡ (range_outcome G.requests T.BITS numbers rng.old).0 }
+    ensures state { let numbers = range_within T.le T.lt T.BITS T.number low high in
+        rng.new ≡ (range_outcome G.requests T.BITS numbers rng.old).1 }
+    ensures within { IfOk result (λ x. (is_above T.le T.lt low x ≡ true)
+        × (is_below T.le T.lt high x ≡ true)) }
+    ensures words { (n : ℕ) × (n ≤ word_limit)
+        × (rng.new ≡ after_words G.requests T.BITS n rng.old) }
+    ensures some { (k : ℕ) → k < 2 ^ T.BITS
+        → is_above T.le T.lt low (T.number k) ≡ true → is_below T.le T.lt high (T.number k) ≡ true
+        → IfErr result (λ refusal. refusal ≡ Exhausted) }
+    ensures empty { result ≡ Err Empty → rng.new ≡ rng.old }
+    ensures exhausted { result ≡ Err Exhausted
+        → rng.new ≡ after_words G.requests T.BITS word_limit rng.old }
+{
+    let first = first_place(low);
+    let end = end_place(high);
+    if end <= first {
+        return Err(RangeError::Empty);
+    }
+    match draw_below(rng, end - first, T::BITS) {
+        Some(k) => Ok(T::at_place((first + u128::from(k)) as u64)),
+        None => Err(RangeError::Exhausted),
+    }
+}
+
+// The least rank whose number the low bound admits, or 2^BITS if there is none.
+fn first_place<T: Number>(low: Bound<T>) -> u128
+    ensures admits { (k : ℕ) → is_above T.le T.lt low (T.number k) ≡ nat_le result k }
+    ensures within { result ≤ 2 ^ T.BITS }
+{
+    match low {
+        Bound::Included(number) => u128::from(number.place()),
+        Bound::Excluded(number) => u128::from(number.place()) + 1,
+        Bound::Unbounded => 0,
+    }
+}
+
+// The rank after the greatest whose number the high bound admits, or 0 if there is none.
+fn end_place<T: Number>(high: Bound<T>) -> u128
+    ensures admits { (k : ℕ) → k < 2 ^ T.BITS
+        → is_below T.le T.lt high (T.number k) ≡ nat_lt k result }
+    ensures within { result ≤ 2 ^ T.BITS }
+{
+    match high {
+        Bound::Included(number) => u128::from(number.place()) + 1,
+        Bound::Excluded(number) => u128::from(number.place()),
+        Bound::Unbounded => 1 << T::BITS,
+    }
+}

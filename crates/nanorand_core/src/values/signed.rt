@@ -1,0 +1,72 @@
+//! The signed types: one request of their bytes, read least byte first, in two's complement.
+ghost use Rattle.std.specs.Int.{w8, w16, w32, w64, w128};
+ghost use Rattle.nanorand_core.specs.values.Values.{signed_number_of};
+
+use super::{RandomGen, next_bytes};
+use crate::rand::Rng;
+
+impl<G: Rng<OUTPUT>, const OUTPUT: usize> RandomGen<G, OUTPUT> for i8 {
+    ghost value = { λ g. signed_number_of w8 (G.requests.bytes g 1) };
+
+    ghost state_after = { λ g. G.requests.after g 1 };
+
+    #[inline]
+    fn random(rng: &mut G) -> i8 {
+        i8::from_le_bytes(next_bytes(rng))
+    }
+}
+
+impl<G: Rng<OUTPUT>, const OUTPUT: usize> RandomGen<G, OUTPUT> for i16 {
+    ghost value = { λ g. signed_number_of w16 (G.requests.bytes g 2) };
+
+    ghost state_after = { λ g. G.requests.after g 2 };
+
+    #[inline]
+    fn random(rng: &mut G) -> i16 {
+        i16::from_le_bytes(next_bytes(rng))
+    }
+}
+
+impl<G: Rng<OUTPUT>, const OUTPUT: usize> RandomGen<G, OUTPUT> for i32 {
+    ghost value = { λ g. signed_number_of w32 (G.requests.bytes g 4) };
+
+    ghost state_after = { λ g. G.requests.after g 4 };
+
+    #[inline]
+    fn random(rng: &mut G) -> i32 {
+        i32::from_le_bytes(next_bytes(rng))
+    }
+}
+
+impl<G: Rng<OUTPUT>, const OUTPUT: usize> RandomGen<G, OUTPUT> for i64 {
+    ghost value = { λ g. signed_number_of w64 (G.requests.bytes g 8) };
+
+    ghost state_after = { λ g. G.requests.after g 8 };
+
+    #[inline]
+    fn random(rng: &mut G) -> i64 {
+        i64::from_le_bytes(next_bytes(rng))
+    }
+}
+
+impl<G: Rng<OUTPUT>, const OUTPUT: usize> RandomGen<G, OUTPUT> for i128 {
+    ghost value = { λ g. signed_number_of w128 (G.requests.bytes g 16) };
+
+    ghost state_after = { λ g. G.requests.after g 16 };
+
+    #[inline]
+    fn random(rng: &mut G) -> i128 {
+        i128::from_le_bytes(next_bytes(rng))
+    }
+}
+
+impl<G: Rng<OUTPUT>, const OUTPUT: usize> RandomGen<G, OUTPUT> for isize {
+    ghost value = { λ g. signed_number_of w64 (G.requests.bytes g 8) };
+
+    ghost state_after = { λ g. G.requests.after g 8 };
+
+    #[inline]
+    fn random(rng: &mut G) -> isize {
+        isize::from_le_bytes(next_bytes(rng))
+    }
+}

@@ -1,0 +1,114 @@
+//! Random words of 8, 16, 32 or 64 bits, and the numbers that they name.
+ghost use Rattle.std.specs.Prelude.{◌≡◌, ℕ, ◌^◌, ◌<◌, ◌≤◌, MatchOption, IfSome, IfNone};
+ghost use Rattle.nanorand_core.specs.values.Runs.{IsWordWidth, Names, named, rejected};
+ghost use Rattle.nanorand_core.specs.values.Draws.{word_limit, next_word, after_word, after_words, drawn_below};
+
+use crate::rand::Rng;
+
+// The most words that are drawn for one number.
+const MAX_WORDS: usize = 128;
+
+/// The number below `size` that a word of `bits` bits names, or `None` if the word is rejected.
+///
+/// Preconditions: `bits` is 8, 16, 32 or 64, `size` is from 1 to 2^bits, and `word` is below
+/// 2^bits. The method is that of Daniel Lemire, "Fast Random Integer Generation in an Interval"
+/// (2019): each number has a run of floor(2^bits / size) consecutive words, in the order of the
+/// numbers, and the 2^bits % size words outside all runs are rejected.
+pub fn pick_word(size: u128, bits: u32, word: u64) -> Option<u64>
+    requires width { IsWordWidth bits }
+    requires some { 1 ≤ size }
+    requires within { size ≤ 2 ^ bits }
+    requires fits { word < 2 ^ bits }
+    ensures value { result ≡ named bits size word }
+    ensures names { MatchOption result ((k : ℕ) → ¬ Names bits size word k)
+        (λ k. Names bits size word k) }
+{
+    if size > u128::from(u64::MAX) {
+        return Some(word);
+    }
+    pick_below(size as u64, bits, word)
+}
+
+// As `pick_word`, for a size that fits in 64 bits. Fewer than `size` words are rejected, so a low
+// part of at least `size` is accepted without computing how many.
+fn pick_below(size: u64, bits: u32, word: u64) -> Option<u64>
+    requires width { IsWordWidth bits }
+    requires some { 1 ≤ size }
+    requires within { size ≤ 2 ^ bits }
+    requires fits { word < 2 ^ bits }
+    ensures { result ≡ named bits size word }
+{
+    let product = u128::from(word) * u128::from(size);
+    let low = (product % (1 << bits)) as u64;
+    if low >= size || low >= rejected(size, bits) {
+        Some((product >> bits) as u64)
+    } else {
+        None
+    }
+}
+
+// How many words are rejected. If `size` is more than half of all words, this needs no division.
+// Few words need the count, so it is kept out of line, outside the loops that draw.
+#[cold]
+#[inline(never)]
+fn rejected(size: u64, bits: u32) -> u64
+    requires width { IsWordWidth bits }
+    requires some { 1 ≤ size }
+    requires within { size ≤ 2 ^ bits }
+    ensures { result ≡ rejected bits size }
+{
+    let words = 1u128 << bits;
+    let others = (words - u128::from(size)) as u64;
+    if u128::from(size) * 2 > words {
+        others
+    } else {
+        others % size
+    }
+}
+
+/// Draws a number below `size`; each is named by equally many words of `bits` bits.
+///
+/// Preconditions: `bits` is 8, 16, 32 or 64, and `size` is from 1 to 2^bits. Each word is one
+/// request, and the first word that names a number, as `pick_word` says, decides. It returns `None`
+/// if 128 words in a row were rejected; they stay drawn.
+pub fn draw_below<G: Rng<OUTPUT>, const OUTPUT: usize>(
+    rng: &mut G,
+    size: u128,
+    bits: u32,
+) -> Option<u64>
+    requires width { IsWordWidth bits }
+    requires some { 1 ≤ size }
+    requires within { size ≤ 2 ^ bits }
+    ensures below { IfSome result (λ number. number < size) }
+    ensures number { result ≡ (drawn_below G.requests bits size rng.old).number }
+    ensures state { rng.new ≡ (drawn_below G.requests bits size rng.old).state }
+    ensures words { (n : ℕ) × (n ≤ word_limit) × (rng.new ≡ after_words G.requests bits n rng.old) }
+    ensures exhausted { IfNone result (rng.new ≡ after_words G.requests bits word_limit rng.old) }
+{
+    let first = draw_word(rng, bits);
+    if let Some(number) = pick_word(size, bits, first) {
+        return Some(number);
+    }
+    'others: for _ in 1..MAX_WORDS {
+        let word = draw_word(rng, bits);
+        if let Some(number) = pick_word(size, bits, word) {
+            return Some(number);
+        }
+    }
+    None
+}
+
+// The next word of `bits` bits, by one request.
+fn draw_word<G: Rng<OUTPUT>, const OUTPUT: usize>(rng: &mut G, bits: u32) -> u64
+    requires width { IsWordWidth bits }
+    ensures value { result ≡ next_word G.requests bits rng.old }
+    ensures fits { result < 2 ^ bits }
+    ensures state { rng.new ≡ after_word G.requests bits rng.old }
+{
+    match bits {
+        8 => u64::from(rng.generate::<u8>()),
+        16 => u64::from(rng.generate::<u16>()),
+        32 => u64::from(rng.generate::<u32>()),
+        _ => rng.generate::<u64>(),
+    }
+}
