@@ -5,15 +5,30 @@ ghost use Rattle.std.specs.Fn.{iterate};
 ghost use Rattle.std.specs.Int.{w64, to_le_bytes, ◌∣◌};
 ghost use Rattle.nanorand_core.specs.generators.Cycles.{AgreeModulo, DrawsAdd, DrawsLeave, OneMoreDraw, PeriodsAreMultiplesOf, IsPeriod, Reaches, ReachesOnceBelow};
 ghost use Rattle.nanorand.specs.generators.Halves.{folded};
-ghost use Rattle.nanorand.specs.generators.ChaCha.{counter, advanced, next_state, chacha_after, chacha_block};
+ghost use Rattle.nanorand.specs.generators.ChaCha.{counter, advanced, next_state, chacha_after, chacha_block, chacha_requests};
 ghost use Rattle.nanorand.specs.generators.ChaChaRounds.{IsMatrix, RoundsAreInjective};
 ghost use Rattle.nanorand.specs.generators.Pcg64 as pcg64;
 ghost use Rattle.nanorand.specs.generators.WyRand as wyrand;
 
+use crate::rand::{Blocks, ChaCha, Pcg64, Rng, WyRand};
 pub use nanorand_core::laws::{
     choices_and_arrangements, fairness, permutations_by_counting, range_limits, replays_join,
     unbroken_delivery,
 };
+
+/// The three generators implement the traits by the definitions that the laws below speak of: their
+/// blocks, the states that draws leave, and their requests.
+pub fn generators_as_defined<const ROUNDS: u8>()
+    ensures wyrand_blocks { ⟦<WyRand as Blocks<8>>⟧.block ≡ wyrand.wyrand_block }
+    ensures wyrand_steps { ⟦<WyRand as Blocks<8>>⟧.step ≡ wyrand.next_seed }
+    ensures wyrand_requests { ⟦<WyRand as Rng<8>>⟧.requests ≡ wyrand.wyrand_requests }
+    ensures pcg64_blocks { ⟦<Pcg64 as Blocks<8>>⟧.block ≡ pcg64.pcg64_block }
+    ensures pcg64_steps { ⟦<Pcg64 as Blocks<8>>⟧.step ≡ pcg64.next }
+    ensures pcg64_requests { ⟦<Pcg64 as Rng<8>>⟧.requests ≡ pcg64.pcg64_requests }
+    ensures chacha_blocks { ⟦<ChaCha<ROUNDS> as Blocks<64>>⟧.block ≡ chacha_block ROUNDS }
+    ensures chacha_steps { ⟦<ChaCha<ROUNDS> as Blocks<64>>⟧.step ≡ next_state }
+    ensures chacha_requests { ⟦<ChaCha<ROUNDS> as Rng<64>>⟧.requests ≡ chacha_requests ROUNDS }
+{}
 
 /// ChaCha's rounds are injective on matrices, for every even number of rounds.
 pub fn rounds_are_injective()
