@@ -1,217 +1,25 @@
-//! Times nanorand, the kit's generators, and the old Rust crate if `run` is given its folder.
+//! Times nanorand, the kit's generators, and the old Rust crate if `run` is given its folder. Prints the
+//! times of this build, or, as `bench table FILE..`, the table of the builds whose times the files have.
 
 mod calls;
 #[cfg(feature = "original")]
 mod original;
+mod row;
+mod rows;
 mod table;
 
-use calls::*;
-use table::{Row, Work};
+use std::env;
+use std::error::Error;
 
-// The work of the old crate, if it is there.
-macro_rules! old {
-    ($kind:ty: $work:expr) => {{
-        #[cfg(feature = "original")]
-        let work: Option<$kind> = Some($work);
-        #[cfg(not(feature = "original"))]
-        let work: Option<$kind> = None;
-        work
-    }};
-}
-
-const WORDS: u64 = 1 << 20;
-const BLOCKS: u64 = 1 << 14;
-const BYTES: u64 = 1 << 20;
-const JUMPS: u64 = 1 << 12;
-const ITEMS: u64 = 1000;
-const SHUFFLES: u32 = 100;
-
-fn words(rows: &mut Vec<Row>) {
-    rows.push(
-        Row::new("WyRand, a word", WORDS, || {
-            nanorand_bench_wyrand_u64(42, WORDS)
-        })
-        .original(old!(Work: Box::new(|| original::wyrand_u64(42, WORDS)))),
-    );
-    rows.push(
-        Row::new("Pcg64, a word", WORDS, || {
-            nanorand_bench_pcg64_u64(42, WORDS)
-        })
-        .original(old!(Work: Box::new(|| original::pcg64_u64(42, WORDS))))
-        .kit(|| nanorand_bench_kit_pcg64_u64(42, WORDS)),
-    );
-    rows.push(
-        Row::new("ChaCha8, a block", BLOCKS, || {
-            nanorand_bench_chacha8_blocks(7, BLOCKS)
-        })
-        .original(old!(Work: Box::new(|| original::chacha_blocks::<8>(7, BLOCKS))))
-        .kit(|| nanorand_bench_kit_chacha8_blocks(7, BLOCKS)),
-    );
-    rows.push(
-        Row::new("ChaCha12, a block", BLOCKS, || {
-            nanorand_bench_chacha12_blocks(7, BLOCKS)
-        })
-        .original(old!(Work: Box::new(|| original::chacha_blocks::<12>(7, BLOCKS))))
-        .kit(|| nanorand_bench_kit_chacha12_blocks(7, BLOCKS)),
-    );
-    rows.push(
-        Row::new("ChaCha20, a block", BLOCKS, || {
-            nanorand_bench_chacha20_blocks(7, BLOCKS)
-        })
-        .original(old!(Work: Box::new(|| original::chacha_blocks::<20>(7, BLOCKS))))
-        .kit(|| nanorand_bench_kit_chacha20_blocks(7, BLOCKS)),
-    );
-}
-
-type Fill = fn(&mut [u8], u32);
-
-// Fills a slice again and again, and returns a number that depends on the last fill.
-fn filled(length: u64, fill: Fill) -> impl FnMut() -> u64 {
-    let mut bytes = vec![0; length as usize];
-    let times = (BYTES / length) as u32;
-    move || {
-        fill(&mut bytes, times);
-        u64::from(bytes[17]) << 8 | u64::from(bytes[length as usize - 3])
+fn main() -> Result<(), Box<dyn Error>> {
+    let mut arguments = env::args().skip(1);
+    if arguments.next().is_some_and(|first| first == "table") {
+        return table::print(arguments);
     }
-}
-
-// A row of fills of one length.
-fn fill_row(name: &'static str, length: u64, fill: Fill, original: Option<Fill>) -> Row {
-    let original = original.map(|fill| Box::new(filled(length, fill)) as Work);
-    Row::new(name, BYTES, filled(length, fill)).original(original)
-}
-
-fn fills(rows: &mut Vec<Row>) {
-    const MIB: u64 = 1 << 20;
-    let wyrand = old!(Fill: |out, times| original::wyrand_fill(42, out, times));
-    let pcg64 = old!(Fill: |out, times| original::pcg64_fill(42, out, times));
-    let chacha20 = old!(Fill: |out, times| original::chacha20_fill(7, out, times));
-    let buffered = old!(Fill: |out, times| original::buffered_chacha20_fill(7, out, times));
-    let pcg64_of_the_kit: Fill = |out, times| pcg64_fill_of_the_kit(42, out, times);
-    let chacha20_of_the_kit: Fill = |out, times| chacha20_fill_of_the_kit(7, out, times);
-
-    rows.push(fill_row(
-        "WyRand, a byte of 1 MiB",
-        MIB,
-        |out, times| wyrand_fill(42, out, times),
-        wyrand,
-    ));
-    rows.push(
-        fill_row(
-            "Pcg64, a byte of 1 MiB",
-            MIB,
-            |out, times| pcg64_fill(42, out, times),
-            pcg64,
-        )
-        .kit(filled(MIB, pcg64_of_the_kit)),
-    );
-    let plain: (Fill, _) = (|out, times| chacha20_fill(7, out, times), chacha20);
-    let kept: (Fill, _) = (|out, times| buffered_chacha20_fill(7, out, times), buffered);
-    for (name, length, (fill, original)) in [
-        ("ChaCha20, a byte of 256", 256, plain),
-        ("ChaCha20, a byte of 4 KiB", 4096, plain),
-        ("ChaCha20, a byte of 1 MiB", MIB, plain),
-        ("buffered ChaCha20, a byte of 4 KiB", 4096, kept),
-        ("buffered ChaCha20, a byte of 1 MiB", MIB, kept),
-    ] {
-        rows.push(fill_row(name, length, fill, original).kit(filled(length, chacha20_of_the_kit)));
+    let [here, original] = rows::places();
+    println!("{here}\t{original}");
+    for mut row in rows::all() {
+        println!("{}", row.timed());
     }
-}
-
-fn ranges(rows: &mut Vec<Row>) {
-    rows.push(
-        Row::new("u8 below 6", WORDS, || {
-            nanorand_bench_range_u8(42, 6, WORDS)
-        })
-        .original(old!(Work: Box::new(|| original::range_u8(42, 6, WORDS))))
-        .kit(|| nanorand_bench_kit_range_u8(42, 6, WORDS)),
-    );
-    for (name, size) in [("u32 below 6", 6), ("u32 below 1000", 1000)] {
-        rows.push(
-            Row::new(name, WORDS, move || {
-                nanorand_bench_range_u32(42, size, WORDS)
-            })
-            .original(old!(Work: Box::new(move || original::range_u32(42, size, WORDS))))
-            .kit(move || nanorand_bench_kit_range_u32(42, size, WORDS)),
-        );
-    }
-    for (name, size) in [
-        ("u64 below 6", 6),
-        ("u64 below 1000", 1000),
-        ("u64 below 2^63 + 1", (1 << 63) + 1),
-    ] {
-        rows.push(
-            Row::new(name, WORDS, move || {
-                nanorand_bench_range_u64(42, size, WORDS)
-            })
-            .original(old!(Work: Box::new(move || original::range_u64(42, size, WORDS))))
-            .kit(move || nanorand_bench_kit_range_u64(42, size, WORDS)),
-        );
-    }
-}
-
-// Shuffles 1000 numbers again and again, and returns one of them.
-fn shuffled(shuffle: impl Fn(&mut [u64])) -> impl FnMut() -> u64 {
-    let mut items: Vec<u64> = (0..ITEMS).collect();
-    move || {
-        shuffle(&mut items);
-        items[3]
-    }
-}
-
-fn shuffles(rows: &mut Vec<Row>) {
-    let items = ITEMS * u64::from(SHUFFLES);
-    let calls: [(_, fn(u64, &mut [u64], u32)); 2] = [
-        ("shuffle of 1000, an item", shuffle),
-        ("shuffle of 1000 from all indices, an item", shuffle_full),
-    ];
-    for (name, call) in calls {
-        rows.push(
-            Row::new(
-                name,
-                items,
-                shuffled(move |items| call(42, items, SHUFFLES)),
-            )
-            .original(old!(Work: Box::new(shuffled(|items| {
-                original::shuffle(42, items, SHUFFLES)
-            }))))
-            .kit(shuffled(|items| shuffle_of_the_kit(42, items, SHUFFLES))),
-        );
-    }
-}
-
-fn others(rows: &mut Vec<Row>) {
-    rows.push(
-        Row::new("buffered WyRand, a u8", WORDS, || {
-            nanorand_bench_buffered_wyrand(42, WORDS)
-        })
-        .original(old!(Work: Box::new(|| original::buffered_wyrand(42, WORDS))))
-        .kit(|| nanorand_bench_kit_pcg64_u8(42, WORDS)),
-    );
-    rows.push(
-        Row::new("buffered ChaCha20, a u8", WORDS, || {
-            nanorand_bench_buffered_chacha20(7, WORDS)
-        })
-        .original(old!(Work: Box::new(|| original::buffered_chacha20(7, WORDS))))
-        .kit(|| nanorand_bench_kit_chacha20_u8(7, WORDS)),
-    );
-    rows.push(
-        Row::new("Pcg64, a jump", JUMPS, || {
-            nanorand_bench_pcg64_jump(42, JUMPS)
-        })
-        .kit(|| nanorand_bench_kit_pcg64_jump(42, JUMPS)),
-    );
-    rows.push(Row::new("Pcg64, a distance", JUMPS, || {
-        nanorand_bench_pcg64_distance(42, JUMPS)
-    }));
-}
-
-fn main() {
-    let mut rows = Vec::new();
-    words(&mut rows);
-    fills(&mut rows);
-    ranges(&mut rows);
-    shuffles(&mut rows);
-    others(&mut rows);
-    table::print(&mut rows);
+    Ok(())
 }

@@ -1,11 +1,12 @@
-//! The same work with the old Rust crate.
+//! The same work with the old Rust crate. As in the static library, each function is compiled once, and
+//! no number that it is called with is known to it.
 
 use nanorand::{BufferedRng, ChaCha, Pcg64, Rng, WyRand};
 use std::hint::black_box;
 
 fn words<R: Rng<OUTPUT>, const OUTPUT: usize>(mut rng: R, count: u64) -> u64 {
     let mut all = 0u64;
-    for _ in 0..count {
+    for _ in 0..black_box(count) {
         all = all.rotate_left(1) ^ rng.generate::<u64>();
     }
     all
@@ -13,7 +14,7 @@ fn words<R: Rng<OUTPUT>, const OUTPUT: usize>(mut rng: R, count: u64) -> u64 {
 
 fn bytes<R: Rng<OUTPUT>, const OUTPUT: usize>(mut rng: R, count: u64) -> u64 {
     let mut all = 0u64;
-    for _ in 0..count {
+    for _ in 0..black_box(count) {
         all = all.rotate_left(1) ^ u64::from(rng.generate::<u8>());
     }
     all
@@ -26,27 +27,32 @@ fn mixed(block: &[u8; 64]) -> u64 {
     })
 }
 
+#[inline(never)]
 pub fn wyrand_u64(seed: u64, count: u64) -> u64 {
     words(WyRand::new_seed(seed), count)
 }
 
+#[inline(never)]
 pub fn pcg64_u64(seed: u64, count: u64) -> u64 {
     words(Pcg64::new_seed(u128::from(seed)), count)
 }
 
+#[inline(never)]
 pub fn chacha_blocks<const ROUNDS: u8>(seed: u8, count: u64) -> u64 {
     let mut rng = ChaCha::<ROUNDS>::new_key([seed; 32], [seed; 8]);
     let mut all = 0u64;
-    for _ in 0..count {
+    for _ in 0..black_box(count) {
         all = all.rotate_left(1) ^ mixed(&rng.rand());
     }
     all
 }
 
+#[inline(never)]
 pub fn buffered_wyrand(seed: u64, count: u64) -> u64 {
     bytes(BufferedRng::new(WyRand::new_seed(seed)), count)
 }
 
+#[inline(never)]
 pub fn buffered_chacha20(seed: u8, count: u64) -> u64 {
     bytes(
         BufferedRng::new(ChaCha::<20>::new_key([seed; 32], [seed; 8])),
@@ -55,23 +61,27 @@ pub fn buffered_chacha20(seed: u8, count: u64) -> u64 {
 }
 
 fn fill<R: Rng<OUTPUT>, const OUTPUT: usize>(mut rng: R, out: &mut [u8], times: u32) {
-    for _ in 0..times {
+    for _ in 0..black_box(times) {
         rng.fill_bytes(&mut *out);
     }
 }
 
+#[inline(never)]
 pub fn wyrand_fill(seed: u64, out: &mut [u8], times: u32) {
     fill(WyRand::new_seed(seed), out, times);
 }
 
+#[inline(never)]
 pub fn pcg64_fill(seed: u64, out: &mut [u8], times: u32) {
     fill(Pcg64::new_seed(u128::from(seed)), out, times);
 }
 
+#[inline(never)]
 pub fn chacha20_fill(seed: u8, out: &mut [u8], times: u32) {
     fill(ChaCha::<20>::new_key([seed; 32], [seed; 8]), out, times);
 }
 
+#[inline(never)]
 pub fn buffered_chacha20_fill(seed: u8, out: &mut [u8], times: u32) {
     let rng = ChaCha::<20>::new_key([seed; 32], [seed; 8]);
     fill(BufferedRng::new(rng), out, times);
@@ -79,11 +89,12 @@ pub fn buffered_chacha20_fill(seed: u8, out: &mut [u8], times: u32) {
 
 macro_rules! ranges {
     ($($name:ident: $number:ty),+) => { $(
+        #[inline(never)]
         pub fn $name(seed: u64, size: $number, count: u64) -> u64 {
             let mut rng = WyRand::new_seed(seed);
             let size = black_box(size);
             let mut all = 0u64;
-            for _ in 0..count {
+            for _ in 0..black_box(count) {
                 all = all.rotate_left(1) ^ u64::from(rng.generate_range::<$number, _>(0..size));
             }
             all
@@ -93,9 +104,10 @@ macro_rules! ranges {
 
 ranges!(range_u8: u8, range_u32: u32, range_u64: u64);
 
+#[inline(never)]
 pub fn shuffle(seed: u64, items: &mut [u64], times: u32) {
     let mut rng = WyRand::new_seed(seed);
-    for _ in 0..times {
+    for _ in 0..black_box(times) {
         rng.shuffle(&mut *items);
     }
 }

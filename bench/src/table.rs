@@ -1,90 +1,96 @@
-//! The rows of the table, their timing by turns, and the table of means.
+//! The table: of each row the least and the median of the builds.
 
-use std::hint::black_box;
-use std::time::Instant;
+use crate::row::Times;
+use std::collections::HashSet;
+use std::error::Error;
+use std::fs;
 
-// The mean of RUNS runs, each the best of TURNS turns.
-const RUNS: usize = 5;
-const TURNS: usize = 9;
-
-pub type Work = Box<dyn FnMut() -> u64>;
-
-/// One row: the number of items that a turn makes, and the work of each library that makes them.
-pub struct Row {
-    name: &'static str,
-    items: u64,
-    works: [Option<Work>; 3],
+// The times of one build: of each row the least of its runs, which the file has one after another.
+struct Build {
+    places: String,
+    rows: Vec<Times>,
 }
 
-impl Row {
-    pub fn new(name: &'static str, items: u64, work: impl FnMut() -> u64 + 'static) -> Self {
-        Row {
-            name,
-            items,
-            works: [Some(Box::new(work)), None, None],
-        }
-    }
-
-    pub fn original(mut self, work: Option<Work>) -> Self {
-        self.works[1] = work;
-        self
-    }
-
-    pub fn kit(mut self, work: impl FnMut() -> u64 + 'static) -> Self {
-        self.works[2] = Some(Box::new(work));
-        self
-    }
-
-    // The means, in nanoseconds an item, and whether the old crate's result was the same.
-    fn timed(&mut self) -> ([Option<f64>; 3], bool) {
-        let mut totals = [0.0; 3];
-        let mut answers = [0; 3];
-        for _ in 0..RUNS {
-            let mut best = [f64::MAX; 3];
-            for _ in 0..TURNS {
-                for (place, work) in self.works.iter_mut().enumerate() {
-                    if let Some(work) = work {
-                        let start = Instant::now();
-                        answers[place] = black_box(work());
-                        best[place] = best[place].min(start.elapsed().as_secs_f64());
-                    }
-                }
-            }
-            for (total, best) in totals.iter_mut().zip(best) {
-                *total += best;
+impl Build {
+    fn read(path: &str) -> Result<Build, Box<dyn Error>> {
+        let text = fs::read_to_string(path)?;
+        let mut lines = text.lines();
+        let places = lines.next().ok_or("no times")?.to_string();
+        let mut rows: Vec<Times> = Vec::new();
+        for line in lines.filter(|line| *line != places) {
+            let row: Times = line.parse()?;
+            match rows.iter_mut().find(|known| known.name == row.name) {
+                Some(known) => known.lower(&row),
+                None => rows.push(row),
             }
         }
-        let each = 1e9 / (RUNS as f64 * self.items as f64);
-        let means =
-            [0, 1, 2].map(|place| self.works[place].is_some().then(|| totals[place] * each));
-        (means, self.works[1].is_none() || answers[0] == answers[1])
+        Ok(Build { places, rows })
     }
 }
 
-fn cell(number: Option<f64>) -> String {
-    number.map_or_else(|| String::from("-"), |number| format!("{number:.2}"))
+// Whether each library's code begins at another place in each build.
+fn is_moved(builds: &[Build]) -> bool {
+    (0..2).all(|library| {
+        let places = builds
+            .iter()
+            .map(|build| build.places.split('\t').nth(library));
+        places.collect::<HashSet<_>>().len() == builds.len()
+    })
 }
 
-/// Times all rows and prints them.
-pub fn print(rows: &mut [Row]) {
+// The least of the builds' times, and their median.
+fn figures(builds: &[Build], row: usize, library: usize) -> Option<[f64; 2]> {
+    let mut times: Vec<f64> = builds
+        .iter()
+        .map(|build| build.rows[row].times[library])
+        .collect::<Option<_>>()?;
+    times.sort_by(f64::total_cmp);
+    let middle = (times.len() - 1) / 2;
+    let median = (times[middle] + times[times.len() - 1 - middle]) / 2.0;
+    Some([times[0], median])
+}
+
+fn cell(figures: Option<[f64; 2]>) -> String {
+    figures.map_or_else(
+        || String::from("-"),
+        |[least, median]| format!("{least:.2} ({median:.2})"),
+    )
+}
+
+fn ratio(here: Option<[f64; 2]>, other: Option<[f64; 2]>) -> String {
+    cell(
+        here.zip(other)
+            .map(|(here, other)| [here[0] / other[0], here[1] / other[1]]),
+    )
+}
+
+/// Prints the table of the builds whose times the files have.
+pub fn print(paths: impl Iterator<Item = String>) -> Result<(), Box<dyn Error>> {
+    let builds = paths
+        .map(|path| Build::read(&path))
+        .collect::<Result<Vec<_>, _>>()?;
+    if !is_moved(&builds) {
+        return Err("some builds have their code at the same place".into());
+    }
+    let count = builds.len();
     println!(
-        "Nanoseconds an item, and how many times the other's: the mean of {RUNS} runs, each the best of {TURNS} turns."
+        "Nanoseconds an item: the least of {count} builds, and (the median). A ratio is how many times the other's."
     );
     println!();
     println!("| Work | nanorand | Rust original | ratio | kit | ratio |");
     println!("|---|---|---|---|---|---|");
-    for row in rows {
-        let ([here, original, kit], same) = row.timed();
-        let ratio = |other: Option<f64>| cell(here.zip(other).map(|(here, other)| here / other));
-        let note = if same { "" } else { " (another result)" };
+    for (place, row) in builds[0].rows.iter().enumerate() {
+        let [here, original, kit] = [0, 1, 2].map(|library| figures(&builds, place, library));
         println!(
-            "| {}{note} | {} | {} | {} | {} | {} |",
+            "| {}{} | {} | {} | {} | {} | {} |",
             row.name,
+            if row.same { "" } else { " (another result)" },
             cell(here),
             cell(original),
-            ratio(original),
+            ratio(here, original),
             cell(kit),
-            ratio(kit)
+            ratio(here, kit)
         );
     }
+    Ok(())
 }

@@ -1,0 +1,229 @@
+//! The rows: what is timed.
+
+use crate::calls::*;
+#[cfg(feature = "original")]
+use crate::original;
+use crate::row::{Row, Work};
+
+// The work of the old crate, if it is there.
+macro_rules! old {
+    ($kind:ty: $work:expr) => {{
+        #[cfg(feature = "original")]
+        let work: Option<$kind> = Some($work);
+        #[cfg(not(feature = "original"))]
+        let work: Option<$kind> = None;
+        work
+    }};
+}
+
+const WORDS: u64 = 1 << 20;
+const BLOCKS: u64 = 1 << 14;
+const BYTES: u64 = 1 << 20;
+const JUMPS: u64 = 1 << 12;
+const ITEMS: u64 = 100_000;
+
+fn words(rows: &mut Vec<Row>) {
+    rows.push(
+        Row::new("WyRand, a word", WORDS, || {
+            nanorand_bench_wyrand_u64(42, WORDS)
+        })
+        .original(old!(Work: Box::new(|| original::wyrand_u64(42, WORDS)))),
+    );
+    rows.push(
+        Row::new("Pcg64, a word", WORDS, || {
+            nanorand_bench_pcg64_u64(42, WORDS)
+        })
+        .original(old!(Work: Box::new(|| original::pcg64_u64(42, WORDS))))
+        .kit(|| nanorand_bench_kit_pcg64_u64(42, WORDS)),
+    );
+    rows.push(
+        Row::new("ChaCha8, a block", BLOCKS, || {
+            nanorand_bench_chacha8_blocks(7, BLOCKS)
+        })
+        .original(old!(Work: Box::new(|| original::chacha_blocks::<8>(7, BLOCKS))))
+        .kit(|| nanorand_bench_kit_chacha8_blocks(7, BLOCKS)),
+    );
+    rows.push(
+        Row::new("ChaCha12, a block", BLOCKS, || {
+            nanorand_bench_chacha12_blocks(7, BLOCKS)
+        })
+        .original(old!(Work: Box::new(|| original::chacha_blocks::<12>(7, BLOCKS))))
+        .kit(|| nanorand_bench_kit_chacha12_blocks(7, BLOCKS)),
+    );
+    rows.push(
+        Row::new("ChaCha20, a block", BLOCKS, || {
+            nanorand_bench_chacha20_blocks(7, BLOCKS)
+        })
+        .original(old!(Work: Box::new(|| original::chacha_blocks::<20>(7, BLOCKS))))
+        .kit(|| nanorand_bench_kit_chacha20_blocks(7, BLOCKS)),
+    );
+}
+
+type Fill = fn(&mut [u8], u32);
+
+// Fills a slice again and again, and returns a number that depends on the last fill.
+fn filled(length: u64, fill: Fill) -> impl FnMut() -> u64 {
+    let mut bytes = vec![0; length as usize];
+    let times = (BYTES / length) as u32;
+    move || {
+        fill(&mut bytes, times);
+        u64::from(bytes[17]) << 8 | u64::from(bytes[length as usize - 3])
+    }
+}
+
+// A row of fills of one length.
+fn fill_row(name: &'static str, length: u64, fill: Fill, original: Option<Fill>) -> Row {
+    let original = original.map(|fill| Box::new(filled(length, fill)) as Work);
+    Row::new(name, BYTES, filled(length, fill)).original(original)
+}
+
+fn fills(rows: &mut Vec<Row>) {
+    const MIB: u64 = 1 << 20;
+    let wyrand = old!(Fill: |out, times| original::wyrand_fill(42, out, times));
+    let pcg64 = old!(Fill: |out, times| original::pcg64_fill(42, out, times));
+    let chacha20 = old!(Fill: |out, times| original::chacha20_fill(7, out, times));
+    let buffered = old!(Fill: |out, times| original::buffered_chacha20_fill(7, out, times));
+    let pcg64_of_the_kit: Fill = |out, times| pcg64_fill_of_the_kit(42, out, times);
+    let chacha20_of_the_kit: Fill = |out, times| chacha20_fill_of_the_kit(7, out, times);
+
+    rows.push(fill_row(
+        "WyRand, a byte of 1 MiB",
+        MIB,
+        |out, times| wyrand_fill(42, out, times),
+        wyrand,
+    ));
+    rows.push(
+        fill_row(
+            "Pcg64, a byte of 1 MiB",
+            MIB,
+            |out, times| pcg64_fill(42, out, times),
+            pcg64,
+        )
+        .kit(filled(MIB, pcg64_of_the_kit)),
+    );
+    let plain: (Fill, _) = (|out, times| chacha20_fill(7, out, times), chacha20);
+    let kept: (Fill, _) = (|out, times| buffered_chacha20_fill(7, out, times), buffered);
+    for (name, length, (fill, original)) in [
+        ("ChaCha20, a byte of 256", 256, plain),
+        ("ChaCha20, a byte of 4 KiB", 4096, plain),
+        ("ChaCha20, a byte of 1 MiB", MIB, plain),
+        ("buffered ChaCha20, a byte of 4 KiB", 4096, kept),
+        ("buffered ChaCha20, a byte of 1 MiB", MIB, kept),
+    ] {
+        rows.push(fill_row(name, length, fill, original).kit(filled(length, chacha20_of_the_kit)));
+    }
+}
+
+fn ranges(rows: &mut Vec<Row>) {
+    for (name, size) in [("u8 below 6", 6), ("u8 below 200", 200)] {
+        rows.push(
+            Row::new(name, WORDS, move || {
+                nanorand_bench_range_u8(42, size, WORDS)
+            })
+            .original(old!(Work: Box::new(move || original::range_u8(42, size, WORDS))))
+            .kit(move || nanorand_bench_kit_range_u8(42, size, WORDS)),
+        );
+    }
+    for (name, size) in [("u32 below 6", 6), ("u32 below 1000", 1000)] {
+        rows.push(
+            Row::new(name, WORDS, move || {
+                nanorand_bench_range_u32(42, size, WORDS)
+            })
+            .original(old!(Work: Box::new(move || original::range_u32(42, size, WORDS))))
+            .kit(move || nanorand_bench_kit_range_u32(42, size, WORDS)),
+        );
+    }
+    for (name, size) in [
+        ("u64 below 6", 6),
+        ("u64 below 1000", 1000),
+        ("u64 below 2^63 + 1", (1 << 63) + 1),
+        ("u64 below 3 * 2^62", 3 << 62),
+    ] {
+        rows.push(
+            Row::new(name, WORDS, move || {
+                nanorand_bench_range_u64(42, size, WORDS)
+            })
+            .original(old!(Work: Box::new(move || original::range_u64(42, size, WORDS))))
+            .kit(move || nanorand_bench_kit_range_u64(42, size, WORDS)),
+        );
+    }
+}
+
+type Shuffle = fn(u64, &mut [u64], u32);
+
+// Shuffles numbers again and again, and returns a number that depends on the first eight.
+fn shuffled(length: u64, shuffle: Shuffle) -> impl FnMut() -> u64 {
+    let mut items: Vec<u64> = (0..length).collect();
+    let times = (ITEMS / length) as u32;
+    move || {
+        shuffle(42, &mut items, times);
+        items[..8].iter().fold(0, |all, item| all << 8 ^ item)
+    }
+}
+
+fn shuffles(rows: &mut Vec<Row>) {
+    let original = old!(Shuffle: original::shuffle);
+    let calls: [(_, Shuffle); 6] = [
+        ("shuffle of 10, an item", shuffle),
+        ("shuffle of 1000, an item", shuffle),
+        ("shuffle of 100,000, an item", shuffle),
+        ("shuffle of 10 from all indices, an item", shuffle_full),
+        ("shuffle of 1000 from all indices, an item", shuffle_full),
+        ("shuffle of 100,000 from all indices, an item", shuffle_full),
+    ];
+    for ((name, call), length) in calls.into_iter().zip([10, 1000, 100_000].repeat(2)) {
+        let original = original.map(|call| Box::new(shuffled(length, call)) as Work);
+        rows.push(
+            Row::new(name, ITEMS, shuffled(length, call))
+                .original(original)
+                .kit(shuffled(length, shuffle_of_the_kit)),
+        );
+    }
+}
+
+fn others(rows: &mut Vec<Row>) {
+    rows.push(
+        Row::new("buffered WyRand, a u8", WORDS, || {
+            nanorand_bench_buffered_wyrand(42, WORDS)
+        })
+        .original(old!(Work: Box::new(|| original::buffered_wyrand(42, WORDS))))
+        .kit(|| nanorand_bench_kit_pcg64_u8(42, WORDS)),
+    );
+    rows.push(
+        Row::new("buffered ChaCha20, a u8", WORDS, || {
+            nanorand_bench_buffered_chacha20(7, WORDS)
+        })
+        .original(old!(Work: Box::new(|| original::buffered_chacha20(7, WORDS))))
+        .kit(|| nanorand_bench_kit_chacha20_u8(7, WORDS)),
+    );
+    rows.push(
+        Row::new("Pcg64, a jump", JUMPS, || {
+            nanorand_bench_pcg64_jump(42, JUMPS)
+        })
+        .kit(|| nanorand_bench_kit_pcg64_jump(42, JUMPS)),
+    );
+    rows.push(Row::new("Pcg64, a distance", JUMPS, || {
+        nanorand_bench_pcg64_distance(42, JUMPS)
+    }));
+}
+
+/// All rows, in the table's order.
+pub fn all() -> Vec<Row> {
+    let mut rows = Vec::new();
+    words(&mut rows);
+    fills(&mut rows);
+    ranges(&mut rows);
+    shuffles(&mut rows);
+    others(&mut rows);
+    rows
+}
+
+/// Where a function of each library begins in its line of 64 bytes.
+pub fn places() -> [usize; 2] {
+    let here = nanorand_bench_wyrand_u64 as *const () as usize;
+    #[cfg(feature = "original")]
+    let original = original::wyrand_u64 as *const () as usize;
+    #[cfg(not(feature = "original"))]
+    let original = places as *const () as usize;
+    [here % 64, original % 64]
+}
