@@ -14,6 +14,7 @@ const MAX_WORDS: usize = 128;
 /// 2^bits. The method is that of Daniel Lemire, "Fast Random Integer Generation in an Interval"
 /// (2019): each number has a run of floor(2^bits / size) consecutive words, in the order of the
 /// numbers, and the 2^bits % size words outside all runs are rejected.
+#[inline]
 pub fn pick_word(size: u128, bits: u32, word: u64) -> Option<u64>
     requires width { IsWordWidth bits }
     requires some { 1 ≤ size }
@@ -31,6 +32,7 @@ pub fn pick_word(size: u128, bits: u32, word: u64) -> Option<u64>
 
 // As `pick_word`, for a size that fits in 64 bits. Fewer than `size` words are rejected, so a low
 // part of at least `size` is accepted without computing how many.
+#[inline]
 fn pick_below(size: u64, bits: u32, word: u64) -> Option<u64>
     requires width { IsWordWidth bits }
     requires some { 1 ≤ size }
@@ -47,6 +49,7 @@ fn pick_below(size: u64, bits: u32, word: u64) -> Option<u64>
 }
 
 // As `pick_below`, where the number of rejected words is already computed.
+#[inline]
 fn pick_counted(size: u64, bits: u32, rejects: u64, word: u64) -> Option<u64>
     requires width { IsWordWidth bits }
     requires some { 1 ≤ size }
@@ -59,6 +62,7 @@ fn pick_counted(size: u64, bits: u32, rejects: u64, word: u64) -> Option<u64>
 }
 
 // The halves of `word * size`: the high one is the number, and the low one accepts or rejects.
+#[inline]
 fn halves_of(size: u64, bits: u32, word: u64) -> (u64, u64)
     requires width { IsWordWidth bits }
     requires fits { word < 2 ^ bits }
@@ -70,6 +74,7 @@ fn halves_of(size: u64, bits: u32, word: u64) -> (u64, u64)
 }
 
 // How many words are rejected. If `size` is more than half of all words, this needs no division.
+#[inline]
 fn rejected(size: u64, bits: u32) -> u64
     requires width { IsWordWidth bits }
     requires some { 1 ≤ size }
@@ -99,6 +104,7 @@ fn remainder(others: u64, size: u64) -> u64
 /// Preconditions: `bits` is 8, 16, 32 or 64, and `size` is from 1 to 2^bits. Each word is one
 /// request, and the first word that names a number, as `pick_word` says, decides. It returns `None`
 /// if 128 words in a row were rejected; they stay drawn.
+#[inline]
 pub fn draw_below<G: Rng<OUTPUT>, const OUTPUT: usize>(
     rng: &mut G,
     size: u128,
@@ -131,6 +137,7 @@ pub fn draw_below<G: Rng<OUTPUT>, const OUTPUT: usize>(
 }
 
 // The next word of `bits` bits, by one request.
+#[inline]
 fn draw_word<G: Rng<OUTPUT>, const OUTPUT: usize>(rng: &mut G, bits: u32) -> u64
     requires width { IsWordWidth bits }
     ensures value { result ≡ next_word G.requests bits rng.old }
