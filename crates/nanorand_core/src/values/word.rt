@@ -1,5 +1,5 @@
 //! Random words of 8, 16, 32 or 64 bits, and the numbers that they name.
-ghost use Rattle.std.specs.Prelude.{◌≡◌, ℕ, ◌^◌, ◌<◌, ◌≤◌, MatchOption, IfSome, IfNone};
+ghost use Rattle.std.specs.Prelude.{◌≡◌, ℕ, ◌*◌, ◌/◌, ◌%◌, ◌^◌, ◌<◌, ◌≤◌, MatchOption, IfSome, IfNone};
 ghost use Rattle.nanorand_core.specs.values.Runs.{IsWordWidth, Names, named, rejected};
 ghost use Rattle.nanorand_core.specs.values.Draws.{word_limit, next_word, after_word, after_words, drawn_below};
 
@@ -14,6 +14,7 @@ const MAX_WORDS: usize = 128;
 /// 2^bits. The method is that of Daniel Lemire, "Fast Random Integer Generation in an Interval"
 /// (2019): each number has a run of floor(2^bits / size) consecutive words, in the order of the
 /// numbers, and the 2^bits % size words outside all runs are rejected.
+#[inline]
 pub fn pick_word(size: u128, bits: u32, word: u64) -> Option<u64>
     requires width { IsWordWidth bits }
     requires some { 1 ≤ size }
@@ -31,6 +32,7 @@ pub fn pick_word(size: u128, bits: u32, word: u64) -> Option<u64>
 
 // As `pick_word`, for a size that fits in 64 bits. Fewer than `size` words are rejected, so a low
 // part of at least `size` is accepted without computing how many.
+#[inline]
 fn pick_below(size: u64, bits: u32, word: u64) -> Option<u64>
     requires width { IsWordWidth bits }
     requires some { 1 ≤ size }
@@ -38,32 +40,63 @@ fn pick_below(size: u64, bits: u32, word: u64) -> Option<u64>
     requires fits { word < 2 ^ bits }
     ensures { result ≡ named bits size word }
 {
-    let product = u128::from(word) * u128::from(size);
-    let low = (product % (1 << bits)) as u64;
+    let (number, low) = halves_of(size, bits, word);
     if low >= size || low >= rejected(size, bits) {
-        Some((product >> bits) as u64)
+        Some(number)
     } else {
         None
     }
 }
 
+// As `pick_below`, where the number of rejected words is already computed.
+#[inline]
+fn pick_counted(size: u64, bits: u32, rejects: u64, word: u64) -> Option<u64>
+    requires width { IsWordWidth bits }
+    requires some { 1 ≤ size }
+    requires fits { word < 2 ^ bits }
+    requires counted { rejects ≡ rejected bits size }
+    ensures { result ≡ named bits size word }
+{
+    let (number, low) = halves_of(size, bits, word);
+    (low >= rejects).then_some(number)
+}
+
+// The halves of `word * size`: the high one is the number, and the low one accepts or rejects.
+#[inline]
+fn halves_of(size: u64, bits: u32, word: u64) -> (u64, u64)
+    requires width { IsWordWidth bits }
+    requires fits { word < 2 ^ bits }
+    ensures high { result.0 ≡ word * size / 2 ^ bits }
+    ensures low { result.1 ≡ word * size % 2 ^ bits }
+{
+    let product = u128::from(word) * u128::from(size);
+    ((product >> bits) as u64, (product % (1 << bits)) as u64)
+}
+
 // How many words are rejected. If `size` is more than half of all words, this needs no division.
-// Few words need the count, so it is kept out of line, outside the loops that draw.
-#[cold]
-#[inline(never)]
+#[inline]
 fn rejected(size: u64, bits: u32) -> u64
     requires width { IsWordWidth bits }
     requires some { 1 ≤ size }
     requires within { size ≤ 2 ^ bits }
     ensures { result ≡ rejected bits size }
 {
-    let words = 1u128 << bits;
-    let others = (words - u128::from(size)) as u64;
-    if u128::from(size) * 2 > words {
+    let others = ((1u128 << bits) - u128::from(size)) as u64;
+    if others < size {
         others
     } else {
-        others % size
+        remainder(others, size)
     }
+}
+
+// Few words need the division, so it is kept out of line, outside the loop that draws.
+#[cold]
+#[inline(never)]
+fn remainder(others: u64, size: u64) -> u64
+    requires { 1 ≤ size }
+    ensures { result ≡ others % size }
+{
+    others % size
 }
 
 /// Draws a number below `size`; each is named by equally many words of `bits` bits.
@@ -71,6 +104,7 @@ fn rejected(size: u64, bits: u32) -> u64
 /// Preconditions: `bits` is 8, 16, 32 or 64, and `size` is from 1 to 2^bits. Each word is one
 /// request, and the first word that names a number, as `pick_word` says, decides. It returns `None`
 /// if 128 words in a row were rejected; they stay drawn.
+#[inline]
 pub fn draw_below<G: Rng<OUTPUT>, const OUTPUT: usize>(
     rng: &mut G,
     size: u128,
@@ -89,16 +123,21 @@ pub fn draw_below<G: Rng<OUTPUT>, const OUTPUT: usize>(
     if let Some(number) = pick_word(size, bits, first) {
         return Some(number);
     }
-    'others: for _ in 1..MAX_WORDS {
+    let size = size as u64;
+    let rejects = rejected(size, bits);
+    let mut number = None;
+    let mut drawn = 1;
+    // `&` makes one exit: with two, LLVM vectorizes the search, which takes four times as long.
+    'others: while number.is_none() & (drawn < MAX_WORDS) {
         let word = draw_word(rng, bits);
-        if let Some(number) = pick_word(size, bits, word) {
-            return Some(number);
-        }
+        number = pick_counted(size, bits, rejects, word);
+        drawn += 1;
     }
-    None
+    number
 }
 
 // The next word of `bits` bits, by one request.
+#[inline]
 fn draw_word<G: Rng<OUTPUT>, const OUTPUT: usize>(rng: &mut G, bits: u32) -> u64
     requires width { IsWordWidth bits }
     ensures value { result ≡ next_word G.requests bits rng.old }

@@ -166,6 +166,14 @@ size-is_whole bits size width within past =
       | inr (inr (inr is)) ↦ let low = rw is at within in rw is (omega arith)
     ]
 
+-- a size of which a word is rejected fits in 64 bits
+pub rejecting-fits : (bits size word : ℕ) → IsWordWidth bits → size ≤ 2 ^ bits → word < 2 ^ bits → named bits size word ≡ None → size ≤ 18446744073709551615
+rejecting-fits bits size word width within fits miss =
+    elim (cases_lt 18446744073709551615 size) [
+      | inl past ↦ let hit = rw (size-is_whole bits size width within past, names-itself bits word fits) at miss in absurd cc
+      | inr low ↦ low
+    ]
+
 -- taking `size` words away leaves the number of rejected words unchanged
 pub rejected-less : (bits size : ℕ) → size ≤ 2 ^ bits → (2 ^ bits - size) % size ≡ rejected bits size
 rejected-less bits size within =
