@@ -15,7 +15,7 @@ use nanorand::replay::Call;
 use std::alloc::Allocator;
 
 /// The generators that the first argument can name.
-#[derive(Clone, Copy, Debug, PartialEq, Eq)]
+#[derive(Clone, Copy)]
 pub enum Generator {
     WyRand,
     Pcg64,
@@ -26,7 +26,7 @@ pub enum Generator {
 
 /// A generator with the bytes of its seed: a little-endian number for `WyRand` and `Pcg64`, and a
 /// key of 32 bytes followed by a nonce of 8 bytes for ChaCha.
-#[derive(Clone, Copy, Debug)]
+#[derive(Clone, Copy)]
 pub enum SeededGenerator {
     WyRand([u8; 8]),
     Pcg64([u8; 16]),
@@ -37,7 +37,7 @@ pub enum SeededGenerator {
 
 /// Whether draws are buffered. In plain mode each value or word starts on a new block of the
 /// generator; in buffered mode it continues where the last one ended.
-#[derive(Clone, Copy, Debug, PartialEq, Eq)]
+#[derive(Clone, Copy)]
 pub enum Mode {
     Plain,
     Buffered,

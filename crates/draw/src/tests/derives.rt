@@ -1,11 +1,46 @@
-//! The derived `Clone`, `Copy`, `Debug` and `PartialEq` of the crate's types.
+//! The derived `Clone` and `Copy` of the crate's types, and `Debug` and `PartialEq` of the error.
 
 use crate::command::{Generator, Mode, SeededGenerator};
 use crate::error::DrawError;
 use std::alloc::Global;
-use std::fmt::Debug;
+use std::fmt;
+use std::fmt::{Debug, Formatter, Write};
 use std::process::Abort;
 use std::test::Fail;
+
+// The program shows no generator and no mode: their texts are those of the tests alone.
+impl Debug for Generator {
+    fn fmt<W: Write>(&self, f: &mut Formatter<W>) -> fmt::Result {
+        match self {
+            Generator::WyRand => f.write_str("WyRand"),
+            Generator::Pcg64 => f.write_str("Pcg64"),
+            Generator::ChaCha8 => f.write_str("ChaCha8"),
+            Generator::ChaCha12 => f.write_str("ChaCha12"),
+            Generator::ChaCha20 => f.write_str("ChaCha20"),
+        }
+    }
+}
+
+impl Debug for Mode {
+    fn fmt<W: Write>(&self, f: &mut Formatter<W>) -> fmt::Result {
+        match self {
+            Mode::Plain => f.write_str("Plain"),
+            Mode::Buffered => f.write_str("Buffered"),
+        }
+    }
+}
+
+impl Debug for SeededGenerator {
+    fn fmt<W: Write>(&self, f: &mut Formatter<W>) -> fmt::Result {
+        match self {
+            SeededGenerator::WyRand(seed) => write!(f, "WyRand({seed:?})"),
+            SeededGenerator::Pcg64(seed) => write!(f, "Pcg64({seed:?})"),
+            SeededGenerator::ChaCha8(seed) => write!(f, "ChaCha8({seed:?})"),
+            SeededGenerator::ChaCha12(seed) => write!(f, "ChaCha12({seed:?})"),
+            SeededGenerator::ChaCha20(seed) => write!(f, "ChaCha20({seed:?})"),
+        }
+    }
+}
 
 // A value, two copies of it and a clone have the same `Debug` text.
 fn check_copies<T: Copy + Debug>(
@@ -61,15 +96,13 @@ fn generators(rt: HostRuntime) -> Result<(), Fail> {
         (Generator::ChaCha12, "ChaCha12"),
         (Generator::ChaCha20, "ChaCha20"),
     ];
-    check_copies(&rt, rt.alloc(), &rows)?;
-    check_equality(&rt, &rows)
+    check_copies(&rt, rt.alloc(), &rows)
 }
 
 #[test]
 fn modes(rt: HostRuntime) -> Result<(), Fail> {
     let rows = [(Mode::Plain, "Plain"), (Mode::Buffered, "Buffered")];
-    check_copies(&rt, rt.alloc(), &rows)?;
-    check_equality(&rt, &rows)
+    check_copies(&rt, rt.alloc(), &rows)
 }
 
 #[test]
