@@ -9,6 +9,7 @@ pub mod references;
 mod tests;
 
 pub use callers::die::Die;
+pub use generators::byte_script::ByteScript;
 pub use generators::constant::Constant;
 pub use generators::forking::Forking;
 pub use generators::rising::{Bytes1, Bytes64};

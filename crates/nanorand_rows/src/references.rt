@@ -6,3 +6,5 @@ mod counting;
 pub mod in_place;
 #[cfg(test)]
 mod remainders;
+#[cfg(test)]
+mod word_by_word;

@@ -49,7 +49,6 @@ pub trait RandomRange<G: Rng<OUTPUT>, const OUTPUT: usize>: RandomGen<G, OUTPUT>
 /// It draws at most 128 words of the type's width, each by one request, and the first word that
 /// names a number decides. It returns `Empty` if no number is admitted, and draws nothing then. It
 /// returns `Exhausted` if 128 words in a row were rejected; they stay drawn.
-#[inline]
 pub fn draw_number<T: Number, G: Rng<OUTPUT>, const OUTPUT: usize>(
     rng: &mut G,
     low: Bound<T>,

@@ -14,7 +14,6 @@ const MAX_WORDS: usize = 128;
 /// 2^bits. The method is that of Daniel Lemire, "Fast Random Integer Generation in an Interval"
 /// (2019): each number has a run of floor(2^bits / size) consecutive words, in the order of the
 /// numbers, and the 2^bits % size words outside all runs are rejected.
-#[inline]
 pub fn pick_word(size: u128, bits: u32, word: u64) -> Option<u64>
     requires width { IsWordWidth bits }
     requires some { 1 ≤ size }
@@ -32,7 +31,6 @@ pub fn pick_word(size: u128, bits: u32, word: u64) -> Option<u64>
 
 // As `pick_word`, for a size that fits in 64 bits. Fewer than `size` words are rejected, so a low
 // part of at least `size` is accepted without computing how many.
-#[inline]
 fn pick_below(size: u64, bits: u32, word: u64) -> Option<u64>
     requires width { IsWordWidth bits }
     requires some { 1 ≤ size }
@@ -49,7 +47,6 @@ fn pick_below(size: u64, bits: u32, word: u64) -> Option<u64>
 }
 
 // As `pick_below`, where the number of rejected words is already computed.
-#[inline]
 fn pick_counted(size: u64, bits: u32, rejects: u64, word: u64) -> Option<u64>
     requires width { IsWordWidth bits }
     requires some { 1 ≤ size }
@@ -62,7 +59,6 @@ fn pick_counted(size: u64, bits: u32, rejects: u64, word: u64) -> Option<u64>
 }
 
 // The halves of `word * size`: the high one is the number, and the low one accepts or rejects.
-#[inline]
 fn halves_of(size: u64, bits: u32, word: u64) -> (u64, u64)
     requires width { IsWordWidth bits }
     requires fits { word < 2 ^ bits }
@@ -74,7 +70,6 @@ fn halves_of(size: u64, bits: u32, word: u64) -> (u64, u64)
 }
 
 // How many words are rejected. If `size` is more than half of all words, this needs no division.
-#[inline]
 fn rejected(size: u64, bits: u32) -> u64
     requires width { IsWordWidth bits }
     requires some { 1 ≤ size }
@@ -137,7 +132,6 @@ pub fn draw_below<G: Rng<OUTPUT>, const OUTPUT: usize>(
 }
 
 // The next word of `bits` bits, by one request.
-#[inline]
 fn draw_word<G: Rng<OUTPUT>, const OUTPUT: usize>(rng: &mut G, bits: u32) -> u64
     requires width { IsWordWidth bits }
     ensures value { result ≡ next_word G.requests bits rng.old }

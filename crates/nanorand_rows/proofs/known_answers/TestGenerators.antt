@@ -15,7 +15,7 @@ use Rattle.nanorand_core.specs.declared.replay.Answer.TheVariants.{Unsigned, Exh
 use Rattle.nanorand_rows.specs.Steps.{next_count, steps_block}
 use Rattle.nanorand_rows.specs.Rising.{rising_block}
 use Rattle.nanorand_rows.specs.Constant.{constant_block, constant_step}
-use Rattle.nanorand_rows.specs.Script.{script_block, script_step}
+use Rattle.nanorand_rows.specs.Script.{script_block, script_step, byte_script_block}
 use Rattle.nanorand_rows.specs.Waste.{waste_after, waste_requests}
 use Rattle.nanorand_rows.specs.Zeros.{zeros_block}
 use Rattle.nanorand_rows.specs.Die.{die_value, die_after, die_bound}
@@ -68,6 +68,11 @@ byte_of_block_129 : replayed (plain script_block script_step 8) (late_one, 0) []
     ≡ record { answers = Exhausted ∷ Unsigned 1 ∷ []; items = []; state = (late_one, 129) }
 unfolding named range_within words_from value_drawn left_by left_after taken
 byte_of_block_129 = refl
+
+-- A script by bytes, two blocks before its list begins: two zeros, the list, and zeros again.
+bytes_of_a_script : taken byte_script_block script_step (7 ∷ 9 ∷ [], 2 ^ 64 - 2) 5 ≡ 0 ∷ 0 ∷ 7 ∷ 9 ∷ 0 ∷ []
+unfolding taken
+bytes_of_a_script = refl
 
 -- The die: 1 after 128 rejected words of zeros, 1 after one rejected word of `Steps`, and 2 from a
 -- range that begins at 2.

@@ -5,7 +5,7 @@ ghost use Rattle.nanorand_core.specs.values.Runs.{IsWordWidth};
 
 use nanorand::values::pick_word;
 
-fn pick_by_remainder(size: u128, bits: u32, word: u64) -> Option<u64>
+pub(super) fn pick_by_remainder(size: u128, bits: u32, word: u64) -> Option<u64>
     requires width { IsWordWidth bits }
     requires some { 1 ≤ size }
     requires within { size ≤ 2 ^ bits }
