@@ -10,6 +10,7 @@ pub mod laws;
 pub mod rand;
 pub mod replay;
 pub mod shuffles;
+mod swap;
 pub mod values;
 
 pub use buffer::BufferedRng;

@@ -6,6 +6,7 @@ ghost use Rattle.nanorand_core.specs.generators.Blocks.{Requests, taken, plain_a
 ghost use Rattle.nanorand_core.specs.shuffles.Shuffles.{from_itself, shuffled};
 ghost use Rattle.nanorand_core.specs.values.Values.{values_from};
 
+use crate::swap::swap;
 use crate::values::{RandomGen, RandomRange, RangeError};
 use std::ops::Bound;
 
@@ -108,7 +109,7 @@ pub trait Rng<const OUTPUT: usize>: Clone + Blocks<OUTPUT> {
         let count = target.len();
         for place in 0..count {
             let partner = self.generate_range(Bound::Included(place), Bound::Excluded(count))?;
-            target.swap(place, partner);
+            swap(target, place, partner);
         }
         Ok(())
     }

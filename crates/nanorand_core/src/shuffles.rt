@@ -4,6 +4,7 @@ ghost use Rattle.nanorand_core.specs.shuffles.Arrangements.{completed, rising, I
 ghost use Rattle.nanorand_core.specs.shuffles.Shuffles.{arranged, from_all, from_itself, shuffled};
 
 use crate::rand::Rng;
+use crate::swap::swap;
 use crate::values::RangeError;
 use std::ops::Bound;
 use thiserror::Error;
@@ -25,7 +26,7 @@ pub fn apply_choices<T>(choices: &[usize], items: &mut [T])
     ensures arrangement { IsPermutation items.old items.new }
 {
     for (place, choice) in choices.iter().enumerate() {
-        items.swap(place, *choice);
+        swap(items, place, *choice);
     }
 }
 
@@ -55,7 +56,7 @@ pub fn choices_of(
         match place_from(scratch, place, *wanted) {
             Some(choice) => {
                 out[place] = choice;
-                scratch.swap(place, choice);
+                swap(scratch, place, choice);
             }
             None => return Err(NotArrangement),
         }
@@ -115,7 +116,7 @@ pub fn shuffle_and_record<G: Rng<OUTPUT>, T, const OUTPUT: usize>(
     let count = target.len();
     for place in 0..count {
         let partner = rng.generate_range(Bound::Included(place), Bound::Excluded(count))?;
-        target.swap(place, partner);
+        swap(target, place, partner);
         choices[place] = partner;
     }
     Ok(())
@@ -139,9 +140,8 @@ pub fn shuffle_full<G: Rng<OUTPUT>, T, const OUTPUT: usize>(
 {
     let count = target.len();
     for place in 0..count {
-        let partner = rng.generate_range(Bound::Included(0), Bound::Excluded(count))?;
-        // `swap` branches on which index is smaller, which is random here: order the two first.
-        target.swap(place.min(partner), place.max(partner));
+        let other = rng.generate_range(Bound::Included(0), Bound::Excluded(count))?;
+        swap(target, place, other);
     }
     Ok(())
 }

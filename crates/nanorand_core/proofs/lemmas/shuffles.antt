@@ -5,3 +5,4 @@ pub mod CopyLemmas
 pub mod ShuffleLemmas
 pub mod RecordLemmas
 pub mod PartnerLemmas
+pub mod ItemLemmas

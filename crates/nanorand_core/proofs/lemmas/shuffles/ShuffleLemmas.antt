@@ -176,16 +176,3 @@ module _ {G T : Type 0} {requests : Requests G} {first : ℕ → ℕ} {items : L
           made = rw all at m.made;
           left = rw draws m.reached;
         }
-
--- a swap is symmetric
-swap-other : {T : Type 0} (xs : List T) (i j : ℕ) → ((i ≡ j) → ⊥) → swap xs j i ≡ swap xs i j
-swap-other [] i j differ = refl
-swap-other (x ∷ xs) i j differ = set_comm (x ∷ xs) j i _ _ (λ same. differ (sym same))
-
-pub swap-ordered : {T : Type 0} (xs : List T) (i j : ℕ) → swap xs (min i j) (max i j) ≡ swap xs i j
-swap-ordered xs i j = elim (cases_lt j i) [
-  | inl above ↦
-      let high : j ≤ i = omega (arith, above) in
-      rw (min-eq_right high, max-eq_left high) (swap-other xs i j (λ same. omega (arith, same, above)))
-  | inr low ↦ rw (min-eq_left low, max-eq_right low) refl
-]

@@ -5,7 +5,7 @@ use Rattle.nanorand_core.proofs.shuffles.apply_choices.Goals as goal
 
 pub loop-place-preserved : goal.loop-place-preserved
 loop-place-preserved g c =
-    c.swap.ensures.after ∙
+    c.swap.ensures ∙
     ap (λ xs. swap xs c.loop-place.place (get_or c.args.choices.now c.loop-place.place 0)) c.loop-place.invariant ∙
     sym (arranged-more c.args.choices.now c.args.items.now c.loop-place.place c.loop-place-test.true)
 

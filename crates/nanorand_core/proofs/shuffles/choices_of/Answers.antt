@@ -15,7 +15,7 @@ returns-in-None-clause-refused c =
 
 pub loop-place-preserved : goal.loop-place-preserved
 loop-place-preserved c =
-    rw c.swap.ensures.after
+    rw c.swap.ensures
     (choosing_step c.args.order.now c.loop-place.out c.loop-place.scratch (omega arith) (omega arith)
     c.loop-place.place c.in-Some.choice c.loop-place.invariant c.loop-place-test.true
     c.in-Some.ensures.0 (omega (arith, c.in-Some.ensures.1)) c.in-Some.ensures.2)

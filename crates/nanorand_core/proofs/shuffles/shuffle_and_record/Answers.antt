@@ -34,17 +34,17 @@ returns-in_err-partner g c =
       makes = stored.makes;
     })
 
-pub swap-requires-clause-b_in_bounds : goal.swap-requires-clause-b_in_bounds
+pub swap-requires : goal.swap-requires
 unfolding partner_drawn
-swap-requires-clause-b_in_bounds g c =
+swap-requires g c =
     let below = choice-below c.loop-place.invariant.shuffling c.in_ok-partner.ensures.value in
-    omega arith
+    (omega arith, omega arith)
 
 pub loop-place-preserved : goal.loop-place-preserved
 unfolding partner_drawn
 loop-place-preserved g c =
     let so_far = c.loop-place.invariant in
-    rw (c.in_ok-partner.ensures.state, c.swap.ensures.after)
+    rw (c.in_ok-partner.ensures.state, c.swap.ensures)
     (record {
       shuffling = shuffling-step so_far.shuffling c.loop-place-test.true c.in_ok-partner.ensures.value;
       recorded = recorded-step so_far c.loop-place-test.true c.in_ok-partner.ensures.value;

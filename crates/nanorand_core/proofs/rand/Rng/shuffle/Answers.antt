@@ -22,16 +22,16 @@ returns-in_err-partner g c =
       valid = tt;
     })
 
-pub swap-requires-clause-b_in_bounds : goal.swap-requires-clause-b_in_bounds
+pub swap-requires : goal.swap-requires
 unfolding partner_drawn
-swap-requires-clause-b_in_bounds g c =
+swap-requires g c =
     let below = choice-below c.loop-place.invariant c.in_ok-partner.ensures.value in
-    omega arith
+    (omega arith, omega arith)
 
 pub loop-place-preserved : goal.loop-place-preserved
 unfolding partner_drawn
 loop-place-preserved g c =
-    rw (c.in_ok-partner.ensures.state, c.swap.ensures.after)
+    rw (c.in_ok-partner.ensures.state, c.swap.ensures)
     (shuffling-step c.loop-place.invariant c.loop-place-test.true c.in_ok-partner.ensures.value)
 
 pub returns : goal.returns

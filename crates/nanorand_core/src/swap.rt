@@ -1,0 +1,24 @@
+//! Swaps two items of a slice without a branch.
+ghost use Rattle.std.specs.Prelude.{◌≡◌, ◌<◌, length};
+ghost use Rattle.std.specs.List.{swap};
+
+/// Swaps the items at two indices, which may be equal.
+///
+/// A shuffle asks for equal indices at random, and std's `swap` tests for them: in short slices its
+/// branch is often predicted wrongly, which costs more than the swap. Here both items are read, and
+/// both are written, in any case.
+pub(crate) fn swap<T>(items: &mut [T], a: usize, b: usize)
+    requires { (a < length items.old) × (b < length items.old) }
+    ensures { items.new ≡ swap items.old a b }
+{
+    let start = items.as_mut_ptr();
+    // SAFETY: both indices are in bounds. Each item is moved out once and in once; if the indices
+    // are equal, the same item is read twice and written twice.
+    unsafe {
+        let first = start.add(a);
+        let second = start.add(b);
+        let item = first.read();
+        first.write(second.read());
+        second.write(item);
+    }
+}
