@@ -38,8 +38,10 @@ fn replay_wyrand(
     answers: &mut [Answer],
 )
     requires { length answers.old ≡ length calls.now }
-    ensures answers { answers.new ≡ (from_seeded (seeded.WyRand seed) mode calls.now items.old).answers }
-    ensures items { items.new ≡ (from_seeded (seeded.WyRand seed) mode calls.now items.old).items }
+    ensures answers { answers.new
+        ≡ (from_seeded (seeded.WyRand seed) mode calls.now items.old).answers }
+    ensures items { items.new
+        ≡ (from_seeded (seeded.WyRand seed) mode calls.now items.old).items }
 {
     let mut rng = WyRand::new_seed(0);
     rng.reseed(seed);
@@ -57,8 +59,10 @@ fn replay_pcg64(
     answers: &mut [Answer],
 )
     requires { length answers.old ≡ length calls.now }
-    ensures answers { answers.new ≡ (from_seeded (seeded.Pcg64 seed) mode calls.now items.old).answers }
-    ensures items { items.new ≡ (from_seeded (seeded.Pcg64 seed) mode calls.now items.old).items }
+    ensures answers { answers.new
+        ≡ (from_seeded (seeded.Pcg64 seed) mode calls.now items.old).answers }
+    ensures items { items.new
+        ≡ (from_seeded (seeded.Pcg64 seed) mode calls.now items.old).items }
 {
     let mut rng = Pcg64::new_seed(0);
     rng.reseed(seed);
