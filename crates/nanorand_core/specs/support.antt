@@ -2,5 +2,6 @@
 -- only in clauses of private functions.
 pub mod BlockLemmas
 pub mod BufferedLemmas
+pub mod BoundLemmas
 pub mod NumberOrderLemmas
 pub mod IterateLemmas

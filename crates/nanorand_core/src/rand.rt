@@ -83,6 +83,7 @@ pub trait Rng<const OUTPUT: usize>: Clone + Blocks<OUTPUT> {
     ) -> Result<T, RangeError>
         ensures value { result ≡ (T.outcome self.old low high).0 }
         ensures state { self.new ≡ (T.outcome self.old low high).1 }
+        ensures limits { T.limits self.old low high (result, self.new) }
     {
         T::random_range(self, low, high)
     }

@@ -1,5 +1,5 @@
 -- A range: the numbers of a type that lie within both bounds, in increasing order.
-use Rattle.std.specs.Prelude.{ℕ, ◌-◌, ◌^◌, ◌&&◌, Bool, true, List, map, filter, ℤ, pos, ◌-ℤ◌, nat_le, nat_lt, int_le, int_lt}
+use Rattle.std.specs.Prelude.{◌≡◌, ℕ, ◌+◌, ◌-◌, ◌^◌, ◌<◌, ◌&&◌, Bool, true, List, map, filter, ℤ, pos, ◌+ℤ◌, ◌-ℤ◌, ◌<ℤ◌, nat_le, nat_lt, int_le, int_lt}
 use Rattle.std.specs.List.{range_with_len}
 use Rattle.std.specs.declared.ops.Bound.{Bound}
 use Rattle.std.specs.declared.ops.Bound.TheVariants.{Included, Excluded, Unbounded}
@@ -16,6 +16,10 @@ module _ {T : Type 0} (le lt : T → T → Bool) where
   is_below (Included b) x = le x b
   is_below (Excluded b) x = lt x b
   is_below Unbounded x = true
+
+  -- Both bounds admit x.
+  abbrev pub Admits : Bound T → Bound T → T → Type 0
+  Admits low high x = (is_above low x ≡ true) × (is_below high x ≡ true)
 
   -- The range of a type of `bits` bits, in increasing order. `number k` is the type's number of
   -- rank k, counted from 0.
@@ -38,3 +42,43 @@ unsigned_range bits low high = range_within nat_le nat_lt bits unsigned_number l
 -- The range of the signed type of `bits` bits.
 abbrev pub signed_range : ℕ → Bound ℤ → Bound ℤ → List ℤ
 signed_range bits low high = range_within int_le int_lt bits (signed_number bits) low high
+
+-- The least number that a low bound admits, of an unsigned type.
+abbrev pub unsigned_first : Bound ℕ → ℕ
+unsigned_first (Included b) = b
+unsigned_first (Excluded b) = b + 1
+unsigned_first Unbounded = 0
+
+-- The number after the greatest that a high bound admits, of the unsigned type of `bits` bits.
+abbrev pub unsigned_end : ℕ → Bound ℕ → ℕ
+unsigned_end bits (Included b) = b + 1
+unsigned_end bits (Excluded b) = b
+unsigned_end bits Unbounded = 2 ^ bits
+
+-- Two bounds of the unsigned type of `bits` bits admit a number of it.
+abbrev pub HasUnsigned : ℕ → Bound ℕ → Bound ℕ → Type 0
+HasUnsigned bits low high = unsigned_first low < unsigned_end bits high
+
+-- The same three for the signed type of `bits` bits.
+abbrev pub signed_first : ℕ → Bound ℤ → ℤ
+signed_first bits (Included b) = b
+signed_first bits (Excluded b) = b +ℤ pos 1
+signed_first bits Unbounded = pos 0 -ℤ pos (2 ^ (bits - 1))
+
+abbrev pub signed_end : ℕ → Bound ℤ → ℤ
+signed_end bits (Included b) = b +ℤ pos 1
+signed_end bits (Excluded b) = b
+signed_end bits Unbounded = pos (2 ^ (bits - 1))
+
+abbrev pub HasSigned : ℕ → Bound ℤ → Bound ℤ → Type 0
+HasSigned bits low high = signed_first bits low <ℤ signed_end bits high
+
+-- The number of a bound has the property, if the bound has a number.
+abbrev pub IfBound : {T : Type 0} → Bound T → (T → Type 0) → Type 0
+IfBound (Included b) P = P b
+IfBound (Excluded b) P = P b
+IfBound Unbounded P = Unit
+
+-- x is a number of a type of `bits` bits, whose number of rank k is `number k`.
+abbrev pub IsNumber : {T : Type 0} → ℕ → (ℕ → T) → T → Type 0
+IsNumber bits number x = (k : ℕ) × (k < 2 ^ bits) × (number k ≡ x)

@@ -1,5 +1,7 @@
 //! The integer types that have ranges.
 ghost use Rattle.std.specs.Prelude.{◌≡◌, ℕ, Bool, ◌^◌, ◌<◌, nat_le, nat_lt};
+ghost use Rattle.std.specs.declared.ops.Bound.{Bound};
+ghost use Rattle.nanorand_core.specs.values.Range.{Admits, IfBound, IsNumber};
 ghost use Rattle.nanorand_core.specs.values.Runs.{IsWordWidth};
 
 mod signed;
@@ -21,6 +23,9 @@ pub trait Number: Copy + Drop {
 
     ghost lt: { Self → Self → Bool };
 
+    // Two bounds admit a number.
+    ghost has_number: { Bound Self → Bound Self → Type 0 };
+
     /// The rank of a number.
     fn place(self) -> u64
         ensures number { number result ≡ self }
@@ -37,4 +42,9 @@ pub trait Number: Copy + Drop {
     ghost le_rises: { (j k : ℕ) → le (number j) (number k) ≡ nat_le j k };
 
     ghost lt_rises: { (j k : ℕ) → lt (number j) (number k) ≡ nat_lt j k };
+
+    // If they do, one of the type's numbers lies within both.
+    ghost has_place: { (low high : Bound Self)
+        → IfBound low (IsNumber BITS number) → IfBound high (IsNumber BITS number)
+        → has_number low high → (k : ℕ) × (k < 2 ^ BITS) × Admits le lt low high (number k) };
 }

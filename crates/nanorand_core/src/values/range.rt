@@ -1,7 +1,7 @@
 //! Numbers between two bounds.
 ghost use Rattle.std.specs.Prelude.{◌≡◌, ℕ, ◌^◌, ◌<◌, ◌≤◌, true, Result, Err, IfOk, IfErr, nat_le, nat_lt};
 ghost use Rattle.std.specs.declared.ops.Bound.{Bound};
-ghost use Rattle.nanorand_core.specs.values.Range.{is_above, is_below, range_within};
+ghost use Rattle.nanorand_core.specs.values.Range.{is_above, is_below, range_within, Admits, IfBound, IsNumber};
 ghost use Rattle.nanorand_core.specs.values.Draws.{word_limit, after_words, range_outcome};
 ghost use Rattle.nanorand_core.specs.declared.values.range.RangeError.{RangeError};
 ghost use Rattle.nanorand_core.specs.declared.values.range.RangeError.TheVariants.{Empty, Exhausted};
@@ -37,10 +37,14 @@ pub trait RandomRange<G: Rng<OUTPUT>, const OUTPUT: usize>: RandomGen<G, OUTPUT>
     // The result of a draw between two bounds, and the state after it.
     ghost outcome: { G → Bound Self → Bound Self → Result Self RangeError × G };
 
+    // What every outcome keeps to. A user's own type promises nothing here, unless it defines it.
+    ghost limits: { G → Bound Self → Bound Self → Result Self RangeError × G → Type 0 } = { λ _ _ _ _. Unit {0} };
+
     /// Draws a value between the bounds.
     fn random_range(rng: &mut G, low: Bound<Self>, high: Bound<Self>) -> Result<Self, RangeError>
         ensures value { result ≡ (outcome rng.old low high).0 }
-        ensures state { rng.new ≡ (outcome rng.old low high).1 };
+        ensures state { rng.new ≡ (outcome rng.old low high).1 }
+        ensures limits { limits rng.old low high (result, rng.new) };
 }
 
 /// Draws a number that both bounds admit; each is produced by equally many words, after Daniel Lemire
@@ -58,8 +62,8 @@ pub fn draw_number<T: Number, G: Rng<OUTPUT>, const OUTPUT: usize>(
         result ≡ (range_outcome G.requests T.BITS numbers rng.old).0 }
     ensures state { let numbers = range_within T.le T.lt T.BITS T.number low high in
         rng.new ≡ (range_outcome G.requests T.BITS numbers rng.old).1 }
-    ensures within { IfOk result (λ x. (is_above T.le T.lt low x ≡ true)
-        × (is_below T.le T.lt high x ≡ true)) }
+    ensures within { IfOk result (Admits T.le T.lt low high) }
+    ensures refusal { T.has_number low high → IfErr result (λ refusal. refusal ≡ Exhausted) }
     ensures words { (n : ℕ) × (n ≤ word_limit)
         × (rng.new ≡ after_words G.requests T.BITS n rng.old) }
     ensures some { (k : ℕ) → k < 2 ^ T.BITS
@@ -84,6 +88,7 @@ pub fn draw_number<T: Number, G: Rng<OUTPUT>, const OUTPUT: usize>(
 fn first_place<T: Number>(low: Bound<T>) -> u128
     ensures admits { (k : ℕ) → is_above T.le T.lt low (T.number k) ≡ nat_le result k }
     ensures within { result ≤ 2 ^ T.BITS }
+    ensures number { IfBound low (IsNumber T.BITS T.number) }
 {
     match low {
         Bound::Included(number) => u128::from(number.place()),
@@ -97,6 +102,7 @@ fn end_place<T: Number>(high: Bound<T>) -> u128
     ensures admits { (k : ℕ) → k < 2 ^ T.BITS
         → is_below T.le T.lt high (T.number k) ≡ nat_lt k result }
     ensures within { result ≤ 2 ^ T.BITS }
+    ensures number { IfBound high (IsNumber T.BITS T.number) }
 {
     match high {
         Bound::Included(number) => u128::from(number.place()) + 1,

@@ -1,6 +1,7 @@
 //! The signed types: rank 0 is the least number, -2^(BITS - 1).
-ghost use Rattle.std.specs.Prelude.{int_le, int_lt};
-ghost use Rattle.nanorand_core.specs.values.Range.{signed_number};
+ghost use Rattle.std.specs.Prelude.{int_le, int_lt, refl};
+ghost use Rattle.nanorand_core.specs.values.Range.{signed_number, HasSigned};
+ghost use Rattle.nanorand_core.specs.support.BoundLemmas.{signed_has_place};
 ghost use Rattle.nanorand_core.specs.support.NumberOrderLemmas.{width_8, width_16, width_32, width_64, int_le-signed, int_lt-signed};
 
 use super::Number;
@@ -16,11 +17,15 @@ impl Number for i8 {
 
     ghost lt = { int_lt };
 
+    ghost has_number = { HasSigned 8 };
+
     ghost width = { width_8 };
 
     ghost le_rises = { int_le-signed 8 };
 
     ghost lt_rises = { int_lt-signed 8 };
+
+    ghost has_place = { signed_has_place 8 refl };
 
     #[inline]
     fn place(self) -> u64 {
@@ -44,11 +49,15 @@ impl Number for i16 {
 
     ghost lt = { int_lt };
 
+    ghost has_number = { HasSigned 16 };
+
     ghost width = { width_16 };
 
     ghost le_rises = { int_le-signed 16 };
 
     ghost lt_rises = { int_lt-signed 16 };
+
+    ghost has_place = { signed_has_place 16 refl };
 
     #[inline]
     fn place(self) -> u64 {
@@ -72,11 +81,15 @@ impl Number for i32 {
 
     ghost lt = { int_lt };
 
+    ghost has_number = { HasSigned 32 };
+
     ghost width = { width_32 };
 
     ghost le_rises = { int_le-signed 32 };
 
     ghost lt_rises = { int_lt-signed 32 };
+
+    ghost has_place = { signed_has_place 32 refl };
 
     #[inline]
     fn place(self) -> u64 {
@@ -100,11 +113,15 @@ impl Number for i64 {
 
     ghost lt = { int_lt };
 
+    ghost has_number = { HasSigned 64 };
+
     ghost width = { width_64 };
 
     ghost le_rises = { int_le-signed 64 };
 
     ghost lt_rises = { int_lt-signed 64 };
+
+    ghost has_place = { signed_has_place 64 refl };
 
     #[inline]
     fn place(self) -> u64 {
@@ -128,11 +145,15 @@ impl Number for isize {
 
     ghost lt = { int_lt };
 
+    ghost has_number = { HasSigned 64 };
+
     ghost width = { width_64 };
 
     ghost le_rises = { int_le-signed 64 };
 
     ghost lt_rises = { int_lt-signed 64 };
+
+    ghost has_place = { signed_has_place 64 refl };
 
     #[inline]
     fn place(self) -> u64 {

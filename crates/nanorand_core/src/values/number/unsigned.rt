@@ -1,6 +1,7 @@
 //! The unsigned types: the rank of a number is the number itself.
 ghost use Rattle.std.specs.Prelude.{nat_le, nat_lt, refl};
-ghost use Rattle.nanorand_core.specs.values.Range.{unsigned_number};
+ghost use Rattle.nanorand_core.specs.values.Range.{unsigned_number, HasUnsigned};
+ghost use Rattle.nanorand_core.specs.support.BoundLemmas.{unsigned_has_place};
 ghost use Rattle.nanorand_core.specs.support.NumberOrderLemmas.{width_8, width_16, width_32, width_64};
 
 use super::Number;
@@ -16,11 +17,15 @@ impl Number for u8 {
 
     ghost lt = { nat_lt };
 
+    ghost has_number = { HasUnsigned 8 };
+
     ghost width = { width_8 };
 
     ghost le_rises = { λ j k. refl };
 
     ghost lt_rises = { λ j k. refl };
+
+    ghost has_place = { unsigned_has_place 8 };
 
     #[inline]
     fn place(self) -> u64 {
@@ -44,11 +49,15 @@ impl Number for u16 {
 
     ghost lt = { nat_lt };
 
+    ghost has_number = { HasUnsigned 16 };
+
     ghost width = { width_16 };
 
     ghost le_rises = { λ j k. refl };
 
     ghost lt_rises = { λ j k. refl };
+
+    ghost has_place = { unsigned_has_place 16 };
 
     #[inline]
     fn place(self) -> u64 {
@@ -72,11 +81,15 @@ impl Number for u32 {
 
     ghost lt = { nat_lt };
 
+    ghost has_number = { HasUnsigned 32 };
+
     ghost width = { width_32 };
 
     ghost le_rises = { λ j k. refl };
 
     ghost lt_rises = { λ j k. refl };
+
+    ghost has_place = { unsigned_has_place 32 };
 
     #[inline]
     fn place(self) -> u64 {
@@ -100,11 +113,15 @@ impl Number for u64 {
 
     ghost lt = { nat_lt };
 
+    ghost has_number = { HasUnsigned 64 };
+
     ghost width = { width_64 };
 
     ghost le_rises = { λ j k. refl };
 
     ghost lt_rises = { λ j k. refl };
+
+    ghost has_place = { unsigned_has_place 64 };
 
     #[inline]
     fn place(self) -> u64 {
@@ -128,11 +145,15 @@ impl Number for usize {
 
     ghost lt = { nat_lt };
 
+    ghost has_number = { HasUnsigned 64 };
+
     ghost width = { width_64 };
 
     ghost le_rises = { λ j k. refl };
 
     ghost lt_rises = { λ j k. refl };
+
+    ghost has_place = { unsigned_has_place 64 };
 
     #[inline]
     fn place(self) -> u64 {

@@ -46,3 +46,8 @@ returns-in-None-clause-state g c =
     let is = range-places g.T.Number.le g.T.Number.lt g.T.Number.BITS g.T.Number.number c.args.low c.args.high _ _
     c.first_place-first.ensures.admits c.end_place-end.ensures.admits c.end_place-end.ensures.within c.if-end-first.false in
     left-drawn _ _ _ _ _ _ (omega arith) _ is _ _ (rw c.BITS.ensures at c.draw_below.ensures.state)
+
+pub returns-then-end-first-clause-refusal : goal.returns-then-end-first-clause-refusal
+returns-then-end-first-clause-refusal g c has =
+    let place = g.met.T.Number.has_place c.args.low c.args.high c.first_place-first.ensures.number c.end_place-end.ensures.number has in
+    returns-then-end-first-clause-some g c place.0 place.1 place.2.0 place.2.1

@@ -1,0 +1,66 @@
+-- Bounds that admit a number admit one of the type's ranks. Nobody has to believe this file: it is
+-- in specs/ only because laws of impls cite its lemmas.
+use Rattle.std.specs.Prelude.{◌≡◌, ℕ, ℤ, ◌+◌, ◌-◌, ◌*◌, ◌^◌, ◌<◌, ◌≤◌, ◌<ℤ◌, ◌-ℤ◌, true, nat_le, nat_lt, int_le, int_lt, pos, refl}
+use Rattle.std.specs.declared.ops.Bound.{Bound}
+use Rattle.std.specs.declared.ops.Bound.TheVariants.{Included, Excluded, Unbounded}
+use Rattle.std.proofs.Common.{arith, sym}
+use Rattle.std.proofs.lemmas.Bool.{le-leb, lt-ltb}
+use Rattle.std.proofs.lemmas.Int.{ints}
+use Rattle.nanorand_core.specs.values.Range.{is_above, is_below, unsigned_number, signed_number, Admits, IfBound, IsNumber, HasUnsigned, HasSigned, unsigned_first, unsigned_end, signed_first, signed_end}
+
+-- the least number that a low bound admits lies within it, and what is before a high bound's end
+-- lies within that
+above_first : (low : Bound ℕ) → is_above nat_le nat_lt low (unsigned_first low) ≡ true
+above_first (Included b) = le-leb b b (omega arith)
+above_first (Excluded b) = lt-ltb b (b + 1) (omega arith)
+above_first Unbounded = refl
+
+below_end : (bits k : ℕ) (high : Bound ℕ) → k < unsigned_end bits high → is_below nat_le nat_lt high k ≡ true
+below_end bits k (Included b) below = le-leb k b (omega arith)
+below_end bits k (Excluded b) below = lt-ltb k b (omega arith)
+below_end bits k Unbounded below = refl
+
+end_fits : (bits : ℕ) (high : Bound ℕ) → IfBound high (IsNumber bits unsigned_number) → unsigned_end bits high ≤ 2 ^ bits
+end_fits bits (Included b) number = omega (arith, number.1, number.2)
+end_fits bits (Excluded b) number = omega (arith, number.1, number.2)
+end_fits bits Unbounded number = omega arith
+
+pub unsigned_has_place : (bits : ℕ) (low high : Bound ℕ) → IfBound low (IsNumber bits unsigned_number) → IfBound high (IsNumber bits unsigned_number)
+    → HasUnsigned bits low high → (k : ℕ) × (k < 2 ^ bits) × Admits nat_le nat_lt low high (unsigned_number k)
+unsigned_has_place bits low high low_number high_number has =
+    let fits = end_fits bits high high_number in
+    (unsigned_first low, omega arith, (above_first low, below_end bits (unsigned_first low) high has))
+
+signed_above : (bits : ℕ) (low : Bound ℤ) (x : ℤ) → signed_first bits low ≡ x → is_above int_le int_lt low x ≡ true
+signed_above bits (Included b) x first = grind (arith, ints)
+signed_above bits (Excluded b) x first = grind (arith, ints)
+signed_above bits Unbounded x first = refl
+
+signed_below : (bits : ℕ) (high : Bound ℤ) (x : ℤ) → x <ℤ signed_end bits high → is_below int_le int_lt high x ≡ true
+signed_below bits (Included b) x below = grind (arith, ints)
+signed_below bits (Excluded b) x below = grind (arith, ints)
+signed_below bits Unbounded x below = refl
+
+-- the ranks of the least number that a low bound admits, and of a high bound's end
+first_rank : (bits : ℕ) (low : Bound ℤ) → IfBound low (IsNumber bits (signed_number bits)) → (k : ℕ) × (signed_first bits low ≡ signed_number bits k)
+first_rank bits (Included b) number = (number.0, sym number.2)
+first_rank bits (Excluded b) number = let is : signed_number bits number.0 ≡ b = number.2 in (number.0 + 1, grind (arith, ints))
+first_rank bits Unbounded number = (0, refl)
+
+end_rank : (bits : ℕ) → 2 ^ bits ≡ 2 * 2 ^ (bits - 1) → (high : Bound ℤ) → IfBound high (IsNumber bits (signed_number bits))
+    → (m : ℕ) × (m ≤ 2 ^ bits) × (signed_end bits high ≡ signed_number bits m)
+end_rank bits half (Included b) number = let is : signed_number bits number.0 ≡ b = number.2 in (number.0 + 1, omega (arith, number.1), grind (arith, ints))
+end_rank bits half (Excluded b) number = (number.0, omega (arith, number.1), sym number.2)
+end_rank bits half Unbounded number = (2 ^ bits, omega arith, grind (arith, ints))
+
+shifted_lt_back : (m j k : ℕ) → (pos j -ℤ pos m) <ℤ (pos k -ℤ pos m) → j < k
+shifted_lt_back m j k h = omega (arith, ints)
+
+pub signed_has_place : (bits : ℕ) → 2 ^ bits ≡ 2 * 2 ^ (bits - 1) → (low high : Bound ℤ) → IfBound low (IsNumber bits (signed_number bits)) → IfBound high (IsNumber bits (signed_number bits))
+    → HasSigned bits low high → (k : ℕ) × (k < 2 ^ bits) × Admits int_le int_lt low high (signed_number bits k)
+signed_has_place bits half low high low_number high_number has =
+    let first = first_rank bits low low_number in
+    let end = end_rank bits half high high_number in
+    let below : signed_number bits first.0 <ℤ signed_end bits high = rw (← first.1) has in
+    let under : first.0 < end.0 = shifted_lt_back (2 ^ (bits - 1)) first.0 end.0 (rw end.2 at below) in
+    (first.0, omega (arith, end.1), (signed_above bits low (signed_number bits first.0) first.1, signed_below bits high (signed_number bits first.0) below))
