@@ -12,7 +12,7 @@ ghost use Rattle.nanorand.specs.generators.WyRand as wyrand;
 
 use crate::rand::{Blocks, ChaCha, Pcg64, Rng, WyRand};
 pub use nanorand_core::laws::{
-    choices_and_arrangements, fairness, permutations_by_counting, range_limits, replays_join,
+    choices_and_arrangements, choices_are_fair, fairness, permutations_by_counting, range_limits, replays_join,
     unbroken_delivery,
 };
 

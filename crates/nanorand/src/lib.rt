@@ -17,7 +17,7 @@ pub mod laws;
 pub mod rand;
 
 pub use nanorand_core::{
-    BufferedRng, RandomGen, RandomRange, RangeError, buffer, replay, shuffles, values,
+    BufferedRng, RandomGen, RandomRange, RangeError, buffer, choices, replay, shuffles, values,
 };
 pub use rand::chacha::{ChaCha, ChaCha8, ChaCha12, ChaCha20};
 pub use rand::pcg64::Pcg64;

@@ -2,6 +2,7 @@
 //! nothing; a proof calls one to use its law.
 ghost use Rattle.std.specs.Prelude.{◌≡◌, ◌<◌, length, ℕ, ℤ, nat_le, nat_lt, int_le, int_lt, ◌^◌, ◌↔◌, List, IsPermutation};
 ghost use Rattle.std.specs.declared.ops.Bound.{Bound};
+ghost use Rattle.nanorand_core.specs.choices.Uniform.{IndicesAreFair, RatiosAreFair};
 ghost use Rattle.nanorand_core.specs.generators.Blocks.{taken};
 ghost use Rattle.nanorand_core.specs.generators.Buffered.{Buffered, buffered_after, buffered_taken};
 ghost use Rattle.nanorand_core.specs.shuffles.Arrangements.{CorrespondsOneToOne, HoldEquallyOften, HoldsEachOnce, IsArrangement};
@@ -10,7 +11,7 @@ ghost use Rattle.nanorand_core.specs.replay.Unbroken.{IsUnbroken};
 ghost use Rattle.nanorand_core.specs.values.Range.{unsigned_number, signed_number};
 ghost use Rattle.nanorand_core.specs.values.RangeLimits.{KeepsLimits};
 ghost use Rattle.nanorand_core.specs.values.Draws.{after_word, unsigned_outcome, signed_outcome};
-ghost use Rattle.nanorand_core.specs.values.Fairness.{RunsAreFair, NoNumberIsPreferred, EventsAreFair};
+ghost use Rattle.nanorand_core.specs.values.Fairness.{RunsAreFair, NoNumberIsPreferred, EventsAreFair, DivisorsRejectNothing};
 
 use crate::buffer::BufferedRng;
 use crate::rand::{Blocks, Rng};
@@ -23,11 +24,23 @@ use crate::rand::{Blocks, Rng};
 /// numbers word by word is an involution on lists of words. It keeps the index of the deciding
 /// word, swaps the two numbers in the result, and leaves every other result, and every failure,
 /// unchanged. `events`: an event, a test that m of the numbers pass, is named by exactly m times as
-/// many words as one number.
+/// many words as one number. `divisors`: a size that divides 2^N, such as a power of two, rejects no
+/// word.
 pub fn fairness()
     ensures runs { RunsAreFair }
     ensures swaps { NoNumberIsPreferred }
     ensures events { EventsAreFair }
+    ensures divisors { DivisorsRejectNothing }
+{}
+
+/// The choices of `choices` prefer nothing, for words of N = 8, 16, 32 and 64 bits.
+///
+/// `items`: of `count` items, at most 2^N, each is chosen by exactly floor(2^N / count) words.
+/// `ratios`: the event of a ratio is named by exactly `numerator` times as many words as one number
+/// below the denominator.
+pub fn choices_are_fair()
+    ensures items { IndicesAreFair }
+    ensures ratios { RatiosAreFair }
 {}
 
 /// The limits that every ranged draw of an integer type keeps, over every generator.

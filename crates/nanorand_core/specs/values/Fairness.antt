@@ -1,5 +1,5 @@
 -- Exact fairness: every number has equally many words, and no list of words prefers a number.
-use Rattle.std.specs.Prelude.{◌≡◌, ℕ, ◌+◌, ◌-◌, ◌*◌, ◌^◌, ◌<◌, ◌≤◌, ◌==◌, Bool, false, List, Option, Some, None, ◌↔◌, map, count_by, option_map, if◌then◌else◌}
+use Rattle.std.specs.Prelude.{◌≡◌, ℕ, ◌+◌, ◌-◌, ◌*◌, ◌^◌, ◌<◌, ◌≤◌, ◌==◌, Bool, false, List, Option, Some, None, is_some, true, ◌↔◌, map, count_by, option_map, if◌then◌else◌}
 use Rattle.std.specs.List.{All, range_with_len}
 use Rattle.nanorand_core.specs.values.Runs.{IsWordWidth, Names, named, is_in_run, quota, rejected, first_word, words_that}
 use Rattle.nanorand_core.specs.values.Draws.{deciding_place, decided}
@@ -46,7 +46,7 @@ abbrev pub passes : (ℕ → Bool) → Option ℕ → Bool
 passes test (Some k) = test k
 passes test None = false
 
--- Fairness, part one of three, for every word width and every size from 1 to 2^bits: the runs share
+-- Fairness, part one of four, for every word width and every size from 1 to 2^bits: the runs share
 -- the words equally.
 abbrev pub RunsAreFair : Type 0
 RunsAreFair =
@@ -66,3 +66,9 @@ EventsAreFair =
     (bits size : ℕ) (test : ℕ → Bool) → IsWordWidth bits → 1 ≤ size → size ≤ 2 ^ bits
     → words_that bits (λ word. passes test (named bits size word))
     ≡ count_by test (range_with_len 0 size) * quota bits size
+
+-- Part four: a size that divides 2^bits rejects no word.
+abbrev pub DivisorsRejectNothing : Type 0
+DivisorsRejectNothing =
+    (bits size word : ℕ) → IsWordWidth bits → 1 ≤ size → rejected bits size ≡ 0 → word < 2 ^ bits
+    → is_some (named bits size word) ≡ true

@@ -1,7 +1,8 @@
 //! Numbers between two bounds.
-ghost use Rattle.std.specs.Prelude.{◌≡◌, ℕ, ◌^◌, ◌<◌, ◌≤◌, true, Result, Err, IfOk, IfErr, nat_le, nat_lt};
+ghost use Rattle.std.specs.Prelude.{◌≡◌, ℕ, ◌^◌, ◌<◌, ◌≤◌, true, Result, Err, IfOk, IfErr, length, nat_le, nat_lt};
 ghost use Rattle.std.specs.declared.ops.Bound.{Bound};
 ghost use Rattle.nanorand_core.specs.values.Range.{is_above, is_below, range_within, Admits, IfBound, IsNumber};
+ghost use Rattle.nanorand_core.specs.values.Runs.{rejected};
 ghost use Rattle.nanorand_core.specs.values.Draws.{word_limit, after_words, range_outcome};
 ghost use Rattle.nanorand_core.specs.declared.values.range.RangeError.{RangeError};
 ghost use Rattle.nanorand_core.specs.declared.values.range.RangeError.TheVariants.{Empty, Exhausted};
@@ -72,6 +73,8 @@ pub fn draw_number<T: Number, G: Rng<OUTPUT>, const OUTPUT: usize>(
     ensures empty { result ≡ Err Empty → rng.new ≡ rng.old }
     ensures exhausted { result ≡ Err Exhausted
         → rng.new ≡ after_words G.requests T.BITS word_limit rng.old }
+    ensures divisor { let numbers = range_within T.le T.lt T.BITS T.number low high in
+        rejected T.BITS (length numbers) ≡ 0 → IfErr result (λ refusal. refusal ≡ Empty) }
 {
     let first = first_place(low);
     let end = end_place(high);

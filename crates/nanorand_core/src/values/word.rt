@@ -1,5 +1,5 @@
 //! Random words of 8, 16, 32 or 64 bits, and the numbers that they name.
-ghost use Rattle.std.specs.Prelude.{◌≡◌, ℕ, ◌*◌, ◌/◌, ◌%◌, ◌^◌, ◌<◌, ◌≤◌, MatchOption, IfSome, IfNone};
+ghost use Rattle.std.specs.Prelude.{◌≡◌, ℕ, ◌*◌, ◌/◌, ◌%◌, ◌^◌, ◌<◌, ◌≤◌, MatchOption, IsSome, IfSome, IfNone};
 ghost use Rattle.nanorand_core.specs.values.Runs.{IsWordWidth, Names, named, rejected};
 ghost use Rattle.nanorand_core.specs.values.Draws.{word_limit, next_word, after_word, after_words, drawn_below};
 
@@ -98,7 +98,8 @@ fn remainder(others: u64, size: u64) -> u64
 ///
 /// Preconditions: `bits` is 8, 16, 32 or 64, and `size` is from 1 to 2^bits. Each word is one
 /// request, and the first word that names a number, as `pick_word` says, decides. It returns `None`
-/// if 128 words in a row were rejected; they stay drawn.
+/// if 128 words in a row were rejected; they stay drawn. A size that divides 2^bits, such as a power
+/// of two, rejects no word.
 #[inline]
 pub fn draw_below<G: Rng<OUTPUT>, const OUTPUT: usize>(
     rng: &mut G,
@@ -113,6 +114,7 @@ pub fn draw_below<G: Rng<OUTPUT>, const OUTPUT: usize>(
     ensures state { rng.new ≡ (drawn_below G.requests bits size rng.old).state }
     ensures words { (n : ℕ) × (n ≤ word_limit) × (rng.new ≡ after_words G.requests bits n rng.old) }
     ensures exhausted { IfNone result (rng.new ≡ after_words G.requests bits word_limit rng.old) }
+    ensures divisor { rejected bits size ≡ 0 → IsSome result }
 {
     let first = draw_word(rng, bits);
     if let Some(number) = pick_word(size, bits, first) {

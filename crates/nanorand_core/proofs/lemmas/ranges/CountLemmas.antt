@@ -1,6 +1,7 @@
 -- How many elements of a list pass a test.
-use Rattle.std.proofs.Common.{◌≡◌, ℕ, zero, suc, ◌+◌, Bool, false, cond, List, [], ◌∷◌, zero-add, refl, sym, ◌∙◌, ap, arith}
+use Rattle.std.proofs.Common.{◌≡◌, ℕ, zero, suc, ◌+◌, ◌≤◌, nat_lt, Bool, true, false, cond, List, [], ◌∷◌, zero-add, refl, sym, ◌∙◌, ap, inl, inr, arith}
 use Rattle.std.specs.List.{count_by, range_with_len}
+use Rattle.std.proofs.lemmas.Bool.{cases_lt, lt-ltb, le-ltb}
 use Rattle.std.proofs.lemmas.List.Sums.{sum_by-cons}
 
 module _ {X : Type 0} (f g : X → Bool) where
@@ -41,3 +42,24 @@ count_by-last p a (suc n) =
     let again = sum_by-cons (λ k. cond (p k) 1 0) a (range_with_len (a + 1) n) in
     let last : ◌≡◌ {A = ℕ} (cond (p (a + 1 + n)) 1 0) (cond (p (a + suc n)) 1 0) = ap (λ (k : ℕ). cond (p k) 1 0) place in
     omega (arith, front, rest, again, last)
+
+-- of the numbers below n, exactly those below m pass
+pub count_by-all_below : (m n : ℕ) → n ≤ m → count_by (λ k. nat_lt k m) (range_with_len 0 n) ≡ n
+count_by-all_below m zero h = refl
+count_by-all_below m (suc n) h =
+    let last = count_by-last (λ k. nat_lt k m) 0 n in
+    let here : nat_lt (0 + n) m ≡ true = lt-ltb (0 + n) m (omega arith) in
+    let rest = count_by-all_below m n (omega arith) in
+    omega (arith, rw here at last, rest)
+
+pub count_by-below : (m n : ℕ) → m ≤ n → count_by (λ k. nat_lt k m) (range_with_len 0 n) ≡ m
+count_by-below m zero h = omega arith
+count_by-below m (suc n) h =
+    elim (cases_lt n m) [
+      | inl under ↦ let same : m ≡ suc n = omega arith in count_by-all_below m (suc n) (omega arith) ∙ sym same
+      | inr over ↦
+          let last = count_by-last (λ k. nat_lt k m) 0 n in
+          let here : nat_lt (0 + n) m ≡ false = le-ltb (0 + n) m (omega arith) in
+          let rest = count_by-below m n over in
+          omega (arith, rw here at last, rest)
+    ]

@@ -76,6 +76,9 @@ module _ {T : Type 0} (le lt : T → T → Bool) (bits : ℕ) (number : ℕ → 
       (λ k from to. passes k (omega arith) from (omega arith))
       (λ k late in_type. fails k (omega arith) (inr (omega arith)))
 
+pub range-count : {T : Type 0} (number : ℕ → T) (first size : ℕ) (numbers : List T) → numbers ≡ map number (range_with_len first size) → length numbers ≡ size
+range-count number first size numbers is = ap length is ∙ length-map-range_with_len number first size
+
 -- the result of a draw from a list of numbers, known by its length and its elements
 module _ {G T : Type 0} (word : G → ℕ) (after : G → G) (bits : ℕ) (numbers : List T) (g : G) where
   pub value-empty : numbers ≡ [] → Err Empty ≡ value_drawn word after bits numbers g
@@ -89,7 +92,7 @@ module _ {G T : Type 0} (word : G → ℕ) (after : G → G) (bits : ℕ) (numbe
 module _ {G T : Type 0} (word : G → ℕ) (after : G → G) (bits : ℕ) (number : ℕ → T) (first size : ℕ) (some : 0 < size)
     (numbers : List T) (is : numbers ≡ map number (range_with_len first size)) (g : G) where
   count : length numbers ≡ size
-  count = ap length is ∙ length-map-range_with_len number first size
+  count = range-count number first size numbers is
 
   not_empty : nat_eq (length numbers) 0 ≡ false
   not_empty = rw count (ne_eqb size 0 (λ zero. omega arith))

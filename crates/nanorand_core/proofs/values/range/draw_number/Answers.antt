@@ -1,6 +1,6 @@
 use Rattle.std.proofs.Common.{◌+◌, ap, ◌∙◌, Ok, arith, ℕ, sym}
 use Rattle.std.proofs.lemmas.Bool.{le-leb, lt-ltb, leb-true, ltb-true}
-use Rattle.nanorand_core.proofs.lemmas.ranges.RangeLemmas.{range-empty, range-places, value-empty, left-empty, value-number, value-exhausted, left-drawn}
+use Rattle.nanorand_core.proofs.lemmas.ranges.RangeLemmas.{range-empty, range-places, range-count, value-empty, left-empty, value-number, value-exhausted, left-drawn}
 use Rattle.nanorand_core.proofs.values.range.draw_number.Goals as goal
 
 pub returns-then-end-first-clause-value : goal.returns-then-end-first-clause-value
@@ -51,3 +51,10 @@ pub returns-then-end-first-clause-refusal : goal.returns-then-end-first-clause-r
 returns-then-end-first-clause-refusal g c has =
     let place = g.met.T.Number.has_place c.args.low c.args.high c.first_place-first.ensures.number c.end_place-end.ensures.number has in
     returns-then-end-first-clause-some g c place.0 place.1 place.2.0 place.2.1
+
+pub returns-in-None-clause-divisor : goal.returns-in-None-clause-divisor
+returns-in-None-clause-divisor g c none =
+    let is = range-places g.T.Number.le g.T.Number.lt g.T.Number.BITS g.T.Number.number c.args.low c.args.high _ _
+    c.first_place-first.ensures.admits c.end_place-end.ensures.admits c.end_place-end.ensures.within c.if-end-first.false in
+    let count = range-count _ _ _ _ is in
+    let found = c.in-None.ensures.divisor (rw (c.BITS.ensures, ← count) none) in cc

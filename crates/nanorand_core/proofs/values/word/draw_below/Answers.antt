@@ -1,6 +1,6 @@
 use Rattle.std.proofs.Common.{sym, ◌∙◌, arith}
 use Rattle.nanorand_core.specs.values.Draws.{word_limit}
-use Rattle.nanorand_core.proofs.lemmas.ranges.RunLemmas.{rejecting-fits}
+use Rattle.nanorand_core.proofs.lemmas.ranges.RunLemmas.{picks, rejecting-fits}
 use Rattle.nanorand_core.proofs.lemmas.ranges.DrawLemmas.{first_word, next_word, last_word, counted_words}
 use Rattle.nanorand_core.proofs.values.word.draw_below.Goals as goal
 
@@ -42,3 +42,9 @@ returns-clause-state g c =
 
 pub returns-clause-words : goal.returns-clause-words
 returns-clause-words g c = counted_words _ _ _ _ _ _ _ (returns-clause-state g c)
+
+pub returns-clause-divisor : goal.returns-clause-divisor
+returns-clause-divisor g c none =
+    let miss = sym (sym c.in_default.is ∙ c.pick_word.ensures.value) in
+    let hit = picks c.args.bits c.args.size _ c.requires.some c.draw_word-first.ensures.fits (rw none (omega arith)) in
+    absurd (let clash = sym miss ∙ hit in cc)

@@ -1,0 +1,29 @@
+use Rattle.std.proofs.Common.{◌≡◌, ℕ, ◌+◌, ◌-◌, ◌*◌, ◌%◌, ◌^◌, ◌≤◌, Result, Ok, Err, length, refl, sym, ◌∙◌, ap, arith}
+use Rattle.std.specs.Result.{IfErr, IsOk}
+use Rattle.std.specs.declared.ops.Bound.TheVariants.{Excluded, Unbounded}
+use Rattle.std.proofs.lemmas.Bool.{le-leb}
+use Rattle.std.proofs.lemmas.Nat.{pow-add, pow_pos}
+use Rattle.std.proofs.Math.Pow.{pow_mono}
+use Rattle.std.proofs.Math.Nat.{mul-mod_left}
+use Rattle.nanorand_core.specs.values.Runs.{rejected}
+use Rattle.nanorand_core.specs.declared.values.range.RangeError.{RangeError}
+use Rattle.nanorand_core.specs.declared.values.range.RangeError.TheVariants.{Empty, Exhausted}
+use Rattle.nanorand_core.proofs.lemmas.ranges.RangeLemmas.{range-places, range-count}
+use Rattle.nanorand_core.proofs.choices.uniform.below.Goals as goal
+
+-- a draw that is refused by neither name is not refused
+unrefused : {T : Type 0} (result : Result T RangeError) → IfErr result (λ refusal. refusal ≡ Empty)
+    → IfErr result (λ refusal. refusal ≡ Exhausted) → IsOk result
+unrefused (Ok x) empty exhausted = refl
+unrefused (Err refusal) empty exhausted = let clash = sym empty ∙ exhausted in cc
+
+pub returns-clause-power : goal.returns-clause-power
+returns-clause-power g c k low is =
+    let bits = g.T.Number.BITS in
+    let fits : 2 ^ k ≤ 2 ^ bits = pow_mono (omega (arith, low)) in
+    let numbers = range-places g.T.Number.le g.T.Number.lt bits g.T.Number.number Unbounded (Excluded c.args.n) 0 (2 ^ k)
+    (λ j. sym (le-leb 0 j (omega arith))) (λ j in_type. rw is (g.met.T.Number.lt_rises j (2 ^ k))) fits (pow_pos k) in
+    let count : length _ ≡ 2 ^ k = range-count _ 0 _ _ numbers ∙ omega arith in
+    let split : 2 ^ bits ≡ 2 ^ (bits - k) * 2 ^ k = (let sum : bits ≡ bits - k + k = omega (arith, low) in ap (λ (n : ℕ). 2 ^ n) sum) ∙ pow-add 2 (bits - k) k in
+    let divides = ap (λ (n : ℕ). rejected bits n) count ∙ ap (λ (n : ℕ). n % 2 ^ k) split ∙ mul-mod_left (2 ^ (bits - k)) (2 ^ k) in
+    unrefused _ (c.draw_number.ensures.divisor divides) (c.draw_number.ensures.refusal c.requires)

@@ -1,0 +1,2 @@
+-- Choices by one drawn number.
+pub mod Uniform

@@ -1,0 +1,8 @@
+//! Choices by one drawn number: a number below another, an item of a slice, an event of a given
+//! ratio.
+//!
+//! Each draws words of 64 bits (`below` words of its type's width), each by one request, at most
+//! 128 of them. The first word that names a number decides, as `values::pick_word` says.
+pub mod uniform;
+
+pub use uniform::{below, choose, choose_mut, ratio};

@@ -1,0 +1,104 @@
+//! Choices of which each is as likely as any other: by fairness, each has equally many words.
+ghost use Rattle.std.specs.Prelude.{◌≡◌, ℕ, ◌^◌, ◌<◌, ◌≤◌, [], true, false, length, slice_get, nat_lt, Some, Ok, Err, IsOk, IsOkAnd, IfOk, IfErr, MatchResult};
+ghost use Rattle.std.specs.declared.ops.Bound.TheVariants.{Excluded, Unbounded};
+ghost use Rattle.nanorand_core.specs.values.Range.{range_within};
+ghost use Rattle.nanorand_core.specs.values.Draws.{word_limit, after_words, range_outcome};
+ghost use Rattle.nanorand_core.specs.choices.Uniform.{index_drawn};
+ghost use Rattle.nanorand_core.specs.declared.values.range.RangeError.TheVariants.{Empty, Exhausted};
+
+use crate::rand::Rng;
+use crate::values::RangeError;
+use crate::values::number::Number;
+use crate::values::range::draw_number;
+use std::ops::Bound;
+
+/// Draws a number below `n`: of an unsigned type one of 0, 1, .., `n` - 1, and of a signed type one
+/// from the type's least number on.
+///
+/// Precondition: the type has a number below `n`. The only error is `Exhausted`, after 128 rejected
+/// words, and for a power of two there is none: no word is rejected then.
+#[inline]
+pub fn below<T: Number, G: Rng<OUTPUT>, const OUTPUT: usize>(
+    rng: &mut G,
+    n: T,
+) -> Result<T, RangeError>
+    requires { T.has_number Unbounded (Excluded n) }
+    ensures value { let numbers = range_within T.le T.lt T.BITS T.number Unbounded (Excluded n) in
+        result ≡ (range_outcome G.requests T.BITS numbers rng.old).0 }
+    ensures state { let numbers = range_within T.le T.lt T.BITS T.number Unbounded (Excluded n) in
+        rng.new ≡ (range_outcome G.requests T.BITS numbers rng.old).1 }
+    ensures below { IfOk result (λ number. T.lt number n ≡ true) }
+    ensures refusal { IfErr result (λ refusal. refusal ≡ Exhausted) }
+    ensures power { (k : ℕ) → k < T.BITS → n ≡ T.number (2 ^ k) → IsOk result }
+    ensures words { (m : ℕ) × (m ≤ word_limit)
+        × (rng.new ≡ after_words G.requests T.BITS m rng.old) }
+{
+    draw_number(rng, Bound::Unbounded, Bound::Excluded(n))
+}
+
+/// Chooses an item of the slice; each is chosen by equally many words.
+///
+/// It returns `Empty` for an empty slice, and draws nothing then. It returns `Exhausted` if 128
+/// words in a row were rejected; they stay drawn.
+#[inline]
+pub fn choose<'a, T, G: Rng<OUTPUT>, const OUTPUT: usize>(
+    rng: &mut G,
+    items: &'a [T],
+) -> Result<&'a T, RangeError>
+    ensures item { MatchResult (index_drawn G.requests (length items.now) rng.old).0
+        (λ i. IsOkAnd result (λ item. slice_get items.now i ≡ Some item.now))
+        (λ refusal. result ≡ Err refusal) }
+    ensures state { rng.new ≡ (index_drawn G.requests (length items.now) rng.old).1 }
+    ensures refusal { 0 < length items.now → IfErr result (λ refusal. refusal ≡ Exhausted) }
+    ensures empty { result ≡ Err Empty → rng.new ≡ rng.old }
+    ensures words { (m : ℕ) × (m ≤ word_limit) × (rng.new ≡ after_words G.requests 64 m rng.old) }
+{
+    let index = rng.generate_range(Bound::Included(0), Bound::Excluded(items.len()))?;
+    Ok(&items[index])
+}
+
+/// Chooses an item of the slice as `choose` does, and lends it for writing.
+///
+/// No contract can say yet what a slice is after an item was lent inside a `Result`. If a caller's
+/// proof needs that, draw the index: `let i = below(rng, items.len())?`, and write to `items[i]`.
+#[inline]
+pub fn choose_mut<'a, T, G: Rng<OUTPUT>, const OUTPUT: usize>(
+    rng: &mut G,
+    items: &'a mut [T],
+) -> Result<&'a mut T, RangeError>
+    ensures item { MatchResult (index_drawn G.requests (length items.old) rng.old).0
+        (λ i. IsOkAnd result (λ item. slice_get items.old i ≡ Some item.now))
+        (λ refusal. result ≡ Err refusal) }
+    ensures state { rng.new ≡ (index_drawn G.requests (length items.old) rng.old).1 }
+    ensures refusal { 0 < length items.old → IfErr result (λ refusal. refusal ≡ Exhausted) }
+    ensures empty { result ≡ Err Empty → rng.new ≡ rng.old }
+    ensures words { (m : ℕ) × (m ≤ word_limit) × (rng.new ≡ after_words G.requests 64 m rng.old) }
+{
+    let index = rng.generate_range(Bound::Included(0), Bound::Excluded(items.len()))?;
+    Ok(&mut items[index])
+}
+
+/// Returns true with the probability `numerator / denominator`: for exactly `numerator` times as
+/// many words as one number below `denominator` has.
+///
+/// If `numerator` is `denominator` or more, it is always true. It returns `Empty` if `denominator`
+/// is 0, and draws nothing then. It returns `Exhausted` if 128 words in a row were rejected; they
+/// stay drawn.
+#[inline]
+pub fn ratio<G: Rng<OUTPUT>, const OUTPUT: usize>(
+    rng: &mut G,
+    numerator: u64,
+    denominator: u64,
+) -> Result<bool, RangeError>
+    ensures truth { MatchResult (index_drawn G.requests denominator rng.old).0
+        (λ number. result ≡ Ok (nat_lt number numerator)) (λ refusal. result ≡ Err refusal) }
+    ensures state { rng.new ≡ (index_drawn G.requests denominator rng.old).1 }
+    ensures always { denominator ≤ numerator → IfOk result (λ truth. truth ≡ true) }
+    ensures never { numerator ≡ 0 → IfOk result (λ truth. truth ≡ false) }
+    ensures refusal { 0 < denominator → IfErr result (λ refusal. refusal ≡ Exhausted) }
+    ensures empty { result ≡ Err Empty → rng.new ≡ rng.old }
+    ensures words { (m : ℕ) × (m ≤ word_limit) × (rng.new ≡ after_words G.requests 64 m rng.old) }
+{
+    let number = rng.generate_range(Bound::Included(0), Bound::Excluded(denominator))?;
+    Ok(number < numerator)
+}
