@@ -3,7 +3,9 @@ pub mod Constant
 pub mod Script
 pub mod Rising
 pub mod Waste
+pub mod Card
 pub mod Die
 pub mod Forking
 pub mod Zeros
+pub mod SplitMix
 pub mod support

@@ -1,23 +1,26 @@
 //! Proved callers of the library, one for each use; they need no proof of their own. `CALLING.md`
 //! quotes them. Larger callers have a module each.
-ghost use Rattle.std.specs.Prelude.{◌≡◌, ◌≤◌, ◌+◌, ◌++◌, [], length, MatchResult, IsPermutation};
+ghost use Rattle.std.specs.Prelude.{◌≡◌, ◌≤◌, ◌<◌, ◌+◌, ◌++◌, [], length, Contains, IfOk, IfErr, MatchResult, IsPermutation};
 ghost use Rattle.std.specs.declared.ops.Bound.TheVariants.{Included};
 ghost use Rattle.nanorand_core.specs.generators.Buffered.{buffered_taken};
 ghost use Rattle.nanorand_core.specs.values.Draws.{unsigned_outcome};
+ghost use Rattle.nanorand_core.specs.declared.values.range.RangeError.TheVariants.{Exhausted};
 ghost use Rattle.nanorand.specs.generators.Pcg64.{pcg64_after};
 ghost use Rattle.nanorand_core.specs.replay.Replay.{replayed};
 ghost use Rattle.nanorand_core.specs.shuffles.Shuffles.{from_itself, shuffled};
 ghost use Rattle.nanorand_core.specs.values.Values.{number_of};
 ghost use Rattle.nanorand.specs.generators.WyRand.{wyrand_requests};
 
+pub mod card;
 pub mod die;
 pub mod examples;
 pub mod nested;
 pub mod rounds;
+pub mod split_mix;
 
 use nanorand::laws::{pcg64_cycles, unbroken_delivery};
 use nanorand::replay::{Answer, Call, replay};
-use nanorand::values::range::draw_number;
+use nanorand::choices::{below, choose, ratio};
 use nanorand::{BufferedRng, Pcg64, RangeError, Rng, WyRand};
 use std::ops::Bound;
 
@@ -36,10 +39,58 @@ pub fn throw<G: Rng<OUTPUT>, const OUTPUT: usize>(rng: &mut G) -> u8
         MatchResult (outcome (Included 1) (Included 6)).0
         (λ pips. result ≡ pips) (λ _. result ≡ 1) }
 {
-    match draw_number::<u8, G, OUTPUT>(rng, Bound::Included(1), Bound::Included(6)) {
+    match rng.generate_range(Bound::Included(1), Bound::Included(6)) {
         Ok(pips) => pips,
         Err(_) => 1,
     }
+}
+
+/// An item of the slice. The index is always within it, and only an empty slice is `Empty`.
+pub fn pick<G: Rng<OUTPUT>, const OUTPUT: usize>(
+    rng: &mut G,
+    items: &[u32],
+) -> Result<u32, RangeError>
+    ensures some { 0 < length items.now → IfErr result (λ refusal. refusal ≡ Exhausted) }
+{
+    let index = rng.generate_range(Bound::Included(0), Bound::Excluded(items.len()))?;
+    Ok(items[index])
+}
+
+/// The same of a slice that is not empty.
+pub fn pick_below<G: Rng<OUTPUT>, const OUTPUT: usize>(
+    rng: &mut G,
+    items: &[u32],
+) -> Result<u32, RangeError>
+    requires { 0 < length items.now }
+    ensures { IfErr result (λ refusal. refusal ≡ Exhausted) }
+{
+    let index = below(rng, items.len())?;
+    Ok(items[index])
+}
+
+/// A throw that may be refused, but never as `Empty`.
+pub fn roll(rng: &mut WyRand) -> Result<u8, RangeError>
+    ensures face { IfOk result (λ pips. (1 ≤ pips) × (pips ≤ 6)) }
+    ensures refusal { IfErr result (λ refusal. refusal ≡ Exhausted) }
+{
+    rng.generate_range(Bound::Included(1), Bound::Included(6))
+}
+
+/// A server of the list, each by equally many words.
+pub fn server<G: Rng<OUTPUT>, const OUTPUT: usize>(
+    rng: &mut G,
+    servers: &[u32],
+) -> Result<u32, RangeError>
+    ensures { IfOk result (λ server. Contains servers.now server) }
+{
+    Ok(*choose(rng, servers)?)
+}
+
+/// Whether a request is sampled: one of a hundred is.
+pub fn is_sampled(rng: &mut WyRand) -> Result<bool, RangeError>
+    ensures { IfErr result (λ refusal. refusal ≡ Exhausted) }
+{
+    ratio(rng, 1, 100)
 }
 
 /// Shuffles a pack of cards. The result is a permutation of the cards, also if the shuffle fails.

@@ -8,7 +8,9 @@ pub mod references;
 #[cfg(test)]
 mod tests;
 
+pub use callers::card::Card;
 pub use callers::die::Die;
+pub use callers::split_mix::SplitMix64;
 pub use generators::byte_script::ByteScript;
 pub use generators::constant::Constant;
 pub use generators::forking::Forking;
