@@ -18,9 +18,9 @@ pub mod nested;
 pub mod rounds;
 pub mod split_mix;
 
+use nanorand::choices::{below, choose, ratio};
 use nanorand::laws::{pcg64_cycles, unbroken_delivery};
 use nanorand::replay::{Answer, Call, replay};
-use nanorand::choices::{below, choose, ratio};
 use nanorand::{BufferedRng, Pcg64, RangeError, Rng, WyRand};
 use std::ops::Bound;
 

@@ -23,5 +23,6 @@ mod shuffles;
 mod signed_ranges;
 mod stored_shuffles;
 mod texts;
+mod uniform;
 mod values;
 mod wyrand;
