@@ -24,8 +24,8 @@ use crate::rand::{Blocks, Rng};
 /// numbers word by word is an involution on lists of words. It keeps the index of the deciding
 /// word, swaps the two numbers in the result, and leaves every other result, and every failure,
 /// unchanged. `events`: an event, a test that m of the numbers pass, is named by exactly m times as
-/// many words as one number. `divisors`: a size that divides 2^N, such as a power of two, rejects no
-/// word.
+/// many words as one number. `divisors`: a size that divides 2^N, such as a power of two, rejects
+/// no word.
 pub fn fairness()
     ensures runs { RunsAreFair }
     ensures swaps { NoNumberIsPreferred }

@@ -35,6 +35,10 @@ pub trait Blocks<const OUTPUT: usize> {
 
 /// A generator of random values.
 ///
+/// Functions over it are generic: `fn f<G: Rng<OUTPUT>, const OUTPUT: usize>(rng: &mut G)`. There
+/// is no `dyn Rng`, since its calls are generic too, and no `Rng` of a `&mut G`, since a reference
+/// has no clone: pass `rng` on as it is.
+///
 /// To implement it, implement `Clone` and `Blocks`, write `fill_bytes`, define `requests` (the
 /// bytes that a request of n bytes takes, and the state that it leaves), and prove the three laws
 /// at the end of the trait. The other functions follow from these.
@@ -67,10 +71,13 @@ pub trait Rng<const OUTPUT: usize>: Clone + Blocks<OUTPUT> {
         }
     }
 
-    /// Draws a value between the bounds `low` and `high`.
+    /// Draws a value between the bounds `low` and `high`. Rust's `generate_range(1..=6)` is
+    /// `generate_range(Bound::Included(1), Bound::Included(6))`.
     ///
-    /// The integer types map words to numbers after Daniel Lemire ("Fast Random Integer Generation in
-    /// an Interval", 2019).
+    /// For the integer types a number that is returned lies within both bounds, and bounds that
+    /// admit a number are never refused as `Empty`: a caller's proof has both, and cites nothing.
+    /// Words are mapped to numbers after Daniel Lemire ("Fast Random Integer Generation in an
+    /// Interval", 2019).
     ///
     /// For the integer types it returns `Empty` if the range has no number, and draws nothing then.
     /// It returns `Exhausted` if 128 words in a row were rejected; these stay drawn. A user's type

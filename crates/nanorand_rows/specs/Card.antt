@@ -29,7 +29,7 @@ card_end (Included number) = Included number
 card_end (Excluded number) = Excluded number
 card_end Unbounded = Excluded 52
 
--- The bound has a number, and it is at most 52.
+-- The bound has a number, and no number from 52 on is below it.
 abbrev pub EndsInPack : Bound ℕ → Type 0
 EndsInPack (Included number) = number < 52
 EndsInPack (Excluded number) = number < 53

@@ -70,7 +70,8 @@ impl Pcg64 {
     }
 
     /// A generator whose seed is the reader's next 16 bytes, least byte first. `state` and `inc`
-    /// are 0.
+    /// are 0. Rust's `Pcg64::new()` takes its seed from the system; here the caller passes a
+    /// reader.
     ///
     /// It returns `Short` or `Fault` as `entropy::system` does. The position of the reader is then
     /// unspecified.

@@ -55,7 +55,9 @@ impl WyRand {
         WyRand { seed }
     }
 
-    /// A generator whose seed is the reader's next 8 bytes, least byte first.
+    /// A generator whose seed is the reader's next 8 bytes, least byte first. Rust's
+    /// `WyRand::new()` takes its seed from the system; here the caller passes a reader, or a number
+    /// to `new_seed`.
     ///
     /// It returns `Short` or `Fault` as `entropy::system` does. The position of the reader is then
     /// unspecified.

@@ -28,7 +28,8 @@ pub enum RangeError {
     Exhausted,
 }
 
-/// A type whose values can be drawn within two bounds.
+/// A type whose values can be drawn within two bounds: the integer types of 8 to 64 bits, `usize`
+/// and `isize`, but not `u128` and `i128`, since a word has at most 64 bits.
 ///
 /// A range of an integer type holds the numbers that both bounds admit. Words of the type's width
 /// are drawn, each by one request, until one names a number, at most 128; each number of the range
@@ -39,7 +40,8 @@ pub trait RandomRange<G: Rng<OUTPUT>, const OUTPUT: usize>: RandomGen<G, OUTPUT>
     ghost outcome: { G → Bound Self → Bound Self → Result Self RangeError × G };
 
     // What every outcome keeps to. A user's own type promises nothing here, unless it defines it.
-    ghost limits: { G → Bound Self → Bound Self → Result Self RangeError × G → Type 0 } = { λ _ _ _ _. Unit {0} };
+    ghost limits: { G → Bound Self → Bound Self
+        → Result Self RangeError × G → Type 0 } = { λ _ _ _ _. Unit {0} };
 
     /// Draws a value between the bounds.
     fn random_range(rng: &mut G, low: Bound<Self>, high: Bound<Self>) -> Result<Self, RangeError>
