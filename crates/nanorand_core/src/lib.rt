@@ -9,6 +9,7 @@ pub mod buffer;
 pub mod laws;
 pub mod rand;
 pub mod replay;
+pub mod samples;
 pub mod shuffles;
 mod swap;
 pub mod values;

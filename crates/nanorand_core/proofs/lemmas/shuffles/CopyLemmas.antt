@@ -35,7 +35,7 @@ copies-outside number a (suc n) outside =
     ]
 
 -- each of the n numbers from a on occurs once
-copies-inside : (number a n : ℕ) → a ≤ number → number < a + n → copies number (range_with_len a n) ≡ 1
+pub copies-inside : (number a n : ℕ) → a ≤ number → number < a + n → copies number (range_with_len a n) ≡ 1
 copies-inside number a zero from below = absurd (omega arith)
 copies-inside number a (suc n) from below =
     elim (cases_eq a number) [
