@@ -1,6 +1,8 @@
 //! The values that a generator draws.
-ghost use Rattle.std.specs.Prelude.{◌≡◌, ◌^◌, ◌<◌};
-ghost use Rattle.nanorand_core.specs.values.Values.{truth_of};
+ghost use Rattle.std.specs.Prelude.{◌≡◌, ◌^◌, ◌<◌, All, Bool, length, true};
+ghost use Rattle.std.specs.Fn.{CalledAtMut, iterate};
+ghost use Rattle.nanorand_core.specs.values.Fills.{CallsReturn, EachCallDraws, EachCallPasses};
+ghost use Rattle.nanorand_core.specs.values.Values.{truth_of, values_from};
 
 pub mod number;
 pub mod range;
@@ -38,6 +40,31 @@ impl<G: Rng<OUTPUT>, const OUTPUT: usize> RandomGen<G, OUTPUT> for bool {
     #[inline]
     fn random(rng: &mut G) -> bool {
         u8::from_le_bytes(next_bytes(rng)) < 128
+    }
+}
+
+/// Fills the slice by a closure: calls `draw` once for each item, in the order of the items.
+///
+/// It is `Rng::fill` for draws that are no type of their own, as a range or a choice. The clauses
+/// speak of the calls of the closure. `ran`: the items are what the calls returned, one after
+/// another. `values`, `state`: if every call returns a function of the state before it, the items
+/// are its values. `all`: if every call returns a value that passes a test, all items pass.
+///
+/// Precondition: the closure may be called at any state.
+pub fn fill_with<G, T: Drop, F: FnMut(&mut G) -> T>(rng: &mut G, target: &mut [T], mut draw: F)
+    requires { F.IsAlwaysCallable draw }
+    ensures ran { CallsReturn (CalledAtMut F.FnMut) draw rng.old target.new rng.new }
+    ensures values { (value : G → T) (after : G → G)
+        → EachCallDraws (CalledAtMut F.FnMut) value after
+        → target.new ≡ values_from value after (length target.old) rng.old }
+    ensures state { (value : G → T) (after : G → G)
+        → EachCallDraws (CalledAtMut F.FnMut) value after
+        → rng.new ≡ iterate after (length target.old) rng.old }
+    ensures all { (test : T → Bool) → EachCallPasses (CalledAtMut F.FnMut) test
+        → All (λ item. test item ≡ true) target.new }
+{
+    for item in target.iter_mut() {
+        *item = draw(rng);
     }
 }
 
