@@ -4,6 +4,7 @@ ghost use Rattle.std.specs.Fn.{CalledAtMut, iterate};
 ghost use Rattle.nanorand_core.specs.values.Fills.{CallsReturn, EachCallDraws, EachCallPasses};
 ghost use Rattle.nanorand_core.specs.values.Values.{truth_of, values_from};
 
+mod bytes;
 pub mod number;
 pub mod range;
 mod signed;
