@@ -1,7 +1,7 @@
 //! The values that a generator draws.
 ghost use Rattle.std.specs.Prelude.{◌≡◌, ◌^◌, ◌<◌, All, Bool, length, true};
 ghost use Rattle.std.specs.Fn.{CalledAtMut, iterate};
-ghost use Rattle.nanorand_core.specs.values.Fills.{CallsReturn, EachCallDraws, EachCallPasses};
+ghost use Rattle.nanorand_core.specs.values.Fills.{CallsReturn, EachCallDraws, EachCallLeaves, EachCallPasses};
 ghost use Rattle.nanorand_core.specs.values.Values.{truth_of, values_from};
 
 mod bytes;
@@ -46,10 +46,13 @@ impl<G: Rng<OUTPUT>, const OUTPUT: usize> RandomGen<G, OUTPUT> for bool {
 
 /// Fills the slice by a closure: calls `draw` once for each item, in the order of the items.
 ///
-/// It is `Rng::fill` for draws that are no type of their own, as a range or a choice. The clauses
-/// speak of the calls of the closure. `ran`: the items are what the calls returned, one after
-/// another. `values`, `state`: if every call returns a function of the state before it, the items
-/// are its values. `all`: if every call returns a value that passes a test, all items pass.
+/// It is `Rng::fill` for draws that are no type of their own, as a range or a choice.
+///
+/// `ran`: the items are what the calls returned, one after another. The other clauses follow from
+/// what holds of every call. `values`: if a call returns a function of the state before it, and
+/// leaves another function of it, the items are the values of these two. `state`: if a call leaves
+/// a function of the state before it, the state is that after one call for each item. `all`: if
+/// the value of a call passes a test, all items pass.
 ///
 /// Precondition: the closure may be called at any state.
 pub fn fill_with<G, T: Drop, F: FnMut(&mut G) -> T>(rng: &mut G, target: &mut [T], mut draw: F)
@@ -58,8 +61,7 @@ pub fn fill_with<G, T: Drop, F: FnMut(&mut G) -> T>(rng: &mut G, target: &mut [T
     ensures values { (value : G → T) (after : G → G)
         → EachCallDraws (CalledAtMut F.FnMut) value after
         → target.new ≡ values_from value after (length target.old) rng.old }
-    ensures state { (value : G → T) (after : G → G)
-        → EachCallDraws (CalledAtMut F.FnMut) value after
+    ensures state { (after : G → G) → EachCallLeaves (CalledAtMut F.FnMut) after
         → rng.new ≡ iterate after (length target.old) rng.old }
     ensures all { (test : T → Bool) → EachCallPasses (CalledAtMut F.FnMut) test
         → All (λ item. test item ≡ true) target.new }

@@ -13,6 +13,11 @@ module _ {F G T : Type 0} (Call : F → G → T → F → G → Type 0) where
   EachCallDraws value after =
       (f : F) (g : G) (x : T) (f' : F) (g' : G) → Call f g x f' g' → (x ≡ value g) × (g' ≡ after g)
 
+  -- Every call leaves the state `after` the one before it.
+  abbrev pub EachCallLeaves : (G → G) → Type 0
+  EachCallLeaves after =
+      (f : F) (g : G) (x : T) (f' : F) (g' : G) → Call f g x f' g' → g' ≡ after g
+
   -- Every call returns a value that passes the test.
   abbrev pub EachCallPasses : (T → Bool) → Type 0
   EachCallPasses test =

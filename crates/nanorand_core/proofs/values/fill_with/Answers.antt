@@ -4,7 +4,7 @@ use Rattle.std.proofs.RetainMut.{Called-Mut}
 use Rattle.std.specs.Fn.{CalledAtMut, iterate}
 use Rattle.nanorand_core.specs.values.Fills.{CallsReturn}
 use Rattle.nanorand_core.specs.values.Values.{values_from}
-use Rattle.nanorand_core.proofs.lemmas.FillLemmas.{values_drawn, state_drawn, all_pass}
+use Rattle.nanorand_core.proofs.lemmas.FillLemmas.{values_drawn, state_left, all_pass}
 use Rattle.nanorand_core.proofs.values.fill_with.Goals as goal
 
 pub loop-item-preserved : goal.loop-item-preserved
@@ -30,7 +30,7 @@ returns g c =
       ran = ran;
       values = λ value after each. values_drawn Call value after each at.target c.args.draw c.args.rng.now at.rng ran
           ∙ ap (λ n. values_from value after n c.args.rng.now) long;
-      state = λ value after each. state_drawn Call value after each at.target c.args.draw c.args.rng.now at.rng ran
+      state = λ after each. state_left Call after each at.target c.args.draw c.args.rng.now at.rng ran
           ∙ ap (λ n. iterate after n c.args.rng.now) long;
       all = λ test each. all_pass Call test each at.target c.args.draw c.args.rng.now at.rng ran;
     }
