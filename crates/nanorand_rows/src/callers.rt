@@ -12,6 +12,7 @@ ghost use Rattle.nanorand.specs.generators.WyRand.{wyrand_requests};
 
 pub mod die;
 pub mod examples;
+pub mod fills;
 pub mod nested;
 pub mod rounds;
 
