@@ -1,5 +1,5 @@
 //! The values that a generator draws.
-ghost use Rattle.std.specs.Prelude.{◌≡◌, ◌^◌, ◌<◌, All, Bool, length, true};
+ghost use Rattle.std.specs.Prelude.{◌≡◌, All, Bool, length, true};
 ghost use Rattle.std.specs.Fn.{CalledAtMut, iterate};
 ghost use Rattle.nanorand_core.specs.values.Fills.{CallsReturn, EachCallDraws, EachCallLeaves, EachCallPasses};
 ghost use Rattle.nanorand_core.specs.values.Values.{truth_of, values_from};
@@ -18,7 +18,8 @@ pub use word::pick_word;
 /// A type whose values can be drawn from a generator.
 ///
 /// An integer of N bits takes one request of N / 8 bytes, read least byte first, the signed types
-/// in two's complement. `usize` and `isize` have 64 bits.
+/// in two's complement. `usize` and `isize` have 64 bits. An array of N bytes takes one request of
+/// N bytes.
 pub trait RandomGen<G: Rng<OUTPUT>, const OUTPUT: usize> {
     // The value that is drawn in a state.
     ghost value: { G → Self };
@@ -74,7 +75,6 @@ pub fn fill_with<G, T: Drop, F: FnMut(&mut G) -> T>(rng: &mut G, target: &mut [T
 // The next `SIZE` bytes, by one request.
 #[inline]
 fn next_bytes<G: Rng<OUTPUT>, const SIZE: usize, const OUTPUT: usize>(rng: &mut G) -> [u8; SIZE]
-    requires { SIZE < 2 ^ 63 }
     ensures bytes { result ≡ G.requests.bytes rng.old SIZE }
     ensures state { rng.new ≡ G.requests.after rng.old SIZE }
 {

@@ -1,8 +1,9 @@
 //! Arrays of bytes: one request of their length.
 
-use super::RandomGen;
+use super::{RandomGen, next_bytes};
 use crate::rand::Rng;
 
+/// Takes `N` bytes by one request. An array of no bytes takes a request of none.
 impl<G: Rng<OUTPUT>, const N: usize, const OUTPUT: usize> RandomGen<G, OUTPUT> for [u8; N] {
     ghost value = { λ g. G.requests.bytes g N };
 
@@ -10,8 +11,6 @@ impl<G: Rng<OUTPUT>, const N: usize, const OUTPUT: usize> RandomGen<G, OUTPUT> f
 
     #[inline]
     fn random(rng: &mut G) -> [u8; N] {
-        let mut bytes = [0; N];
-        rng.fill_bytes(&mut bytes);
-        bytes
+        next_bytes(rng)
     }
 }
