@@ -12,3 +12,4 @@ pub mod Replays
 pub mod ReplayRefusals
 pub mod AskedBytes
 pub mod ChoicesOfThree
+pub mod SampledNumbers

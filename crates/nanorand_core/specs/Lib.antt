@@ -5,4 +5,5 @@ pub mod support
 pub mod values
 pub mod shuffles
 pub mod choices
+pub mod samples
 pub mod replay

@@ -5,3 +5,4 @@ pub mod Range
 pub mod Draws
 pub mod RangeLimits
 pub mod Fairness
+pub mod Fills

@@ -6,6 +6,7 @@ ghost use Rattle.nanorand_core.specs.choices.Uniform.{IndicesAreFair, RatiosAreF
 ghost use Rattle.nanorand_core.specs.generators.Blocks.{taken};
 ghost use Rattle.nanorand_core.specs.generators.Buffered.{Buffered, buffered_after, buffered_taken};
 ghost use Rattle.nanorand_core.specs.shuffles.Arrangements.{CorrespondsOneToOne, HoldEquallyOften, HoldsEachOnce, IsArrangement};
+ghost use Rattle.nanorand_core.specs.samples.Samples.{NumbersAreFair, SetsAreFair};
 ghost use Rattle.nanorand_core.specs.replay.Replay.{ReplaysJoin};
 ghost use Rattle.nanorand_core.specs.replay.Unbroken.{IsUnbroken};
 ghost use Rattle.nanorand_core.specs.values.Range.{unsigned_number, signed_number};
@@ -69,6 +70,20 @@ pub fn replays_join<G: Rng<OUTPUT>, const OUTPUT: usize>()
 /// is made by one.
 pub fn choices_and_arrangements()
     ensures { (n : ℕ) → CorrespondsOneToOne n }
+{}
+
+/// A sample of `samples::sample` prefers no number and no set of numbers.
+///
+/// The samples are counted over all sequences of draws. With k slots and j = `count - k`, a sequence
+/// has one draw from each of `0..=j`, `0..=j + 1`, .., `0..=count - 1`. By `fairness` each number of
+/// a range has equally many words.
+///
+/// `numbers`: each number below the count is in the same fraction of the samples, k divided by the
+/// count. `sets`: each set of k numbers below the count is the sample for equally many sequences,
+/// 1 * 2 * .. * k of them.
+pub fn samples_are_fair()
+    ensures numbers { NumbersAreFair }
+    ensures sets { SetsAreFair }
 {}
 
 /// Permutations are recognized by counting.

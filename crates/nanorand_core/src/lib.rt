@@ -10,6 +10,7 @@ pub mod choices;
 pub mod laws;
 pub mod rand;
 pub mod replay;
+pub mod samples;
 pub mod shuffles;
 mod swap;
 pub mod values;

@@ -1,7 +1,10 @@
 //! The values that a generator draws.
-ghost use Rattle.std.specs.Prelude.{◌≡◌, ◌^◌, ◌<◌};
-ghost use Rattle.nanorand_core.specs.values.Values.{truth_of};
+ghost use Rattle.std.specs.Prelude.{◌≡◌, All, Bool, length, true};
+ghost use Rattle.std.specs.Fn.{CalledAtMut, iterate};
+ghost use Rattle.nanorand_core.specs.values.Fills.{CallsReturn, EachCallDraws, EachCallLeaves, EachCallPasses};
+ghost use Rattle.nanorand_core.specs.values.Values.{truth_of, values_from};
 
+mod bytes;
 pub mod number;
 pub mod range;
 mod signed;
@@ -18,7 +21,8 @@ pub use word::pick_word;
 /// given probability with `choices::ratio`.
 ///
 /// An integer of N bits takes one request of N / 8 bytes, read least byte first, the signed types
-/// in two's complement. `usize` and `isize` have 64 bits.
+/// in two's complement. `usize` and `isize` have 64 bits. An array of N bytes takes one request of
+/// N bytes.
 pub trait RandomGen<G: Rng<OUTPUT>, const OUTPUT: usize> {
     // The value that is drawn in a state.
     ghost value: { G → Self };
@@ -44,10 +48,36 @@ impl<G: Rng<OUTPUT>, const OUTPUT: usize> RandomGen<G, OUTPUT> for bool {
     }
 }
 
+/// Fills the slice by a closure: calls `draw` once for each item, in the order of the items.
+///
+/// It is `Rng::fill` for draws that are no type of their own, as a range or a choice.
+///
+/// `ran`: the items are what the calls returned, one after another. The other clauses follow from
+/// what holds of every call. `values`: if a call returns a function of the state before it, and
+/// leaves another function of it, the items are the values of these two. `state`: if a call leaves
+/// a function of the state before it, the state is that after one call for each item. `all`: if
+/// the value of a call passes a test, all items pass.
+///
+/// Precondition: the closure may be called at any state.
+pub fn fill_with<G, T: Drop, F: FnMut(&mut G) -> T>(rng: &mut G, target: &mut [T], mut draw: F)
+    requires { F.IsAlwaysCallable draw }
+    ensures ran { CallsReturn (CalledAtMut F.FnMut) draw rng.old target.new rng.new }
+    ensures values { (value : G → T) (after : G → G)
+        → EachCallDraws (CalledAtMut F.FnMut) value after
+        → target.new ≡ values_from value after (length target.old) rng.old }
+    ensures state { (after : G → G) → EachCallLeaves (CalledAtMut F.FnMut) after
+        → rng.new ≡ iterate after (length target.old) rng.old }
+    ensures all { (test : T → Bool) → EachCallPasses (CalledAtMut F.FnMut) test
+        → All (λ item. test item ≡ true) target.new }
+{
+    for item in target.iter_mut() {
+        *item = draw(rng);
+    }
+}
+
 // The next `SIZE` bytes, by one request.
 #[inline]
 fn next_bytes<G: Rng<OUTPUT>, const SIZE: usize, const OUTPUT: usize>(rng: &mut G) -> [u8; SIZE]
-    requires { SIZE < 2 ^ 63 }
     ensures bytes { result ≡ G.requests.bytes rng.old SIZE }
     ensures state { rng.new ≡ G.requests.after rng.old SIZE }
 {

@@ -14,6 +14,7 @@ ghost use Rattle.nanorand.specs.generators.WyRand.{wyrand_requests};
 pub mod card;
 pub mod die;
 pub mod examples;
+pub mod fills;
 pub mod nested;
 pub mod rounds;
 pub mod split_mix;

@@ -1,0 +1,3 @@
+pub mod SampleLemmas
+pub mod FairSampleLemmas
+pub mod FairSetLemmas

@@ -1,0 +1,2 @@
+-- Samples without repetition.
+pub mod Samples
