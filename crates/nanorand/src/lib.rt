@@ -5,8 +5,8 @@
 //! caller did not pass in. The contract of each call states what it returns and the state that it
 //! leaves.
 //!
-//! The traits, values, ranges, shuffles, buffers and replays are those of `nanorand_core`, which names
-//! no generator; they are passed on here under the same paths.
+//! The traits, values, ranges, choices, shuffles, buffers and replays are those of `nanorand_core`,
+//! which names no generator; they are passed on here under the same paths.
 //!
 //! `WyRand` and `Pcg64` are not cryptographically secure. `ChaCha` says what it is and is not for.
 #![tactic(auto)]
@@ -17,7 +17,7 @@ pub mod laws;
 pub mod rand;
 
 pub use nanorand_core::{
-    BufferedRng, RandomGen, RandomRange, RangeError, buffer, replay, shuffles, values,
+    BufferedRng, RandomGen, RandomRange, RangeError, buffer, choices, replay, shuffles, values,
 };
 pub use rand::chacha::{ChaCha, ChaCha8, ChaCha12, ChaCha20};
 pub use rand::pcg64::Pcg64;

@@ -1,3 +1,4 @@
 pub mod ranges
 pub mod shuffles
+pub mod choices
 pub mod replay

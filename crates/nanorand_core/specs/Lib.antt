@@ -4,4 +4,5 @@ pub mod generators
 pub mod support
 pub mod values
 pub mod shuffles
+pub mod choices
 pub mod replay

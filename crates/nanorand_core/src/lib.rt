@@ -6,6 +6,7 @@
 #![tactic(auto)]
 
 pub mod buffer;
+pub mod choices;
 pub mod laws;
 pub mod rand;
 pub mod replay;

@@ -1,0 +1,2 @@
+-- Choices by drawing one number.
+pub mod Weighted

@@ -1,0 +1,3 @@
+//! Choices by drawing one number.
+
+pub mod weighted;
