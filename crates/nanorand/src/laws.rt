@@ -12,7 +12,9 @@ ghost use Rattle.nanorand.specs.generators.WyRand as wyrand;
 
 use crate::rand::{Blocks, ChaCha, Pcg64, Rng, WyRand};
 pub use nanorand_core::laws::{
-    choices_and_arrangements, choices_are_fair, fairness, permutations_by_counting, range_limits, replays_join, samples_are_fair, unbroken_delivery,
+    choices_and_arrangements, choices_are_fair, fairness, partial_shuffles,
+    permutations_by_counting, range_limits, replays_join, samples_are_fair, unbroken_delivery,
+    weighted_choices_are_fair,
 };
 
 /// The three generators implement the traits by the definitions that the laws below speak of: their

@@ -5,7 +5,7 @@
 //! caller did not pass in. The contract of each call states what it returns and the state that it
 //! leaves.
 //!
-//! The traits, values, ranges, shuffles, samples, buffers and replays are those of `nanorand_core`,
+//! The traits, buffers and replays are those of `nanorand_core`, choices, ranges, samples, shuffles, values,
 //! which names no generator; they are passed on here under the same paths.
 //!
 //! `WyRand` and `Pcg64` are not cryptographically secure. `ChaCha` says what it is and is not for.
@@ -17,7 +17,8 @@ pub mod laws;
 pub mod rand;
 
 pub use nanorand_core::{
-    BufferedRng, RandomGen, RandomRange, RangeError, buffer, choices, replay, samples, shuffles, values,
+    BufferedRng, RandomGen, RandomRange, RangeError, buffer, choices, replay, samples, shuffles,
+    values,
 };
 pub use rand::chacha::{ChaCha, ChaCha8, ChaCha12, ChaCha20};
 pub use rand::pcg64::Pcg64;

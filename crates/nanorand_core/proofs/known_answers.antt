@@ -8,6 +8,8 @@ pub mod WholeTypes
 pub mod BufferedRequests
 pub mod ShuffledItems
 pub mod ShufflePartners
+pub mod PartialShuffles
+pub mod WeightedChoices
 pub mod Replays
 pub mod ReplayRefusals
 pub mod AskedBytes

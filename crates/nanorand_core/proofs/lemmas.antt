@@ -1,5 +1,6 @@
 pub mod ranges
 pub mod shuffles
 pub mod samples
+pub mod choices
 pub mod replay
 pub mod FillLemmas

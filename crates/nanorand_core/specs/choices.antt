@@ -1,2 +1,3 @@
 -- Choices by one drawn number.
 pub mod Uniform
+pub mod Weighted

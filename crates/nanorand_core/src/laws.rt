@@ -1,6 +1,6 @@
 //! Laws of the definitions, over every generator. Each contract states a law. The functions do
 //! nothing; a proof calls one to use its law.
-ghost use Rattle.std.specs.Prelude.{◌≡◌, ◌<◌, length, ℕ, ℤ, nat_le, nat_lt, int_le, int_lt, ◌^◌, ◌↔◌, List, IsPermutation};
+ghost use Rattle.std.specs.Prelude.{◌≡◌, ◌<◌, length, ℕ, ℤ, nat_le, nat_lt, int_le, int_lt, ◌^◌, ◌≤◌, ◌↔◌, List, take, IsPermutation};
 ghost use Rattle.std.specs.declared.ops.Bound.{Bound};
 ghost use Rattle.nanorand_core.specs.choices.Uniform.{IndicesAreFair, RatiosAreFair};
 ghost use Rattle.nanorand_core.specs.generators.Blocks.{taken};
@@ -13,6 +13,8 @@ ghost use Rattle.nanorand_core.specs.values.Range.{unsigned_number, signed_numbe
 ghost use Rattle.nanorand_core.specs.values.RangeLimits.{KeepsLimits};
 ghost use Rattle.nanorand_core.specs.values.Draws.{after_word, unsigned_outcome, signed_outcome};
 ghost use Rattle.nanorand_core.specs.values.Fairness.{RunsAreFair, NoNumberIsPreferred, EventsAreFair, DivisorsRejectNothing};
+ghost use Rattle.nanorand_core.specs.choices.Weighted.{ChoicesAreFair};
+ghost use Rattle.nanorand_core.specs.shuffles.Shuffles.{from_itself, partly_shuffled, shuffled};
 
 use crate::buffer::BufferedRng;
 use crate::rand::{Blocks, Rng};
@@ -42,6 +44,16 @@ pub fn fairness()
 pub fn choices_are_fair()
     ensures items { IndicesAreFair }
     ensures ratios { RatiosAreFair }
+{}
+
+/// Choices by weight are fair, for words of 8, 16, 32 and 64 bits and all weights whose sum is from
+/// 1 to the number of words: exactly as many words choose an item as its weight times the number of
+/// words of one number.
+///
+/// So an item of twice the weight is chosen by twice as many words. It is the law of
+/// `choices::weighted::choose_weighted`.
+pub fn weighted_choices_are_fair()
+    ensures { ChoicesAreFair }
 {}
 
 /// The limits that every ranged draw of an integer type keeps, over every generator.
@@ -84,6 +96,19 @@ pub fn choices_and_arrangements()
 pub fn samples_are_fair()
     ensures numbers { NumbersAreFair }
     ensures sets { SetsAreFair }
+{}
+
+/// A partial shuffle is the beginning of the whole shuffle, over every generator.
+///
+/// `begins`: its choices are the first choices of the whole shuffle. `whole`: with as many steps as
+/// there are items, or more, it is the whole shuffle.
+pub fn partial_shuffles<G: Rng<OUTPUT>, T, const OUTPUT: usize>()
+    ensures begins { (steps : ℕ) (g : G) (items : List T) →
+        (partly_shuffled G.requests from_itself steps g items).choices
+        ≡ take steps (shuffled G.requests from_itself g items).choices }
+    ensures whole { (steps : ℕ) (g : G) (items : List T) → length items ≤ steps
+        → partly_shuffled G.requests from_itself steps g items
+        ≡ shuffled G.requests from_itself g items }
 {}
 
 /// Permutations are recognized by counting.

@@ -1,7 +1,8 @@
 //! Shuffles as lists of choices, and the shuffle that draws from all indices.
-ghost use Rattle.std.specs.Prelude.{◌≡◌, ◌≢◌, ℕ, ◌<◌, ◌≤◌, length, slice_index, MatchOption, OnOk, OnErr, List, IsPermutation};
+ghost use Rattle.std.specs.Prelude.{◌≡◌, ◌≢◌, ℕ, ◌*◌, ◌<◌, ◌≤◌, length, min, slice_index, MatchOption, OnOk, OnErr, List, IsPermutation};
 ghost use Rattle.nanorand_core.specs.shuffles.Arrangements.{completed, rising, IsValid, IsArrangement};
-ghost use Rattle.nanorand_core.specs.shuffles.Shuffles.{arranged, from_all, from_itself, shuffled};
+ghost use Rattle.nanorand_core.specs.shuffles.Shuffles.{arranged, from_all, from_itself, partly_shuffled, shuffled};
+ghost use Rattle.nanorand_core.specs.values.Draws.{after_words, word_limit};
 
 use crate::rand::Rng;
 use crate::swap::swap;
@@ -118,6 +119,42 @@ pub fn shuffle_and_record<G: Rng<OUTPUT>, T, const OUTPUT: usize>(
         let partner = rng.generate_range(Bound::Included(place), Bound::Excluded(count))?;
         swap(target, place, partner);
         choices[place] = partner;
+    }
+    Ok(())
+}
+
+/// Shuffles the beginning of the slice: makes the first `count` steps of `Rng::shuffle`, or all of
+/// them if there are fewer items.
+///
+/// The first `count` items are then a selection from all items, in random order, and the other
+/// items follow. For each index below `count`, from 0 up, it swaps the item there with the one at
+/// an index drawn from that index and all later ones. It returns `Exhausted` if 128 words in a row
+/// were rejected for one index. The swaps before that stay, and so do all draws. A `count` of 0
+/// draws nothing.
+/// The law `partial_shuffles` says what it has in common with the whole shuffle.
+pub fn partial_shuffle<G: Rng<OUTPUT>, T, const OUTPUT: usize>(
+    rng: &mut G,
+    target: &mut [T],
+    count: usize,
+) -> Result<(), RangeError>
+    ensures answer { let part = partly_shuffled G.requests from_itself count rng.old target.old in
+        result ≡ part.answer }
+    ensures items { let part = partly_shuffled G.requests from_itself count rng.old target.old in
+        target.new ≡ part.items }
+    ensures state { let part = partly_shuffled G.requests from_itself count rng.old target.old in
+        rng.new ≡ part.state }
+    ensures arrangement { IsPermutation target.old target.new }
+    ensures whole { let part = partly_shuffled G.requests from_itself count rng.old target.old in
+        OnOk result (length part.choices ≡ min count (length target.old)) }
+    ensures valid { let part = partly_shuffled G.requests from_itself count rng.old target.old in
+        IsValid (completed (length target.old) part.choices) }
+    ensures words { (n : ℕ) × (n ≤ word_limit * min count (length target.old))
+        × (rng.new ≡ after_words G.requests 64 n rng.old) }
+{
+    let items = target.len();
+    for place in 0..count.min(items) {
+        let chosen = rng.generate_range(Bound::Included(place), Bound::Excluded(items))?;
+        swap(target, place, chosen);
     }
     Ok(())
 }

@@ -1,4 +1,3 @@
-pub mod ShareLemmas
 pub mod DeckLemmas
 pub mod WordCountLemmas
 pub mod HandLemmas

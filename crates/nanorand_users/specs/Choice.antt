@@ -1,58 +1,26 @@
--- Weighted choice: the numbers below the sum of the weights are divided into consecutive shares,
--- one for each item, each as long as the item's weight.
-use Rattle.std.specs.Prelude.{◌≡◌, ℕ, suc, ◌+◌, ◌-◌, ◌*◌, ◌<◌, ◌≤◌, ◌^◌, ◌==◌, List, [], ◌∷◌, length, Option, Result, Ok, Err, sum, take, slice_index, nat_le, nat_lt, ok_or, is_ok, option_map, if◌then◌else◌}
-use Rattle.nanorand_core.specs.generators.Blocks.{Requests}
-use Rattle.nanorand_core.specs.values.Runs.{IsWordWidth, named, quota, words_that}
-use Rattle.nanorand_core.specs.values.Draws.{drawn_below}
+-- A load balancer over servers of different strength: server i has the address `addresses[i]` and
+-- the strength `strengths[i]`.
+use Rattle.std.specs.Prelude.{◌≡◌, ℕ, ◌*◌, ◌<◌, ◌≤◌, ◌^◌, ◌==◌, List, length, sum, slice_index}
+use Rattle.nanorand_core.specs.values.Runs.{IsWordWidth, words_that}
 use Rattle.nanorand_core.specs.values.Fairness.{passes}
-use Rattle.nanorand_users.specs.declared.choice.ChoiceError.{ChoiceError}
-use Rattle.nanorand_users.specs.declared.choice.ChoiceError.TheVariants.{NoWeight, TooHeavy, Exhausted}
+use Rattle.nanorand_core.specs.choices.Weighted.{item_named}
 
--- Number k is in the share of item i: at least the sum of the weights before i, and below that sum
--- with the weight of i.
-pub record IsInShare (weights : List ℕ) (k i : ℕ) : Type 0 where
-  pub from : sum (take i weights) ≤ k
-  pub before_end : k < sum (take i weights) + slice_index weights i
+-- The address is that of a server whose strength is not 0.
+abbrev pub IsServerOf : List ℕ → List ℕ → ℕ → Type 0
+IsServerOf addresses strengths address =
+    (i : ℕ) × (i < length addresses) × (slice_index addresses i ≡ address)
+    × (0 < slice_index strengths i)
 
--- The index of the item whose share contains number k.
-abbrev pub item_at : List ℕ → ℕ → ℕ
-item_at [] k = 0
-item_at (weight ∷ weights) k = if nat_lt k weight then 0 else suc (item_at weights (k - weight))
+-- How many words of `bits` bits choose server i.
+abbrev pub words_for : ℕ → List ℕ → ℕ → ℕ
+words_for bits strengths i =
+    words_that bits (λ word. passes (λ j. j == i) (item_named bits strengths word))
 
--- The sum of the weights, or why nothing can be drawn: the sum is 0, or 2^64 or more.
-abbrev pub total_of : List ℕ → Result ℕ ChoiceError
-total_of weights =
-    if sum weights == 0 then Err NoWeight
-    else if nat_le (2 ^ 64) (sum weights) then Err TooHeavy
-    else Ok (sum weights)
-
-module _ {G : Type 0} (requests : Requests G) where
-  -- The number below the sum of the weights that the next 128 words decide, if they decide one.
-  abbrev pub number_for : List ℕ → G → Option ℕ
-  number_for weights g = (drawn_below requests 64 (sum weights) g).number
-
-  -- The result of a choice: the item whose share contains that number, or the refusal.
-  abbrev pub choice_answer : List ℕ → G → Result ℕ ChoiceError
-  choice_answer weights g =
-      if sum weights == 0 then Err NoWeight
-      else if nat_le (2 ^ 64) (sum weights) then Err TooHeavy
-      else ok_or (option_map (item_at weights) (number_for weights g)) Exhausted
-
-  -- The state that a choice leaves: after the deciding word, or after all 128. If the sum of the
-  -- weights is refused, nothing is drawn.
-  abbrev pub choice_state : List ℕ → G → G
-  choice_state weights g =
-      if is_ok (total_of weights) then (drawn_below requests 64 (sum weights) g).state else g
-
--- The item that a word of `bits` bits names, if it names one.
-abbrev pub item_named : ℕ → List ℕ → ℕ → Option ℕ
-item_named bits weights word = option_map (item_at weights) (named bits (sum weights) word)
-
--- For every word width and all weights whose sum is from 1 to 2^bits: an item is named by as many
--- words as its weight times the words of one number.
-abbrev pub ChoicesAreFair : Type 0
-ChoicesAreFair =
-    (bits : ℕ) (weights : List ℕ) (i : ℕ) → IsWordWidth bits → 1 ≤ sum weights
-    → sum weights ≤ 2 ^ bits → i < length weights
-    → words_that bits (λ word. passes (λ j. j == i) (item_named bits weights word))
-    ≡ slice_index weights i * quota bits (sum weights)
+-- A server of n times the strength of another is chosen by n times as many words, at every width
+-- and for all strengths whose sum is from 1 to 2^bits.
+abbrev pub WordsFollowStrengths : Type 0
+WordsFollowStrengths =
+    (bits : ℕ) (strengths : List ℕ) (i j n : ℕ) → IsWordWidth bits → 1 ≤ sum strengths
+    → sum strengths ≤ 2 ^ bits → i < length strengths → j < length strengths
+    → slice_index strengths j ≡ n * slice_index strengths i
+    → words_for bits strengths j ≡ n * words_for bits strengths i

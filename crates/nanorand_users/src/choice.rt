@@ -1,97 +1,40 @@
 //! A load balancer: it sends each request to one of its servers, and a stronger server should get
-//! more requests. An item is chosen by its weight, exactly, without floating point.
-ghost use Rattle.std.specs.Prelude.{◌≡◌, ℕ, ◌^◌, ◌<◌, ◌≤◌, ◌↔◌, ◌⊎◌, length, slice_index, sum, Err, IfOk, IfSome};
-ghost use Rattle.nanorand_core.specs.values.Draws.{after_words};
-ghost use Rattle.nanorand_users.specs.declared.choice.ChoiceError.TheVariants.{NoWeight, TooHeavy, Exhausted};
-ghost use Rattle.nanorand_users.specs.Choice.{ChoicesAreFair, IsInShare, choice_answer, choice_state, item_at, number_for, total_of};
+//! more requests.
+//!
+//! Server i has the address `addresses[i]` and the strength `strengths[i]`.
+ghost use Rattle.std.specs.Prelude.{◌≡◌, ◌^◌, ◌≤◌, ◌↔◌, length, slice_index, sum, Err, IfOk, IfErr, IsOkAnd};
+ghost use Rattle.nanorand_core.specs.choices.Weighted.{choice_answer, choice_state};
+ghost use Rattle.nanorand_core.specs.declared.choices.weighted.WeightError.TheVariants.{NoWeight, TooHeavy};
+ghost use Rattle.nanorand_users.specs.Choice.{IsServerOf, WordsFollowStrengths};
 
-use nanorand::values::word::draw_below;
+use nanorand::choices::weighted::{WeightError, choose_weighted};
 use nanorand::{Rng, laws};
-use thiserror::Error;
 
-/// Why no item was chosen.
-#[derive(Clone, Copy, Debug, PartialEq, Eq, Error)]
-pub enum ChoiceError {
-    /// There are no items, or all weights are 0. Nothing was drawn.
-    #[error("no item has a weight")]
-    NoWeight,
-
-    /// The weights add up to 2^64 or more. Nothing was drawn.
-    #[error("the weights add up to 2^64 or more")]
-    TooHeavy,
-
-    /// 128 words were drawn, and all of them were rejected.
-    #[error("128 words in a row were rejected")]
-    Exhausted,
-}
-
-/// Chooses an item by its weight, and returns its index.
+/// Chooses the server of the next request by the strengths, and returns its address.
 ///
-/// It draws a number below the sum of the weights, from words of 64 bits, at most 128 of them. Item
-/// i has `weights[i]` of these numbers, so an item of weight 0 is never chosen. After `Exhausted`
-/// exactly 128 words were drawn; after any other error, none.
-pub fn choose<G: Rng<OUTPUT>, const OUTPUT: usize>(
+/// A server of strength 0 gets no request. The errors are those of `choose_weighted`.
+pub fn server_for<G: Rng<OUTPUT>, const OUTPUT: usize>(
     rng: &mut G,
-    weights: &[u64],
-) -> Result<usize, ChoiceError>
-    ensures answer { result ≡ choice_answer G.requests weights.now rng.old }
-    ensures state { rng.new ≡ choice_state G.requests weights.now rng.old }
-
-    // The chosen item.
-    ensures share { let number = number_for G.requests weights.now rng.old in
-        IfOk result (λ i. IfSome number (λ k. IsInShare weights.now k i)) }
-    ensures within { IfOk result (λ i. i < length weights.now) }
-    ensures weight { IfOk result (λ i. 0 < slice_index weights.now i) }
-
-    // The refusals, and how many words are drawn.
-    ensures no_weight { (result ≡ Err NoWeight) ↔ (sum weights.now ≡ 0) }
-    ensures too_heavy { (result ≡ Err TooHeavy) ↔ (2 ^ 64 ≤ sum weights.now) }
-    ensures undrawn { (result ≡ Err NoWeight) ⊎ (result ≡ Err TooHeavy) → rng.new ≡ rng.old }
-    ensures exhausted { result ≡ Err Exhausted → rng.new ≡ after_words G.requests 64 128 rng.old }
-    ensures words { (n : ℕ) × (n ≤ 128) × (rng.new ≡ after_words G.requests 64 n rng.old) }
+    addresses: &[u32],
+    strengths: &[u64],
+) -> Result<u32, WeightError>
+    requires { length addresses.now ≡ length strengths.now }
+    ensures server { let index = choice_answer G.requests strengths.now rng.old in
+        IfOk result (λ address. IsOkAnd index (λ i. slice_index addresses.now i ≡ address)) }
+    ensures strong { IfOk result (IsServerOf addresses.now strengths.now) }
+    ensures refusal { let index = choice_answer G.requests strengths.now rng.old in
+        IfErr result (λ refusal. index ≡ Err refusal) }
+    ensures no_strength { (result ≡ Err NoWeight) ↔ (sum strengths.now ≡ 0) }
+    ensures too_strong { (result ≡ Err TooHeavy) ↔ (2 ^ 64 ≤ sum strengths.now) }
+    ensures state { rng.new ≡ choice_state G.requests strengths.now rng.old }
 {
-    let total = total_weight(weights)?;
-    match draw_below(rng, u128::from(total), 64) {
-        Some(number) => Ok(item_at(weights, number)),
-        None => Err(ChoiceError::Exhausted),
-    }
+    let index = choose_weighted(rng, strengths)?;
+    Ok(addresses[index])
 }
 
-// The sum of the weights, unless it is 0, or 2^64 or more.
-fn total_weight(weights: &[u64]) -> Result<u64, ChoiceError>
-    ensures { result ≡ total_of weights.now }
+/// A server of n times the strength of another is chosen by n times as many words.
+pub fn requests_follow_strengths()
+    ensures { WordsFollowStrengths }
 {
-    let mut total: u64 = 0;
-    for weight in weights {
-        total = total.checked_add(*weight).ok_or(ChoiceError::TooHeavy)?;
-    }
-    if total == 0 {
-        return Err(ChoiceError::NoWeight);
-    }
-    Ok(total)
-}
-
-// The item whose share contains the number.
-fn item_at(weights: &[u64], number: u64) -> usize
-    requires { number < sum weights.now }
-    ensures item { result ≡ item_at weights.now number }
-    ensures share { IsInShare weights.now number result }
-    ensures within { result < length weights.now }
-{
-    let mut left = number;
-    for (i, weight) in weights.iter().enumerate() {
-        if left < *weight {
-            return i;
-        }
-        left -= *weight;
-    }
-    unreachable!()
-}
-
-/// The law of this choice: among all words of 8, 16, 32 or 64 bits, exactly as many name an item as
-/// its weight times the number of words of one number.
-pub fn choice_is_fair()
-    ensures { ChoicesAreFair }
-{
-    laws::fairness();
+    laws::weighted_choices_are_fair();
 }

@@ -4,5 +4,6 @@ pub mod CorrespondenceLemmas
 pub mod CopyLemmas
 pub mod ShuffleLemmas
 pub mod RecordLemmas
+pub mod PartialLemmas
 pub mod PartnerLemmas
 pub mod ItemLemmas

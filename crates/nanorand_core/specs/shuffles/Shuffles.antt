@@ -49,18 +49,31 @@ module _ {G : Type 0} (requests : Requests G) (first : ℕ → ℕ) (n : ℕ) wh
   state_after_places i zero g = g
   state_after_places i (suc count) g = state_after_places (i + 1) count (partner_drawn i g).1
 
-  -- The choices of the shuffle: all n of them, or those before the refused draw.
+  -- The choices of the first `steps` indices: all of them, or those before the refused draw.
+  abbrev pub partial_choices : ℕ → G → List ℕ
+  partial_choices steps g = choices_from 0 steps g
+
+  -- The result of these steps: `Ok` if there is a choice for each, otherwise `Exhausted`. It is
+  -- never `Empty`: the range of a partner holds at least i.
+  abbrev pub partial_answer : ℕ → G → Result (Unit {0}) RangeError
+  partial_answer steps g =
+      if length (partial_choices steps g) == steps then Ok tt else Err Exhausted
+
+  -- The state after their draws, the refused one included.
+  abbrev pub partial_state : ℕ → G → G
+  partial_state steps g = state_after_places 0 (min steps (length (partial_choices steps g) + 1)) g
+
+  -- The choices of the whole shuffle, which has n steps.
   abbrev pub shuffle_choices : G → List ℕ
-  shuffle_choices g = choices_from 0 n g
+  shuffle_choices g = partial_choices n g
 
-  -- The result of the shuffle: `Ok` if there are n choices, otherwise `Exhausted`. It is never
-  -- `Empty`: the range of a partner holds at least i.
+  -- The result of the whole shuffle.
   abbrev pub shuffle_answer : G → Result (Unit {0}) RangeError
-  shuffle_answer g = if length (shuffle_choices g) == n then Ok tt else Err Exhausted
+  shuffle_answer g = partial_answer n g
 
-  -- The state after all draws, the refused one included.
+  -- The state after the whole shuffle.
   abbrev pub shuffle_state : G → G
-  shuffle_state g = state_after_places 0 (min n (length (shuffle_choices g) + 1)) g
+  shuffle_state g = partial_state n g
 
 -- The result of a shuffle, the choices that it makes, and the items and the state that it leaves.
 pub record Shuffle (G T : Type 0) : Type 0 where
@@ -79,4 +92,19 @@ shuffled requests first g items =
       choices = choices;
       items = arranged choices items;
       state = shuffle_state requests first count g;
+    }
+
+-- The same, ended after `steps` indices, or after all of them if there are fewer. A partner is still
+-- drawn from all the items.
+abbrev pub partly_shuffled : {G T : Type 0} → Requests G → (ℕ → ℕ) → ℕ → G → List T
+    → Shuffle G T
+partly_shuffled requests first steps g items =
+    let count = length items in
+    let done = min steps count in
+    let choices = partial_choices requests first count done g in
+    record {
+      answer = partial_answer requests first count done g;
+      choices = choices;
+      items = arranged choices items;
+      state = partial_state requests first count done g;
     }

@@ -1,48 +1,40 @@
-//! Choices by weight, refused choices and their texts.
+//! Requests to servers by strength, and refusals.
 
 use super::zeros::Zeros;
-use crate::choice::{ChoiceError, choice_is_fair, choose};
+use crate::choice::{requests_follow_strengths, server_for};
 use nanorand::WyRand;
-use std::test::Fail;
+use nanorand::choices::weighted::WeightError;
+
+const ADDRESSES: [u32; 4] = [10, 11, 12, 13];
 
 #[test]
-fn chooses_by_weight(rt: HostRuntime) {
-    choice_is_fair();
+fn stronger_servers_get_more_requests(rt: HostRuntime) {
+    requests_follow_strengths();
     let mut rng = WyRand::new_seed(42);
-    for item in [3, 3, 3, 3, 2, 3, 0, 0, 3, 3, 0, 3, 0, 3, 0, 3] {
-        assert_eq!(rt; choose(&mut rng, &[5, 0, 1, 10]), Ok(item));
+    for address in [13, 13, 13, 13, 12, 13, 10, 10, 13, 13, 10, 13, 10, 13, 10, 13] {
+        assert_eq!(rt;
+            server_for(&mut rng, &ADDRESSES, &[5, 0, 1, 10]),
+            Ok(address)
+        );
     }
     assert_eq!(rt; rng.seed(), 531941833783526170);
-
-    let mut rng = WyRand::new_seed(42);
-    assert_eq!(rt; choose(&mut rng, &[u64::MAX - 2, 2]), Ok(0));
-    assert_eq!(rt; choose(&mut rng, &[1, u64::MAX - 1]), Ok(1));
 }
 
 #[test]
 fn refuses_bad_sums_and_rejected_words(rt: HostRuntime) {
     let mut rng = Zeros::new();
-    assert_eq!(rt; choose(&mut rng, &[]), Err(ChoiceError::NoWeight));
-    assert_eq!(rt; choose(&mut rng, &[0, 0]), Err(ChoiceError::NoWeight));
     assert_eq!(rt;
-        choose(&mut rng, &[1, u64::MAX]),
-        Err(ChoiceError::TooHeavy)
+        server_for(&mut rng, &ADDRESSES, &[0; 4]),
+        Err(WeightError::NoWeight)
+    );
+    assert_eq!(rt;
+        server_for(&mut rng, &ADDRESSES, &[1, 0, u64::MAX, 0]),
+        Err(WeightError::TooHeavy)
     );
     assert_eq!(rt; rng.drawn(), 0);
-    assert_eq!(rt; choose(&mut rng, &[1, 2]), Err(ChoiceError::Exhausted));
+    assert_eq!(rt;
+        server_for(&mut rng, &ADDRESSES, &[1, 2, 0, 0]),
+        Err(WeightError::Exhausted)
+    );
     assert_eq!(rt; rng.drawn(), 128);
-}
-
-#[test]
-fn error_texts(rt: HostRuntime) -> Result<(), Fail> {
-    let refusals = [
-        (ChoiceError::NoWeight, "no item has a weight"),
-        (ChoiceError::TooHeavy, "the weights add up to 2^64 or more"),
-        (ChoiceError::Exhausted, "128 words in a row were rejected"),
-    ];
-    for (refusal, text) in refusals {
-        let told = format!(in rt.alloc(); "{refusal}")?;
-        assert_eq!(rt; told.as_str(), text);
-    }
-    Ok(())
 }

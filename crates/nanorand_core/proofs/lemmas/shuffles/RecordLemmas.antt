@@ -69,7 +69,7 @@ completed-valid n choices room h =
 module _ {G T : Type 0} (requests : Requests G) (items : List T) (g : G) where
   -- i choices were drawn and recorded, and the later indices are their own choices
   pub record Recording (i : ℕ) (now : G) (list : List T) (choices : List ℕ) : Type 0 where
-    pub shuffling : Shuffling requests from_itself items g i now list
+    pub shuffling : Shuffling requests from_itself (length items) items g i now list
     pub recorded : choices ≡ completed (length items) (take i (shuffle_choices requests from_itself (length items) g))
 
   pub recorded-start : (choices : List ℕ) → choices ≡ rising (length items)

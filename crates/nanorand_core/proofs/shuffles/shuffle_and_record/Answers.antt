@@ -10,7 +10,7 @@ pub loop-place-init : goal.loop-place-init
 loop-place-init g c =
     let requests = g.G.Rng.requests in
     record {
-      shuffling = shuffling-start requests from_itself c.args.target.now c.args.rng.now;
+      shuffling = shuffling-start requests from_itself (length c.args.target.now) c.args.target.now c.args.rng.now (omega arith);
       recorded = recorded-start requests c.args.target.now c.args.rng.now c.write_places.new.slots
           (c.write_places.ensures ∙ ap rising (omega arith));
     }

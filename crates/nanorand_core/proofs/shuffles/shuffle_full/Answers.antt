@@ -5,7 +5,8 @@ use Rattle.nanorand_core.proofs.lemmas.shuffles.ShuffleLemmas.{shuffling-start, 
 use Rattle.nanorand_core.proofs.shuffles.shuffle_full.Goals as goal
 
 pub loop-place-init : goal.loop-place-init
-loop-place-init g c = shuffling-start g.G.Rng.requests from_all c.args.target.now c.args.rng.now
+loop-place-init g c =
+    shuffling-start g.G.Rng.requests from_all (length c.args.target.now) c.args.target.now c.args.rng.now (omega arith)
 
 pub returns-in_err-other : goal.returns-in_err-other
 unfolding partner_drawn

@@ -5,7 +5,8 @@ use Rattle.nanorand_core.proofs.lemmas.shuffles.ShuffleLemmas.{shuffling-start, 
 use Rattle.nanorand_core.proofs.rand.Rng.shuffle.Goals as goal
 
 pub loop-place-init : goal.loop-place-init
-loop-place-init g c = shuffling-start g.Self.Rng.requests from_itself c.args.target.now c.args.self.now
+loop-place-init g c =
+    shuffling-start g.Self.Rng.requests from_itself (length c.args.target.now) c.args.target.now c.args.self.now (omega arith)
 
 pub returns-in_err-partner : goal.returns-in_err-partner
 unfolding partner_drawn

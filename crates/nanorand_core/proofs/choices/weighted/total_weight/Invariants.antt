@@ -1,6 +1,6 @@
 use Rattle.std.proofs.Common.{◌≡◌, ◌<◌, ◌^◌, take}
 use Rattle.std.specs.List.{sum}
-use Rattle.nanorand_users.proofs.choice.total_weight.Given as goal
+use Rattle.nanorand_core.proofs.choices.weighted.total_weight.Given as goal
 
 abbrev pub invariant-loop-weight : goal.invariant-loop-weight
 invariant-loop-weight l = record {

@@ -6,7 +6,7 @@ use Rattle.std.proofs.lemmas.Bool.Decides.{nat_tests}
 use Rattle.std.proofs.lemmas.List.Sums.{sum_by-cons, sum_by_more_le}
 use Rattle.nanorand_core.specs.values.Runs.{named, quota, words_that}
 use Rattle.nanorand_core.specs.values.Fairness.{EventsAreFair, passes}
-use Rattle.nanorand_users.specs.Choice.{item_at, ChoicesAreFair}
+use Rattle.nanorand_core.specs.choices.Weighted.{item_at, ChoicesAreFair}
 
 -- how many of the n numbers from c on are at least a and below b
 count_between : (a b n c : ℕ) → count_by (λ k. nat_le a k && nat_lt k b) (range_with_len c n) ≡ min b (c + n) - max a c

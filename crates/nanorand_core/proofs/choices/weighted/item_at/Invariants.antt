@@ -1,7 +1,7 @@
 use Rattle.std.proofs.Common.{◌≡◌, ◌<◌, ◌+◌, drop, take}
 use Rattle.std.specs.List.{sum}
-use Rattle.nanorand_users.specs.Choice.{item_at}
-use Rattle.nanorand_users.proofs.choice.item_at.Given as goal
+use Rattle.nanorand_core.specs.choices.Weighted.{item_at}
+use Rattle.nanorand_core.proofs.choices.weighted.item_at.Given as goal
 
 -- what is left of the number after the weights so far
 abbrev pub invariant-loop-i : goal.invariant-loop-i

@@ -2,7 +2,7 @@ use Rattle.std.proofs.Common.{◌≡◌, ◌^◌, ◌∙◌, sym, ap, refl, arit
 use Rattle.std.specs.List.{sum}
 use Rattle.std.proofs.lemmas.Bool.{ne_eqb, lt-leb}
 use Rattle.std.proofs.lemmas.List.{take_all}
-use Rattle.nanorand_users.proofs.choice.total_weight.Goals as goal
+use Rattle.nanorand_core.proofs.choices.weighted.total_weight.Goals as goal
 
 pub returns : goal.returns
 returns c =
