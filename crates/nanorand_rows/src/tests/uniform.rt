@@ -174,7 +174,7 @@ fn sampled_requests_and_rolls(rt: HostRuntime) {
     let mut sampled = 0u32;
     for _ in 0..10_000 {
         if is_sampled(&mut rng) == Ok(true) {
-            sampled += 1;
+            sampled = sampled.wrapping_add(1);
         }
     }
     assert!(rt; 60 <= sampled && sampled <= 140);
