@@ -1,7 +1,7 @@
 //! Choices by one drawn number: compared with the number that the word names.
 
-use crate::callers::{is_sampled, pick, pick_below, roll, server};
-use crate::{ByteScript, Card, SplitMix64, Steps, Zeros};
+use nanorand_rows::callers::{is_sampled, pick, pick_below, roll, server};
+use nanorand_rows::{ByteScript, Card, SplitMix64, Steps, Zeros};
 use nanorand::choices::{below, choose, choose_mut, ratio};
 use nanorand::values::pick_word;
 use nanorand::{RangeError, Rng, WyRand};

@@ -1,7 +1,7 @@
 //! Fills by a closure, and arrays of bytes.
 
-use crate::callers::fills::{fill_bytes_by_closure, throw_dice};
-use crate::{Script, Steps};
+use nanorand_rows::callers::fills::{fill_bytes_by_closure, throw_dice};
+use nanorand_rows::{Script, Steps};
 use nanorand::values::fill_with;
 use nanorand::{BufferedRng, Rng, WyRand};
 use std::ops::Bound;

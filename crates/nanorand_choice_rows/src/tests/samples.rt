@@ -1,7 +1,7 @@
 //! Samples without repetition.
 ghost use Rattle.std.specs.Prelude.{◌<◌, ◌≤◌};
 
-use crate::{Script, Steps, Zeros};
+use nanorand_rows::{Script, Steps, Zeros};
 use nanorand::samples::sample;
 use nanorand::{RangeError, WyRand};
 use std::process::Abort;
