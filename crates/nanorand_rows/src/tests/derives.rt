@@ -1,6 +1,7 @@
 //! The derived `Clone`, `Copy`, `PartialEq` and `Debug` of the small types.
 
 use nanorand::buffer::TextRefused;
+use nanorand::choices::weighted::WeightError;
 use nanorand::entropy::EntropyError;
 use nanorand::replay::{Answer, Kind};
 use nanorand::shuffles::NotArrangement;
@@ -52,6 +53,12 @@ const RANGE_ERRORS: [(RangeError, &str); 2] = [
     (RangeError::Exhausted, "Exhausted"),
 ];
 
+const WEIGHT_ERRORS: [(WeightError, &str); 3] = [
+    (WeightError::NoWeight, "NoWeight"),
+    (WeightError::TooHeavy, "TooHeavy"),
+    (WeightError::Exhausted, "Exhausted"),
+];
+
 const ENTROPY_ERRORS: [(EntropyError, &str); 3] = [
     (EntropyError::Short, "Short"),
     (EntropyError::Fault, "Fault"),
@@ -96,6 +103,7 @@ fn of_answers(rt: HostRuntime) -> Result<(), Fail> {
 #[test]
 fn of_refusals(rt: HostRuntime) -> Result<(), Fail> {
     check(&rt, &RANGE_ERRORS)?;
+    check(&rt, &WEIGHT_ERRORS)?;
     check(&rt, &ENTROPY_ERRORS)?;
     check(&rt, &[(TextRefused, "TextRefused")])?;
     check(&rt, &[(NotArrangement, "NotArrangement")])?;

@@ -11,7 +11,9 @@ const ADDRESSES: [u32; 4] = [10, 11, 12, 13];
 fn stronger_servers_get_more_requests(rt: HostRuntime) {
     requests_follow_strengths();
     let mut rng = WyRand::new_seed(42);
-    for address in [13, 13, 13, 13, 12, 13, 10, 10, 13, 13, 10, 13, 10, 13, 10, 13] {
+    for address in [
+        13, 13, 13, 13, 12, 13, 10, 10, 13, 13, 10, 13, 10, 13, 10, 13,
+    ] {
         assert_eq!(rt;
             server_for(&mut rng, &ADDRESSES, &[5, 0, 1, 10]),
             Ok(address)

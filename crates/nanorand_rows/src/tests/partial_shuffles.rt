@@ -1,0 +1,145 @@
+//! `partial_shuffle`, which makes the first steps of `shuffle`.
+ghost use Rattle.std.specs.Prelude.{◌≤◌};
+
+use crate::{Constant, Script, Steps, Waste, Zeros};
+use nanorand::shuffles::partial_shuffle;
+use nanorand::values::RangeError;
+use nanorand::{BufferedRng, ChaCha8, Pcg64, Rng, WyRand};
+use std::ops::Bound;
+use std::process::Abort;
+
+// 0, 1, .., n - 1, n and the greatest count, of four items.
+#[test]
+fn each_count(rt: HostRuntime) {
+    let rows = [
+        (0usize, ['a', 'b', 'c', 'd'], 0u64),
+        (1, ['d', 'b', 'c', 'a'], 1),
+        (2, ['d', 'c', 'b', 'a'], 2),
+        (3, ['d', 'c', 'a', 'b'], 3),
+        (4, ['d', 'c', 'a', 'b'], 4),
+        (5, ['d', 'c', 'a', 'b'], 4),
+        (usize::MAX, ['d', 'c', 'a', 'b'], 4),
+    ];
+    for (count, shuffled, drawn) in rows {
+        let mut script = Script::new(&[200, 100, 255]);
+        let mut letters = ['a', 'b', 'c', 'd'];
+        assert_eq!(rt; partial_shuffle(&mut script, &mut letters, count), Ok(()));
+        assert_eq!(rt; letters, shuffled, "{count}");
+        assert_eq!(rt; script.drawn(), drawn, "{count}");
+    }
+}
+
+#[test]
+fn nothing_to_shuffle(rt: HostRuntime) {
+    let mut zeros = Zeros::new();
+    let mut none: [char; 0] = [];
+    for count in [0, 1, usize::MAX] {
+        assert_eq!(rt; partial_shuffle(&mut zeros, &mut none, count), Ok(()));
+    }
+    let mut letters = ['a', 'b', 'c'];
+    assert_eq!(rt; partial_shuffle(&mut zeros, &mut letters, 0), Ok(()));
+    assert_eq!(rt; letters, ['a', 'b', 'c']);
+    assert_eq!(rt; zeros.drawn(), 0);
+}
+
+// Words of ones, each of which draws the last index, and then zeros, which are rejected for 7, 6, 5
+// and 3 indices. Counts up to the refused index succeed.
+#[test]
+fn refused_at_each_step(rt: HostRuntime) {
+    let ones = [255; 3];
+    let rows = [
+        (0usize, 0usize, [0, 1, 2, 3, 4, 5, 6]),
+        (1, 1, [6, 1, 2, 3, 4, 5, 0]),
+        (2, 2, [6, 0, 2, 3, 4, 5, 1]),
+        (3, 4, [6, 0, 1, 3, 4, 5, 2]),
+    ];
+    for (words, steps, items) in rows {
+        for count in 0..9 {
+            let mut script = Script::new(&ones[..words]);
+            let mut numbers = [0, 1, 2, 3, 4, 5, 6];
+            let answer = partial_shuffle(&mut script, &mut numbers, count);
+            if count > steps {
+                assert_eq!(rt; answer, Err(RangeError::Exhausted), "{words} {count}");
+                assert_eq!(rt; numbers, items, "{words} {count}");
+                assert_eq!(rt; script.drawn(), (steps as u64).wrapping_add(128));
+            } else {
+                assert_eq!(rt; answer, Ok(()), "{words} {count}");
+                assert_eq!(rt; script.drawn(), count as u64, "{words} {count}");
+            }
+        }
+    }
+}
+
+// 0, 1, 2, ..
+fn identity<const N: usize>() -> [usize; N] {
+    let mut items = [0; N];
+    for (index, item) in items.iter_mut().enumerate() {
+        *item = index;
+    }
+    items
+}
+
+// The steps one by one: each draws a partner from its index to the last one.
+fn by_steps<G: Rng<OUTPUT>, const OUTPUT: usize, const N: usize>(
+    rng: &mut G,
+    items: &mut [usize; N],
+    count: usize,
+) -> Result<(), RangeError> {
+    for index in 0..count.min(N) {
+        let partner = rng.generate_range(Bound::Included(index), Bound::Excluded(N))?;
+        items.swap(index, partner);
+    }
+    Ok(())
+}
+
+// It does what the steps do one by one, and its first items are those of a whole shuffle.
+fn begins_alike<G: Rng<OUTPUT> + Drop, F: Fn() -> G, const OUTPUT: usize, const N: usize>(
+    rt: &impl Abort,
+    make: &F,
+    count: usize,
+)
+    requires callable { F.IsAlwaysCallable make.now }
+    requires few { N ≤ 50 }
+{
+    let (mut rng, mut other, mut third) = (make(), make(), make());
+    let mut items = identity::<N>();
+    let mut others = identity::<N>();
+    let mut whole = identity::<N>();
+    let answer = partial_shuffle(&mut rng, &mut items, count);
+    assert_eq!(rt; answer, by_steps(&mut other, &mut others, count));
+    assert_eq!(rt; items, others);
+    assert_eq!(rt; rng.generate::<u64>(), other.generate::<u64>());
+    if answer == Ok(()) {
+        let _ = third.shuffle(&mut whole);
+        let same = count.min(N);
+        assert_eq!(rt; &items[..same], &whole[..same]);
+    }
+}
+
+// The same, for several lengths and counts.
+fn lengths_alike<G: Rng<OUTPUT> + Drop, F: Fn() -> G, const OUTPUT: usize>(
+    rt: &impl Abort,
+    make: &F,
+)
+    requires { F.IsAlwaysCallable make.now }
+{
+    for count in [0, 1, 2, 3, 4, 49, 50, 51] {
+        begins_alike::<G, F, OUTPUT, 0>(rt, make, count);
+        begins_alike::<G, F, OUTPUT, 1>(rt, make, count);
+        begins_alike::<G, F, OUTPUT, 3>(rt, make, count);
+        begins_alike::<G, F, OUTPUT, 50>(rt, make, count);
+    }
+}
+
+#[test]
+fn the_beginning_of_a_shuffle(rt: HostRuntime) {
+    lengths_alike(&rt, &|| WyRand::new_seed(42));
+    lengths_alike(&rt, &|| Pcg64::new_seed(42));
+    lengths_alike(&rt, &|| ChaCha8::new_key([7; 32], [9; 8]));
+    lengths_alike(&rt, &|| BufferedRng::new(WyRand::new_seed(42)));
+    lengths_alike(&rt, &|| Steps::new());
+    lengths_alike(&rt, &|| Waste::new());
+    lengths_alike(&rt, &|| Zeros::new());
+    lengths_alike(&rt, &|| Constant::new(255));
+    lengths_alike(&rt, &|| Script::new(&[255, 128, 1, 77, 200]));
+}
