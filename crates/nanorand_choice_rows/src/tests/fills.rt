@@ -24,7 +24,11 @@ fn one_call_an_item(rt: HostRuntime) {
 fn nothing_to_fill(rt: HostRuntime) {
     let mut steps = Steps::new();
     let mut none: [u8; 0] = [];
-    fill_with(&mut steps, &mut none, |rng: &mut Steps| rng.generate::<u8>());
+    fill_with(
+        &mut steps,
+        &mut none,
+        |rng: &mut Steps| rng.generate::<u8>(),
+    );
     assert_eq!(rt; steps.drawn(), 0);
 }
 
@@ -34,7 +38,8 @@ fn ranges_and_pairs(rt: HostRuntime) {
     let mut script = Script::new(&[0, 255, 130]);
     let mut faces = [99u8; 3];
     fill_with(&mut script, &mut faces, |rng: &mut Script| {
-        rng.generate_range(Bound::Included(1), Bound::Included(6)).unwrap_or(0)
+        rng.generate_range(Bound::Included(1), Bound::Included(6))
+            .unwrap_or(0)
     });
     assert_eq!(rt; faces, [6, 4, 0]);
     assert_eq!(rt; script.drawn(), 131);

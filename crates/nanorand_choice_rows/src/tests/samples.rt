@@ -58,7 +58,10 @@ fn none_one_and_all(rt: HostRuntime) {
     assert_eq!(rt; steps.drawn(), 1);
     assert_eq!(rt; sample(&mut Script::new(&[255]), 5, &mut one), Ok(()));
     assert_eq!(rt; one, [4]);
-    assert_eq!(rt; sample(&mut Script::new(&[255]), usize::MAX, &mut one), Ok(()));
+    assert_eq!(rt;
+        sample(&mut Script::new(&[255]), usize::MAX, &mut one),
+        Ok(())
+    );
     assert_eq!(rt; one, [usize::MAX - 1]);
 
     let mut three = [99; 3];
@@ -162,11 +165,16 @@ fn held_below(count: usize, places: &[usize]) -> usize {
     (0..count).filter(|number| places.contains(number)).count()
 }
 
+// Checks that N slots hold N different numbers below the count.
 fn check_sample<const N: usize>(rt: &impl Abort, seed: u64, count: usize)
-    requires { N ≤ count }
+    requires within { N ≤ count }
+    requires few { N ≤ 20 }
 {
     let mut places = [usize::MAX; N];
-    assert_eq!(rt; sample(&mut WyRand::new_seed(seed), count, &mut places), Ok(()));
+    assert_eq!(rt;
+        sample(&mut WyRand::new_seed(seed), count, &mut places),
+        Ok(())
+    );
     assert_eq!(rt; held_below(count, &places), N);
 }
 

@@ -21,9 +21,7 @@ pub fn fill_bytes_by_closure<G: Rng<OUTPUT>, const OUTPUT: usize>(rng: &mut G, t
         |source: &mut G| -> u8
             ensures value { result ≡ number_of (G.requests.bytes source.old 1) }
             ensures state { source.new ≡ G.requests.after source.old 1 }
-        {
-            source.generate::<u8>()
-        },
+        { source.generate::<u8>() },
     );
 }
 
@@ -36,8 +34,6 @@ pub fn throw_dice<G: Rng<OUTPUT>, const OUTPUT: usize>(rng: &mut G, faces: &mut 
         faces,
         |source: &mut G| -> u8
             ensures { (1 ≤ result) × (result ≤ 6) }
-        {
-            throw(source)
-        },
+        { throw(source) },
     );
 }
