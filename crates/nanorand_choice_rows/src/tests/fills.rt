@@ -1,9 +1,9 @@
 //! Fills by a closure, and arrays of bytes.
 
-use nanorand_rows::callers::fills::{fill_bytes_by_closure, throw_dice};
-use nanorand_rows::{Script, Steps};
 use nanorand::values::fill_with;
 use nanorand::{BufferedRng, Rng, WyRand};
+use nanorand_rows::callers::fills::{fill_bytes_by_closure, throw_dice};
+use nanorand_rows::{Script, Steps};
 use std::ops::Bound;
 
 #[test]

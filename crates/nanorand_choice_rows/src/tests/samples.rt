@@ -1,9 +1,9 @@
 //! Samples without repetition.
 ghost use Rattle.std.specs.Prelude.{◌<◌, ◌≤◌};
 
-use nanorand_rows::{Script, Steps, Zeros};
 use nanorand::samples::sample;
 use nanorand::{RangeError, WyRand};
+use nanorand_rows::{Script, Steps, Zeros};
 use std::process::Abort;
 
 // A byte whose word draws `number` from 0 and the numbers below `size`, at most 10.

@@ -1,10 +1,10 @@
 //! Choices by one drawn number: compared with the number that the word names.
 
-use nanorand_rows::callers::{is_sampled, pick, pick_below, roll, server};
-use nanorand_rows::{ByteScript, Card, SplitMix64, Steps, Zeros};
 use nanorand::choices::{below, choose, choose_mut, ratio};
 use nanorand::values::pick_word;
 use nanorand::{RangeError, Rng, WyRand};
+use nanorand_rows::callers::{is_sampled, pick, pick_below, roll, server};
+use nanorand_rows::{ByteScript, Card, SplitMix64, Steps, Zeros};
 use std::ops::Bound::{Excluded, Included, Unbounded};
 
 const WORDS: [u64; 8] = [

@@ -1,10 +1,10 @@
 //! `partial_shuffle`, which makes the first steps of `shuffle`.
 ghost use Rattle.std.specs.Prelude.{◌≤◌};
 
-use crate::{Constant, Script, Steps, Waste, Zeros};
 use nanorand::shuffles::partial_shuffle;
 use nanorand::values::RangeError;
 use nanorand::{BufferedRng, ChaCha8, Pcg64, Rng, WyRand};
+use nanorand_rows::{Constant, Script, Steps, Waste, Zeros};
 use std::ops::Bound;
 use std::process::Abort;
 

@@ -1,8 +1,8 @@
 //! Choices by weight.
 
-use crate::{ByteScript, Constant, Script, Steps, Waste, Zeros};
 use nanorand::choices::weighted::{WeightError, choose_weighted};
 use nanorand::{BufferedRng, ChaCha8, Pcg64, Rng, WyRand};
+use nanorand_rows::{ByteScript, Constant, Script, Steps, Waste, Zeros};
 use std::ops::Bound;
 use std::process::Abort;
 use std::test::Fail;
