@@ -14,6 +14,7 @@ pub mod die;
 pub mod examples;
 pub mod nested;
 pub mod rounds;
+pub mod saved;
 
 use nanorand::laws::{pcg64_cycles, unbroken_delivery};
 use nanorand::replay::{Answer, Call, replay};

@@ -19,6 +19,7 @@ mod pcg64;
 mod ranges;
 mod refusals;
 mod replays;
+mod saved;
 mod shuffles;
 mod signed_ranges;
 mod stored_shuffles;

@@ -1,6 +1,6 @@
 //! The derived `Clone`, `Copy`, `PartialEq` and `Debug` of the small types.
 
-use nanorand::buffer::TextRefused;
+use nanorand::buffer::{RestTooLong, TextRefused};
 use nanorand::entropy::EntropyError;
 use nanorand::replay::{Answer, Kind};
 use nanorand::shuffles::NotArrangement;
@@ -98,6 +98,7 @@ fn of_refusals(rt: HostRuntime) -> Result<(), Fail> {
     check(&rt, &RANGE_ERRORS)?;
     check(&rt, &ENTROPY_ERRORS)?;
     check(&rt, &[(TextRefused, "TextRefused")])?;
+    check(&rt, &[(RestTooLong, "RestTooLong")])?;
     check(&rt, &[(NotArrangement, "NotArrangement")])?;
     Ok(())
 }
