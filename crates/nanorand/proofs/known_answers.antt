@@ -4,4 +4,5 @@ pub mod Distances
 pub mod ChaChaVectors
 pub mod ChaChaBlocks
 pub mod ChaChaCounters
+pub mod ChaChaStates
 pub mod ShufflesByKeys

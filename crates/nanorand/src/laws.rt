@@ -4,17 +4,19 @@ ghost use Rattle.std.specs.Prelude.{◌≡◌, ◌<◌, ℕ, ◌+◌, ◌^◌, b
 ghost use Rattle.std.specs.Fn.{iterate};
 ghost use Rattle.std.specs.Int.{w64, to_le_bytes, ◌∣◌};
 ghost use Rattle.nanorand_core.specs.generators.Cycles.{AgreeModulo, DrawsAdd, DrawsLeave, OneMoreDraw, PeriodsAreMultiplesOf, IsPeriod, Reaches, ReachesOnceBelow};
+ghost use Rattle.nanorand_core.specs.generators.Equality.{DecidesEquality};
+ghost use Rattle.nanorand_core.specs.values.Values.{number_of};
 ghost use Rattle.nanorand.specs.generators.Halves.{folded};
 ghost use Rattle.nanorand.specs.generators.ChaCha.{counter, advanced, next_state, chacha_after, chacha_block, chacha_requests};
 ghost use Rattle.nanorand.specs.generators.ChaChaRounds.{IsMatrix, RoundsAreInjective};
+ghost use Rattle.nanorand.specs.generators.Pcg64.{pcg64_requests};
 ghost use Rattle.nanorand.specs.generators.Pcg64 as pcg64;
+ghost use Rattle.nanorand.specs.generators.WyRand.{wyrand_requests};
 ghost use Rattle.nanorand.specs.generators.WyRand as wyrand;
 
 use crate::rand::{Blocks, ChaCha, Pcg64, Rng, WyRand};
 pub use nanorand_core::laws::{
-    choices_and_arrangements, choices_are_fair, fairness, partial_shuffles,
-    permutations_by_counting, range_limits, replays_join, samples_are_fair, unbroken_delivery,
-    weighted_choices_are_fair,
+    choices_and_arrangements, choices_are_fair, equal_buffers, fairness, fresh_delivery, partial_shuffles, permutations_by_counting, range_limits, replays_join, samples_are_fair, unbroken_delivery, values_join, weighted_choices_are_fair, whole_blocks,
 };
 
 /// The three generators implement the traits by the definitions that the laws below speak of: their
@@ -29,6 +31,13 @@ pub fn generators_as_defined<const ROUNDS: u8>()
     ensures chacha_blocks { ⟦<ChaCha<ROUNDS> as Blocks<64>>⟧.block ≡ chacha_block ROUNDS }
     ensures chacha_steps { ⟦<ChaCha<ROUNDS> as Blocks<64>>⟧.step ≡ next_state }
     ensures chacha_requests { ⟦<ChaCha<ROUNDS> as Rng<64>>⟧.requests ≡ chacha_requests ROUNDS }
+{}
+
+/// `==` of two generators is true exactly if their states are equal.
+pub fn equal_generators<const ROUNDS: u8>()
+    ensures wyrand { DecidesEquality ⟦<WyRand as PartialEq>⟧.eq }
+    ensures pcg64 { DecidesEquality ⟦<Pcg64 as PartialEq>⟧.eq }
+    ensures chacha { DecidesEquality ⟦<ChaCha<ROUNDS> as PartialEq>⟧.eq }
 {}
 
 /// ChaCha's rounds are injective on matrices, for every even number of rounds.
@@ -58,6 +67,19 @@ pub fn wyrand_cycle()
     ensures agree { (seed : ℕ) → seed < 2 ^ 64 → AgreeModulo (2 ^ 64) wyrand.seed_after seed }
     ensures periods { (seed : ℕ) → seed < 2 ^ 64
         → PeriodsAreMultiplesOf (2 ^ 64) wyrand.next_seed wyrand.wyrand_block seed }
+{}
+
+/// A `u64` of `WyRand` or `Pcg64` is the word of the seed that one draw leaves.
+///
+/// `wyrand`, `pcg64`: a request of 8 bytes takes the eight bytes of this word, so their number is
+/// the word. `wyrand_state`, `pcg64_state`: it leaves the state after one draw.
+pub fn words_as_numbers()
+    ensures wyrand { (seed : ℕ) → number_of (wyrand_requests.bytes seed 8)
+        ≡ wyrand.word (wyrand.seed_after 1 seed) }
+    ensures wyrand_state { (seed : ℕ) → wyrand_requests.after seed 8 ≡ wyrand.seed_after 1 seed }
+    ensures pcg64 { (g : pcg64.Generator) → number_of (pcg64_requests.bytes g 8)
+        ≡ folded (pcg64.seed_after 1 g.seed) }
+    ensures pcg64_state { (g : pcg64.Generator) → pcg64_requests.after g 8 ≡ pcg64.pcg64_after 1 g }
 {}
 
 /// The seeds of `Pcg64` form four cycles of length 2^126 each, and the periods of its blocks are

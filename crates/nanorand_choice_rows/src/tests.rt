@@ -3,5 +3,6 @@
 mod fills;
 mod partial_shuffles;
 mod samples;
+mod saved;
 mod uniform;
 mod weighted;

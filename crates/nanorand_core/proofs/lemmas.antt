@@ -3,4 +3,5 @@ pub mod shuffles
 pub mod samples
 pub mod choices
 pub mod replay
-pub mod FillLemmas
+pub mod values
+pub mod generators

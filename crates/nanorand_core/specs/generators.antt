@@ -2,3 +2,4 @@
 pub mod Blocks
 pub mod Buffered
 pub mod Cycles
+pub mod Equality

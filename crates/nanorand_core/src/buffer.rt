@@ -1,5 +1,7 @@
 //! A generator that buffers unused bytes, so that its requests join into one unbroken stream.
-ghost use Rattle.std.specs.Prelude.{◌≡◌, ℕ, ◌+◌, ◌++◌, ◌<◌, ◌≤◌, [], length, vec_len, vec_capacity, refl, take, drop, min, IfOk, OnOk, OnErr, IsOk, IsErr, Ok, None};
+ghost use Rattle.std.specs.Prelude.{◌≡◌, ◌==◌, ◌↔◌, ◌&&◌, ℕ, ◌+◌, ◌++◌, ◌<◌, ◌≤◌, [], length, vec_len, vec_capacity, refl, take, drop, min, IfOk, OnOk, OnErr, IsOk, IsErr, IsTrue, Ok, None};
+ghost use Rattle.std.specs.Cmp.{and_per, and_equiv, on_per, on_equiv, nat_eq_equiv, partial_equiv_from_equiv};
+ghost use Rattle.std.specs.Cmp.Lexicographic.{pointwise, lists_per, lists_equiv};
 ghost use Rattle.std.specs.Io.{ReadsAtMost};
 ghost use Rattle.std.specs.Io.KnownBytes.{ReadConsumes};
 ghost use Rattle.nanorand_core.specs.generators.Buffered.{buffered, buffered_block, buffered_step, buffered_after, buffered_taken, buffer_of};
@@ -45,6 +47,11 @@ impl<G: Rng<OUTPUT>, const OUTPUT: usize> Model for BufferedRng<G, OUTPUT> {
 #[error("a generator cannot be read into a string")]
 pub struct TextRefused;
 
+/// The error of `BufferedRng::with_rest`: the bytes fill a block or more.
+#[derive(Clone, Copy, Debug, PartialEq, Eq, Error)]
+#[error("a buffer holds less than a block")]
+pub struct RestTooLong;
+
 impl<G: Rng<OUTPUT>, const OUTPUT: usize> BufferedRng<G, OUTPUT> {
     /// Wraps a generator. Nothing is buffered yet, and nothing is drawn.
     #[inline]
@@ -57,6 +64,50 @@ impl<G: Rng<OUTPUT>, const OUTPUT: usize> BufferedRng<G, OUTPUT> {
             block: [0; OUTPUT],
             cursor: OUTPUT,
         }
+    }
+
+    /// Wraps a generator, with the bytes of `rest` buffered, the next one first. Nothing is drawn.
+    ///
+    /// It returns `RestTooLong` if the bytes fill a block or more. The generator is dropped then.
+    pub fn with_rest(rng: G, rest: &[u8]) -> Result<Self, RestTooLong>
+    where
+        G: Drop,
+        ensures state { IfOk result (λ buffer. buffer ≡ buffer_of rest.now rng) }
+        ensures fits { IsOk result ↔ (length rest.now < OUTPUT) }
+    {
+        if OUTPUT <= rest.len() {
+            return Err(RestTooLong);
+        }
+        let cursor = OUTPUT - rest.len();
+        let mut block = [0; OUTPUT];
+        let bytes = &mut block[..];
+        bytes[cursor..].copy_from_slice(rest);
+        Ok(BufferedRng {
+            inner: rng,
+            block,
+            cursor,
+        })
+    }
+
+    /// The buffered bytes, the next one first: always less than a block.
+    ///
+    /// They and the state of `inner` are what has to be stored of a buffer: `with_rest` of both
+    /// makes an equal one.
+    #[inline]
+    pub fn rest(&self) -> &[u8]
+        ensures value { result.now ≡ self.now.rest }
+        ensures below { length result.now < OUTPUT }
+    {
+        let bytes = &self.block[..];
+        &bytes[self.cursor..]
+    }
+
+    /// The inner generator, as the blocks drawn so far left it.
+    #[inline]
+    pub fn inner(&self) -> &G
+        ensures { result.now ≡ self.now.inner }
+    {
+        &self.inner
     }
 
     /// Returns the inner generator. The buffered bytes are dropped.
@@ -134,6 +185,30 @@ impl<G: Rng<OUTPUT>, const OUTPUT: usize> Clone for BufferedRng<G, OUTPUT> {
             cursor: self.cursor,
         })
     }
+}
+
+/// Equal if the buffered bytes are and the inner generators are. Bytes that were delivered do not
+/// count.
+impl<G: Rng<OUTPUT> + PartialEq, const OUTPUT: usize> PartialEq for BufferedRng<G, OUTPUT> {
+    ghost eq = { λ b c. pointwise ◌==◌ b.rest c.rest && G.eq b.inner c.inner };
+
+    ghost laws = { and_per
+        (on_per (λ b. b.rest) (lists_per (partial_equiv_from_equiv nat_eq_equiv)))
+        (on_per (λ b. b.inner) G.PartialEq.laws) };
+
+    fn eq(&self, other: &Self) -> bool
+        ensures value { result ≡ (pointwise ◌==◌ self.now.rest other.now.rest
+            && G.eq self.now.inner other.now.inner) }
+        ensures equal { IsTrue result ↔ ((self.now.rest ≡ other.now.rest)
+            × IsTrue (G.eq self.now.inner other.now.inner)) }
+    {
+        self.rest() == other.rest() && self.inner == other.inner
+    }
+}
+
+impl<G: Rng<OUTPUT> + Eq, const OUTPUT: usize> Eq for BufferedRng<G, OUTPUT> {
+    ghost laws = { and_equiv (on_equiv (λ b. b.rest) (lists_equiv nat_eq_equiv))
+        (on_equiv (λ b. b.inner) G.Eq.laws) };
 }
 
 impl<G: Rng<OUTPUT>, const OUTPUT: usize> Blocks<OUTPUT> for BufferedRng<G, OUTPUT> {

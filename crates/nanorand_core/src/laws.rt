@@ -1,17 +1,20 @@
 //! Laws of the definitions, over every generator. Each contract states a law. The functions do
 //! nothing; a proof calls one to use its law.
-ghost use Rattle.std.specs.Prelude.{◌≡◌, ◌<◌, length, ℕ, ℤ, nat_le, nat_lt, int_le, int_lt, ◌^◌, ◌≤◌, ◌↔◌, List, take, IsPermutation};
+ghost use Rattle.std.specs.Prelude.{◌≡◌, ◌<◌, ◌≤◌, ◌+◌, ◌++◌, length, sum, ℕ, ℤ, nat_le, nat_lt, int_le, int_lt, ◌^◌, ◌↔◌, List, [], ◌∷◌, take, IsPermutation};
+ghost use Rattle.std.specs.Fn.{iterate};
 ghost use Rattle.std.specs.declared.ops.Bound.{Bound};
 ghost use Rattle.nanorand_core.specs.choices.Uniform.{IndicesAreFair, RatiosAreFair};
 ghost use Rattle.nanorand_core.specs.generators.Blocks.{taken};
-ghost use Rattle.nanorand_core.specs.generators.Buffered.{Buffered, buffered_after, buffered_taken};
+ghost use Rattle.nanorand_core.specs.generators.Buffered.{Buffered, buffer_of, buffered, buffered_after, buffered_taken};
+ghost use Rattle.nanorand_core.specs.generators.Equality.{DecidesEquality};
 ghost use Rattle.nanorand_core.specs.shuffles.Arrangements.{CorrespondsOneToOne, HoldEquallyOften, HoldsEachOnce, IsArrangement};
 ghost use Rattle.nanorand_core.specs.samples.Samples.{NumbersAreFair, SetsAreFair};
 ghost use Rattle.nanorand_core.specs.replay.Replay.{ReplaysJoin};
-ghost use Rattle.nanorand_core.specs.replay.Unbroken.{IsUnbroken};
+ghost use Rattle.nanorand_core.specs.replay.Unbroken.{IsUnbroken, taken_all};
 ghost use Rattle.nanorand_core.specs.values.Range.{unsigned_number, signed_number};
 ghost use Rattle.nanorand_core.specs.values.RangeLimits.{KeepsLimits};
 ghost use Rattle.nanorand_core.specs.values.Draws.{after_word, unsigned_outcome, signed_outcome};
+ghost use Rattle.nanorand_core.specs.values.Values.{number_of, values_from};
 ghost use Rattle.nanorand_core.specs.values.Fairness.{RunsAreFair, NoNumberIsPreferred, EventsAreFair, DivisorsRejectNothing};
 ghost use Rattle.nanorand_core.specs.choices.Weighted.{ChoicesAreFair};
 ghost use Rattle.nanorand_core.specs.shuffles.Shuffles.{from_itself, partly_shuffled, shuffled};
@@ -137,4 +140,53 @@ pub fn unbroken_delivery<G: Rng<OUTPUT>, const OUTPUT: usize>()
         taken buffer.block buffer.step b n ≡ buffered_taken G.block G.step OUTPUT b n }
     ensures below { (b : Buffered G) (n : ℕ) → length b.rest < OUTPUT
         → length (buffered_after G.block G.step OUTPUT b n).rest < OUTPUT }
+{}
+
+/// A fresh `BufferedRng`, with nothing buffered, delivers the bytes of its inner generator.
+///
+/// `one`: a request takes the bytes that the same request to the inner generator takes. `all`: any
+/// list of requests takes, one after another, the bytes of one request to the inner generator for
+/// the sum of their sizes.
+pub fn fresh_delivery<G: Rng<OUTPUT>, const OUTPUT: usize>()
+    ensures one { (g : G) (n : ℕ) →
+        buffered_taken G.block G.step OUTPUT (buffer_of [] g) n ≡ G.requests.bytes g n }
+    ensures all { (g : G) (sizes : List ℕ) →
+        taken_all (buffered G.block G.step OUTPUT) (buffer_of [] g) sizes
+        ≡ G.requests.bytes g (sum sizes) }
+{}
+
+/// `==` of two `BufferedRng` is true exactly if their states are equal, where the same holds of `==`
+/// of their inner generators.
+pub fn equal_buffers<G: Rng<OUTPUT> + PartialEq, const OUTPUT: usize>()
+    ensures { DecidesEquality G.eq
+        → DecidesEquality ⟦<BufferedRng<G, OUTPUT> as PartialEq>⟧.eq }
+{}
+
+/// A request for as many bytes as a block has is a draw, over every generator.
+///
+/// `bytes`: it takes the next block. `number`: so the number of these bytes is that of the block; a
+/// `u64` of a generator with blocks of 8 bytes is the number of its next block. `state`: it leaves
+/// the state that a draw leaves.
+pub fn whole_blocks<G: Rng<OUTPUT>, const OUTPUT: usize>()
+    ensures bytes { (g : G) → G.requests.bytes g OUTPUT ≡ G.block g }
+    ensures number { (g : G) → number_of (G.requests.bytes g OUTPUT) ≡ number_of (G.block g) }
+    ensures state { (g : G) → G.requests.after g OUTPUT ≡ G.step g }
+{}
+
+/// Values drawn one after another, in two parts.
+///
+/// `values`: m + n values are m values and then n values from the state that the m leave. `states`:
+/// m steps and then n steps are m + n steps. `last_value`, `last_state`: the same, where the second
+/// part is one value or one step.
+pub fn values_join<G, T>()
+    ensures values { (value : G → T) (after : G → G) (m n : ℕ) (g : G) →
+        values_from value after (m + n) g
+        ≡ values_from value after m g ++ values_from value after n (iterate after m g) }
+    ensures states { (after : G → G) (m n : ℕ) (g : G) →
+        iterate after (m + n) g ≡ iterate after n (iterate after m g) }
+    ensures last_value { (value : G → T) (after : G → G) (n : ℕ) (g : G) →
+        values_from value after (n + 1) g
+        ≡ values_from value after n g ++ (value (iterate after n g) ∷ []) }
+    ensures last_state { (after : G → G) (n : ℕ) (g : G) →
+        iterate after (n + 1) g ≡ after (iterate after n g) }
 {}

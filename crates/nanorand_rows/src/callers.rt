@@ -18,6 +18,7 @@ pub mod fills;
 pub mod nested;
 pub mod rounds;
 pub mod split_mix;
+pub mod saved;
 
 use nanorand::choices::{below, choose, ratio};
 use nanorand::laws::{pcg64_cycles, unbroken_delivery};

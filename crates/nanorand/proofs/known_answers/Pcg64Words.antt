@@ -1,9 +1,9 @@
 -- Known answers: Pcg64, computed from the definitions alone.
-use Rattle.std.specs.Prelude.{◌≡◌, ℕ, ◌+◌, ◌*◌, ◌%◌, ◌^◌, [], ◌∷◌, map, refl}
+use Rattle.std.specs.Prelude.{◌≡◌, ℕ, ◌+◌, ◌*◌, ◌%◌, ◌^◌, [], ◌∷◌, map, true, false, refl}
 use Rattle.std.specs.Fn.{iterate}
 use Rattle.std.specs.List.{range_with_len}
 use Rattle.std.proofs.Common.{◌∙◌, arith}
-use Rattle.nanorand.specs.generators.Pcg64.{multiplier, factor, term, next_seed, Generator, next, pcg64_block, reseeded, geometric_sum, affine_after, seed_after, pcg64_after}
+use Rattle.nanorand.specs.generators.Pcg64.{multiplier, factor, term, next_seed, Generator, next, pcg64_block, reseeded, same_generator, geometric_sum, affine_after, seed_after, pcg64_after}
 use Rattle.nanorand.specs.support.Pcg64DrawLemmas.{seed_after-zero}
 use Rattle.nanorand.proofs.lemmas.cycles.Pcg64Lemmas.{seed_after-half, seed_after-agree}
 
@@ -22,6 +22,19 @@ from_zero = record { seed = 0; state = 0; inc = 0 }
 
 first_of_zero : next from_zero ≡ record { seed = 0x3b1dd060ff2fd1e09624b94fc0ada4df; state = 0x3b1dd060ff2fd1e09624b94fc0ada4df; inc = 1 }
 first_of_zero = refl
+
+-- all three numbers are compared
+same : same_generator from_zero from_zero ≡ true
+same = refl
+
+another_seed : same_generator from_zero (record { seed = 2 ^ 64; state = 0; inc = 0 }) ≡ false
+another_seed = refl
+
+another_state : same_generator from_zero (record { seed = 0; state = 1; inc = 0 }) ≡ false
+another_state = refl
+
+another_inc : same_generator from_zero (record { seed = 0; state = 0; inc = 1 }) ≡ false
+another_inc = refl
 
 block_of_zero : pcg64_block from_zero ≡ 0x3f ∷ 0x75 ∷ 0x82 ∷ 0x3f ∷ 0x2f ∷ 0x69 ∷ 0x39 ∷ 0xad ∷ []
 block_of_zero = refl

@@ -4,3 +4,4 @@ pub mod InverseLemmas
 pub mod ChaChaStateLemmas
 pub mod GroupLemmas
 pub mod RowLemmas
+pub mod SavedLemmas

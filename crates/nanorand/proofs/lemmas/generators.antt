@@ -1,2 +1,4 @@
 pub mod HexadecimalLemmas
 pub mod SeedLemmas
+pub mod WordLemmas
+pub mod EqualityLemmas

@@ -1,6 +1,6 @@
 -- ChaCha as a generator. Its state is a matrix of sixteen 32-bit words, of which words 12 and 13
 -- (counted from 0) are the block counter.
-use Rattle.std.specs.Prelude.{ℕ, zero, suc, ◌+◌, ◌*◌, ◌/◌, ◌%◌, ◌^◌, List, [], ◌∷◌, ◌++◌, take, drop, codes, slice_index, slice_set}
+use Rattle.std.specs.Prelude.{ℕ, zero, suc, ◌+◌, ◌*◌, ◌/◌, ◌%◌, ◌^◌, List, [], ◌∷◌, ◌++◌, take, drop, codes, slice_index, slice_range, slice_set}
 use Rattle.std.specs.Int.{w32, from_le_bytes, to_le_bytes}
 use Rattle.std.specs.List.{flat_map}
 use Rattle.nanorand_core.specs.generators.Blocks.{Requests, plain}
@@ -16,10 +16,13 @@ words _ = []
 abbrev pub bytes : List ℕ → List ℕ
 bytes = flat_map (to_le_bytes w32)
 
+-- The four words with which every state begins.
+abbrev pub constants : List ℕ
+constants = words (codes "expand 32-byte k")
+
 -- The state of a 32-byte key and an 8-byte nonce, with the counter at 0.
 unfoldable pub initial_state : List ℕ → List ℕ → List ℕ
-initial_state key nonce =
-    words (codes "expand 32-byte k") ++ words key ++ (0 ∷ 0 ∷ []) ++ words nonce
+initial_state key nonce = constants ++ words key ++ (0 ∷ 0 ∷ []) ++ words nonce
 
 -- The state that a 40-byte seed gives: its first 32 bytes are the key, and the other 8 the nonce.
 abbrev pub seeded_state : List ℕ → List ℕ
@@ -32,6 +35,18 @@ counter x = slice_index x 12 + 2 ^ 32 * slice_index x 13
 -- The state with its counter set to n.
 abbrev pub with_counter : List ℕ → ℕ → List ℕ
 with_counter x n = slice_set (slice_set x 12 (n % 2 ^ 32)) 13 (n / 2 ^ 32)
+
+-- The state of a 32-byte key and an 8-byte nonce, with the counter at n.
+unfoldable pub state_at : List ℕ → List ℕ → ℕ → List ℕ
+state_at key nonce n = with_counter (initial_state key nonce) n
+
+-- The key of a state, 32 bytes: those of the words 4 to 11.
+unfoldable pub key_of : List ℕ → List ℕ
+key_of x = bytes (slice_range x 4 12)
+
+-- The nonce of a state, 8 bytes: those of the words 14 and 15.
+unfoldable pub nonce_of : List ℕ → List ℕ
+nonce_of x = bytes (slice_range x 14 16)
 
 -- The state n blocks later: its counter is n more, modulo 2^64.
 abbrev pub advanced : ℕ → List ℕ → List ℕ

@@ -1,6 +1,7 @@
 -- Pcg64: a linear congruential generator on a seed below 2^128. A draw multiplies the seed by
 -- `factor` and adds `term`, modulo 2^128.
-use Rattle.std.specs.Prelude.{◌≡◌, ◌⊎◌, ℕ, zero, suc, ◌+◌, ◌*◌, ◌%◌, ◌^◌, List}
+use Rattle.std.specs.Prelude.{◌≡◌, ◌⊎◌, ◌==◌, Bool, ℕ, zero, suc, ◌+◌, ◌*◌, ◌%◌, ◌^◌, List}
+use Rattle.std.specs.Ordering.{on, eq_of_both}
 use Rattle.std.specs.Int.{w64, to_le_bytes}
 use Rattle.nanorand_core.specs.generators.Blocks.{Requests, plain}
 use Rattle.nanorand.specs.generators.Halves.{folded}
@@ -60,6 +61,11 @@ pcg64_requests = plain pcg64_block next 8
 -- and `state` and `inc` stay as they are.
 abbrev pub reseeded : Generator → List ℕ → Generator
 reseeded g bytes = record { seed = number_of bytes; state = g.state; inc = g.inc }
+
+-- Two generators are compared by all three numbers.
+abbrev pub same_generator : Generator → Generator → Bool
+same_generator =
+    eq_of_both (eq_of_both (on (λ g. g.seed) ◌==◌) (on (λ g. g.state) ◌==◌)) (on (λ g. g.inc) ◌==◌)
 
 -- The geometric sum 1 + a + .. + a^(n - 1).
 unfoldable pub geometric_sum : ℕ → ℕ → ℕ

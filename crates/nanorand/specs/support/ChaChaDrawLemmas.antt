@@ -27,7 +27,7 @@ with_counter-twice x m n =
     ∙ set-set (set x 12 low) 13 high (n / 2 ^ 32)
 
 -- the counter that was set is read back, if the list has both of its words
-counter-with_counter : (x : List ℕ) (n : ℕ) → 13 < length x → counter (with_counter x n) ≡ n
+pub counter-with_counter : (x : List ℕ) (n : ℕ) → 13 < length x → counter (with_counter x n) ≡ n
 counter-with_counter x n long =
     let low_there : 12 < length x = omega arith in
     let high_there : 13 < length (set x 12 (n % 2 ^ 32)) = omega (arith, length-set x 12 (n % 2 ^ 32)) in

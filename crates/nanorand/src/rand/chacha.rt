@@ -1,9 +1,11 @@
 //! ChaCha as a generator: a block of 64 bytes per draw, from a 256-bit key.
-ghost use Rattle.std.specs.Prelude.{◌≡◌, ℕ, ◌%◌, ◌⊎◌, List, ◌++◌, length, take, drop, ⊤, refl, Some, IfOk, IfErr, codes};
+ghost use Rattle.std.specs.Prelude.{◌≡◌, ◌==◌, ◌↔◌, ℕ, ◌%◌, ◌⊎◌, List, ◌++◌, length, take, drop, ⊤, refl, Some, IfOk, IfErr, IsTrue, codes};
+ghost use Rattle.std.specs.Cmp.Lexicographic.{pointwise};
+ghost use Rattle.std.specs.Cmp.Rules.{comparing};
 ghost use Rattle.std.specs.Fmt.{decimal};
 ghost use Rattle.std.proofs.Common.{rules};
 ghost use Rattle.std.specs.Fn.{iterate};
-ghost use Rattle.nanorand.specs.generators.ChaCha.{initial_state, seeded_state, bytes, counter, chacha_block, next_state, advanced, chacha_after, chacha_requests};
+ghost use Rattle.nanorand.specs.generators.ChaCha.{constants, initial_state, seeded_state, state_at, key_of, nonce_of, bytes, counter, chacha_block, next_state, advanced, chacha_after, chacha_requests};
 ghost use Rattle.nanorand.specs.generators.ChaChaRounds.{IsMatrix};
 ghost use Rattle.nanorand.specs.support.ChaChaDrawLemmas.{length-chacha_block};
 ghost use Rattle.nanorand.specs.generators.Entropy.{HasFewer, IsMadeOf};
@@ -49,13 +51,13 @@ pub struct ChaCha<const ROUNDS: u8> {
     state: [u32; 16],
 }
 
-// The view is the state, sixteen 32-bit words.
+// The view is the state, sixteen 32-bit words, of which the first four are the constants.
 impl<const ROUNDS: u8> Model for ChaCha<ROUNDS> {
     ghost Value = { List ℕ };
 
     ghost view = { λ generator. generator.state };
 
-    ghost invariant = { λ _. ROUNDS % 2 ≡ 0 };
+    ghost invariant = { λ generator. (ROUNDS % 2 ≡ 0) × (take 4 generator.state ≡ constants) };
 }
 
 impl<const ROUNDS: u8> ChaCha<ROUNDS> {
@@ -68,6 +70,24 @@ impl<const ROUNDS: u8> ChaCha<ROUNDS> {
         ChaCha {
             state: chacha_init(key, nonce),
         }
+    }
+
+    /// A generator with this key and nonce, whose next block is the one at this index: the counter
+    /// is `index`. Precondition: `ROUNDS` is even.
+    ///
+    /// `key`, `nonce` and `counter` are what has to be stored of a generator: `at` of the three
+    /// makes an equal one.
+    pub fn at(key: [u8; 32], nonce: [u8; 8], index: u64) -> Self
+        requires { ROUNDS % 2 ≡ 0 }
+        ensures state { result ≡ state_at key nonce index }
+        ensures matrix { IsMatrix result }
+        ensures key { key_of result ≡ key }
+        ensures nonce { nonce_of result ≡ nonce }
+        ensures counter { counter result ≡ index }
+    {
+        let mut state = chacha_init(key, nonce);
+        set_counter(&mut state, index);
+        ChaCha { state }
     }
 
     /// A generator made of the reader's next 40 bytes, with the counter 0: the first 32 are the key
@@ -89,6 +109,28 @@ impl<const ROUNDS: u8> ChaCha<ROUNDS> {
         Ok(ChaCha::new_key(key, nonce))
     }
 
+    /// The key, as 32 bytes. With the nonce and the counter it makes up the state.
+    pub fn key(&self) -> [u8; 32]
+        ensures value { result ≡ key_of self.now }
+        ensures parts { state_at (key_of self.now) (nonce_of self.now) (counter self.now)
+            ≡ self.now }
+    {
+        let bytes: &[u8] = &bytes_of(&self.words());
+        let mut key = [0; 32];
+        key.copy_from_slice(&bytes[16..48]);
+        key
+    }
+
+    /// The nonce, as 8 bytes.
+    pub fn nonce(&self) -> [u8; 8]
+        ensures { result ≡ nonce_of self.now }
+    {
+        let bytes: &[u8] = &bytes_of(&self.words());
+        let mut nonce = [0; 8];
+        nonce.copy_from_slice(&bytes[56..64]);
+        nonce
+    }
+
     /// The counter: the index of the next block under this key and nonce. The modelled state is
     /// always sixteen 32-bit words.
     #[inline]
@@ -101,7 +143,8 @@ impl<const ROUNDS: u8> ChaCha<ROUNDS> {
 
     #[inline]
     fn words(&self) -> [u32; 16]
-        ensures { result ≡ self.now }
+        ensures value { result ≡ self.now }
+        ensures begins { take 4 result ≡ constants }
     {
         self.state
     }
@@ -141,6 +184,25 @@ impl<const ROUNDS: u8> Clone for ChaCha<ROUNDS> {
     fn clone(&self) -> Result<Self, AllocError> {
         Ok(ChaCha { state: self.state })
     }
+}
+
+/// Equal exactly if the states are: the key, the nonce and the counter.
+impl<const ROUNDS: u8> PartialEq for ChaCha<ROUNDS> {
+    ghost eq = { pointwise ◌==◌ };
+
+    ghost laws = { Prim.search (comparing, rules) };
+
+    #[inline]
+    fn eq(&self, other: &Self) -> bool
+        ensures value { result ≡ pointwise ◌==◌ self.now other.now }
+        ensures equal { IsTrue result ↔ (self.now ≡ other.now) }
+    {
+        self.state == other.state
+    }
+}
+
+impl<const ROUNDS: u8> Eq for ChaCha<ROUNDS> {
+    ghost laws = { Prim.search (comparing, rules) };
 }
 
 impl<const ROUNDS: u8> fmt::Debug for ChaCha<ROUNDS> {

@@ -1,8 +1,9 @@
 //! Pcg64: a 128-bit seed, and a 64-bit word per draw.
 ghost use Rattle.std.specs.Prelude.{◌≡◌, length, ◌⊎◌, ⊤, refl, Some, IfOk, IfErr, codes, ℕ, ◌<◌, ◌^◌, ◌↔◌, IsTrue, IsSome, IfSome};
+ghost use Rattle.std.specs.Cmp.Rules.{comparing};
 ghost use Rattle.std.proofs.Common.{rules};
 ghost use Rattle.nanorand.specs.generators.Entropy.{HasFewer, IsMadeOf};
-ghost use Rattle.nanorand.specs.generators.Pcg64.{seeded_generator, next, pcg64_after, pcg64_block, reseeded, seed_after, SameCycle, initial_generator, pcg64_requests};
+ghost use Rattle.nanorand.specs.generators.Pcg64.{seeded_generator, next, pcg64_after, pcg64_block, reseeded, same_generator, seed_after, SameCycle, initial_generator, pcg64_requests};
 ghost use Rattle.nanorand.specs.generators.DebugTexts.{pcg64_debug};
 ghost use Rattle.nanorand.specs.declared.entropy.EntropyError.TheVariants.{Short, Fault};
 
@@ -140,6 +141,26 @@ impl Clone for Pcg64 {
             inc: self.inc,
         })
     }
+}
+
+/// Equal exactly if the states are: the seed, `state` and `inc`. Two generators with equal seeds
+/// give equal numbers, also where the other two differ.
+impl PartialEq for Pcg64 {
+    ghost eq = { same_generator };
+
+    ghost laws = { Prim.search (comparing, rules) };
+
+    #[inline]
+    fn eq(&self, other: &Self) -> bool
+        ensures value { result ≡ same_generator self.now other.now }
+        ensures equal { IsTrue result ↔ (self.now ≡ other.now) }
+    {
+        self.seed == other.seed && self.state == other.state && self.inc == other.inc
+    }
+}
+
+impl Eq for Pcg64 {
+    ghost laws = { Prim.search (comparing, rules) };
 }
 
 impl fmt::Debug for Pcg64 {

@@ -1,5 +1,6 @@
 //! WyRand: a 64-bit seed, and a 64-bit word per draw.
-ghost use Rattle.std.specs.Prelude.{◌≡◌, length, ◌⊎◌, ⊤, refl, Some, IfOk, IfErr, codes, ℕ, ◌<◌, ◌^◌};
+ghost use Rattle.std.specs.Prelude.{◌≡◌, ◌==◌, ◌↔◌, length, ◌⊎◌, ⊤, refl, Some, IfOk, IfErr, IsTrue, codes, ℕ, ◌<◌, ◌^◌};
+ghost use Rattle.std.specs.Cmp.Rules.{comparing};
 ghost use Rattle.std.proofs.Common.{rules};
 ghost use Rattle.nanorand.specs.generators.Entropy.{HasFewer, IsMadeOf};
 ghost use Rattle.nanorand.specs.generators.DebugTexts.{wyrand_debug};
@@ -110,6 +111,25 @@ impl Clone for WyRand {
     fn clone(&self) -> Result<Self, AllocError> {
         Ok(WyRand { seed: self.seed })
     }
+}
+
+/// Equal exactly if the seeds are.
+impl PartialEq for WyRand {
+    ghost eq = { ◌==◌ };
+
+    ghost laws = { Prim.search (comparing, rules) };
+
+    #[inline]
+    fn eq(&self, other: &Self) -> bool
+        ensures value { result ≡ (self.now == other.now) }
+        ensures equal { IsTrue result ↔ (self.now ≡ other.now) }
+    {
+        self.seed == other.seed
+    }
+}
+
+impl Eq for WyRand {
+    ghost laws = { Prim.search (comparing, rules) };
 }
 
 impl fmt::Debug for WyRand {

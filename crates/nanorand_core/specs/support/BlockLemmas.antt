@@ -4,7 +4,7 @@ use Rattle.std.proofs.Common.{◌≡◌, ℕ, zero, suc, ◌+◌, ◌-◌, ◌*�
 use Rattle.std.proofs.lemmas.List.{length-take-le, take_min}
 use Rattle.std.specs.Fn.{iterate}
 use Rattle.std.specs.Int.{div_ceil}
-use Rattle.std.proofs.lemmas.List.{take-append-le, append-nil, drop_all, length-drop}
+use Rattle.std.proofs.lemmas.List.{take-append-le, append-nil, take_all, drop_all, length-drop}
 use Rattle.std.proofs.lemmas.Bool.{cases_lt}
 use Rattle.std.proofs.lemmas.Grind.{common_steps}
 use Rattle.std.proofs.lemmas.Slice.{take-put_mid}
@@ -120,3 +120,11 @@ module _ {G : Type 0} (block : G → List ℕ) (step : G → G) (output : ℕ) (
 
   pub plain_after_front : (g : G) (n : ℕ) → 0 < n → n ≤ output → plain_after step output g n ≡ step g
   plain_after_front g n some few = rw (div_ceil_within n output some few) refl
+
+  -- a request of a block's length takes the next block
+  pub taken_block : (g : G) → taken block step g output ≡ block g
+  taken_block g = taken_front g output (omega arith) ∙ take_all output (block g) (omega (arith, size g))
+
+  pub delivered_block : (bytes : G → ℕ → List ℕ) → ((g : G) (n : ℕ) → bytes g n ≡ taken block step g n)
+      → (g : G) → bytes g output ≡ block g
+  delivered_block bytes delivers g = delivers g output ∙ taken_block g

@@ -1,6 +1,6 @@
 //! The derived `Clone`, `Copy`, `PartialEq` and `Debug` of the small types.
 
-use nanorand::buffer::TextRefused;
+use nanorand::buffer::{RestTooLong, TextRefused};
 use nanorand::choices::weighted::WeightError;
 use nanorand::entropy::EntropyError;
 use nanorand::replay::{Answer, Kind};
@@ -106,6 +106,7 @@ fn of_refusals(rt: HostRuntime) -> Result<(), Fail> {
     check(&rt, &WEIGHT_ERRORS)?;
     check(&rt, &ENTROPY_ERRORS)?;
     check(&rt, &[(TextRefused, "TextRefused")])?;
+    check(&rt, &[(RestTooLong, "RestTooLong")])?;
     check(&rt, &[(NotArrangement, "NotArrangement")])?;
     Ok(())
 }

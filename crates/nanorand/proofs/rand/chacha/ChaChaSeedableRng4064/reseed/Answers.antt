@@ -1,0 +1,7 @@
+use Rattle.std.proofs.Common.{take, ap, ◌∙◌}
+use Rattle.nanorand.proofs.lemmas.chacha.SavedLemmas.{constants-initial_state}
+use Rattle.nanorand.proofs.rand.chacha.ChaChaSeedableRng4064.reseed.Goals as goal
+
+pub invariant_of-self : goal.invariant_of-self
+invariant_of-self g c =
+    (c.self.invariant.0, ap (take 4) c.chacha_init-self-inside.ensures ∙ constants-initial_state _ _)
