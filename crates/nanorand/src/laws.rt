@@ -16,7 +16,9 @@ ghost use Rattle.nanorand.specs.generators.WyRand as wyrand;
 
 use crate::rand::{Blocks, ChaCha, Pcg64, Rng, WyRand};
 pub use nanorand_core::laws::{
-    choices_and_arrangements, choices_are_fair, equal_buffers, fairness, fresh_delivery, partial_shuffles, permutations_by_counting, range_limits, replays_join, samples_are_fair, unbroken_delivery, values_join, weighted_choices_are_fair, whole_blocks,
+    choices_and_arrangements, choices_are_fair, equal_buffers, fairness, fresh_delivery,
+    partial_shuffles, permutations_by_counting, range_limits, replays_join, samples_are_fair,
+    unbroken_delivery, values_join, weighted_choices_are_fair, whole_blocks,
 };
 
 /// The three generators implement the traits by the definitions that the laws below speak of: their

@@ -3,11 +3,11 @@
 use Rattle.std.proofs.Common.{◌≡◌, ℕ, ◌+◌, List, [], ◌∷◌, Ok, length, min, drop, refl, ap, ◌∙◌, arith}
 use Rattle.std.specs.Prelude.{replicate}
 use Rattle.std.specs.List.{range_with_len}
-use Rattle.nanorand_core.specs.generators.Blocks.{taken, plain_after, plain, Requests}
-use Rattle.nanorand_core.specs.generators.Buffered.{Buffered, buffered, buffer_of, buffered_block, buffered_step, buffered_taken, buffered_after}
+use Rattle.nanorand_core.specs.generators.Blocks.{taken, Requests}
+use Rattle.nanorand_core.specs.generators.Buffered.{Buffered, buffered, buffer_of, buffered_taken, buffered_after}
 use Rattle.nanorand.specs.generators.ChaChaRounds.{quarter_round, on_columns, on_diagonals, rounds, block}
 use Rattle.nanorand.specs.generators.ChaCha.{chacha_requests, chacha_block, chacha_after, next_state, initial_state}
-use Rattle.nanorand.specs.generators.WyRand.{wyrand_requests, next_seed, wyrand_block}
+use Rattle.nanorand.specs.generators.WyRand.{wyrand_requests, next_seed}
 use Rattle.std.specs.declared.ops.Bound.TheVariants.{Included, Excluded}
 use Rattle.nanorand_core.specs.values.Runs.{named}
 use Rattle.nanorand_core.specs.values.Range.{range_within}

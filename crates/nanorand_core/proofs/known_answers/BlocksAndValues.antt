@@ -2,15 +2,15 @@
 use Rattle.std.specs.Prelude.{◌≡◌, ℕ, List, [], ◌∷◌, refl}
 use Rattle.std.specs.Int.{w8}
 use Rattle.std.specs.Prelude.{negsuc, true, false}
-use Rattle.nanorand_core.specs.generators.Blocks.{taken, plain}
-use Rattle.nanorand_core.specs.generators.Buffered.{Buffered, buffer_of, buffered_block, buffered_step, buffered_taken, buffered_after}
+use Rattle.nanorand_core.specs.generators.Blocks.{taken}
+use Rattle.nanorand_core.specs.generators.Buffered.{Buffered, buffer_of, buffered_taken, buffered_after}
 use Rattle.nanorand_core.specs.values.Values.{number_of, signed_number_of, truth_of}
 use Rattle.nanorand_core.specs.replay.Replay.{Replay, replayed}
 use Rattle.nanorand_core.specs.declared.replay.Kind.TheVariants as kinds
 use Rattle.nanorand_core.specs.declared.replay.Call.{Call}
 use Rattle.nanorand_core.specs.declared.replay.Call.TheVariants.{Gen}
 use Rattle.nanorand_core.specs.declared.replay.Answer.TheVariants.{Unsigned}
-use Rattle.nanorand_core.proofs.known_answers.SmallGenerators.{next_count, rising_block, steps, steps_buffered}
+use Rattle.nanorand_core.proofs.known_answers.SmallGenerators.{steps, steps_buffered}
 
 -- a plain generator starts each request on a new block: u8, u8, u16
 two_bytes_and_a_word : (replayed steps 0 [] (Gen kinds.U8 ∷ Gen kinds.U8 ∷ Gen kinds.U16 ∷ [])).answers ≡ Unsigned 0 ∷ Unsigned 8 ∷ Unsigned 0x1110 ∷ []

@@ -1,5 +1,5 @@
 -- Known answers: requests and the bytes that stay buffered, computed from the definitions alone.
-use Rattle.std.specs.Prelude.{◌≡◌, ℕ, List, [], ◌∷◌, length, refl}
+use Rattle.std.specs.Prelude.{◌≡◌, ℕ, List, [], ◌∷◌, refl}
 use Rattle.std.specs.List.{range_with_len}
 use Rattle.nanorand_core.specs.generators.Blocks.{taken, plain_after}
 use Rattle.nanorand_core.specs.generators.Buffered.{Buffered, buffer_of, buffered_block, buffered_step, buffered_taken, buffered_after}

@@ -1,7 +1,7 @@
 -- Known answers: ranges and draws from them, computed from the definitions alone.
 use Rattle.std.specs.Prelude.{◌≡◌, ◌+◌, [], ◌∷◌, true, Some, None, Ok, Err, replicate, pos, negsuc, ◌++◌, map, refl}
 use Rattle.std.specs.declared.ops.Bound.TheVariants.{Included, Excluded, Unbounded}
-use Rattle.nanorand_core.specs.generators.Blocks.{taken, plain_after, plain}
+use Rattle.nanorand_core.specs.generators.Blocks.{taken, plain}
 use Rattle.nanorand_core.specs.values.Runs.{named}
 use Rattle.nanorand_core.specs.values.Range.{unsigned_range, signed_range, range_within}
 use Rattle.nanorand_core.specs.values.Draws.{unsigned_outcome, signed_outcome, deciding_place, value_drawn, left_by, left_after, words_from}

@@ -3,7 +3,7 @@ use Rattle.std.proofs.Common.{◌≡◌, ℕ, List, [], ◌∷◌, ◌++◌, Ok,
 use Rattle.std.specs.Prelude.{true}
 use Rattle.std.specs.List.{range_with_len}
 use Rattle.std.specs.declared.ops.Bound.TheVariants.{Included}
-use Rattle.nanorand_core.specs.generators.Blocks.{taken, Requests, plain}
+use Rattle.nanorand_core.specs.generators.Blocks.{taken, Requests}
 use Rattle.nanorand_core.specs.generators.Buffered.{buffer_of, buffered_taken, buffered_after}
 use Rattle.nanorand_core.specs.values.Runs.{named}
 use Rattle.nanorand_core.specs.values.Range.{range_within}

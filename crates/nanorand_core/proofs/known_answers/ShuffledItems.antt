@@ -1,5 +1,5 @@
 -- Known answers: what choices make of three items, and the choices that three words make.
-use Rattle.std.proofs.Common.{◌≡◌, ℕ, List, [], ◌∷◌, Ok, refl, ap, ◌∙◌, arith}
+use Rattle.std.proofs.Common.{◌≡◌, ℕ, [], ◌∷◌, Ok, refl, ap, ◌∙◌, arith}
 use Rattle.std.specs.Prelude.{codes}
 use Rattle.nanorand_core.specs.generators.Blocks.{taken, Requests}
 use Rattle.nanorand_core.specs.values.Runs.{named}

@@ -1,12 +1,12 @@
 -- Known answers: whole types as ranges, how many numbers they have, the least and the greatest.
-use Rattle.std.proofs.Common.{◌≡◌, ℕ, ◌+◌, ◌-◌, ◌^◌, List, [], ◌∷◌, Ok, length, map, nat_le, nat_lt, refl, ap, ◌∙◌, inl, inr, arith, sym}
+use Rattle.std.proofs.Common.{◌≡◌, ℕ, ◌+◌, ◌-◌, ◌^◌, [], ◌∷◌, Ok, length, map, nat_le, nat_lt, refl, ap, ◌∙◌, inl, inr, arith, sym}
 use Rattle.std.specs.Prelude.{pos, negsuc, int_le, int_lt, replicate}
 use Rattle.std.specs.List.{range_with_len}
 use Rattle.std.specs.declared.ops.Bound.TheVariants.{Included, Excluded, Unbounded}
 use Rattle.std.proofs.lemmas.Bool.{cases_lt, le-leb, lt-leb, lt-ltb, le-ltb}
 use Rattle.std.proofs.lemmas.List.FromFn.{length-map-range_with_len}
 use Rattle.std.proofs.lemmas.Nat.{pow_pos}
-use Rattle.nanorand_core.specs.generators.Blocks.{taken, plain_after, Requests, plain}
+use Rattle.nanorand_core.specs.generators.Blocks.{taken, Requests, plain}
 use Rattle.nanorand_core.specs.values.Runs.{named}
 use Rattle.nanorand_core.specs.values.Range.{unsigned_number, signed_number, unsigned_range, signed_range}
 use Rattle.nanorand_core.specs.support.NumberOrderLemmas.{int_le-signed, int_lt-signed}

@@ -1,6 +1,6 @@
 -- Replay: a list of calls, the answers and the items that it gives, and the state after it. All of
 -- it is determined by the requests: the bytes that each takes, and the state that it leaves.
-use Rattle.std.specs.Prelude.{◌≡◌, ℕ, ℤ, List, [], ◌∷◌, ◌++◌, length, Result, Ok, Err}
+use Rattle.std.specs.Prelude.{◌≡◌, ℕ, ℤ, List, [], ◌∷◌, ◌++◌, Result, Ok, Err}
 use Rattle.std.specs.declared.ops.Bound.{Bound}
 use Rattle.std.specs.Int.{w8, w16, w32, w64, w128}
 use Rattle.nanorand_core.specs.generators.Blocks.{Requests}

@@ -1,14 +1,14 @@
 -- A buffer delivers one unbroken stream of bytes. Nobody has to believe this file: it has lemmas that
 -- the laws of impls cite.
-use Rattle.std.proofs.Common.{◌≡◌, ℕ, zero, suc, ◌+◌, ◌-◌, ◌*◌, ◌/◌, ◌%◌, ◌<◌, ◌≤◌, List, [], ◌++◌, length, take, drop, refl, sym, ◌∙◌, ap, arith, length-append, length-drop, append_assoc, add-zero, zero-add, ⊎_elim}
+use Rattle.std.proofs.Common.{◌≡◌, ℕ, zero, suc, ◌+◌, ◌-◌, ◌*◌, ◌/◌, ◌%◌, ◌<◌, ◌≤◌, List, [], ◌++◌, length, take, drop, refl, sym, ◌∙◌, ap, arith, length-append, length-drop, append_assoc, add-zero, ⊎_elim}
 use Rattle.std.specs.Fn.{iterate}
 use Rattle.std.specs.Int.{div_ceil}
 use Rattle.std.proofs.lemmas.Bool.{cases_lt}
-use Rattle.std.proofs.Math.Seq.{take-add, take-append-add}
+use Rattle.std.proofs.Math.Seq.{take-add}
 use Rattle.std.proofs.lemmas.Grind.{div_ceil_times}
 use Rattle.std.proofs.lemmas.Nat.{div-add-mod', mod_below, mod-mul-add}
 use Rattle.std.proofs.lemmas.List.{append-nil, take-append-le, drop-append-le, drop-drop, length-take-le, take_at, take_all, drop_all, nil_from_length}
-use Rattle.std.proofs.Math.Nat.{zero-div, zero-mod, add-mul, suc-mul, zero-mul, suc-add, sub-zero, add_comm, mul-le-mul_right}
+use Rattle.std.proofs.Math.Nat.{zero-div, zero-mod, add-mul, suc-mul, zero-mul, sub-zero, add_comm, mul-le-mul_right}
 use Rattle.nanorand_core.specs.generators.Blocks.{blocks, taken, plain_after}
 use Rattle.nanorand_core.specs.generators.Buffered.{Buffered, buffer_of, stream, blocks_needed, buffered_taken, buffered_after, buffered_block, buffered_step}
 use Rattle.nanorand_core.specs.support.IterateLemmas.{iterate-add}

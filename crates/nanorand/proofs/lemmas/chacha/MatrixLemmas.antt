@@ -1,6 +1,5 @@
 -- Matrices as lists of sixteen variables.
-use Rattle.std.proofs.Common.{◌≡◌, ℕ, zero, suc, ◌+◌, List, [], ◌∷◌, length, slice_index, arith, refl, add-one}
-use Rattle.std.specs.Fn.{iterate}
+use Rattle.std.proofs.Common.{◌≡◌, ℕ, ◌+◌, List, [], ◌∷◌, length, slice_index, arith, refl}
 use Rattle.nanorand.specs.generators.ChaChaRounds.{Words, on_columns, on_diagonals}
 use Rattle.nanorand.specs.support.ChaChaLines.{with_line}
 

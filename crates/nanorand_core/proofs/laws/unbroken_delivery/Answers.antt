@@ -1,4 +1,4 @@
-use Rattle.std.proofs.Common.{sym, refl, ◌+◌}
+use Rattle.std.proofs.Common.{sym, refl}
 use Rattle.nanorand_core.specs.generators.Buffered.{buffered, buffered_taken}
 use Rattle.nanorand_core.specs.support.BufferedLemmas.{after_nothing, after_add, taken_add, taken_unbroken, rest_below}
 use Rattle.nanorand_core.proofs.lemmas.replay.UnbrokenLemmas.{unbroken}

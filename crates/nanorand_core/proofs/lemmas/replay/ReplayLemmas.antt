@@ -1,5 +1,5 @@
 -- A replay of two lists of calls, one after the other.
-use Rattle.std.proofs.Common.{ℕ, List, [], ◌∷◌, ap, refl}
+use Rattle.std.proofs.Common.{[], ◌∷◌, ap, refl}
 use Rattle.nanorand_core.specs.generators.Blocks.{Requests}
 use Rattle.nanorand_core.specs.replay.Replay.{Replay, outcome, ReplaysJoin}
 

@@ -1,6 +1,6 @@
 -- Items of a slice in memory: what one consists of, and one item, or two different ones, taken out of
 -- the row of all items and put back.
-use Rattle.std.proofs.Common.{◌≡◌, ◌≢◌, ℕ, zero, suc, ◌+◌, ◌*◌, ◌<◌, List, [], ◌∷◌, length, get_or, set, ap, sym, refl}
+use Rattle.std.proofs.Common.{◌≢◌, ℕ, zero, suc, ◌+◌, ◌*◌, ◌<◌, List, [], ◌∷◌, length, get_or, set, ap, sym, refl}
 use Rattle.std.proofs.mem.Param.{El, R, el_x, elτ, lawful, Good}
 use native.Mathlib.Nat.{not-suc-le-zero, le_of_suc-le-suc}
 use seplogic.Ra.Ura.{Ura}

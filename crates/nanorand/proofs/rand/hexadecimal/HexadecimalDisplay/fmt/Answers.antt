@@ -1,4 +1,4 @@
-use Rattle.std.proofs.Common.{rules, ◌≡◌, ℕ, ◌+◌, ◌*◌, ◌/◌, ◌%◌, ◌^◌, ◌<◌, List, Option, Some, sym, ◌∙◌, ap, subst, arith}
+use Rattle.std.proofs.Common.{rules, ◌≡◌, ℕ, ◌+◌, ◌*◌, ◌/◌, ◌%◌, ◌^◌, List, Option, Some, sym, ◌∙◌, ap, subst, arith}
 use Rattle.std.specs.Fmt.{DisplaysOnOk}
 use Rattle.nanorand.proofs.lemmas.generators.HexadecimalLemmas.{hexadecimal_words}
 use Rattle.nanorand.specs.generators.DebugTexts.{hexadecimal}

@@ -1,4 +1,4 @@
-use Rattle.std.proofs.Common.{◌≡◌, ℕ, length, ap, rules, ◌∙◌}
+use Rattle.std.proofs.Common.{◌≡◌, length, ap, rules, ◌∙◌}
 use Rattle.nanorand.specs.generators.Pcg64.{initial_generator}
 use Rattle.nanorand.proofs.lemmas.generators.SeedLemmas.{number_of_16}
 use Rattle.nanorand.proofs.rand.pcg64.Pcg64.new.Goals as goal
