@@ -5,8 +5,8 @@
 //! caller did not pass in. The contract of each call states what it returns and the state that it
 //! leaves.
 //!
-//! The traits, buffers and replays are those of `nanorand_core`, choices, ranges, samples, shuffles, values,
-//! which names no generator; they are passed on here under the same paths.
+//! The traits, values, ranges, choices, samples, shuffles, buffers and replays are those of
+//! `nanorand_core`, which names no generator; they are passed on here under the same paths.
 //!
 //! `WyRand` and `Pcg64` are not cryptographically secure. `ChaCha` says what it is and is not for.
 #![tactic(auto)]

@@ -131,6 +131,7 @@ pub fn shuffle_and_record<G: Rng<OUTPUT>, T, const OUTPUT: usize>(
 /// an index drawn from that index and all later ones. It returns `Exhausted` if 128 words in a row
 /// were rejected for one index. The swaps before that stay, and so do all draws. A `count` of 0
 /// draws nothing.
+///
 /// The law `partial_shuffles` says what it has in common with the whole shuffle.
 pub fn partial_shuffle<G: Rng<OUTPUT>, T, const OUTPUT: usize>(
     rng: &mut G,

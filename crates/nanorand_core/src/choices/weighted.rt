@@ -29,6 +29,7 @@ pub enum WeightError {
 /// It draws a number below the sum of the weights, from words of 64 bits, at most 128 of them. Item
 /// i has `weights[i]` of these numbers, so an item of weight 0 is never chosen. After `Exhausted`
 /// exactly 128 words were drawn; after any other error, none.
+///
 /// The law `weighted_choices_are_fair` counts the words that choose an item.
 pub fn choose_weighted<G: Rng<OUTPUT>, const OUTPUT: usize>(
     rng: &mut G,
