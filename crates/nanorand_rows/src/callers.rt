@@ -1,6 +1,7 @@
 //! Proved callers of the library, one for each use; they need no proof of their own. `CALLING.md`
 //! quotes them. Larger callers have a module each.
-ghost use Rattle.std.specs.Prelude.{◌≡◌, ◌≤◌, ◌<◌, ◌+◌, ◌++◌, [], length, Contains, IfOk, IfErr, MatchResult, IsPermutation};
+ghost use Rattle.std.specs.Prelude.{◌≡◌, ◌≢◌, ◌≤◌, ◌<◌, ◌+◌, ◌++◌, [], All, length, Contains, OnOk, IfOk, IfErr, MatchResult, IsPermutation};
+ghost use Rattle.std.specs.List.{AllPairs};
 ghost use Rattle.std.specs.declared.ops.Bound.TheVariants.{Included};
 ghost use Rattle.nanorand_core.specs.generators.Buffered.{buffered_taken};
 ghost use Rattle.nanorand_core.specs.values.Draws.{unsigned_outcome};
@@ -17,12 +18,14 @@ pub mod examples;
 pub mod fills;
 pub mod nested;
 pub mod rounds;
-pub mod split_mix;
 pub mod saved;
+pub mod split_mix;
 
-use nanorand::choices::{below, choose, ratio};
-use nanorand::laws::{pcg64_cycles, unbroken_delivery};
+use nanorand::choices::{WeightError, below, choose, choose_weighted, ratio};
+use nanorand::laws::{pcg64_cycles, unbroken_delivery, words_as_numbers};
 use nanorand::replay::{Answer, Call, replay};
+use nanorand::samples::sample;
+use nanorand::shuffles::partial_shuffle;
 use nanorand::{BufferedRng, Pcg64, RangeError, Rng, WyRand};
 use std::ops::Bound;
 
@@ -93,6 +96,41 @@ pub fn is_sampled(rng: &mut WyRand) -> Result<bool, RangeError>
     ensures { IfErr result (λ refusal. refusal ≡ Exhausted) }
 {
     ratio(rng, 1, 100)
+}
+
+/// The kind of a tile, 0, 1 or 2, by the weights 6, 3 and 1.
+pub fn tile(rng: &mut WyRand) -> Result<usize, WeightError>
+    ensures { IfOk result (λ kind. kind < 3) }
+{
+    choose_weighted(rng, &[6, 3, 1])
+}
+
+/// Different winners of the entrants 0, 1, .., one for each slot.
+pub fn draw_winners(
+    rng: &mut WyRand,
+    entrants: usize,
+    winners: &mut [usize],
+) -> Result<(), RangeError>
+    requires { length winners.old ≤ entrants }
+    ensures below { OnOk result (All (λ winner. winner < entrants) winners.new) }
+    ensures apart { OnOk result (AllPairs (λ winner other. winner ≢ other) winners.new) }
+{
+    sample(rng, entrants, winners)
+}
+
+/// Shuffles a hand to the front of a pack. No card is lost, also if the shuffle fails.
+pub fn deal_hand(rng: &mut WyRand, pack: &mut [u8], cards: usize) -> Result<(), RangeError>
+    ensures { IsPermutation pack.old pack.new }
+{
+    partial_shuffle(rng, pack, cards)
+}
+
+/// A known answer: the first number of a seed, as a clause.
+pub fn known_number() -> u64
+    ensures { result ≡ 16646288086500911322 }
+{
+    words_as_numbers();
+    WyRand::new_seed(0x5f89e29b87429bd2).generate()
 }
 
 /// Shuffles a pack of cards. The result is a permutation of the cards, also if the shuffle fails.
