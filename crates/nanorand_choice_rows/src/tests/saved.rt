@@ -1,14 +1,14 @@
 //! Generators that are stored and restored, and the equality of generators.
 ghost use Rattle.std.specs.Prelude.{◌≡◌, ◌%◌};
 
-use nanorand_rows::callers::saved::{
-    fill_two_from_the_start, fill_values, first_word, next_number, restored_buffer, restored_chacha,
-};
-use nanorand_rows::{Bytes1, Bytes64, Steps, Waste};
 use nanorand::buffer::RestTooLong;
 use nanorand::{
     Blocks, BufferedRng, ChaCha, ChaCha8, ChaCha12, ChaCha20, Pcg64, Rng, SeedableRng, WyRand,
 };
+use nanorand_rows::callers::saved::{
+    fill_two_from_the_start, fill_values, first_word, next_number, restored_buffer, restored_chacha,
+};
+use nanorand_rows::{Bytes1, Bytes64, Steps, Waste};
 use std::process::Abort;
 use std::test::Fail;
 

@@ -6,6 +6,7 @@ use nanorand::{RangeError, Rng, WyRand};
 use nanorand_rows::callers::{is_sampled, pick, pick_below, roll, server};
 use nanorand_rows::{ByteScript, Card, SplitMix64, Steps, Zeros};
 use std::ops::Bound::{Excluded, Included, Unbounded};
+use std::process::Abort;
 
 const WORDS: [u64; 8] = [
     0,
@@ -17,6 +18,21 @@ const WORDS: [u64; 8] = [
     1 << 63,
     u64::MAX,
 ];
+
+// The number below `size` is the one that the word names; after a rejected word others are drawn.
+fn check_below(rt: &impl Abort, size: u64, word: u64) {
+    assert!(rt; size > 0);
+    let bytes = word.to_le_bytes();
+    let mut rng = ByteScript::from_block(&bytes, 0);
+    let number = below(&mut rng, size);
+    match pick_word(u128::from(size), 64, word) {
+        Some(named) => {
+            assert_eq!(rt; number, Ok(named), "{size}, {word}");
+            assert_eq!(rt; rng.drawn(), 8);
+        }
+        None => assert!(rt; rng.drawn() > 8),
+    }
+}
 
 #[test]
 fn a_word_names_the_number_below(rt: HostRuntime) {
@@ -36,16 +52,7 @@ fn a_word_names_the_number_below(rt: HostRuntime) {
     ];
     for size in sizes {
         for word in WORDS {
-            let bytes = word.to_le_bytes();
-            let mut rng = ByteScript::from_block(&bytes, 0);
-            let number = below(&mut rng, size);
-            match pick_word(u128::from(size), 64, word) {
-                Some(named) => {
-                    assert_eq!(rt; number, Ok(named));
-                    assert_eq!(rt; rng.drawn(), 8);
-                }
-                None => assert!(rt; rng.drawn() > 8),
-            }
+            check_below(&rt, size, word);
         }
     }
 }
