@@ -1,5 +1,6 @@
 //! Throws a die ten times.
 #![tactic(auto)]
+
 ghost use Rattle.std.specs.Prelude.{◌≤◌, IfOk};
 
 use nanorand::{RangeError, Rng, WyRand};
