@@ -1,7 +1,7 @@
 //! Throws a die ten times.
 #![tactic(auto)]
 
-ghost use Rattle.std.specs.Prelude.{◌≤◌, IfOk};
+ghost use Rattle.std.specs.Prelude.{◌≡◌, ◌≤◌, IfOk, IfErr};
 
 use nanorand::{RangeError, Rng, WyRand};
 use std::io;
@@ -9,7 +9,8 @@ use std::ops::Bound;
 
 /// A number from 1 to 6.
 fn throw(rng: &mut WyRand) -> Result<u8, RangeError>
-    ensures { IfOk result (λ pips. (1 ≤ pips) × (pips ≤ 6)) }
+    ensures face { IfOk result (λ pips. (1 ≤ pips) × (pips ≤ 6)) }
+    ensures refusal { IfErr result (λ refusal. refusal ≡ RangeError.Exhausted) }
 {
     rng.generate_range(Bound::Included(1), Bound::Included(6))
 }

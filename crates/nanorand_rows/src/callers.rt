@@ -5,7 +5,6 @@ ghost use Rattle.std.specs.List.{AllPairs};
 ghost use Rattle.std.specs.declared.ops.Bound.TheVariants.{Included};
 ghost use Rattle.nanorand_core.specs.generators.Buffered.{buffered_taken};
 ghost use Rattle.nanorand_core.specs.values.Draws.{unsigned_outcome};
-ghost use Rattle.nanorand_core.specs.declared.values.range.RangeError.TheVariants.{Exhausted};
 ghost use Rattle.nanorand.specs.generators.Pcg64.{pcg64_after};
 ghost use Rattle.nanorand_core.specs.replay.Replay.{replayed};
 ghost use Rattle.nanorand_core.specs.shuffles.Shuffles.{from_itself, shuffled};
@@ -55,7 +54,7 @@ pub fn pick<G: Rng<OUTPUT>, const OUTPUT: usize>(
     rng: &mut G,
     items: &[u32],
 ) -> Result<u32, RangeError>
-    ensures some { 0 < length items.now → IfErr result (λ refusal. refusal ≡ Exhausted) }
+    ensures some { 0 < length items.now → IfErr result (λ refusal. refusal ≡ RangeError.Exhausted) }
 {
     let index = rng.generate_range(Bound::Included(0), Bound::Excluded(items.len()))?;
     Ok(items[index])
@@ -67,7 +66,7 @@ pub fn pick_below<G: Rng<OUTPUT>, const OUTPUT: usize>(
     items: &[u32],
 ) -> Result<u32, RangeError>
     requires { 0 < length items.now }
-    ensures { IfErr result (λ refusal. refusal ≡ Exhausted) }
+    ensures { IfErr result (λ refusal. refusal ≡ RangeError.Exhausted) }
 {
     let index = below(rng, items.len())?;
     Ok(items[index])
@@ -76,7 +75,7 @@ pub fn pick_below<G: Rng<OUTPUT>, const OUTPUT: usize>(
 /// A throw that may be refused, but never as `Empty`.
 pub fn roll(rng: &mut WyRand) -> Result<u8, RangeError>
     ensures face { IfOk result (λ pips. (1 ≤ pips) × (pips ≤ 6)) }
-    ensures refusal { IfErr result (λ refusal. refusal ≡ Exhausted) }
+    ensures refusal { IfErr result (λ refusal. refusal ≡ RangeError.Exhausted) }
 {
     rng.generate_range(Bound::Included(1), Bound::Included(6))
 }
@@ -93,7 +92,7 @@ pub fn server<G: Rng<OUTPUT>, const OUTPUT: usize>(
 
 /// Whether a request is sampled: one of a hundred is.
 pub fn is_sampled(rng: &mut WyRand) -> Result<bool, RangeError>
-    ensures { IfErr result (λ refusal. refusal ≡ Exhausted) }
+    ensures { IfErr result (λ refusal. refusal ≡ RangeError.Exhausted) }
 {
     ratio(rng, 1, 100)
 }

@@ -8,7 +8,7 @@ use std::marker::Model;
 use std::ops::Bound;
 
 /// A playing card: four suits of thirteen ranks.
-#[derive(Drop)]
+#[derive(Clone, Copy, Drop)]
 pub struct Card {
     number: u8,
 }
@@ -20,6 +20,8 @@ impl Model for Card {
     ghost Value = { ℕ };
 
     ghost view = { λ card. card.number };
+
+    ghost inverse = { λ number. record { number = number } };
 
     ghost invariant = { λ card. card.number < 52 };
 }
