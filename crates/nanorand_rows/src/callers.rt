@@ -5,6 +5,7 @@ ghost use Rattle.std.specs.List.{AllPairs};
 ghost use Rattle.std.specs.declared.ops.Bound.TheVariants.{Included};
 ghost use Rattle.nanorand_core.specs.generators.Buffered.{buffered_taken};
 ghost use Rattle.nanorand_core.specs.values.Draws.{unsigned_outcome};
+ghost use Rattle.nanorand.specs.generators.ChaCha.{chacha_requests};
 ghost use Rattle.nanorand.specs.generators.Pcg64.{pcg64_after};
 ghost use Rattle.nanorand_core.specs.replay.Replay.{replayed};
 ghost use Rattle.nanorand_core.specs.shuffles.Shuffles.{from_itself, shuffled};
@@ -20,12 +21,12 @@ pub mod rounds;
 pub mod saved;
 pub mod split_mix;
 
-use nanorand::choices::{WeightError, below, choose, choose_weighted, ratio};
+use nanorand::choices::{WeightError, below, choose, choose_mut, choose_weighted, ratio};
 use nanorand::laws::{pcg64_cycles, unbroken_delivery, words_as_numbers};
 use nanorand::replay::{Answer, Call, replay};
 use nanorand::samples::sample;
 use nanorand::shuffles::partial_shuffle;
-use nanorand::{BufferedRng, Pcg64, RangeError, Rng, WyRand};
+use nanorand::{BufferedRng, ChaCha20, Pcg64, RangeError, Rng, WyRand};
 use std::ops::Bound;
 
 /// The first `u64` of a seed of WyRand.
@@ -95,6 +96,22 @@ pub fn is_sampled(rng: &mut WyRand) -> Result<bool, RangeError>
     ensures { IfErr result (λ refusal. refusal ≡ RangeError.Exhausted) }
 {
     ratio(rng, 1, 100)
+}
+
+/// Adds 1 to one of the counters. Only an empty list is `Empty`.
+pub fn count_one(rng: &mut WyRand, counters: &mut [u32]) -> Result<(), RangeError>
+    ensures { 0 < length counters.old → IfErr result (λ refusal. refusal ≡ RangeError.Exhausted) }
+{
+    let counter = choose_mut(rng, counters)?;
+    *counter = counter.wrapping_add(1);
+    Ok(())
+}
+
+/// 32 bytes of a keystream, by one request.
+pub fn bytes_of_stream(rng: &mut ChaCha20) -> [u8; 32]
+    ensures { result ≡ (chacha_requests 20).bytes rng.old 32 }
+{
+    rng.generate()
 }
 
 /// The kind of a tile, 0, 1 or 2, by the weights 6, 3 and 1.
