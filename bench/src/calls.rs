@@ -48,11 +48,40 @@ unsafe extern "C" {
     fn nanorand_bench_shuffle(seed: u64, items: NonNull<u64>, length: usize, times: u32);
     fn nanorand_bench_shuffle_full(seed: u64, items: NonNull<u64>, length: usize, times: u32);
     fn nanorand_bench_kit_shuffle(seed: u64, items: NonNull<u64>, length: usize, times: u32);
+    fn nanorand_bench_choose(seed: u64, items: NonNull<u64>, length: usize, count: u64) -> u64;
+    fn nanorand_bench_kit_choose(seed: u64, items: NonNull<u64>, length: usize, count: u64) -> u64;
+    fn nanorand_bench_choose_weighted(
+        seed: u64,
+        weights: NonNull<u64>,
+        length: usize,
+        count: u64,
+    ) -> u64;
+    fn nanorand_bench_sample(
+        seed: u64,
+        places: NonNull<usize>,
+        length: usize,
+        count: usize,
+        times: u32,
+    );
+    fn nanorand_bench_partial_shuffle(
+        seed: u64,
+        items: NonNull<u64>,
+        length: usize,
+        steps: usize,
+        times: u32,
+    );
+    fn nanorand_bench_kit_partial_shuffle(
+        seed: u64,
+        items: NonNull<u64>,
+        length: usize,
+        steps: usize,
+        times: u32,
+    );
 }
 
 macro_rules! slices {
-    ($($safe:ident = $name:ident($seed:ty, [$item:ty] $(, $more:ident: $type:ty)*);)+) => { $(
-        pub fn $safe(seed: $seed, items: &mut [$item] $(, $more: $type)*) {
+    ($($safe:ident = $name:ident($seed:ty, [$item:ty] $(, $more:ident: $type:ty)*) $(-> $result:ty)?;)+) => { $(
+        pub fn $safe(seed: $seed, items: &mut [$item] $(, $more: $type)*) $(-> $result)? {
             // SAFETY: the pointer and the length are those of a slice that is borrowed for the call.
             unsafe { $name(seed, NonNull::from(&mut *items).cast(), items.len() $(, $more)*) }
         }
@@ -69,4 +98,10 @@ slices! {
     shuffle = nanorand_bench_shuffle(u64, [u64], times: u32);
     shuffle_full = nanorand_bench_shuffle_full(u64, [u64], times: u32);
     shuffle_of_the_kit = nanorand_bench_kit_shuffle(u64, [u64], times: u32);
+    choose = nanorand_bench_choose(u64, [u64], count: u64) -> u64;
+    choose_of_the_kit = nanorand_bench_kit_choose(u64, [u64], count: u64) -> u64;
+    choose_weighted = nanorand_bench_choose_weighted(u64, [u64], count: u64) -> u64;
+    sample = nanorand_bench_sample(u64, [usize], count: usize, times: u32);
+    partial_shuffle = nanorand_bench_partial_shuffle(u64, [u64], steps: usize, times: u32);
+    partial_shuffle_of_the_kit = nanorand_bench_kit_partial_shuffle(u64, [u64], steps: usize, times: u32);
 }

@@ -111,3 +111,14 @@ pub fn shuffle(seed: u64, items: &mut [u64], times: u32) {
         rng.shuffle(&mut *items);
     }
 }
+
+// It has no `choose`: this is what its callers write.
+#[inline(never)]
+pub fn choose(seed: u64, items: &mut [u64], count: u64) -> u64 {
+    let mut rng = WyRand::new_seed(seed);
+    let mut all = 0u64;
+    for _ in 0..black_box(count) {
+        all = all.rotate_left(1) ^ items[rng.generate_range(0..items.len())];
+    }
+    all
+}

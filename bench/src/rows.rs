@@ -181,6 +181,69 @@ fn shuffles(rows: &mut Vec<Row>) {
     }
 }
 
+type Choose = fn(u64, &mut [u64], u64) -> u64;
+
+// Chooses from a slice of numbers again and again.
+fn chosen(length: u64, choose: Choose) -> impl FnMut() -> u64 {
+    let mut items: Vec<u64> = (1..=length).collect();
+    move || choose(42, &mut items, WORDS)
+}
+
+// Samples numbers below `count` again and again, and returns a number that depends on the last sample.
+fn sampled(slots: u64, count: usize) -> impl FnMut() -> u64 {
+    let mut places = vec![0; slots as usize];
+    let times = (ITEMS / slots) as u32;
+    move || {
+        sample(42, &mut places, count, times);
+        places.iter().fold(0, |all, place| all << 8 ^ *place as u64)
+    }
+}
+
+type PartialShuffle = fn(u64, &mut [u64], usize, u32);
+
+// Shuffles the first numbers of a slice again and again, and returns a number that depends on eight.
+fn partly_shuffled(length: u64, steps: u64, shuffle: PartialShuffle) -> impl FnMut() -> u64 {
+    let mut items: Vec<u64> = (0..length).collect();
+    let times = (ITEMS / steps) as u32;
+    move || {
+        shuffle(42, &mut items, steps as usize, times);
+        items[..8].iter().fold(0, |all, item| all << 8 ^ item)
+    }
+}
+
+fn choices(rows: &mut Vec<Row>) {
+    let original = old!(Choose: original::choose);
+    let original = original.map(|call| Box::new(chosen(1000, call)) as Work);
+    rows.push(
+        Row::new("choose of 1000 items", WORDS, chosen(1000, choose))
+            .original(original)
+            .kit(chosen(1000, choose_of_the_kit)),
+    );
+    rows.push(Row::new(
+        "choose by weight of 10 items",
+        WORDS,
+        chosen(10, choose_weighted),
+    ));
+    rows.push(Row::new(
+        "sample of 10 from 1000, a number",
+        ITEMS,
+        sampled(10, 1000),
+    ));
+    rows.push(Row::new(
+        "sample of 100 from 10^9, a number",
+        ITEMS,
+        sampled(100, 1_000_000_000),
+    ));
+    rows.push(
+        Row::new(
+            "partial shuffle of 1000, 10 steps, a step",
+            ITEMS,
+            partly_shuffled(1000, 10, partial_shuffle),
+        )
+        .kit(partly_shuffled(1000, 10, partial_shuffle_of_the_kit)),
+    );
+}
+
 fn others(rows: &mut Vec<Row>) {
     rows.push(
         Row::new("buffered WyRand, a u8", WORDS, || {
@@ -214,6 +277,7 @@ pub fn all() -> Vec<Row> {
     fills(&mut rows);
     ranges(&mut rows);
     shuffles(&mut rows);
+    choices(&mut rows);
     others(&mut rows);
     rows
 }

@@ -2,7 +2,7 @@
 //! its `Pcg64`.
 
 use crate::words::mixed;
-use rand::seq::SliceRandom;
+use rand::seq::{IndexedRandom, SliceRandom};
 use rand::{Rng, RngExt, SeedableRng};
 use rand_chacha::{ChaCha8Rng, ChaCha12Rng, ChaCha20Rng};
 use rand_pcg::Pcg64;
@@ -130,6 +130,32 @@ pub extern "C" fn nanorand_bench_kit_shuffle(seed: u64, items: &mut [u64], times
     let mut rng = Pcg64::new(u128::from(seed), 1);
     for _ in 0..times {
         items.shuffle(&mut rng);
+    }
+}
+
+#[unsafe(no_mangle)]
+pub extern "C" fn nanorand_bench_kit_choose(seed: u64, items: &mut [u64], count: u64) -> u64 {
+    let mut rng = Pcg64::new(u128::from(seed), 1);
+    let items: &[u64] = items;
+    let mut all = 0u64;
+    for _ in 0..count {
+        if let Some(item) = items.choose(&mut rng) {
+            all = all.rotate_left(1) ^ *item;
+        }
+    }
+    all
+}
+
+#[unsafe(no_mangle)]
+pub extern "C" fn nanorand_bench_kit_partial_shuffle(
+    seed: u64,
+    items: &mut [u64],
+    steps: usize,
+    times: u32,
+) {
+    let mut rng = Pcg64::new(u128::from(seed), 1);
+    for _ in 0..times {
+        items.partial_shuffle(&mut rng, steps);
     }
 }
 

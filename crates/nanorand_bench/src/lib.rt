@@ -5,6 +5,7 @@
 #![tactic(auto)]
 
 pub mod buffers;
+pub mod choices;
 pub mod fills;
 pub mod jumps;
 pub mod kit;
