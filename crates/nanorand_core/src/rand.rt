@@ -1,10 +1,11 @@
 //! The traits that every generator implements, and the `fill_bytes` that plain generators share.
-ghost use Rattle.std.specs.Prelude.{◌≡◌, ℕ, ◌^◌, ◌<◌, List, length, OnOk, IsPermutation};
+ghost use Rattle.std.specs.Prelude.{◌≡◌, ℕ, ◌^◌, ◌<◌, List, length, IfErr, OnOk, IsPermutation};
 ghost use Rattle.std.specs.Fn.{iterate};
 ghost use Rattle.nanorand_core.specs.shuffles.Arrangements.{IsValid};
 ghost use Rattle.nanorand_core.specs.generators.Blocks.{Requests, taken, plain_after};
 ghost use Rattle.nanorand_core.specs.shuffles.Shuffles.{from_itself, shuffled};
 ghost use Rattle.nanorand_core.specs.values.Values.{values_from};
+ghost use Rattle.nanorand_core.specs.declared.values.range.RangeError.TheVariants.{Exhausted};
 
 use crate::swap::swap;
 use crate::values::{RandomGen, RandomRange, RangeError};
@@ -109,6 +110,7 @@ pub trait Rng<const OUTPUT: usize>: Clone + Blocks<OUTPUT> {
         ensures items { target.new ≡ (shuffled requests from_itself self.old target.old).items }
         ensures state { self.new ≡ (shuffled requests from_itself self.old target.old).state }
         ensures arrangement { IsPermutation target.old target.new }
+        ensures refusal { IfErr result (λ refusal. refusal ≡ Exhausted) }
         ensures whole { let shuffle = shuffled requests from_itself self.old target.old in
             OnOk result (length shuffle.choices ≡ length target.old) }
         ensures valid { let shuffle = shuffled requests from_itself self.old target.old in

@@ -1,8 +1,9 @@
 //! Shuffles as lists of choices, and the shuffle that draws from all indices.
-ghost use Rattle.std.specs.Prelude.{◌≡◌, ◌≢◌, ℕ, ◌*◌, ◌<◌, ◌≤◌, length, min, slice_index, MatchOption, OnOk, OnErr, List, IsPermutation};
+ghost use Rattle.std.specs.Prelude.{◌≡◌, ◌≢◌, ℕ, ◌*◌, ◌<◌, ◌≤◌, length, min, slice_index, MatchOption, IfErr, OnOk, OnErr, List, IsPermutation};
 ghost use Rattle.nanorand_core.specs.shuffles.Arrangements.{completed, rising, IsValid, IsArrangement};
 ghost use Rattle.nanorand_core.specs.shuffles.Shuffles.{arranged, from_all, from_itself, partly_shuffled, shuffled};
 ghost use Rattle.nanorand_core.specs.values.Draws.{after_words, word_limit};
+ghost use Rattle.nanorand_core.specs.declared.values.range.RangeError.TheVariants.{Exhausted};
 
 use crate::rand::Rng;
 use crate::swap::swap;
@@ -106,6 +107,7 @@ pub fn shuffle_and_record<G: Rng<OUTPUT>, T, const OUTPUT: usize>(
     ensures items { target.new ≡ (shuffled G.requests from_itself rng.old target.old).items }
     ensures state { rng.new ≡ (shuffled G.requests from_itself rng.old target.old).state }
     ensures arrangement { IsPermutation target.old target.new }
+    ensures refusal { IfErr result (λ refusal. refusal ≡ Exhausted) }
     ensures drawn { let shuffle = shuffled G.requests from_itself rng.old target.old in
         OnOk result (choices.new ≡ shuffle.choices) }
     ensures recorded { let shuffle = shuffled G.requests from_itself rng.old target.old in
@@ -145,6 +147,7 @@ pub fn partial_shuffle<G: Rng<OUTPUT>, T, const OUTPUT: usize>(
     ensures state { let part = partly_shuffled G.requests from_itself count rng.old target.old in
         rng.new ≡ part.state }
     ensures arrangement { IsPermutation target.old target.new }
+    ensures refusal { IfErr result (λ refusal. refusal ≡ Exhausted) }
     ensures whole { let part = partly_shuffled G.requests from_itself count rng.old target.old in
         OnOk result (length part.choices ≡ min count (length target.old)) }
     ensures valid { let part = partly_shuffled G.requests from_itself count rng.old target.old in
@@ -175,6 +178,7 @@ pub fn shuffle_full<G: Rng<OUTPUT>, T, const OUTPUT: usize>(
     ensures items { target.new ≡ (shuffled G.requests from_all rng.old target.old).items }
     ensures state { rng.new ≡ (shuffled G.requests from_all rng.old target.old).state }
     ensures arrangement { IsPermutation target.old target.new }
+    ensures refusal { IfErr result (λ refusal. refusal ≡ Exhausted) }
 {
     let count = target.len();
     for place in 0..count {

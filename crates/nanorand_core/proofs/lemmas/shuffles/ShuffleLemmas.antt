@@ -5,6 +5,7 @@ use Rattle.std.proofs.lemmas.Bool.{ne_eqb, eq-eqb, le-leb, lt-ltb, leb-true, ltb
 use Rattle.std.proofs.lemmas.List.{length-drop, get_or-drop, drop-drop, take_all}
 use Rattle.std.proofs.lemmas.List.Sorted.{IsPermutation-refl, IsPermutation-swap, IsPermutation-trans, length_permutation}
 use Rattle.std.specs.Fn.{iterate}
+use Rattle.std.specs.Result.{IfErr}
 use Rattle.nanorand_core.specs.support.IterateLemmas.{iterate-add}
 use Rattle.nanorand_core.specs.generators.Blocks.{Requests}
 use Rattle.nanorand_core.specs.values.Range.{unsigned_number}
@@ -113,6 +114,7 @@ module _ {G T : Type 0} (requests : Requests G) (first : ℕ → ℕ) (steps : �
   -- the result of the shuffle, its state and its items
   pub record Shuffled (answer : Result (Unit {0}) RangeError) (now : G) (list : List T) : Type 0 where
     pub answered : answer ≡ partial_answer requests first (length items) steps g
+    pub reason : IfErr answer (λ refusal. refusal ≡ Exhausted)
     pub left : now ≡ partial_state requests first (length items) steps g
     pub made : list ≡ arranged (partial_choices requests first (length items) steps g) items
 
@@ -180,6 +182,7 @@ module _ {G T : Type 0} {requests : Requests G} {first : ℕ → ℕ} {steps : �
         let place : 0 + i ≡ i = omega arith in
         record {
           answered = rw (count-refused, ne_eqb i steps (λ same. omega arith), reason) refl;
+          reason = reason;
           made = rw all at m.made;
           left = rw (draws, state-more requests first (length items) 0 i g, place, ← m.reached) refl;
         }
@@ -199,6 +202,7 @@ module _ {G T : Type 0} {requests : Requests G} {first : ℕ → ℕ} {steps : �
         let draws : min steps (length (partial_choices requests first (length items) steps g) + 1) ≡ i = omega (arith, count-done) in
         record {
           answered = rw (count-done, eq-eqb i steps end) refl;
+          reason = tt;
           made = rw all at m.made;
           left = rw draws m.reached;
         }

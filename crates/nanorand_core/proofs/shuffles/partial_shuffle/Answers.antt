@@ -21,6 +21,7 @@ returns-in_err-chosen g c =
     let kept = err_from_is_err_and c.from_residual.result c.from_residual.ensures.1 in
     rw (kept.1, kept.2, c.in_err-chosen.ensures.state) (record {
       answer = ended.answered;
+      refusal = ended.reason;
       items = ended.made;
       state = ended.left;
       arrangement = so_far.shuffled;
@@ -49,6 +50,7 @@ returns g c =
     let words = partial-words g.G.Rng.requests from_itself size (min c.args.count size) c.args.rng.now in
     record {
       answer = ended.answered;
+      refusal = ended.reason;
       items = ended.made;
       state = ended.left;
       arrangement = so_far.shuffled;

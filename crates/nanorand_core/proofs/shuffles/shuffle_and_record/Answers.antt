@@ -25,6 +25,7 @@ returns-in_err-partner g c =
     let kept = err_from_is_err_and c.from_residual.result c.from_residual.ensures.1 in
     rw (kept.1, kept.2, c.in_err-partner.ensures.state) (record {
       answer = ended.answered;
+      refusal = ended.reason;
       items = ended.made;
       state = ended.left;
       arrangement = so_far.shuffling.shuffled;
@@ -58,6 +59,7 @@ returns g c =
     let stored = recorded so_far (omega arith) size in
     record {
       answer = ended.answered;
+      refusal = ended.reason;
       items = ended.made;
       state = ended.left;
       arrangement = so_far.shuffling.shuffled;

@@ -16,6 +16,7 @@ returns-in_err-other g c =
     let kept = err_from_is_err_and c.from_residual.result c.from_residual.ensures.1 in
     rw (kept.1, kept.2, c.in_err-other.ensures.state) (record {
       answer = ended.answered;
+      refusal = ended.reason;
       items = ended.made;
       state = ended.left;
       arrangement = so_far.shuffled;
@@ -37,4 +38,10 @@ pub returns : goal.returns
 returns g c =
     let so_far = c.loop-place.invariant in
     let ended = done so_far (omega arith) in
-    record { answer = ended.answered; items = ended.made; state = ended.left; arrangement = so_far.shuffled }
+    record {
+      answer = ended.answered;
+      items = ended.made;
+      state = ended.left;
+      arrangement = so_far.shuffled;
+      refusal = ended.reason;
+    }

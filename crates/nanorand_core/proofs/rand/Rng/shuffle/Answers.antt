@@ -16,6 +16,7 @@ returns-in_err-partner g c =
     let kept = err_from_is_err_and c.from_residual.result c.from_residual.ensures.1 in
     rw (kept.1, kept.2, c.in_err-partner.ensures.state) (record {
       answer = ended.answered;
+      refusal = ended.reason;
       items = ended.made;
       state = ended.left;
       arrangement = so_far.shuffled;
@@ -42,6 +43,7 @@ returns g c =
     let size = count-done so_far (omega arith) ∙ omega arith in
     record {
       answer = ended.answered;
+      refusal = ended.reason;
       items = ended.made;
       state = ended.left;
       arrangement = so_far.shuffled;
