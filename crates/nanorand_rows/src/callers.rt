@@ -81,6 +81,16 @@ pub fn roll(rng: &mut WyRand) -> Result<u8, RangeError>
     rng.generate_range(Bound::Included(1), Bound::Included(6))
 }
 
+/// A hexadecimal digit. 16 is a power of two, so no word is rejected, and there is no refusal.
+pub fn digit(rng: &mut WyRand) -> u8
+    ensures { result < 16 }
+{
+    match below(rng, 16) {
+        Ok(digit) => digit,
+        Err(_) => unreachable!(),
+    }
+}
+
 /// A server of the list, each by equally many words.
 pub fn server<G: Rng<OUTPUT>, const OUTPUT: usize>(
     rng: &mut G,

@@ -2,6 +2,7 @@
 ghost use Rattle.std.specs.Prelude.{◌≡◌, ℕ, ◌^◌, ◌<◌, ◌≤◌, [], true, false, length, slice_get, nat_lt, Some, Ok, Err, IsOk, IsOkAnd, IfOk, IfErr, MatchResult};
 ghost use Rattle.std.specs.declared.ops.Bound.TheVariants.{Excluded, Unbounded};
 ghost use Rattle.nanorand_core.specs.values.Range.{range_within};
+ghost use Rattle.nanorand_core.specs.values.Runs.{rejected};
 ghost use Rattle.nanorand_core.specs.values.Draws.{word_limit, after_words, range_outcome};
 ghost use Rattle.nanorand_core.specs.choices.Uniform.{index_drawn};
 ghost use Rattle.nanorand_core.specs.declared.values.range.RangeError.TheVariants.{Empty, Exhausted};
@@ -30,6 +31,8 @@ pub fn below<T: Number, G: Rng<OUTPUT>, const OUTPUT: usize>(
     ensures below { IfOk result (λ number. T.lt number n ≡ true) }
     ensures refusal { IfErr result (λ refusal. refusal ≡ Exhausted) }
     ensures power { (k : ℕ) → k < T.BITS → n ≡ T.number (2 ^ k) → IsOk result }
+    ensures divisor { (size : ℕ) → n ≡ T.number size → 0 < size
+        → rejected T.BITS size ≡ 0 → IsOk result }
     ensures words { (m : ℕ) × (m ≤ word_limit)
         × (rng.new ≡ after_words G.requests T.BITS m rng.old) }
 {

@@ -3,7 +3,7 @@ use Rattle.std.specs.Result.{IfErr, IsOk}
 use Rattle.std.specs.declared.ops.Bound.TheVariants.{Excluded, Unbounded}
 use Rattle.std.proofs.lemmas.Bool.{le-leb}
 use Rattle.std.proofs.lemmas.Nat.{pow-add, pow_pos}
-use Rattle.std.proofs.Math.Pow.{pow_mono}
+use Rattle.std.proofs.lemmas.Nat.Gcd.{dvd_of_mod-eq-zero, le_of_dvd}
 use Rattle.std.proofs.Math.Nat.{mul-mod_left}
 use Rattle.nanorand_core.specs.values.Runs.{rejected}
 use Rattle.nanorand_core.specs.declared.values.range.RangeError.{RangeError}
@@ -17,13 +17,18 @@ unrefused : {T : Type 0} (result : Result T RangeError) → IfErr result (λ ref
 unrefused (Ok x) empty exhausted = refl
 unrefused (Err refusal) empty exhausted = let clash = sym empty ∙ exhausted in cc
 
+pub returns-clause-divisor : goal.returns-clause-divisor
+returns-clause-divisor g c size is some divides =
+    let bits = g.T.Number.BITS in
+    let fits : size ≤ 2 ^ bits = le_of_dvd (pow_pos bits) (dvd_of_mod-eq-zero size divides) in
+    let numbers = range-places g.T.Number.le g.T.Number.lt bits g.T.Number.number Unbounded (Excluded c.args.n) 0 size
+    (λ j. sym (le-leb 0 j (omega arith))) (λ j in_type. rw is (g.met.T.Number.lt_rises j size)) fits some in
+    let count : length _ ≡ size = range-count _ 0 _ _ numbers ∙ omega arith in
+    unrefused _ (c.draw_number.ensures.divisor (ap (λ (n : ℕ). rejected bits n) count ∙ divides)) (c.draw_number.ensures.refusal c.requires)
+
 pub returns-clause-power : goal.returns-clause-power
 returns-clause-power g c k low is =
     let bits = g.T.Number.BITS in
-    let fits : 2 ^ k ≤ 2 ^ bits = pow_mono (omega (arith, low)) in
-    let numbers = range-places g.T.Number.le g.T.Number.lt bits g.T.Number.number Unbounded (Excluded c.args.n) 0 (2 ^ k)
-    (λ j. sym (le-leb 0 j (omega arith))) (λ j in_type. rw is (g.met.T.Number.lt_rises j (2 ^ k))) fits (pow_pos k) in
-    let count : length _ ≡ 2 ^ k = range-count _ 0 _ _ numbers ∙ omega arith in
     let split : 2 ^ bits ≡ 2 ^ (bits - k) * 2 ^ k = (let sum : bits ≡ bits - k + k = omega (arith, low) in ap (λ (n : ℕ). 2 ^ n) sum) ∙ pow-add 2 (bits - k) k in
-    let divides = ap (λ (n : ℕ). rejected bits n) count ∙ ap (λ (n : ℕ). n % 2 ^ k) split ∙ mul-mod_left (2 ^ (bits - k)) (2 ^ k) in
-    unrefused _ (c.draw_number.ensures.divisor divides) (c.draw_number.ensures.refusal c.requires)
+    let divides = ap (λ (n : ℕ). n % 2 ^ k) split ∙ mul-mod_left (2 ^ (bits - k)) (2 ^ k) in
+    returns-clause-divisor g c (2 ^ k) is (pow_pos k) divides
