@@ -16,6 +16,7 @@ pub mod card;
 pub mod die;
 pub mod examples;
 pub mod fills;
+pub mod loops;
 pub mod nested;
 pub mod rounds;
 pub mod saved;
