@@ -1,0 +1,126 @@
+-- Numbers drawn one after another from one list of words, as shuffles and samples draw them.
+use Rattle.std.specs.Prelude.{◌≡◌, ℕ, zero, suc, ◌+◌, ◌*◌, ◌^◌, ◌<◌, ◌≤◌, ◌==◌, ◌&&◌, Bool, true, false, List, [], ◌∷◌, length, map, sum_by, Option, Some, None, if◌then◌else◌}
+use Rattle.std.specs.List.{All, AllZip, range_with_len}
+use Rattle.nanorand_core.specs.values.Runs.{IsWordWidth, named, quota}
+use Rattle.nanorand_core.specs.values.Draws.{word_limit}
+use Rattle.nanorand_core.specs.values.Fairness.{swapped_word, swapped_number}
+use Rattle.nanorand_fairness.specs.Lists.{lists_that}
+
+-- What follows the next word of a draw: one thing if it names a number, another if it is rejected.
+abbrev pub by_word : {A : Type 0} → Option ℕ → (ℕ → A) → A → A
+by_word (Some number) decides rejects = decides number
+by_word None decides rejects = rejects
+
+-- Draws below sizes of a list, one after another, from one list of words of `bits` bits. The first
+-- draw may still take `left` words, each later one 128. Draws end at the first refused one, at the
+-- last size, or where the words end.
+module _ (bits : ℕ) where
+  -- The numbers drawn.
+  abbrev pub numbers_from : List ℕ → ℕ → List ℕ → List ℕ
+  numbers_from [] left words = []
+  numbers_from (size ∷ sizes) zero words = []
+  numbers_from (size ∷ sizes) (suc left) [] = []
+  numbers_from (size ∷ sizes) (suc left) (word ∷ words) =
+      by_word (named bits size word) (λ number. number ∷ numbers_from sizes word_limit words)
+      (numbers_from (size ∷ sizes) left words)
+
+  abbrev pub numbers_in_turn : List ℕ → List ℕ → List ℕ
+  numbers_in_turn sizes words = numbers_from sizes word_limit words
+
+  -- For each word that is taken, whether it names a number.
+  abbrev pub deciding_from : List ℕ → ℕ → List ℕ → List Bool
+  deciding_from [] left words = []
+  deciding_from (size ∷ sizes) zero words = []
+  deciding_from (size ∷ sizes) (suc left) [] = []
+  deciding_from (size ∷ sizes) (suc left) (word ∷ words) =
+      by_word (named bits size word) (λ number. true ∷ deciding_from sizes word_limit words)
+      (false ∷ deciding_from (size ∷ sizes) left words)
+
+  abbrev pub deciding_in_turn : List ℕ → List ℕ → List Bool
+  deciding_in_turn sizes words = deciding_from sizes word_limit words
+
+  -- How many lists of n words draw a number below each size, and pass a test on these numbers.
+  abbrev pub word_lists_that : ℕ → List ℕ → (List ℕ → Bool) → ℕ
+  word_lists_that n sizes test =
+      lists_that bits n (λ words. let numbers = numbers_in_turn sizes words in
+      length numbers == length sizes && test numbers)
+
+  -- The product of the numbers of words that name one number below each size.
+  abbrev pub quotas : List ℕ → ℕ
+  quotas [] = 1
+  quotas (size ∷ sizes) = quota bits size * quotas sizes
+
+-- How many lists of numbers, one below each size, pass a test.
+abbrev pub number_lists_that : List ℕ → (List ℕ → Bool) → ℕ
+number_lists_that [] test = if test [] then 1 else 0
+number_lists_that (size ∷ sizes) test =
+    sum_by (λ number. number_lists_that sizes (λ numbers. test (number ∷ numbers)))
+    (range_with_len 0 size)
+
+-- Each size is from 1 to 2^bits.
+abbrev pub AreSizes : ℕ → List ℕ → Type 0
+AreSizes bits sizes = All (λ size. (1 ≤ size) × (size ≤ 2 ^ bits)) sizes
+
+-- Of the lists with one word for each size, every list of numbers is drawn by equally many: the
+-- product of the quotas. So a test is passed by that many for each list of numbers that passes it.
+abbrev pub NumbersInTurnAreFair : Type 0
+NumbersInTurnAreFair =
+    (bits : ℕ) (sizes : List ℕ) (test : List ℕ → Bool) → IsWordWidth bits → AreSizes bits sizes
+    → word_lists_that bits (length sizes) sizes test ≡ number_lists_that sizes test * quotas bits sizes
+
+-- The same with rejections: of all lists of n words, every list of numbers is drawn by equally many.
+abbrev pub RejectionsPreferNothing : Type 0
+RejectionsPreferNothing =
+    (bits n : ℕ) (sizes : List ℕ) (test : List ℕ → Bool) → IsWordWidth bits → AreSizes bits sizes
+    → word_lists_that bits n sizes test * number_lists_that sizes (λ numbers. true)
+    ≡ number_lists_that sizes test * word_lists_that bits n sizes (λ numbers. true)
+
+-- An exchange of two numbers below a size.
+pub record Exchange : Type 0 where
+  pub size : ℕ
+  pub one : ℕ
+  pub other : ℕ
+
+-- It can be made on words of `bits` bits.
+pub record IsExchange (bits : ℕ) (e : Exchange) : Type 0 where
+  pub fits : e.size ≤ 2 ^ bits
+  pub one : e.one < e.size
+  pub other : e.other < e.size
+
+-- The words with the runs of both numbers exchanged, for the words of each draw by its exchange.
+-- Words that no draw takes stay.
+module _ (bits : ℕ) where
+  abbrev pub swapped_from : List Exchange → ℕ → List ℕ → List ℕ
+  swapped_from [] left words = words
+  swapped_from (e ∷ exchanges) zero words = words
+  swapped_from (e ∷ exchanges) (suc left) [] = []
+  swapped_from (e ∷ exchanges) (suc left) (word ∷ words) =
+      swapped_word bits e.size e.one e.other word
+      ∷ by_word (named bits e.size word) (λ number. swapped_from exchanges word_limit words)
+      (swapped_from (e ∷ exchanges) left words)
+
+  abbrev pub swapped_in_turn : List Exchange → List ℕ → List ℕ
+  swapped_in_turn exchanges words = swapped_from exchanges word_limit words
+
+-- The numbers, each exchanged by the exchange of its draw.
+abbrev pub swapped_numbers : List Exchange → List ℕ → List ℕ
+swapped_numbers [] numbers = numbers
+swapped_numbers (e ∷ exchanges) [] = []
+swapped_numbers (e ∷ exchanges) (number ∷ numbers) =
+    swapped_number e.one e.other number ∷ swapped_numbers exchanges numbers
+
+-- Exchanging runs word by word is an involution on lists of words. It keeps which words are
+-- rejected, and exchanges the numbers drawn.
+pub record SwapsInTurn (bits : ℕ) (exchanges : List Exchange) (words : List ℕ) : Type 0 where
+  pub fits : All (λ word. word < 2 ^ bits) words
+      → All (λ word. word < 2 ^ bits) (swapped_in_turn bits exchanges words)
+  pub back : swapped_in_turn bits exchanges (swapped_in_turn bits exchanges words) ≡ words
+  pub deciding : deciding_in_turn bits (map (λ e. e.size) exchanges) (swapped_in_turn bits exchanges words)
+      ≡ deciding_in_turn bits (map (λ e. e.size) exchanges) words
+  pub numbers : numbers_in_turn bits (map (λ e. e.size) exchanges) (swapped_in_turn bits exchanges words)
+      ≡ swapped_numbers exchanges (numbers_in_turn bits (map (λ e. e.size) exchanges) words)
+
+abbrev pub NoListOfNumbersIsPreferred : Type 0
+NoListOfNumbersIsPreferred =
+    (bits : ℕ) (exchanges : List Exchange) (words : List ℕ) → IsWordWidth bits
+    → All (IsExchange bits) exchanges → SwapsInTurn bits exchanges words

@@ -1,0 +1,5 @@
+-- What a reader of the fairness laws must believe.
+pub mod Lists
+pub mod InTurn
+pub mod Deals
+pub mod Samples

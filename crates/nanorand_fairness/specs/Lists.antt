@@ -1,0 +1,63 @@
+-- Counting lists of words: one draw from a list of words, rejected words included.
+use Rattle.std.specs.Prelude.{◌≡◌, ℕ, zero, suc, ◌+◌, ◌*◌, ◌^◌, ◌<◌, ◌≤◌, ◌==◌, Bool, List, [], ◌∷◌, length, sum, sum_by, count_by, slice_index, nat_lt, is_none, option_map, if◌then◌else◌}
+use Rattle.std.specs.List.{range_with_len}
+use Rattle.std.specs.Option.{option_map_or}
+use Rattle.nanorand_core.specs.values.Runs.{IsWordWidth, rejected}
+use Rattle.nanorand_core.specs.values.Draws.{deciding_place, decided}
+use Rattle.nanorand_core.specs.values.Fairness.{passes}
+use Rattle.nanorand_core.specs.choices.Weighted.{item_at}
+
+-- The sum of f over all lists of n words of `bits` bits.
+unfoldable pub sum_over_lists : ℕ → ℕ → (List ℕ → ℕ) → ℕ
+sum_over_lists bits zero f = f []
+sum_over_lists bits (suc n) f =
+    sum_by (λ word. sum_over_lists bits n (λ words. f (word ∷ words))) (range_with_len 0 (2 ^ bits))
+
+-- How many of the lists of n words of `bits` bits pass a test.
+abbrev pub lists_that : ℕ → ℕ → (List ℕ → Bool) → ℕ
+lists_that bits n test = sum_over_lists bits n (λ words. if test words then 1 else 0)
+
+-- How many words of the list a draw takes: those up to the deciding word, or all of them.
+abbrev pub words_taken : ℕ → ℕ → List ℕ → ℕ
+words_taken bits size words =
+    option_map_or (λ i. i + 1) (deciding_place bits size words) (length words)
+
+-- After n words, a draw is undecided in exactly t^n of all lists, where t words are rejected.
+abbrev pub UndecidedListsAreFew : Type 0
+UndecidedListsAreFew =
+    (bits size n : ℕ) → IsWordWidth bits → 1 ≤ size → size ≤ 2 ^ bits
+    → lists_that bits n (λ words. is_none (deciding_place bits size words))
+    ≡ rejected bits size ^ n
+
+-- A draw takes fewer than two words on average: over all lists of n words, fewer than twice as many
+-- words are taken as there are lists.
+abbrev pub DrawsTakeFewWords : Type 0
+DrawsTakeFewWords =
+    (bits size n : ℕ) → IsWordWidth bits → 1 ≤ size → size ≤ 2 ^ bits
+    → sum_over_lists bits n (words_taken bits size) < 2 * (2 ^ bits) ^ n
+
+-- Over all lists of n words, an event is decided by as many times as many lists as one number as it
+-- has numbers. The event is given by a test.
+abbrev pub EventsInListsAreFair : Type 0
+EventsInListsAreFair =
+    (bits size n k : ℕ) (test : ℕ → Bool) → IsWordWidth bits → size ≤ 2 ^ bits → k < size
+    → lists_that bits n (λ words. passes test (decided bits size words))
+    ≡ count_by test (range_with_len 0 size)
+    * lists_that bits n (λ words. passes (λ j. j == k) (decided bits size words))
+
+-- So the event of a ratio is decided by `numerator` times as many lists as one number.
+abbrev pub RatiosInListsAreFair : Type 0
+RatiosInListsAreFair =
+    (bits numerator denominator n k : ℕ) → IsWordWidth bits → denominator ≤ 2 ^ bits
+    → numerator ≤ denominator → k < denominator
+    → lists_that bits n (λ words. passes (λ j. nat_lt j numerator) (decided bits denominator words))
+    ≡ numerator * lists_that bits n (λ words. passes (λ j. j == k) (decided bits denominator words))
+
+-- And an item is chosen by as many times as many lists as one number as its weight is.
+abbrev pub WeightsInListsAreFair : Type 0
+WeightsInListsAreFair =
+    (bits : ℕ) (weights : List ℕ) (n i k : ℕ) → IsWordWidth bits → sum weights ≤ 2 ^ bits
+    → i < length weights → k < sum weights
+    → let drawn = decided bits (sum weights) in
+    lists_that bits n (λ words. passes (λ j. j == i) (option_map (item_at weights) (drawn words)))
+    ≡ slice_index weights i * lists_that bits n (λ words. passes (λ j. j == k) (drawn words))

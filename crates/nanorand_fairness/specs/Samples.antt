@@ -1,0 +1,34 @@
+-- Samples by Floyd's algorithm, made of the numbers that words draw in turn.
+use Rattle.std.specs.Prelude.{◌≡◌, ℕ, ◌+◌, ◌-◌, ◌*◌, ◌^◌, ◌<◌, ◌≤◌, Bool, List, [], ◌∷◌, map, count_by}
+use Rattle.std.specs.List.{list_all, range_with_len}
+use Rattle.nanorand_core.specs.generators.Blocks.{Requests}
+use Rattle.nanorand_core.specs.values.Draws.{word_limit, next_word, after_word, words_from}
+use Rattle.nanorand_core.specs.samples.Samples.{factorial, joined, sampled}
+use Rattle.nanorand_fairness.specs.InTurn.{quotas, numbers_in_turn, word_lists_that}
+
+-- The sizes of the draws of a sample of `size` of `count` numbers: .., count - 1, count.
+abbrev pub sample_sizes : ℕ → ℕ → List ℕ
+sample_sizes size count = map (λ i. count - size + 1 + i) (range_with_len 0 size)
+
+-- The sample after draws with these results, the first of them a number up to `last`.
+abbrev pub sample_by : ℕ → List ℕ → List ℕ → List ℕ
+sample_by last [] sample = sample
+sample_by last (drawn ∷ draws) sample = sample_by (last + 1) draws (joined last drawn sample)
+
+-- Each set of `size` of the numbers below `count` is sampled by equally many lists of words: size!
+-- times the product of the quotas. A test gives the set.
+abbrev pub SampledSetsAreFair : Type 0
+SampledSetsAreFair =
+    (size count : ℕ) (test : ℕ → Bool) → size ≤ count → count ≤ 2 ^ 64
+    → count_by test (range_with_len 0 count) ≡ size
+    → word_lists_that 64 size (sample_sizes size count)
+    (λ draws. list_all test (sample_by (count - size) draws []))
+    ≡ factorial size * quotas 64 (sample_sizes size count)
+
+-- The numbers of `sample` are those by the numbers that its words draw in turn.
+abbrev pub SamplesDrawInTurn : {G : Type 0} → Requests G → Type 0
+SamplesDrawInTurn {G} requests =
+    (size count : ℕ) (g : G) → size ≤ count → count < 2 ^ 64
+    → let words = words_from (next_word requests 64) (after_word requests 64) (word_limit * size) g in
+    (sampled requests size count g).numbers
+    ≡ sample_by (count - size) (numbers_in_turn 64 (sample_sizes size count) words) []

@@ -1,0 +1,7 @@
+//! Laws of whole draws, counted over lists of words: shuffles, deals, samples, weights and ratios.
+//!
+//! They rest on the laws of `nanorand_core` alone. Each contract states a law. The functions do
+//! nothing; a proof calls one to use its law.
+#![tactic(auto)]
+
+pub mod laws;
