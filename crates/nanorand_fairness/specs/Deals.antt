@@ -15,7 +15,7 @@ deal_sizes k n = map (λ i. n - i) (range_with_len 0 k)
 -- The choices that drawn numbers make, from index i on: number t chooses index i + t.
 abbrev pub choices_by : ℕ → List ℕ → List ℕ
 choices_by i [] = []
-choices_by i (number ∷ numbers) = i + number ∷ choices_by (i + 1) numbers
+choices_by i (number ∷ numbers) = (i + number) ∷ choices_by (i + 1) numbers
 
 -- The first k items of 0, 1, .., n - 1 after the shuffle by these numbers: what a deal of k deals.
 abbrev pub dealt : ℕ → ℕ → List ℕ → List ℕ
@@ -68,8 +68,8 @@ NoDealIsPreferred =
 
 -- The choices of `shuffle` and `partial_shuffle` are those by the numbers that their words draw in
 -- turn.
-abbrev pub ShufflesDrawInTurn : {G T : Type 0} → Requests G → Type 0
-ShufflesDrawInTurn {G} {T} requests =
+abbrev pub ShufflesDrawInTurn : {G : Type 0} → Type 0 → Requests G → Type 0
+ShufflesDrawInTurn {G} T requests =
     (steps : ℕ) (g : G) (items : List T) → length items < 2 ^ 64
     → let draws = min steps (length items) in
     let words = words_from (next_word requests 64) (after_word requests 64) (word_limit * draws) g in

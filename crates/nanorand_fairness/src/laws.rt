@@ -5,12 +5,15 @@ ghost use Rattle.nanorand_fairness.specs.Deals.{DealsAreFair, ShufflesAreFair, N
 ghost use Rattle.nanorand_fairness.specs.Samples.{SampledSetsAreFair, SamplesDrawInTurn};
 
 use nanorand_core::Rng;
+use nanorand_core::laws::fairness;
 
 /// How many words a draw takes, for words of N = 8, 16, 32 and 64 bits.
 pub fn words_of_a_draw()
     ensures undecided { UndecidedListsAreFew }
     ensures few { DrawsTakeFewWords }
-{}
+{
+    fairness();
+}
 
 /// Events, ratios and weights over all lists of words.
 pub fn fairness_with_rejections()
@@ -35,7 +38,7 @@ pub fn shuffles_are_fair()
 
 /// Shuffles draw in turn.
 pub fn shuffles_draw_in_turn<G: Rng<OUTPUT>, T, const OUTPUT: usize>()
-    ensures { ShufflesDrawInTurn {G} {T} G.requests }
+    ensures { ShufflesDrawInTurn T G.requests }
 {}
 
 /// Samples.
