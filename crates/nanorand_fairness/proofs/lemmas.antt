@@ -1,3 +1,4 @@
 pub mod Sums
 pub mod NamedSums
 pub mod DrawLists
+pub mod WordCounts

@@ -58,7 +58,7 @@ same_number j k =
     ]
 
 -- one number below the size is k
-one_number : (k size : ℕ) → k < size → count_by (λ j. nat_eq j k) (range_with_len 0 size) ≡ 1
+pub one_number : (k size : ℕ) → k < size → count_by (λ j. nat_eq j k) (range_with_len 0 size) ≡ 1
 one_number k size low =
     sum-terms (λ j. cond (nat_eq j k) 1 0) (λ j. cond (nat_eq k j) 1 0) (λ j. ap (λ (b : Bool). cond b 1 0) (same_number j k)) 0 size
     ∙ sum-only (λ j. 1) k 0 size (omega arith) (omega arith)
