@@ -5,7 +5,7 @@ ghost use Rattle.nanorand_fairness.specs.Deals.{DealsAreFair, ShufflesAreFair, N
 ghost use Rattle.nanorand_fairness.specs.Samples.{SampledSetsAreFair, SamplesDrawInTurn};
 
 use nanorand_core::Rng;
-use nanorand_core::laws::fairness;
+use nanorand_core::laws::{choices_are_fair, fairness, weighted_choices_are_fair};
 
 /// How many words a draw takes, for words of N = 8, 16, 32 and 64 bits.
 pub fn words_of_a_draw()
@@ -20,7 +20,11 @@ pub fn fairness_with_rejections()
     ensures events { EventsInListsAreFair }
     ensures ratios { RatiosInListsAreFair }
     ensures weights { WeightsInListsAreFair }
-{}
+{
+    fairness();
+    choices_are_fair();
+    weighted_choices_are_fair();
+}
 
 /// Numbers drawn in turn.
 pub fn numbers_in_turn_are_fair()
