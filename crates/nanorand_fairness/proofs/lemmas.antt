@@ -3,3 +3,4 @@ pub mod NamedSums
 pub mod DrawLists
 pub mod WordCounts
 pub mod EventCounts
+pub mod samples

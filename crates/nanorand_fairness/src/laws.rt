@@ -5,7 +5,7 @@ ghost use Rattle.nanorand_fairness.specs.Deals.{DealsAreFair, ShufflesAreFair, N
 ghost use Rattle.nanorand_fairness.specs.Samples.{SampledSetsAreFair, SamplesDrawInTurn};
 
 use nanorand_core::Rng;
-use nanorand_core::laws::{choices_are_fair, fairness, weighted_choices_are_fair};
+use nanorand_core::laws::{choices_are_fair, fairness, samples_are_fair, weighted_choices_are_fair};
 
 /// How many words a draw takes, for words of N = 8, 16, 32 and 64 bits.
 pub fn words_of_a_draw()
@@ -48,7 +48,10 @@ pub fn shuffles_draw_in_turn<G: Rng<OUTPUT>, T, const OUTPUT: usize>()
 /// Samples.
 pub fn sampled_sets_are_fair()
     ensures { SampledSetsAreFair }
-{}
+{
+    numbers_in_turn_are_fair();
+    samples_are_fair();
+}
 
 /// Samples draw in turn.
 pub fn samples_draw_in_turn<G: Rng<OUTPUT>, const OUTPUT: usize>()
