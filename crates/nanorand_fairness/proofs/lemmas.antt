@@ -4,3 +4,4 @@ pub mod DrawLists
 pub mod WordCounts
 pub mod EventCounts
 pub mod samples
+pub mod deals

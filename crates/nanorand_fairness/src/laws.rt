@@ -38,7 +38,9 @@ pub fn shuffles_are_fair()
     ensures deals { DealsAreFair }
     ensures orders { ShufflesAreFair }
     ensures swaps { NoDealIsPreferred }
-{}
+{
+    numbers_in_turn_are_fair();
+}
 
 /// Shuffles draw in turn.
 pub fn shuffles_draw_in_turn<G: Rng<OUTPUT>, T, const OUTPUT: usize>()
