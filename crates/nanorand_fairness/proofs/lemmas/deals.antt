@@ -1,3 +1,5 @@
 pub mod StepLemmas
 pub mod FoundLemmas
 pub mod OneList
+pub mod DealLemmas
+pub mod DealLists

@@ -1,7 +1,24 @@
-use Rattle.std.proofs.Common.{refl}
-use Rattle.nanorand_fairness.proofs.lemmas.deals.FoundLemmas.{AreDifferent}
-use Rattle.nanorand_fairness.proofs.lemmas.deals.OneList.{one_list}
+use Rattle.std.proofs.Common.{ℕ, Bool, List, ◌+◌, ◌*◌, ◌==◌, ◌&&◌, length, nat_eq, refl, sym, ap, ◌∙◌, inl, inr, arith}
+use Rattle.std.specs.Cmp.Lexicographic.{pointwise}
+use Rattle.nanorand_core.specs.shuffles.Shuffles.{arranged}
+use Rattle.nanorand_core.specs.shuffles.Arrangements.{rising}
+use Rattle.nanorand_fairness.specs.InTurn.{quotas, word_lists_that}
+use Rattle.nanorand_fairness.specs.Deals.{choices_by, deal_sizes, dealt}
+use Rattle.nanorand_fairness.proofs.lemmas.deals.DealLemmas.{one_deal, deal-count, deal-sizes, order-deal, whole-deal}
+use Rattle.nanorand_fairness.proofs.lemmas.deals.DealLists.{test-same}
 use Rattle.nanorand_fairness.proofs.laws.shuffles_are_fair.Goals as goal
 
 pub returns-clause-deals : goal.returns-clause-deals
-returns-clause-deals c = ?
+returns-clause-deals c = λ k n deal within fits d.
+    let sizes = deal_sizes k n in
+    let deals : List ℕ → Bool = λ numbers. pointwise nat_eq (dealt k n numbers) deal in
+    ap (λ (m : ℕ). word_lists_that 64 m sizes deals) (sym (deal-count k n))
+    ∙ c.numbers_in_turn_are_fair.ensures.numbers 64 sizes deals (inr (inr (inr refl))) (deal-sizes k n 64 within fits)
+    ∙ ap (λ (m : ℕ). m * quotas 64 sizes) (one_deal k n deal within d) ∙ omega arith
+
+pub returns-clause-orders : goal.returns-clause-orders
+returns-clause-orders c = λ order fits arrangement.
+    let n = length order in
+    test-same 64 n (deal_sizes n n) (λ numbers. pointwise nat_eq (arranged (choices_by 0 numbers) (rising n)) order)
+    (λ numbers. pointwise nat_eq (dealt n n numbers) order) (λ numbers. ap (λ (xs : List ℕ). pointwise nat_eq xs order) (sym (whole-deal n numbers)))
+    ∙ returns-clause-deals c n n order (omega arith) fits (order-deal order arrangement)
