@@ -39,6 +39,7 @@ pub fn shuffles_are_fair()
     ensures orders { ShufflesAreFair }
     ensures swaps { NoDealIsPreferred }
 {
+    fairness();
     numbers_in_turn_are_fair();
 }
 

@@ -3,3 +3,5 @@ pub mod FoundLemmas
 pub mod OneList
 pub mod DealLemmas
 pub mod DealLists
+pub mod ExchangeLemmas
+pub mod ExchangeDeals

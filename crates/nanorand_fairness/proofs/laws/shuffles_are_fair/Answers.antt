@@ -6,6 +6,8 @@ use Rattle.nanorand_fairness.specs.InTurn.{quotas, word_lists_that}
 use Rattle.nanorand_fairness.specs.Deals.{choices_by, deal_sizes, dealt}
 use Rattle.nanorand_fairness.proofs.lemmas.deals.DealLemmas.{one_deal, deal-count, deal-sizes, order-deal, whole-deal}
 use Rattle.nanorand_fairness.proofs.lemmas.deals.DealLists.{test-same}
+use Rattle.nanorand_fairness.proofs.lemmas.NamedSums.{named-below}
+use Rattle.nanorand_fairness.proofs.lemmas.deals.ExchangeDeals.{exchanges-deals}
 use Rattle.nanorand_fairness.proofs.laws.shuffles_are_fair.Goals as goal
 
 pub returns-clause-deals : goal.returns-clause-deals
@@ -22,3 +24,10 @@ returns-clause-orders c = λ order fits arrangement.
     test-same 64 n (deal_sizes n n) (λ numbers. pointwise nat_eq (arranged (choices_by 0 numbers) (rising n)) order)
     (λ numbers. pointwise nat_eq (dealt n n numbers) order) (λ numbers. ap (λ (xs : List ℕ). pointwise nat_eq xs order) (sym (whole-deal n numbers)))
     ∙ returns-clause-deals c n n order (omega arith) fits (order-deal order arrangement)
+
+pub returns-clause-swaps : goal.returns-clause-swaps
+returns-clause-swaps c = λ k n deal other within fits d o.
+    let width = inr (inr (inr refl)) in
+    exchanges-deals c.numbers_in_turn_are_fair.ensures.swaps
+    (λ size word number some fits' is. named-below c.fairness.ensures.runs c.fairness.ensures.events 64 size width some fits' word number is)
+    k n deal other within fits d o
