@@ -2,3 +2,4 @@ pub mod Sums
 pub mod NamedSums
 pub mod DrawLists
 pub mod WordCounts
+pub mod turns
