@@ -1,7 +1,7 @@
 -- How many lists of words draw each list of numbers: equally many, by what the first word names.
-use Rattle.std.proofs.Common.{◌≡◌, ℕ, zero, suc, ◌+◌, ◌*◌, ◌<◌, ◌≤◌, ◌^◌, Bool, true, cond, nat_eq, List, [], ◌∷◌, length, Option, Some, None, refl, ◌∙◌, ap, arith}
+use Rattle.std.proofs.Common.{◌≡◌, ℕ, zero, suc, ◌+◌, ◌*◌, ◌<◌, ◌≤◌, ◌^◌, Bool, cond, nat_eq, List, [], ◌∷◌, length, Option, Some, None, refl, ◌∙◌, ap, arith}
 use Rattle.std.specs.Prelude.{◌&&◌}
-use Rattle.std.specs.List.{All, sum_by, range_with_len}
+use Rattle.std.specs.List.{sum_by, range_with_len}
 use Rattle.std.proofs.Math.Nat.{pow-zero, mul_comm}
 use Rattle.std.proofs.Math.Dec.{eqb-suc-suc, eqb-zero-suc}
 use Rattle.std.proofs.lemmas.List.Elements.{All-head, All-tail}
@@ -9,7 +9,7 @@ use Rattle.nanorand_core.specs.values.Runs.{IsWordWidth, named, quota, rejected}
 use Rattle.nanorand_core.specs.values.Draws.{word_limit}
 use Rattle.nanorand_core.specs.values.Fairness.{RunsAreFair, EventsAreFair}
 use Rattle.nanorand_fairness.specs.Lists.{sum_over_lists, lists_that}
-use Rattle.nanorand_fairness.specs.InTurn.{AreSizes, numbers_from, word_lists_that, number_lists_that, quotas}
+use Rattle.nanorand_fairness.specs.InTurn.{AreSizes, numbers_from, number_lists_that, quotas}
 use Rattle.nanorand_fairness.proofs.lemmas.Sums.{sum-terms, sum-times}
 use Rattle.nanorand_fairness.proofs.lemmas.NamedSums.{sum-named}
 use Rattle.nanorand_fairness.proofs.lemmas.DrawLists.{lists-same, lists-constant}
