@@ -32,7 +32,7 @@ none_of_each bits (suc n) (size ∷ sizes) (suc left) few =
     let next = none_of_each bits n sizes word_limit (omega arith) in
     rw (again, next) (omega arith)
 
--- as many words as sizes: none is rejected
+-- as many words as sizes: none is rejected (later draws may take 128 words, so 127 more)
 pub quotas_of_each : (bits : ℕ) (sizes : List ℕ) (left : ℕ) → lists_of_each bits (length sizes) sizes (suc left) ≡ quotas bits sizes
 quotas_of_each bits [] left = pow-zero (2 ^ bits)
 quotas_of_each bits (size ∷ sizes) left =
@@ -41,26 +41,32 @@ quotas_of_each bits (size ∷ sizes) left =
     rw (again, next) (omega arith)
 
 -- whether there is a number for each size, and they pass the test
-abbrev pub all_drawn : List ℕ → (List ℕ → Bool) → List ℕ → Bool
+abbrev all_drawn : List ℕ → (List ℕ → Bool) → List ℕ → Bool
 all_drawn sizes test numbers = nat_eq (length numbers) (length sizes) && test numbers
 
 module _ (runs : RunsAreFair) (events : EventsAreFair) (bits : ℕ) (width : IsWordWidth bits) where
+  -- how many lists of n words draw numbers that pass the test
   abbrev drawn_lists : ℕ → List ℕ → ℕ → (List ℕ → Bool) → ℕ
   drawn_lists n sizes left test = lists_that bits n (λ words. all_drawn sizes test (numbers_from bits sizes left words))
 
   module _ (n size : ℕ) (sizes : List ℕ) (left : ℕ) (test : List ℕ → Bool) where
+    -- what is drawn after the first word, by what it names
     abbrev after : Option ℕ → ℕ
     after None = drawn_lists n (size ∷ sizes) left test
     after (Some number) = drawn_lists n sizes word_limit (λ numbers. test (number ∷ numbers))
+
+    -- the numbers after the first
+    abbrev later : List ℕ → List ℕ
+    later words = numbers_from bits sizes word_limit words
 
     after_word : (word : ℕ) (o : Option ℕ) → named bits size word ≡ o
         → lists_that bits n (λ words. all_drawn (size ∷ sizes) test (numbers_from bits (size ∷ sizes) (suc left) (word ∷ words))) ≡ after o
     after_word word None is = rw is refl
     after_word word (Some number) is =
         rw is
-        (lists-same bits n (λ words. cond (nat_eq (suc (length (numbers_from bits sizes word_limit words))) (suc (length sizes)) && test (number ∷ numbers_from bits sizes word_limit words)) 1 0)
-        (λ words. cond (all_drawn sizes (λ numbers. test (number ∷ numbers)) (numbers_from bits sizes word_limit words)) 1 0)
-        (λ words. rw (eqb-suc-suc (length (numbers_from bits sizes word_limit words)) (length sizes)) refl))
+        (lists-same bits n (λ words. cond (nat_eq (suc (length (later words))) (suc (length sizes)) && test (number ∷ later words)) 1 0)
+        (λ words. cond (all_drawn sizes (λ numbers. test (number ∷ numbers)) (later words)) 1 0)
+        (λ words. rw (eqb-suc-suc (length (later words)) (length sizes)) refl))
 
     by_first_word : 1 ≤ size → size ≤ 2 ^ bits → drawn_lists (suc n) (size ∷ sizes) (suc left) test
         ≡ rejected bits size * drawn_lists n (size ∷ sizes) left test
@@ -71,6 +77,7 @@ module _ (runs : RunsAreFair) (events : EventsAreFair) (bits : ℕ) (width : IsW
         (λ word. after (named bits size word)) (λ word. after_word word (named bits size word) refl) 0 (2 ^ bits)
         ∙ sum-named runs events bits size width some fits after
 
+  -- a test is passed by as many lists of words as lists of numbers pass it, times those of each
   pub equally_many : (n : ℕ) (sizes : List ℕ) (left : ℕ) (test : List ℕ → Bool) → AreSizes bits sizes
       → drawn_lists n sizes left test ≡ number_lists_that sizes test * lists_of_each bits n sizes left
   unfolding sum_over_lists

@@ -13,12 +13,16 @@ decided_one : (bits size word : ℕ) (o : Option ℕ) → named bits size word �
 decided_one bits size word None is = decided-later bits size word [] is ∙ sym is
 decided_one bits size word (Some k) is = decided-first bits size word [] k is ∙ sym is
 
+-- a word of `bits` bits
+abbrev IsWord : ℕ → ℕ → Type 0
+IsWord bits word = word < 2 ^ bits
+
 abbrev sizes_of : List Exchange → List ℕ
 sizes_of exchanges = map (λ e. e.size) exchanges
 
 -- the law, where the first draw may still take `left` words
 record Swaps (bits : ℕ) (exchanges : List Exchange) (left : ℕ) (words : List ℕ) : Type 0 where
-  pub fits : All (λ word. word < 2 ^ bits) words → All (λ word. word < 2 ^ bits) (swapped_from bits exchanges left words)
+  pub fits : All (IsWord bits) words → All (IsWord bits) (swapped_from bits exchanges left words)
   pub back : swapped_from bits exchanges left (swapped_from bits exchanges left words) ≡ words
   pub deciding : deciding_from bits (sizes_of exchanges) left (swapped_from bits exchanges left words) ≡ deciding_from bits (sizes_of exchanges) left words
   pub numbers : numbers_from bits (sizes_of exchanges) left (swapped_from bits exchanges left words)
@@ -34,7 +38,7 @@ module _ (preferred : NoNumberIsPreferred) (bits : ℕ) (width : IsWordWidth bit
     alone w = preferred bits e.size e.one e.other width (omega (arith, can.one)) can.fits can.one can.other (w ∷ [])
 
     word-fits : word < 2 ^ bits → swapped < 2 ^ bits
-    word-fits low = All-head (λ w. w < 2 ^ bits) swapped [] ((alone word).fits (All-cons (λ w. w < 2 ^ bits) word [] low (All-nil (λ w. w < 2 ^ bits))))
+    word-fits low = All-head (IsWord bits) swapped [] ((alone word).fits (All-cons (IsWord bits) word [] low (All-nil (IsWord bits))))
 
     word-back : swapped_word bits e.size e.one e.other swapped ≡ word
     word-back = ap (λ (words : List ℕ). slice_index words 0) (alone word).back
@@ -44,12 +48,14 @@ module _ (preferred : NoNumberIsPreferred) (bits : ℕ) (width : IsWordWidth bit
         sym (decided_one bits e.size swapped (named bits e.size swapped) refl) ∙ (alone word).result
         ∙ ap (option_map (swapped_number e.one e.other)) (decided_one bits e.size word o is ∙ is)
 
+    -- the words still fit, if the rest does
     fits_both : (exchanges : List Exchange) (left : ℕ) (words rest : List ℕ) → swapped_from bits (e ∷ exchanges) (suc left) (word ∷ words) ≡ swapped ∷ rest
-        → All (λ w. w < 2 ^ bits) (word ∷ words) → (All (λ w. w < 2 ^ bits) words → All (λ w. w < 2 ^ bits) rest)
-        → All (λ w. w < 2 ^ bits) (swapped_from bits (e ∷ exchanges) (suc left) (word ∷ words))
+        → All (IsWord bits) (word ∷ words) → (All (IsWord bits) words → All (IsWord bits) rest)
+        → All (IsWord bits) (swapped_from bits (e ∷ exchanges) (suc left) (word ∷ words))
     fits_both exchanges left words rest is all later =
-        All-same (λ w. w < 2 ^ bits) (swapped_from bits (e ∷ exchanges) (suc left) (word ∷ words)) (swapped ∷ rest) is
-        (All-cons (λ w. w < 2 ^ bits) swapped rest (word-fits (All-head (λ w. w < 2 ^ bits) word words all)) (later (All-tail (λ w. w < 2 ^ bits) word words all)))
+        All-same (IsWord bits) (swapped_from bits (e ∷ exchanges) (suc left) (word ∷ words)) (swapped ∷ rest) is
+        (All-cons (IsWord bits) swapped rest (word-fits (All-head (IsWord bits) word words all))
+        (later (All-tail (IsWord bits) word words all)))
 
     -- a rejected word leaves the draw, a naming word the next one
     with_word : (exchanges : List Exchange) (left : ℕ) (words : List ℕ) (o : Option ℕ) → named bits e.size word ≡ o
@@ -71,6 +77,7 @@ module _ (preferred : NoNumberIsPreferred) (bits : ℕ) (width : IsWordWidth bit
           numbers = rw (is, now) (ap (λ (ns : List ℕ). swapped_number e.one e.other k ∷ ns) next.numbers);
         }
 
+  -- by induction on the words
   swaps_from : (exchanges : List Exchange) (left : ℕ) (words : List ℕ) → All (IsExchange bits) exchanges → Swaps bits exchanges left words
   swaps_from [] left words can = record { fits = λ all. all; back = refl; deciding = refl; numbers = refl }
   swaps_from (e ∷ exchanges) zero words can = record { fits = λ all. all; back = refl; deciding = refl; numbers = refl }
