@@ -1,5 +1,5 @@
 -- Samples by Floyd's algorithm, made of the numbers that words draw in turn.
-use Rattle.std.specs.Prelude.{◌≡◌, ℕ, ◌+◌, ◌-◌, ◌*◌, ◌^◌, ◌<◌, ◌≤◌, Bool, List, [], ◌∷◌, map, count_by}
+use Rattle.std.specs.Prelude.{◌≡◌, ℕ, ◌+◌, ◌-◌, ◌*◌, ◌^◌, ◌<◌, ◌≤◌, Bool, List, [], ◌∷◌, count_by}
 use Rattle.std.specs.List.{list_all, range_with_len}
 use Rattle.nanorand_core.specs.generators.Blocks.{Requests}
 use Rattle.nanorand_core.specs.values.Draws.{word_limit, next_word, after_word, words_from}
@@ -8,7 +8,7 @@ use Rattle.nanorand_fairness.specs.InTurn.{quotas, numbers_in_turn, word_lists_t
 
 -- The sizes of the draws of a sample of `size` of `count` numbers: .., count - 1, count.
 abbrev pub sample_sizes : ℕ → ℕ → List ℕ
-sample_sizes size count = map (λ i. count - size + 1 + i) (range_with_len 0 size)
+sample_sizes size count = range_with_len (count - size + 1) size
 
 -- The sample after draws with these results, the first of them a number up to `last`.
 abbrev pub sample_by : ℕ → List ℕ → List ℕ → List ℕ

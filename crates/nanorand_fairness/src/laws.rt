@@ -5,7 +5,7 @@ ghost use Rattle.nanorand_fairness.specs.Deals.{DealsAreFair, ShufflesAreFair, N
 ghost use Rattle.nanorand_fairness.specs.Samples.{SampledSetsAreFair, SamplesDrawInTurn};
 
 use nanorand_core::Rng;
-use nanorand_core::laws::fairness;
+use nanorand_core::laws::{choices_are_fair, fairness, samples_are_fair, weighted_choices_are_fair};
 
 /// How many words a draw takes, for words of N = 8, 16, 32 and 64 bits.
 pub fn words_of_a_draw()
@@ -20,7 +20,11 @@ pub fn fairness_with_rejections()
     ensures events { EventsInListsAreFair }
     ensures ratios { RatiosInListsAreFair }
     ensures weights { WeightsInListsAreFair }
-{}
+{
+    fairness();
+    choices_are_fair();
+    weighted_choices_are_fair();
+}
 
 /// Numbers drawn in turn.
 pub fn numbers_in_turn_are_fair()
@@ -36,7 +40,9 @@ pub fn shuffles_are_fair()
     ensures deals { DealsAreFair }
     ensures orders { ShufflesAreFair }
     ensures swaps { NoDealIsPreferred }
-{}
+{
+    numbers_in_turn_are_fair();
+}
 
 /// Shuffles draw in turn.
 pub fn shuffles_draw_in_turn<G: Rng<OUTPUT>, T, const OUTPUT: usize>()
@@ -46,7 +52,10 @@ pub fn shuffles_draw_in_turn<G: Rng<OUTPUT>, T, const OUTPUT: usize>()
 /// Samples.
 pub fn sampled_sets_are_fair()
     ensures { SampledSetsAreFair }
-{}
+{
+    numbers_in_turn_are_fair();
+    samples_are_fair();
+}
 
 /// Samples draw in turn.
 pub fn samples_draw_in_turn<G: Rng<OUTPUT>, const OUTPUT: usize>()
