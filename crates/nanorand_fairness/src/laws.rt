@@ -31,7 +31,9 @@ pub fn numbers_in_turn_are_fair()
     ensures numbers { NumbersInTurnAreFair }
     ensures rejections { RejectionsPreferNothing }
     ensures swaps { NoListOfNumbersIsPreferred }
-{}
+{
+    fairness();
+}
 
 /// Deals and shuffles.
 pub fn shuffles_are_fair()

@@ -1,0 +1,2 @@
+pub mod TurnCounts
+pub mod TurnSwaps
