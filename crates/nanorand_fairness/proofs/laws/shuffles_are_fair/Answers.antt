@@ -1,5 +1,6 @@
 use Rattle.std.proofs.Common.{ℕ, Bool, List, ◌+◌, ◌*◌, ◌==◌, ◌&&◌, length, nat_eq, refl, sym, ap, ◌∙◌, inl, inr, arith}
 use Rattle.std.specs.Cmp.Lexicographic.{pointwise}
+use Rattle.nanorand_core.specs.values.Runs.{IsWordWidth}
 use Rattle.nanorand_core.specs.shuffles.Shuffles.{arranged}
 use Rattle.nanorand_core.specs.shuffles.Arrangements.{rising}
 use Rattle.nanorand_fairness.specs.InTurn.{quotas, word_lists_that}
@@ -27,7 +28,7 @@ returns-clause-orders c = λ order fits arrangement.
 
 pub returns-clause-swaps : goal.returns-clause-swaps
 returns-clause-swaps c = λ k n deal other within fits d o.
-    let width = inr (inr (inr refl)) in
-    exchanges-deals c.numbers_in_turn_are_fair.ensures.swaps
+    let width : IsWordWidth 64 = inr (inr (inr refl)) in
+    exchanges-deals width c.numbers_in_turn_are_fair.ensures.swaps
     (λ size word number some fits' is. named-below c.fairness.ensures.runs c.fairness.ensures.events 64 size width some fits' word number is)
-    k n deal other within fits d o
+    k n within fits deal other d o
