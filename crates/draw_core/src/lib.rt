@@ -1,5 +1,8 @@
-//! The program `draw` without its `main`: from the arguments of a command line to the text that they
-//! ask for, and from an outcome to an exit status.
+//! What the program `draw` does: it reads the arguments of a command line, draws, and writes the
+//! text that they ask for. `main` of the crate `draw` calls `run` and `report`, and nothing else.
+//!
+//! `specs/Arguments.antt` says what arguments ask for, `specs/Text.antt` which text that is, and the
+//! exit status of each outcome.
 //!
 //! Draw no keys or passwords with it: WyRand and Pcg64 are not cryptographically secure.
 #![tactic(auto)]
