@@ -101,7 +101,7 @@ def layers():
     programs, modules, traits, specs = 44, 178, 322, 462
     parts = [text(MARGIN, 28, "An arrow goes from a module to what it uses.", "quiet")]
 
-    parts += module(190, programs, 180, 54, "draw", "a command line to a text")
+    parts += module(190, programs, 180, 54, "draw, draw_core", "a command line to a text")
     parts += module(390, programs, 200, 54, "nanorand_users", "one program per kind of user")
     parts += module(610, programs, 170, 54, "nanorand_c", "exports for C and Rust")
     parts += module(836, programs, 184, 54, "rust/", "a safe Rust crate")
