@@ -2,8 +2,8 @@
 ghost use Rattle.std.specs.Prelude.{◌≤◌};
 
 use super::makers::counted;
-use crate::{Bytes64, Steps};
 use nanorand::{BufferedRng, ChaCha8, ChaCha12, ChaCha20, Pcg64, Rng, WyRand};
+use nanorand_rows::{Bytes64, Steps};
 use std::alloc::AllocError;
 use std::io::{self, Read};
 use std::process::Abort;

@@ -2,16 +2,16 @@
 
 ghost use Rattle.std.specs.Prelude.{◌≡◌, ◌%◌};
 
-use crate::callers::rounds::{
-    back_and_there, blocks_of_even_rounds, first_block_of_eight_rounds, second_block,
-    there_and_back,
-};
-use crate::references::in_place::{block_in_place, rounds_in_place};
 use hex::FromHex;
 use nanorand::crypto::chacha::{
     chacha_block, chacha_increment_counter, chacha_init, chacha_rounds, chacha_unrounds,
 };
 use nanorand::{Blocks, BufferedRng, ChaCha8, ChaCha12, ChaCha20, Rng, SeedableRng, WyRand};
+use nanorand_rows::callers::rounds::{
+    back_and_there, blocks_of_even_rounds, first_block_of_eight_rounds, second_block,
+    there_and_back,
+};
+use nanorand_rows::references::in_place::{block_in_place, rounds_in_place};
 use std::process::Abort;
 use std::test::Fail;
 

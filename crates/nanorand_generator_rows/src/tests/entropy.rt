@@ -1,9 +1,9 @@
 //! Known-answer tests of the entropy readers, and of the generators made from them.
 
-use crate::generators::readers::Pieces;
 use hex::FromHex;
 use nanorand::entropy::{EntropyError, backup, rdseed, system};
 use nanorand::{Blocks, ChaCha8, ChaCha12, ChaCha20, Pcg64, WyRand};
+use nanorand_rows::generators::readers::Pieces;
 use std::io::ErrorKind;
 use std::process::Abort;
 use std::test::Fail;

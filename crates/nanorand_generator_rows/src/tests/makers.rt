@@ -1,9 +1,9 @@
 //! Entropy readers with enough bytes: slices of many sizes, and each generator made from them.
 ghost use Rattle.std.specs.Prelude.{◌≡◌, ◌%◌};
 
-use crate::generators::readers::Pieces;
 use nanorand::entropy::{EntropyError, system};
 use nanorand::{Blocks, ChaCha, Pcg64, WyRand};
+use nanorand_rows::generators::readers::Pieces;
 use std::alloc::{AllocError, Global};
 use std::process::Abort;
 use std::test::Fail;

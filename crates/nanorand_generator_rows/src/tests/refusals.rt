@@ -1,8 +1,8 @@
 //! Allocations that are refused.
 
 use super::makers::counted;
-use crate::Steps;
 use nanorand::{BufferedRng, ChaCha20, Rng, WyRand};
+use nanorand_rows::Steps;
 use refusing::Refusing;
 use std::alloc::{AllocError, Allocator};
 use std::process::Abort;
