@@ -1,5 +1,6 @@
 //! Known-answer tests of jumps.
 
+use comparing::{debug_is, equal, equal_at};
 use nanorand::{Blocks, Pcg64, WyRand};
 use std::test::Fail;
 
@@ -15,7 +16,7 @@ fn wyrand_lands(rt: HostRuntime) -> Result<(), Fail> {
     ] {
         let mut wyrand = WyRand::new_seed(0);
         wyrand.jump(draws);
-        assert_eq!(rt; format!(in rt.alloc(); "{wyrand:?}")?.as_str(), text);
+        debug_is(&rt, &wyrand, text)?;
     }
     Ok(())
 }
@@ -25,27 +26,25 @@ fn wyrand_lands(rt: HostRuntime) -> Result<(), Fail> {
 fn pcg64_lands(rt: HostRuntime) -> Result<(), Fail> {
     let mut pcg64 = Pcg64::new_seed(5);
     pcg64.jump(1 << 125);
-    assert_eq!(rt; pcg64.seed(), (1 << 127) + 5);
+    equal(&rt, pcg64.seed(), (1 << 127) + 5);
     let text = format!(in rt.alloc(); "{pcg64:?}")?;
     let seed = "Pcg64 { seed: 0x80000000000000000000000000000005, state: ";
     assert!(rt; text.as_str().starts_with(seed));
     let mut round = Pcg64::new_seed(5);
     round.jump(1 << 126);
-    assert_eq!(rt; round.seed(), 5);
+    equal(&rt, round.seed(), 5);
     let text = format!(in rt.alloc(); "{round:?}")?;
     assert!(rt; text.as_str().starts_with("Pcg64 { seed: 0x5, state: "));
     let mut still = Pcg64::new_seed(5);
     still.jump(0);
-    assert_eq!(rt;
-        format!(in rt.alloc(); "{still:?}")?.as_str(),
-        "Pcg64 { seed: 0x5, state: 0x0, inc: 0x0 }"
-    );
+    debug_is(&rt, &still, "Pcg64 { seed: 0x5, state: 0x0, inc: 0x0 }")?;
     let mut next = Pcg64::new_seed(0);
     next.jump(1);
-    assert_eq!(rt;
-        format!(in rt.alloc(); "{next:?}")?.as_str(),
-        "Pcg64 { seed: 0x3b1dd060ff2fd1e09624b94fc0ada4df, state: 0x3b1dd060ff2fd1e09624b94fc0ada4df, inc: 0x1 }"
-    );
+    debug_is(
+        &rt,
+        &next,
+        "Pcg64 { seed: 0x3b1dd060ff2fd1e09624b94fc0ada4df, state: 0x3b1dd060ff2fd1e09624b94fc0ada4df, inc: 0x1 }",
+    )?;
     Ok(())
 }
 
@@ -56,10 +55,7 @@ fn one_draw_is_a_jump_of_one(rt: HostRuntime) -> Result<(), Fail> {
         let _ = drawn.rand();
         let mut jumped = Pcg64::new_seed(seed);
         jumped.jump(1);
-        assert_eq!(rt;
-            format!(in rt.alloc(); "{jumped:?}")?.as_str(),
-            format!(in rt.alloc(); "{drawn:?}")?.as_str()
-        );
+        debug_is(&rt, &jumped, format!(in rt.alloc(); "{drawn:?}")?.as_str())?;
     }
     Ok(())
 }
@@ -74,15 +70,17 @@ fn a_jump_is_its_draws(rt: HostRuntime) -> Result<(), Fail> {
     let (mut wyrand_jumped, mut pcg64_jumped) = (WyRand::new_seed(42), Pcg64::new_seed(42));
     wyrand_jumped.jump(1000);
     pcg64_jumped.jump(1000);
-    assert_eq!(rt; wyrand_jumped.seed(), wyrand.seed());
-    assert_eq!(rt;
-        format!(in rt.alloc(); "{wyrand_jumped:?}")?.as_str(),
-        format!(in rt.alloc(); "{wyrand:?}")?.as_str()
-    );
-    assert_eq!(rt;
-        format!(in rt.alloc(); "{pcg64_jumped:?}")?.as_str(),
-        format!(in rt.alloc(); "{pcg64:?}")?.as_str()
-    );
+    equal(&rt, wyrand_jumped.seed(), wyrand.seed());
+    debug_is(
+        &rt,
+        &wyrand_jumped,
+        format!(in rt.alloc(); "{wyrand:?}")?.as_str(),
+    )?;
+    debug_is(
+        &rt,
+        &pcg64_jumped,
+        format!(in rt.alloc(); "{pcg64:?}")?.as_str(),
+    )?;
     Ok(())
 }
 
@@ -94,20 +92,27 @@ fn jumps_add(rt: HostRuntime) -> Result<(), Fail> {
             wyrand.jump(first);
             wyrand.jump(second);
             wyrand_once.jump(first + second);
-            assert_eq!(rt; wyrand.seed(), wyrand_once.seed(), "{first} and {second}");
-            assert_eq!(rt;
+            equal_at(
+                &rt,
+                wyrand.seed(),
+                wyrand_once.seed(),
+                format_args!("{first} and {second}"),
+            );
+            equal_at(
+                &rt,
                 format!(in rt.alloc(); "{wyrand:?}")?.as_str(),
                 format!(in rt.alloc(); "{wyrand_once:?}")?.as_str(),
-                "{first} and {second}"
+                format_args!("{first} and {second}"),
             );
             let (mut pcg64, mut pcg64_once) = (Pcg64::new_seed(42), Pcg64::new_seed(42));
             pcg64.jump(u128::from(first));
             pcg64.jump(u128::from(second));
             pcg64_once.jump(u128::from(first) + u128::from(second));
-            assert_eq!(rt;
+            equal_at(
+                &rt,
                 format!(in rt.alloc(); "{pcg64:?}")?.as_str(),
                 format!(in rt.alloc(); "{pcg64_once:?}")?.as_str(),
-                "{first} and {second}"
+                format_args!("{first} and {second}"),
             );
         }
     }

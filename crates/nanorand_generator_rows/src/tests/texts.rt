@@ -1,5 +1,6 @@
 //! The `Debug` and `Display` texts of generators, at the least and greatest seeds and counters.
 
+use comparing::{debug_is, display_is, equal};
 use nanorand::{Blocks, ChaCha, ChaCha8, ChaCha12, ChaCha20, Pcg64, WyRand};
 use std::alloc::AllocError;
 use std::fmt;
@@ -14,20 +15,22 @@ fn has_texts<T: fmt::Debug + fmt::Display>(
     debug: &str,
     display: &str,
 ) -> Result<(), AllocError> {
-    assert_eq!(rt; format!(in rt.alloc(); "{value:?}")?.as_str(), debug);
-    assert_eq!(rt; format!(in rt.alloc(); "{value:#?}")?.as_str(), debug);
-    assert_eq!(rt; format!(in rt.alloc(); "{value:>200?}")?.as_str(), debug);
-    assert_eq!(rt; format!(in rt.alloc(); "{value:08?}")?.as_str(), debug);
-    assert_eq!(rt;
+    debug_is(rt, &value, debug)?;
+    equal(rt, format!(in rt.alloc(); "{value:#?}")?.as_str(), debug);
+    equal(rt, format!(in rt.alloc(); "{value:>200?}")?.as_str(), debug);
+    equal(rt, format!(in rt.alloc(); "{value:08?}")?.as_str(), debug);
+    equal(
+        rt,
         format!(in rt.alloc(); "{value:*^+200.3?}")?.as_str(),
-        debug
+        debug,
     );
-    assert_eq!(rt; format!(in rt.alloc(); "{value}")?.as_str(), display);
-    assert_eq!(rt; format!(in rt.alloc(); "{value:#}")?.as_str(), display);
-    assert_eq!(rt; format!(in rt.alloc(); "{value:>20}")?.as_str(), display);
-    assert_eq!(rt;
+    display_is(rt, &value, display)?;
+    equal(rt, format!(in rt.alloc(); "{value:#}")?.as_str(), display);
+    equal(rt, format!(in rt.alloc(); "{value:>20}")?.as_str(), display);
+    equal(
+        rt,
         format!(in rt.alloc(); "{value:*^200.3}")?.as_str(),
-        display
+        display,
     );
     Ok(())
 }

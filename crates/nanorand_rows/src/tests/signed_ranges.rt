@@ -1,6 +1,7 @@
 //! Ranges of signed numbers, and every pair of bounds at both ends of the ten types.
 
 use crate::{Constant, Script, Zeros};
+use comparing::equal;
 use nanorand::replay::{Answer, Call, Span, replay};
 use nanorand::{RandomRange, RangeError, Rng, WyRand};
 use std::ops::Bound::{self, Excluded, Included, Unbounded};
@@ -20,19 +21,20 @@ fn numbers_by_the_word(rt: HostRuntime) {
     ];
     for (low, high, word, number) in rows {
         let mut constant = Constant::new(word);
-        assert_eq!(rt; constant.generate_range(low, high), Ok(number));
-        assert_eq!(rt; constant.drawn, 1);
+        equal(&rt, constant.generate_range(low, high), Ok(number));
+        equal(&rt, constant.drawn, 1);
     }
 }
 
 #[test]
 fn a_rejected_word_of_all_but_the_least(rt: HostRuntime) {
     let mut script = Script::new(&[0, 1]);
-    assert_eq!(rt;
+    equal(
+        &rt,
         script.generate_range::<i8>(Excluded(-128), Unbounded),
-        Ok(-127)
+        Ok(-127),
     );
-    assert_eq!(rt; script.drawn(), 2);
+    equal(&rt, script.drawn(), 2);
 }
 
 #[test]
@@ -45,9 +47,9 @@ fn empty_ranges_draw_nothing(rt: HostRuntime) {
     ];
     let mut zeros = Zeros::new();
     for (low, high) in rows {
-        assert_eq!(rt; zeros.generate_range(low, high), Err(RangeError::Empty));
+        equal(&rt, zeros.generate_range(low, high), Err(RangeError::Empty));
     }
-    assert_eq!(rt; zeros.drawn(), 0);
+    equal(&rt, zeros.drawn(), 0);
 }
 
 // Whether a range gives these results on the least word and on the greatest.
@@ -160,9 +162,10 @@ fn ensure_signed_in_range(rt: HostRuntime) {
 // An empty range is an error here. In the Rust crate, whose test has this name, it panics.
 #[test]
 fn ensure_invalid_range_panics(rt: HostRuntime) {
-    assert_eq!(rt;
+    equal(
+        &rt,
         WyRand::new_seed(42).generate_range::<i32>(Included(10), Included(5)),
-        Err(RangeError::Empty)
+        Err(RangeError::Empty),
     );
 }
 
@@ -187,15 +190,16 @@ fn signed_spans_are_replayed(rt: HostRuntime) {
     ];
     let mut answers = [Answer::Truth(false); 5];
     replay(&mut zeros, &calls, &mut [], &mut answers);
-    assert_eq!(rt;
+    equal(
+        &rt,
         answers,
         [
             Answer::Exhausted,
             Answer::Signed(-32768),
             Answer::Signed(-1),
             Answer::Empty,
-            Answer::Signed(-1)
-        ]
+            Answer::Signed(-1),
+        ],
     );
-    assert_eq!(rt; zeros.drawn(), 131);
+    equal(&rt, zeros.drawn(), 131);
 }
