@@ -2,12 +2,16 @@
 //! failure names the line of the call.
 #![tactic(auto)]
 
+ghost use Rattle.std.specs.Prelude.{IsTrue};
+
 use std::alloc::AllocError;
 use std::fmt::{Debug, Display};
 use std::process::Abort;
 
 /// Ends the test unless the values are equal.
-pub fn equal<T: PartialEq + Debug + Drop>(rt: &impl Abort, left: T, right: T) {
+pub fn equal<T: PartialEq + Debug + Drop>(rt: &impl Abort, left: T, right: T)
+    ensures { IsTrue (T.eq left right) }
+{
     assert_eq!(rt; left, right);
 }
 
@@ -17,7 +21,9 @@ pub fn equal_at<T: PartialEq + Debug + Drop>(
     left: T,
     right: T,
     note: impl Display + Drop,
-) {
+)
+    ensures { IsTrue (T.eq left right) }
+{
     assert_eq!(rt; left, right, "{note}");
 }
 
@@ -38,5 +44,20 @@ pub fn display_is(
     text: &str,
 ) -> Result<(), AllocError> {
     assert_eq!(rt; format!(in rt.alloc(); "{value}")?.as_str(), text);
+    Ok(())
+}
+
+/// Ends the test unless both have the same `Debug` text. The note says which case it is.
+pub fn same_debug<T: Debug>(
+    rt: &(impl Abort + AllocGlobal),
+    left: &T,
+    right: &T,
+    note: impl Display + Drop,
+) -> Result<(), AllocError> {
+    assert_eq!(rt;
+        format!(in rt.alloc(); "{left:?}")?.as_str(),
+        format!(in rt.alloc(); "{right:?}")?.as_str(),
+        "{note}"
+    );
     Ok(())
 }

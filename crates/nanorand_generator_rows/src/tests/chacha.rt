@@ -2,7 +2,7 @@
 
 ghost use Rattle.std.specs.Prelude.{◌≡◌, ◌%◌};
 
-use comparing::{debug_is, equal, equal_at};
+use comparing::{debug_is, display_is, equal, equal_at};
 use hex::FromHex;
 use nanorand::crypto::chacha::{
     chacha_block, chacha_increment_counter, chacha_init, chacha_rounds, chacha_unrounds,
@@ -174,19 +174,19 @@ fn counters(rt: HostRuntime) {
 #[test]
 fn texts(rt: HostRuntime) -> Result<(), Fail> {
     let mut generator = ChaCha8::new_key([0; 32], [0; 8]);
-    equal(
+    display_is(
         &rt,
-        format!(in rt.alloc(); "{generator:?} {generator}")?.as_str(),
+        &format_args!("{generator:?} {generator}"),
         "ChaCha20 { rounds: 8, counter: 0 } ChaCha (8 rounds)",
-    );
+    )?;
     let _ = second_block(&mut generator);
     debug_is(&rt, &generator, "ChaCha20 { rounds: 8, counter: 2 }")?;
     let generator = ChaCha12::new_key([0; 32], [0; 8]);
-    equal(
+    display_is(
         &rt,
-        format!(in rt.alloc(); "{generator:?} {generator}")?.as_str(),
+        &format_args!("{generator:?} {generator}"),
         "ChaCha20 { rounds: 12, counter: 0 } ChaCha (12 rounds)",
-    );
+    )?;
     Ok(())
 }
 

@@ -1,7 +1,9 @@
 //! Known-answer tests of jumps.
 
-use comparing::{debug_is, equal, equal_at};
+use comparing::{debug_is, equal, equal_at, same_debug};
 use nanorand::{Blocks, Pcg64, WyRand};
+use std::alloc::AllocError;
+use std::process::Abort;
 use std::test::Fail;
 
 // Each sum of two of these fits in 64 bits.
@@ -55,7 +57,7 @@ fn one_draw_is_a_jump_of_one(rt: HostRuntime) -> Result<(), Fail> {
         let _ = drawn.rand();
         let mut jumped = Pcg64::new_seed(seed);
         jumped.jump(1);
-        debug_is(&rt, &jumped, format!(in rt.alloc(); "{drawn:?}")?.as_str())?;
+        same_debug(&rt, &jumped, &drawn, seed)?;
     }
     Ok(())
 }
@@ -71,49 +73,42 @@ fn a_jump_is_its_draws(rt: HostRuntime) -> Result<(), Fail> {
     wyrand_jumped.jump(1000);
     pcg64_jumped.jump(1000);
     equal(&rt, wyrand_jumped.seed(), wyrand.seed());
-    debug_is(
-        &rt,
-        &wyrand_jumped,
-        format!(in rt.alloc(); "{wyrand:?}")?.as_str(),
-    )?;
-    debug_is(
-        &rt,
-        &pcg64_jumped,
-        format!(in rt.alloc(); "{pcg64:?}")?.as_str(),
-    )?;
+    same_debug(&rt, &wyrand_jumped, &wyrand, "WyRand")?;
+    same_debug(&rt, &pcg64_jumped, &pcg64, "Pcg64")?;
     Ok(())
+}
+
+// One jump of WyRand by the sum is the two jumps.
+fn wyrand_adds(
+    rt: &(impl Abort + AllocGlobal),
+    first: u64,
+    second: u64,
+    sum: u64,
+) -> Result<(), AllocError> {
+    let (mut twice, mut once) = (WyRand::new_seed(42), WyRand::new_seed(42));
+    twice.jump(first);
+    twice.jump(second);
+    once.jump(sum);
+    let note = format_args!("{first} and {second}");
+    equal_at(rt, twice.seed(), once.seed(), &note);
+    same_debug(rt, &twice, &once, &note)
+}
+
+// The same of Pcg64.
+fn pcg64_adds(rt: &(impl Abort + AllocGlobal), first: u64, second: u64) -> Result<(), AllocError> {
+    let (mut twice, mut once) = (Pcg64::new_seed(42), Pcg64::new_seed(42));
+    twice.jump(u128::from(first));
+    twice.jump(u128::from(second));
+    once.jump(u128::from(first) + u128::from(second));
+    same_debug(rt, &twice, &once, format_args!("{first} and {second}"))
 }
 
 #[test]
 fn jumps_add(rt: HostRuntime) -> Result<(), Fail> {
     for first in LENGTHS {
         for second in LENGTHS {
-            let (mut wyrand, mut wyrand_once) = (WyRand::new_seed(42), WyRand::new_seed(42));
-            wyrand.jump(first);
-            wyrand.jump(second);
-            wyrand_once.jump(first + second);
-            equal_at(
-                &rt,
-                wyrand.seed(),
-                wyrand_once.seed(),
-                format_args!("{first} and {second}"),
-            );
-            equal_at(
-                &rt,
-                format!(in rt.alloc(); "{wyrand:?}")?.as_str(),
-                format!(in rt.alloc(); "{wyrand_once:?}")?.as_str(),
-                format_args!("{first} and {second}"),
-            );
-            let (mut pcg64, mut pcg64_once) = (Pcg64::new_seed(42), Pcg64::new_seed(42));
-            pcg64.jump(u128::from(first));
-            pcg64.jump(u128::from(second));
-            pcg64_once.jump(u128::from(first) + u128::from(second));
-            equal_at(
-                &rt,
-                format!(in rt.alloc(); "{pcg64:?}")?.as_str(),
-                format!(in rt.alloc(); "{pcg64_once:?}")?.as_str(),
-                format_args!("{first} and {second}"),
-            );
+            wyrand_adds(&rt, first, second, first + second)?;
+            pcg64_adds(&rt, first, second)?;
         }
     }
     Ok(())

@@ -138,18 +138,30 @@ fn empty_ranges_draw_nothing(rt: HostRuntime) {
     equal(&rt, steps.drawn(), 0);
 }
 
+// Whether a number was drawn, and is one of these.
+pub fn is_within<T: PartialOrd + Drop>(
+    drawn: Result<T, RangeError>,
+    least: T,
+    greatest: T,
+) -> bool {
+    match drawn {
+        Ok(number) => least <= number && number <= greatest,
+        Err(_) => false,
+    }
+}
+
 #[test]
 fn ensure_unsigned_in_range(rt: HostRuntime) {
     let mut wyrand = WyRand::new_seed(42);
     for _ in 0..1000 {
         let number = wyrand.generate_range::<u64>(Included(10), Included(20));
-        assert!(rt; number.is_ok_and(|number| 10 <= number && number <= 20));
+        assert!(rt; is_within(number, 10, 20));
         let number = wyrand.generate_range::<u64>(Included(10), Excluded(30));
-        assert!(rt; number.is_ok_and(|number| 10 <= number && number < 30));
+        assert!(rt; is_within(number, 10, 29));
         let number = wyrand.generate_range::<u64>(Included(512), Unbounded);
-        assert!(rt; number.is_ok_and(|number| 512 <= number));
+        assert!(rt; is_within(number, 512, u64::MAX));
         let number = wyrand.generate_range::<u64>(Unbounded, Excluded(1024));
-        assert!(rt; number.is_ok_and(|number| number < 1024));
+        assert!(rt; is_within(number, 0, 1023));
     }
 }
 

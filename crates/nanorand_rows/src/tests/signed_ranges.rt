@@ -1,5 +1,6 @@
 //! Ranges of signed numbers, and every pair of bounds at both ends of the ten types.
 
+use super::ranges::is_within;
 use crate::{Constant, Script, Zeros};
 use comparing::equal;
 use nanorand::replay::{Answer, Call, Span, replay};
@@ -52,23 +53,24 @@ fn empty_ranges_draw_nothing(rt: HostRuntime) {
     equal(&rt, zeros.drawn(), 0);
 }
 
-// Whether a range gives these results on the least word and on the greatest.
-fn gives<T: RandomRange<Constant, 8> + Copy + PartialEq + Drop>(
-    low: Bound<T>,
-    high: Bound<T>,
-    by_least: Result<T, RangeError>,
-    by_greatest: Result<T, RangeError>,
-) -> bool {
-    Constant::new(0).generate_range(low, high) == by_least
-        && Constant::new(255).generate_range(low, high) == by_greatest
-}
+// A range, and what it gives on the least word and on the greatest.
+type Row<T> = (
+    Bound<T>,
+    Bound<T>,
+    Result<T, RangeError>,
+    Result<T, RangeError>,
+);
 
-// Whether a range has no number.
-fn is_empty<T: RandomRange<Constant, 8> + Copy + PartialEq + Drop>(
-    low: Bound<T>,
-    high: Bound<T>,
-) -> bool {
-    gives(low, high, Err(RangeError::Empty), Err(RangeError::Empty))
+// Whether each range gives these results.
+fn hold<T: RandomRange<Constant, 8> + Copy + PartialEq + Drop>(rows: &[Row<T>]) -> bool {
+    for (low, high, by_least, by_greatest) in rows {
+        let least = Constant::new(0).generate_range(*low, *high);
+        let greatest = Constant::new(255).generate_range(*low, *high);
+        if least != *by_least || greatest != *by_greatest {
+            return false;
+        }
+    }
+    true
 }
 
 // The nine pairs of bounds at the least number, and the range below it. The least word is rejected
@@ -78,21 +80,20 @@ fn hold_at_the_least<T: RandomRange<Constant, 8> + Copy + PartialEq + Drop>(
     second: T,
     last: T,
 ) -> bool {
-    gives(Included(least), Included(second), Ok(least), Ok(second))
-        && gives(Included(least), Excluded(second), Ok(least), Ok(least))
-        && gives(Included(least), Unbounded, Ok(least), Ok(last))
-        && gives(Excluded(least), Included(second), Ok(second), Ok(second))
-        && is_empty(Excluded(least), Excluded(second))
-        && gives(
-            Excluded(least),
-            Unbounded,
-            Err(RangeError::Exhausted),
-            Ok(last),
-        )
-        && gives(Unbounded, Included(second), Ok(least), Ok(second))
-        && gives(Unbounded, Excluded(second), Ok(least), Ok(least))
-        && gives(Unbounded, Unbounded, Ok(least), Ok(last))
-        && is_empty(Unbounded, Excluded(least))
+    let empty = Err(RangeError::Empty);
+    let exhausted = Err(RangeError::Exhausted);
+    hold(&[
+        (Included(least), Included(second), Ok(least), Ok(second)),
+        (Included(least), Excluded(second), Ok(least), Ok(least)),
+        (Included(least), Unbounded, Ok(least), Ok(last)),
+        (Excluded(least), Included(second), Ok(second), Ok(second)),
+        (Excluded(least), Excluded(second), empty, empty),
+        (Excluded(least), Unbounded, exhausted, Ok(last)),
+        (Unbounded, Included(second), Ok(least), Ok(second)),
+        (Unbounded, Excluded(second), Ok(least), Ok(least)),
+        (Unbounded, Unbounded, Ok(least), Ok(last)),
+        (Unbounded, Excluded(least), empty, empty),
+    ])
 }
 
 // The same at the greatest number, with the range above it.
@@ -101,21 +102,20 @@ fn hold_at_the_greatest<T: RandomRange<Constant, 8> + Copy + PartialEq + Drop>(
     before: T,
     last: T,
 ) -> bool {
-    gives(Included(before), Included(last), Ok(before), Ok(last))
-        && gives(Included(before), Excluded(last), Ok(before), Ok(before))
-        && gives(Included(before), Unbounded, Ok(before), Ok(last))
-        && gives(Excluded(before), Included(last), Ok(last), Ok(last))
-        && is_empty(Excluded(before), Excluded(last))
-        && gives(Excluded(before), Unbounded, Ok(last), Ok(last))
-        && gives(Unbounded, Included(last), Ok(least), Ok(last))
-        && gives(
-            Unbounded,
-            Excluded(last),
-            Err(RangeError::Exhausted),
-            Ok(before),
-        )
-        && gives(Unbounded, Unbounded, Ok(least), Ok(last))
-        && is_empty(Excluded(last), Unbounded)
+    let empty = Err(RangeError::Empty);
+    let exhausted = Err(RangeError::Exhausted);
+    hold(&[
+        (Included(before), Included(last), Ok(before), Ok(last)),
+        (Included(before), Excluded(last), Ok(before), Ok(before)),
+        (Included(before), Unbounded, Ok(before), Ok(last)),
+        (Excluded(before), Included(last), Ok(last), Ok(last)),
+        (Excluded(before), Excluded(last), empty, empty),
+        (Excluded(before), Unbounded, Ok(last), Ok(last)),
+        (Unbounded, Included(last), Ok(least), Ok(last)),
+        (Unbounded, Excluded(last), exhausted, Ok(before)),
+        (Unbounded, Unbounded, Ok(least), Ok(last)),
+        (Excluded(last), Unbounded, empty, empty),
+    ])
 }
 
 #[test]
@@ -151,11 +151,11 @@ fn ensure_signed_in_range(rt: HostRuntime) {
     let mut wyrand = WyRand::new_seed(42);
     for _ in 0..1000 {
         let number = wyrand.generate_range::<i32>(Included(-50), Unbounded);
-        assert!(rt; number.is_ok_and(|number| -50 <= number));
+        assert!(rt; is_within(number, -50, i32::MAX));
         let number = wyrand.generate_range::<i32>(Unbounded, Excluded(512));
-        assert!(rt; number.is_ok_and(|number| number < 512));
+        assert!(rt; is_within(number, i32::MIN, 511));
         let number = wyrand.generate_range::<i32>(Unbounded, Excluded(-32));
-        assert!(rt; number.is_ok_and(|number| number < -32));
+        assert!(rt; is_within(number, i32::MIN, -33));
     }
 }
 
@@ -173,9 +173,9 @@ fn ensure_invalid_range_panics(rt: HostRuntime) {
 fn example_of_numbers_in_a_range(rt: HostRuntime) {
     let mut wyrand = WyRand::new_seed(42);
     let number = wyrand.generate_range::<u64>(Included(1), Included(100));
-    assert!(rt; number.is_ok_and(|number| 1 <= number && number <= 100));
+    assert!(rt; is_within(number, 1, 100));
     let number = wyrand.generate_range::<i64>(Included(-100), Included(50));
-    assert!(rt; number.is_ok_and(|number| -100 <= number && number <= 50));
+    assert!(rt; is_within(number, -100, 50));
 }
 
 #[test]
