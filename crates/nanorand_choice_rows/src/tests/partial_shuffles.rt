@@ -1,6 +1,7 @@
 //! `partial_shuffle`, which makes the first steps of `shuffle`.
 ghost use Rattle.std.specs.Prelude.{◌≤◌};
 
+use comparing::{equal, equal_at};
 use nanorand::shuffles::partial_shuffle;
 use nanorand::values::RangeError;
 use nanorand::{BufferedRng, ChaCha8, Pcg64, Rng, WyRand};
@@ -23,9 +24,13 @@ fn each_count(rt: HostRuntime) {
     for (count, shuffled, drawn) in rows {
         let mut script = Script::new(&[200, 100, 255]);
         let mut letters = ['a', 'b', 'c', 'd'];
-        assert_eq!(rt; partial_shuffle(&mut script, &mut letters, count), Ok(()));
-        assert_eq!(rt; letters, shuffled, "{count}");
-        assert_eq!(rt; script.drawn(), drawn, "{count}");
+        equal(
+            &rt,
+            partial_shuffle(&mut script, &mut letters, count),
+            Ok(()),
+        );
+        equal_at(&rt, letters, shuffled, format_args!("{count}"));
+        equal_at(&rt, script.drawn(), drawn, format_args!("{count}"));
     }
 }
 
@@ -34,12 +39,12 @@ fn nothing_to_shuffle(rt: HostRuntime) {
     let mut zeros = Zeros::new();
     let mut none: [char; 0] = [];
     for count in [0, 1, usize::MAX] {
-        assert_eq!(rt; partial_shuffle(&mut zeros, &mut none, count), Ok(()));
+        equal(&rt, partial_shuffle(&mut zeros, &mut none, count), Ok(()));
     }
     let mut letters = ['a', 'b', 'c'];
-    assert_eq!(rt; partial_shuffle(&mut zeros, &mut letters, 0), Ok(()));
-    assert_eq!(rt; letters, ['a', 'b', 'c']);
-    assert_eq!(rt; zeros.drawn(), 0);
+    equal(&rt, partial_shuffle(&mut zeros, &mut letters, 0), Ok(()));
+    equal(&rt, letters, ['a', 'b', 'c']);
+    equal(&rt, zeros.drawn(), 0);
 }
 
 // Words of ones, each of which draws the last index, and then zeros, which are rejected for 7, 6, 5
@@ -59,12 +64,22 @@ fn refused_at_each_step(rt: HostRuntime) {
             let mut numbers = [0, 1, 2, 3, 4, 5, 6];
             let answer = partial_shuffle(&mut script, &mut numbers, count);
             if count > steps {
-                assert_eq!(rt; answer, Err(RangeError::Exhausted), "{words} {count}");
-                assert_eq!(rt; numbers, items, "{words} {count}");
-                assert_eq!(rt; script.drawn(), (steps as u64).wrapping_add(128));
+                equal_at(
+                    &rt,
+                    answer,
+                    Err(RangeError::Exhausted),
+                    format_args!("{words} {count}"),
+                );
+                equal_at(&rt, numbers, items, format_args!("{words} {count}"));
+                equal(&rt, script.drawn(), (steps as u64).wrapping_add(128));
             } else {
-                assert_eq!(rt; answer, Ok(()), "{words} {count}");
-                assert_eq!(rt; script.drawn(), count as u64, "{words} {count}");
+                equal_at(&rt, answer, Ok(()), format_args!("{words} {count}"));
+                equal_at(
+                    &rt,
+                    script.drawn(),
+                    count as u64,
+                    format_args!("{words} {count}"),
+                );
             }
         }
     }
@@ -106,13 +121,13 @@ fn begins_alike<G: Rng<OUTPUT> + Drop, F: Fn() -> G, const OUTPUT: usize, const 
     let mut others = identity::<N>();
     let mut whole = identity::<N>();
     let answer = partial_shuffle(&mut rng, &mut items, count);
-    assert_eq!(rt; answer, by_steps(&mut other, &mut others, count));
-    assert_eq!(rt; items, others);
-    assert_eq!(rt; rng.generate::<u64>(), other.generate::<u64>());
+    equal(rt, answer, by_steps(&mut other, &mut others, count));
+    equal(rt, items, others);
+    equal(rt, rng.generate::<u64>(), other.generate::<u64>());
     if answer == Ok(()) {
         let _ = third.shuffle(&mut whole);
         let same = count.min(N);
-        assert_eq!(rt; &items[..same], &whole[..same]);
+        equal(rt, &items[..same], &whole[..same]);
     }
 }
 

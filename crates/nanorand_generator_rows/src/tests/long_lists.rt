@@ -96,7 +96,7 @@ fn replays<G: Rng<OUTPUT> + Drop, const OUTPUT: usize>(
 ) -> Result<(), AllocError> {
     let calls = calls(rt.alloc())?;
     let mut answers = vec![in rt.alloc(); Answer::Empty; CALLS]?;
-    equal(rt, calls.len(), answers.len());
+    assert_eq!(rt; calls.len(), answers.len());
     let (mut items, mut others) = ([7, 8, 9], [7, 8, 9]);
     replay(&mut rng, &calls, &mut items, &mut answers);
     for (index, given) in answers.iter().enumerate() {
