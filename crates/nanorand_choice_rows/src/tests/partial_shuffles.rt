@@ -6,8 +6,10 @@ use nanorand::shuffles::partial_shuffle;
 use nanorand::values::RangeError;
 use nanorand::{BufferedRng, ChaCha8, Pcg64, Rng, WyRand};
 use nanorand_rows::{Constant, Script, Steps, Waste, Zeros};
+use std::alloc::AllocError;
 use std::ops::Bound;
 use std::process::Abort;
+use std::test::Fail;
 
 // 0, 1, .., n - 1, n and the greatest count, of four items.
 #[test]
@@ -108,15 +110,14 @@ fn by_steps<G: Rng<OUTPUT>, const OUTPUT: usize, const N: usize>(
 }
 
 // It does what the steps do one by one, and its first items are those of a whole shuffle.
-fn begins_alike<G: Rng<OUTPUT> + Drop, F: Fn() -> G, const OUTPUT: usize, const N: usize>(
+fn begins_alike<G: Rng<OUTPUT> + Drop, const OUTPUT: usize, const N: usize>(
     rt: &impl Abort,
-    make: &F,
+    fresh: &G,
     count: usize,
-)
-    requires callable { F.IsAlwaysCallable make.now }
-    requires few { N ≤ 50 }
+) -> Result<(), AllocError>
+    requires { N ≤ 50 }
 {
-    let (mut rng, mut other, mut third) = (make(), make(), make());
+    let (mut rng, mut other, mut third) = (fresh.clone()?, fresh.clone()?, fresh.clone()?);
     let mut items = identity::<N>();
     let mut others = identity::<N>();
     let mut whole = identity::<N>();
@@ -129,32 +130,33 @@ fn begins_alike<G: Rng<OUTPUT> + Drop, F: Fn() -> G, const OUTPUT: usize, const 
         let same = count.min(N);
         equal(rt, &items[..same], &whole[..same]);
     }
+    Ok(())
 }
 
-// The same, for several lengths and counts.
-fn lengths_alike<G: Rng<OUTPUT> + Drop, F: Fn() -> G, const OUTPUT: usize>(
+// The same, for several lengths and counts, by clones of a generator.
+fn lengths_alike<G: Rng<OUTPUT> + Drop, const OUTPUT: usize>(
     rt: &impl Abort,
-    make: &F,
-)
-    requires { F.IsAlwaysCallable make.now }
-{
+    fresh: &G,
+) -> Result<(), AllocError> {
     for count in [0, 1, 2, 3, 4, 49, 50, 51] {
-        begins_alike::<G, F, OUTPUT, 0>(rt, make, count);
-        begins_alike::<G, F, OUTPUT, 1>(rt, make, count);
-        begins_alike::<G, F, OUTPUT, 3>(rt, make, count);
-        begins_alike::<G, F, OUTPUT, 50>(rt, make, count);
+        begins_alike::<G, OUTPUT, 0>(rt, fresh, count)?;
+        begins_alike::<G, OUTPUT, 1>(rt, fresh, count)?;
+        begins_alike::<G, OUTPUT, 3>(rt, fresh, count)?;
+        begins_alike::<G, OUTPUT, 50>(rt, fresh, count)?;
     }
+    Ok(())
 }
 
 #[test]
-fn the_beginning_of_a_shuffle(rt: HostRuntime) {
-    lengths_alike(&rt, &|| WyRand::new_seed(42));
-    lengths_alike(&rt, &|| Pcg64::new_seed(42));
-    lengths_alike(&rt, &|| ChaCha8::new_key([7; 32], [9; 8]));
-    lengths_alike(&rt, &|| BufferedRng::new(WyRand::new_seed(42)));
-    lengths_alike(&rt, &|| Steps::new());
-    lengths_alike(&rt, &|| Waste::new());
-    lengths_alike(&rt, &|| Zeros::new());
-    lengths_alike(&rt, &|| Constant::new(255));
-    lengths_alike(&rt, &|| Script::new(&[255, 128, 1, 77, 200]));
+fn the_beginning_of_a_shuffle(rt: HostRuntime) -> Result<(), Fail> {
+    lengths_alike(&rt, &WyRand::new_seed(42))?;
+    lengths_alike(&rt, &Pcg64::new_seed(42))?;
+    lengths_alike(&rt, &ChaCha8::new_key([7; 32], [9; 8]))?;
+    lengths_alike(&rt, &BufferedRng::new(WyRand::new_seed(42)))?;
+    lengths_alike(&rt, &Steps::new())?;
+    lengths_alike(&rt, &Waste::new())?;
+    lengths_alike(&rt, &Zeros::new())?;
+    lengths_alike(&rt, &Constant::new(255))?;
+    lengths_alike(&rt, &Script::new(&[255, 128, 1, 77, 200]))?;
+    Ok(())
 }

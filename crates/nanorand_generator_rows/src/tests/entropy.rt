@@ -47,13 +47,24 @@ const MAKERS: [(Made, usize); 6] = [
 // Whether making it succeeds.
 fn outcome_of(made: Made, source: &mut Pieces) -> Result<(), EntropyError> {
     match made {
-        Made::Bytes => system(source, &mut [0; 11]),
-        Made::WyRand => WyRand::new(source).map(|_| ()),
-        Made::Pcg64 => Pcg64::new(source).map(|_| ()),
-        Made::ChaCha8 => ChaCha8::new(source).map(|_| ()),
-        Made::ChaCha12 => ChaCha12::new(source).map(|_| ()),
-        Made::ChaCha20 => ChaCha20::new(source).map(|_| ()),
+        Made::Bytes => system(source, &mut [0; 11])?,
+        Made::WyRand => {
+            let _ = WyRand::new(source)?;
+        }
+        Made::Pcg64 => {
+            let _ = Pcg64::new(source)?;
+        }
+        Made::ChaCha8 => {
+            let _ = ChaCha8::new(source)?;
+        }
+        Made::ChaCha12 => {
+            let _ = ChaCha12::new(source)?;
+        }
+        Made::ChaCha20 => {
+            let _ = ChaCha20::new(source)?;
+        }
     }
+    Ok(())
 }
 
 // The bytes 1 to 50.

@@ -6,7 +6,9 @@ use comparing::equal;
 use nanorand::shuffles::{apply_choices, shuffle_and_record};
 use nanorand::values::RangeError;
 use nanorand::{BufferedRng, ChaCha8, Pcg64, Rng, WyRand};
+use std::alloc::AllocError;
 use std::process::Abort;
+use std::test::Fail;
 
 #[test]
 fn last_then_middle(rt: HostRuntime) {
@@ -98,28 +100,28 @@ fn shuffled_alike<G: Rng<OUTPUT> + Drop, const OUTPUT: usize, const N: usize>(
     equal(rt, rng.generate::<u64>(), other.generate::<u64>());
 }
 
-// The same, for slices of several lengths.
-fn lengths_alike<G: Rng<OUTPUT> + Drop, F: Fn() -> G, const OUTPUT: usize>(
+// The same, for slices of several lengths, by clones of a generator.
+fn lengths_alike<G: Rng<OUTPUT> + Drop, const OUTPUT: usize>(
     rt: &impl Abort,
-    make: &F,
-)
-    requires { F.IsAlwaysCallable make.now }
-{
-    shuffled_alike::<G, OUTPUT, 0>(rt, make(), make());
-    shuffled_alike::<G, OUTPUT, 1>(rt, make(), make());
-    shuffled_alike::<G, OUTPUT, 2>(rt, make(), make());
-    shuffled_alike::<G, OUTPUT, 3>(rt, make(), make());
-    shuffled_alike::<G, OUTPUT, 50>(rt, make(), make());
+    fresh: G,
+) -> Result<(), AllocError> {
+    shuffled_alike::<G, OUTPUT, 0>(rt, fresh.clone()?, fresh.clone()?);
+    shuffled_alike::<G, OUTPUT, 1>(rt, fresh.clone()?, fresh.clone()?);
+    shuffled_alike::<G, OUTPUT, 2>(rt, fresh.clone()?, fresh.clone()?);
+    shuffled_alike::<G, OUTPUT, 3>(rt, fresh.clone()?, fresh.clone()?);
+    shuffled_alike::<G, OUTPUT, 50>(rt, fresh.clone()?, fresh);
+    Ok(())
 }
 
 #[test]
-fn as_shuffle_and_dealt_again(rt: HostRuntime) {
-    lengths_alike(&rt, &|| WyRand::new_seed(42));
-    lengths_alike(&rt, &|| Pcg64::new_seed(42));
-    lengths_alike(&rt, &|| ChaCha8::new_key([7; 32], [9; 8]));
-    lengths_alike(&rt, &|| BufferedRng::new(WyRand::new_seed(42)));
-    lengths_alike(&rt, &|| Steps::new());
-    lengths_alike(&rt, &|| Zeros::new());
-    lengths_alike(&rt, &|| Constant::new(255));
-    lengths_alike(&rt, &|| Script::new(&[255, 128, 1, 77, 200]));
+fn as_shuffle_and_dealt_again(rt: HostRuntime) -> Result<(), Fail> {
+    lengths_alike(&rt, WyRand::new_seed(42))?;
+    lengths_alike(&rt, Pcg64::new_seed(42))?;
+    lengths_alike(&rt, ChaCha8::new_key([7; 32], [9; 8]))?;
+    lengths_alike(&rt, BufferedRng::new(WyRand::new_seed(42)))?;
+    lengths_alike(&rt, Steps::new())?;
+    lengths_alike(&rt, Zeros::new())?;
+    lengths_alike(&rt, Constant::new(255))?;
+    lengths_alike(&rt, Script::new(&[255, 128, 1, 77, 200]))?;
+    Ok(())
 }
