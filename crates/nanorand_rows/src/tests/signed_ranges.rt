@@ -53,47 +53,45 @@ fn empty_ranges_draw_nothing(rt: HostRuntime) {
     equal(&rt, zeros.drawn(), 0);
 }
 
-// A range, and what it gives on the least word and on the greatest.
-type Row<T> = (
-    Bound<T>,
-    Bound<T>,
-    Result<T, RangeError>,
-    Result<T, RangeError>,
-);
-
-// Whether each range gives these results.
-fn hold<T: RandomRange<Constant, 8> + Copy + PartialEq + Drop>(rows: &[Row<T>]) -> bool {
-    for (low, high, by_least, by_greatest) in rows {
-        let least = Constant::new(0).generate_range(*low, *high);
-        let greatest = Constant::new(255).generate_range(*low, *high);
-        if least != *by_least || greatest != *by_greatest {
-            return false;
-        }
-    }
-    true
+// Whether a range gives these results on the least word and on the greatest.
+fn gives<T: RandomRange<Constant, 8> + Copy + PartialEq + Drop>(
+    low: Bound<T>,
+    high: Bound<T>,
+    by_least: Result<T, RangeError>,
+    by_greatest: Result<T, RangeError>,
+) -> bool {
+    Constant::new(0).generate_range(low, high) == by_least
+        && Constant::new(255).generate_range(low, high) == by_greatest
 }
 
-// The nine pairs of bounds at the least number, and the range below it. The least word is rejected
-// if the range has all numbers but one.
+// Whether a range has no number.
+fn is_empty<T: RandomRange<Constant, 8> + Copy + PartialEq + Drop>(
+    low: Bound<T>,
+    high: Bound<T>,
+) -> bool {
+    gives(low, high, Err(RangeError::Empty), Err(RangeError::Empty))
+}
+
+// Which of the nine pairs of bounds at the least number, and of the range below it, give what they
+// should. The least word is rejected if the range has all numbers but one.
 fn hold_at_the_least<T: RandomRange<Constant, 8> + Copy + PartialEq + Drop>(
     least: T,
     second: T,
     last: T,
-) -> bool {
-    let empty = Err(RangeError::Empty);
+) -> [bool; 10] {
     let exhausted = Err(RangeError::Exhausted);
-    hold(&[
-        (Included(least), Included(second), Ok(least), Ok(second)),
-        (Included(least), Excluded(second), Ok(least), Ok(least)),
-        (Included(least), Unbounded, Ok(least), Ok(last)),
-        (Excluded(least), Included(second), Ok(second), Ok(second)),
-        (Excluded(least), Excluded(second), empty, empty),
-        (Excluded(least), Unbounded, exhausted, Ok(last)),
-        (Unbounded, Included(second), Ok(least), Ok(second)),
-        (Unbounded, Excluded(second), Ok(least), Ok(least)),
-        (Unbounded, Unbounded, Ok(least), Ok(last)),
-        (Unbounded, Excluded(least), empty, empty),
-    ])
+    [
+        gives(Included(least), Included(second), Ok(least), Ok(second)),
+        gives(Included(least), Excluded(second), Ok(least), Ok(least)),
+        gives(Included(least), Unbounded, Ok(least), Ok(last)),
+        gives(Excluded(least), Included(second), Ok(second), Ok(second)),
+        is_empty(Excluded(least), Excluded(second)),
+        gives(Excluded(least), Unbounded, exhausted, Ok(last)),
+        gives(Unbounded, Included(second), Ok(least), Ok(second)),
+        gives(Unbounded, Excluded(second), Ok(least), Ok(least)),
+        gives(Unbounded, Unbounded, Ok(least), Ok(last)),
+        is_empty(Unbounded, Excluded(least)),
+    ]
 }
 
 // The same at the greatest number, with the range above it.
@@ -101,49 +99,87 @@ fn hold_at_the_greatest<T: RandomRange<Constant, 8> + Copy + PartialEq + Drop>(
     least: T,
     before: T,
     last: T,
-) -> bool {
-    let empty = Err(RangeError::Empty);
+) -> [bool; 10] {
     let exhausted = Err(RangeError::Exhausted);
-    hold(&[
-        (Included(before), Included(last), Ok(before), Ok(last)),
-        (Included(before), Excluded(last), Ok(before), Ok(before)),
-        (Included(before), Unbounded, Ok(before), Ok(last)),
-        (Excluded(before), Included(last), Ok(last), Ok(last)),
-        (Excluded(before), Excluded(last), empty, empty),
-        (Excluded(before), Unbounded, Ok(last), Ok(last)),
-        (Unbounded, Included(last), Ok(least), Ok(last)),
-        (Unbounded, Excluded(last), exhausted, Ok(before)),
-        (Unbounded, Unbounded, Ok(least), Ok(last)),
-        (Excluded(last), Unbounded, empty, empty),
-    ])
+    [
+        gives(Included(before), Included(last), Ok(before), Ok(last)),
+        gives(Included(before), Excluded(last), Ok(before), Ok(before)),
+        gives(Included(before), Unbounded, Ok(before), Ok(last)),
+        gives(Excluded(before), Included(last), Ok(last), Ok(last)),
+        is_empty(Excluded(before), Excluded(last)),
+        gives(Excluded(before), Unbounded, Ok(last), Ok(last)),
+        gives(Unbounded, Included(last), Ok(least), Ok(last)),
+        gives(Unbounded, Excluded(last), exhausted, Ok(before)),
+        gives(Unbounded, Unbounded, Ok(least), Ok(last)),
+        is_empty(Excluded(last), Unbounded),
+    ]
 }
+
+// Each of the ten ranges.
+const ALL: [bool; 10] = [true; 10];
 
 #[test]
 fn every_pair_of_bounds_at_the_least(rt: HostRuntime) {
-    assert!(rt; hold_at_the_least::<u8>(0, 1, 255));
-    assert!(rt; hold_at_the_least::<u16>(0, 1, u16::MAX));
-    assert!(rt; hold_at_the_least::<u32>(0, 1, u32::MAX));
-    assert!(rt; hold_at_the_least::<u64>(0, 1, u64::MAX));
-    assert!(rt; hold_at_the_least::<usize>(0, 1, usize::MAX));
-    assert!(rt; hold_at_the_least::<i8>(-128, -127, 127));
-    assert!(rt; hold_at_the_least(i16::MIN, i16::MIN + 1, i16::MAX));
-    assert!(rt; hold_at_the_least(i32::MIN, i32::MIN + 1, i32::MAX));
-    assert!(rt; hold_at_the_least(i64::MIN, i64::MIN + 1, i64::MAX));
-    assert!(rt; hold_at_the_least(isize::MIN, isize::MIN + 1, isize::MAX));
+    equal(&rt, hold_at_the_least::<u8>(0, 1, 255), ALL);
+    equal(&rt, hold_at_the_least::<u16>(0, 1, u16::MAX), ALL);
+    equal(&rt, hold_at_the_least::<u32>(0, 1, u32::MAX), ALL);
+    equal(&rt, hold_at_the_least::<u64>(0, 1, u64::MAX), ALL);
+    equal(&rt, hold_at_the_least::<usize>(0, 1, usize::MAX), ALL);
+    equal(&rt, hold_at_the_least::<i8>(-128, -127, 127), ALL);
+    equal(
+        &rt,
+        hold_at_the_least(i16::MIN, i16::MIN + 1, i16::MAX),
+        ALL,
+    );
+    equal(
+        &rt,
+        hold_at_the_least(i32::MIN, i32::MIN + 1, i32::MAX),
+        ALL,
+    );
+    equal(
+        &rt,
+        hold_at_the_least(i64::MIN, i64::MIN + 1, i64::MAX),
+        ALL,
+    );
+    equal(
+        &rt,
+        hold_at_the_least(isize::MIN, isize::MIN + 1, isize::MAX),
+        ALL,
+    );
 }
 
 #[test]
 fn every_pair_of_bounds_at_the_greatest(rt: HostRuntime) {
-    assert!(rt; hold_at_the_greatest::<u8>(0, 254, 255));
-    assert!(rt; hold_at_the_greatest(0, u16::MAX - 1, u16::MAX));
-    assert!(rt; hold_at_the_greatest(0, u32::MAX - 1, u32::MAX));
-    assert!(rt; hold_at_the_greatest(0, u64::MAX - 1, u64::MAX));
-    assert!(rt; hold_at_the_greatest(0, usize::MAX - 1, usize::MAX));
-    assert!(rt; hold_at_the_greatest::<i8>(-128, 126, 127));
-    assert!(rt; hold_at_the_greatest(i16::MIN, i16::MAX - 1, i16::MAX));
-    assert!(rt; hold_at_the_greatest(i32::MIN, i32::MAX - 1, i32::MAX));
-    assert!(rt; hold_at_the_greatest(i64::MIN, i64::MAX - 1, i64::MAX));
-    assert!(rt; hold_at_the_greatest(isize::MIN, isize::MAX - 1, isize::MAX));
+    equal(&rt, hold_at_the_greatest::<u8>(0, 254, 255), ALL);
+    equal(&rt, hold_at_the_greatest(0, u16::MAX - 1, u16::MAX), ALL);
+    equal(&rt, hold_at_the_greatest(0, u32::MAX - 1, u32::MAX), ALL);
+    equal(&rt, hold_at_the_greatest(0, u64::MAX - 1, u64::MAX), ALL);
+    equal(
+        &rt,
+        hold_at_the_greatest(0, usize::MAX - 1, usize::MAX),
+        ALL,
+    );
+    equal(&rt, hold_at_the_greatest::<i8>(-128, 126, 127), ALL);
+    equal(
+        &rt,
+        hold_at_the_greatest(i16::MIN, i16::MAX - 1, i16::MAX),
+        ALL,
+    );
+    equal(
+        &rt,
+        hold_at_the_greatest(i32::MIN, i32::MAX - 1, i32::MAX),
+        ALL,
+    );
+    equal(
+        &rt,
+        hold_at_the_greatest(i64::MIN, i64::MAX - 1, i64::MAX),
+        ALL,
+    );
+    equal(
+        &rt,
+        hold_at_the_greatest(isize::MIN, isize::MAX - 1, isize::MAX),
+        ALL,
+    );
 }
 
 #[test]
