@@ -2,8 +2,9 @@
 ghost use Rattle.std.specs.Prelude.{◌≤◌};
 
 use super::makers::counted;
-use crate::{Bytes64, Steps};
+use comparing::equal;
 use nanorand::{BufferedRng, ChaCha8, ChaCha12, ChaCha20, Pcg64, Rng, WyRand};
+use nanorand_rows::{Bytes64, Steps};
 use std::alloc::AllocError;
 use std::io::{self, Read};
 use std::process::Abort;
@@ -43,7 +44,7 @@ fn gives_the_stream<G: Rng<OUTPUT> + Drop, const OUTPUT: usize>(
     bytes.fill(0xee);
     buffered.fill_bytes(&mut bytes);
     assert!(rt; stream.starts_with(bytes.as_slice()), "{length}");
-    assert_eq!(rt; buffered.read(&mut bytes)?, length);
+    equal(rt, buffered.read(&mut bytes)?, length);
     assert!(rt; length <= stream.len());
     assert!(rt; stream[length..].starts_with(bytes.as_slice()), "{length}");
     Ok(())
@@ -92,14 +93,14 @@ fn appends_its_rest<G: Rng<OUTPUT> + Drop, const OUTPUT: usize>(
     let left = rng.buffered();
     let mut out = Vec::with_capacity(rt.alloc(), held.len().saturating_add(room))?;
     out.extend_from_slice(held)?;
-    assert_eq!(rt; rng.read_to_end(&mut out), Ok(left));
-    assert_eq!(rt; left.wrapping_add(5), OUTPUT);
-    assert_eq!(rt; out.len(), held.len().wrapping_add(left));
+    equal(rt, rng.read_to_end(&mut out), Ok(left));
+    equal(rt, left.wrapping_add(5), OUTPUT);
+    equal(rt, out.len(), held.len().wrapping_add(left));
     assert!(rt; out.starts_with(held));
     assert!(rt; 5 <= OUTPUT);
     let bytes = &block[..];
     assert!(rt; out.ends_with(&bytes[5..]));
-    assert_eq!(rt; rng.buffered(), 0);
+    equal(rt, rng.buffered(), 0);
     Ok(())
 }
 

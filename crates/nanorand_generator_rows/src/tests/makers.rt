@@ -1,9 +1,10 @@
 //! Entropy readers with enough bytes: slices of many sizes, and each generator made from them.
 ghost use Rattle.std.specs.Prelude.{◌≡◌, ◌%◌};
 
-use crate::generators::readers::Pieces;
+use comparing::{equal, equal_at};
 use nanorand::entropy::{EntropyError, system};
 use nanorand::{Blocks, ChaCha, Pcg64, WyRand};
+use nanorand_rows::generators::readers::Pieces;
 use std::alloc::{AllocError, Global};
 use std::process::Abort;
 use std::test::Fail;
@@ -28,10 +29,15 @@ fn fills(
 ) -> Result<(), AllocError> {
     let mut source = Pieces::of(bytes, piece);
     let mut out = vec![in rt.alloc(); 0xee; size]?;
-    assert_eq!(rt; system(&mut source, &mut out), Ok(()), "{size} by {piece}");
+    equal_at(
+        rt,
+        system(&mut source, &mut out),
+        Ok(()),
+        format_args!("{size} by {piece}"),
+    );
     assert!(rt; bytes.starts_with(out.as_slice()), "{size} by {piece}");
-    assert_eq!(rt; out.len(), size);
-    assert_eq!(rt; source.left().wrapping_add(size), bytes.len());
+    equal(rt, out.len(), size);
+    equal(rt, source.left().wrapping_add(size), bytes.len());
     Ok(())
 }
 
@@ -64,14 +70,14 @@ fn check_equal<A: Blocks<OUTPUT>, const OUTPUT: usize>(
     second: &mut A,
 ) {
     for _ in 0..5u8 {
-        assert_eq!(rt; first.rand(), second.rand());
+        equal(rt, first.rand(), second.rand());
     }
 }
 
 fn makes_wyrand(rt: &impl Abort, bytes: &[u8; 50], piece: usize) -> Result<(), EntropyError> {
     let mut source = Pieces::of(bytes, piece);
     let mut made = WyRand::new(&mut source)?;
-    assert_eq!(rt; source.left(), 42);
+    equal(rt, source.left(), 42);
     let mut seed = [0; 8];
     seed.copy_from_slice(&bytes[..8]);
     check_equal(
@@ -85,7 +91,7 @@ fn makes_wyrand(rt: &impl Abort, bytes: &[u8; 50], piece: usize) -> Result<(), E
 fn makes_pcg64(rt: &impl Abort, bytes: &[u8; 50], piece: usize) -> Result<(), EntropyError> {
     let mut source = Pieces::of(bytes, piece);
     let mut made = Pcg64::new(&mut source)?;
-    assert_eq!(rt; source.left(), 34);
+    equal(rt, source.left(), 34);
     let mut seed = [0; 16];
     seed.copy_from_slice(&bytes[..16]);
     check_equal(
@@ -105,7 +111,7 @@ fn makes_chacha<const ROUNDS: u8>(
 {
     let mut source = Pieces::of(bytes, piece);
     let mut made = ChaCha::<ROUNDS>::new(&mut source)?;
-    assert_eq!(rt; source.left(), 10);
+    equal(rt, source.left(), 10);
     let (mut key, mut nonce) = ([0; 32], [0; 8]);
     key.copy_from_slice(&bytes[..32]);
     nonce.copy_from_slice(&bytes[32..40]);

@@ -1,8 +1,9 @@
 //! Allocations that are refused.
 
 use super::makers::counted;
-use crate::Steps;
+use comparing::equal;
 use nanorand::{BufferedRng, ChaCha20, Rng, WyRand};
+use nanorand_rows::Steps;
 use refusing::Refusing;
 use std::alloc::{AllocError, Allocator};
 use std::process::Abort;
@@ -46,23 +47,23 @@ fn is_refused_once<G: Rng<OUTPUT> + Drop, const OUTPUT: usize>(
     let last = number.wrapping_add(made);
     let heap = Refusing::nth(rt.alloc(), last);
     let mut out = full(&heap, held)?;
-    assert_eq!(rt; heap.requests(), made);
+    equal(rt, heap.requests(), made);
     let room = out.capacity();
     let outcome = rng.read_to_end(&mut out);
     let refused = heap.requests() >= last;
     if refused {
-        assert_eq!(rt; outcome, Err(AllocError));
-        assert_eq!(rt; out.as_slice(), held);
-        assert_eq!(rt; out.capacity(), room);
-        assert_eq!(rt; rng.buffered(), left.len());
-        assert_eq!(rt; rng.read_to_end(&mut out), Ok(left.len()));
+        equal(rt, outcome, Err(AllocError));
+        equal(rt, out.as_slice(), held);
+        equal(rt, out.capacity(), room);
+        equal(rt, rng.buffered(), left.len());
+        equal(rt, rng.read_to_end(&mut out), Ok(left.len()));
     } else {
-        assert_eq!(rt; outcome, Ok(left.len()));
+        equal(rt, outcome, Ok(left.len()));
     }
-    assert_eq!(rt; out.len(), held.len().wrapping_add(left.len()));
+    equal(rt, out.len(), held.len().wrapping_add(left.len()));
     assert!(rt; out.starts_with(held));
     assert!(rt; out.ends_with(left.as_slice()));
-    assert_eq!(rt; rng.buffered(), 0);
+    equal(rt, rng.buffered(), 0);
     Ok(refused)
 }
 
@@ -85,7 +86,7 @@ fn read_to_end(rt: HostRuntime) -> Result<(), Fail> {
     is_refused_in_turn(&rt, BufferedRng::new(WyRand::new_seed(42)))?;
     is_refused_in_turn(&rt, BufferedRng::new(ChaCha20::new_key([1; 32], [2; 8])))?;
     let (_, left) = after_five(&rt, &BufferedRng::new(Steps::new()))?;
-    assert_eq!(rt; left.as_slice(), [5, 6, 7].as_slice());
+    equal(&rt, left.as_slice(), [5, 6, 7].as_slice());
     Ok(())
 }
 
@@ -96,9 +97,9 @@ fn read_to_end_into_room(rt: HostRuntime) -> Result<(), Fail> {
     let mut out = Vec::with_capacity(&heap, 100)?;
     let fresh = BufferedRng::new(ChaCha20::new_key([1; 32], [2; 8]));
     let (mut rng, left) = after_five(&rt, &fresh)?;
-    assert_eq!(rt; rng.read_to_end(&mut out), Ok(59));
-    assert_eq!(rt; out.as_slice(), left.as_slice());
-    assert_eq!(rt; heap.requests(), 1);
+    equal(&rt, rng.read_to_end(&mut out), Ok(59));
+    equal(&rt, out.as_slice(), left.as_slice());
+    equal(&rt, heap.requests(), 1);
     Ok(())
 }
 
@@ -108,6 +109,6 @@ fn read_to_end_of_an_empty_buffer(rt: HostRuntime) {
     let heap = Refusing::from_nth(rt.alloc(), 1);
     let mut rng = BufferedRng::new(Steps::new());
     let mut out = Vec::new(&heap);
-    assert_eq!(rt; rng.read_to_end(&mut out), Ok(0));
-    assert_eq!(rt; heap.requests(), 0);
+    equal(&rt, rng.read_to_end(&mut out), Ok(0));
+    equal(&rt, heap.requests(), 0);
 }

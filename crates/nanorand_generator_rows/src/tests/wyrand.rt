@@ -1,5 +1,6 @@
 //! Known-answer tests of WyRand.
 
+use comparing::{debug_is, display_is, equal, equal_at};
 use nanorand::{Blocks, Rng, SeedableRng, WyRand};
 use std::test::Fail;
 
@@ -24,7 +25,12 @@ const BLOCKS: [(u64, [u8; 8]); 5] = [
 #[test]
 fn first_blocks(rt: HostRuntime) {
     for (seed, block) in BLOCKS {
-        assert_eq!(rt; WyRand::new_seed(seed).rand(), block, "from {seed:#x}");
+        equal_at(
+            &rt,
+            WyRand::new_seed(seed).rand(),
+            block,
+            format_args!("from {seed:#x}"),
+        );
     }
 }
 
@@ -37,7 +43,7 @@ fn new_seeds(rt: HostRuntime) -> Result<(), Fail> {
     ] {
         let mut wyrand = WyRand::new_seed(seed);
         let _ = wyrand.rand();
-        assert_eq!(rt; format!(in rt.alloc(); "{wyrand:?}")?.as_str(), text);
+        debug_is(&rt, &wyrand, text)?;
     }
     Ok(())
 }
@@ -45,11 +51,8 @@ fn new_seeds(rt: HostRuntime) -> Result<(), Fail> {
 #[test]
 fn texts(rt: HostRuntime) -> Result<(), Fail> {
     let wyrand = WyRand::new_seed(42);
-    assert_eq!(rt;
-        format!(in rt.alloc(); "{wyrand:?}")?.as_str(),
-        "WyRand { seed: 0x2a }"
-    );
-    assert_eq!(rt; format!(in rt.alloc(); "{wyrand}")?.as_str(), "WyRand");
+    debug_is(&rt, &wyrand, "WyRand { seed: 0x2a }")?;
+    display_is(&rt, &wyrand, "WyRand")?;
     Ok(())
 }
 
@@ -61,9 +64,9 @@ fn equal_seeds_give_equal_numbers(rt: HostRuntime) -> Result<(), Fail> {
     let mut reseeded = WyRand::new_seed(42);
     reseeded.reseed([0xd2, 0x9b, 0x42, 0x87, 0x9b, 0xe2, 0x89, 0x5f]);
     let number = wyrand.generate::<u64>();
-    assert_eq!(rt; number, 16646288086500911322);
-    assert_eq!(rt; copy.generate::<u64>(), number);
-    assert_eq!(rt; reseeded.generate::<u64>(), number);
+    equal(&rt, number, 16646288086500911322);
+    equal(&rt, copy.generate::<u64>(), number);
+    equal(&rt, reseeded.generate::<u64>(), number);
     assert_ne!(rt; wyrand.generate::<u64>(), number);
     Ok(())
 }

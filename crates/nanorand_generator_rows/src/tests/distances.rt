@@ -1,6 +1,7 @@
 //! Known-answer tests of distances. A body that tries each number of draws would take too long on
 //! most of them.
 
+use comparing::{debug_is, equal, equal_at};
 use nanorand::{Pcg64, WyRand};
 use std::alloc::AllocError;
 use std::process::Abort;
@@ -14,7 +15,7 @@ fn is_at_seed(
     pcg64: &Pcg64,
     seed: u128,
 ) -> Result<(), AllocError> {
-    assert_eq!(rt; pcg64.seed(), seed);
+    equal(rt, pcg64.seed(), seed);
     let text = format!(in rt.alloc(); "{pcg64:?}")?;
     let start = format!(in rt.alloc(); "Pcg64 {{ seed: {seed:#x}, state: ")?;
     assert!(rt; text.as_str().starts_with(start.as_str()), "{seed:#x}");
@@ -33,14 +34,16 @@ fn of_wyrand(rt: HostRuntime) -> Result<(), Fail> {
     ] {
         let mut wyrand = WyRand::new_seed(start);
         let other = WyRand::new_seed(end);
-        assert_eq!(rt; wyrand.distance(&other), draws, "from {start} to {end}");
-        wyrand.jump(draws);
-        assert_eq!(rt; wyrand.seed(), end);
-        let text = format!(in rt.alloc(); "WyRand {{ seed: {end:#x} }}")?;
-        assert_eq!(rt;
-            format!(in rt.alloc(); "{wyrand:?}")?.as_str(),
-            text.as_str()
+        equal_at(
+            &rt,
+            wyrand.distance(&other),
+            draws,
+            format_args!("from {start} to {end}"),
         );
+        wyrand.jump(draws);
+        equal(&rt, wyrand.seed(), end);
+        let text = format!(in rt.alloc(); "WyRand {{ seed: {end:#x} }}")?;
+        debug_is(&rt, &wyrand, text.as_str())?;
     }
     Ok(())
 }
@@ -56,7 +59,7 @@ fn of_pcg64(rt: HostRuntime) {
         (5, 3, None),
     ] {
         let distance = Pcg64::new_seed(start).distance(&Pcg64::new_seed(end));
-        assert_eq!(rt; distance, draws, "from {start} to {end}");
+        equal_at(&rt, distance, draws, format_args!("from {start} to {end}"));
     }
 }
 
@@ -64,10 +67,11 @@ fn of_pcg64(rt: HostRuntime) {
 fn of_pcg64_by_parity(rt: HostRuntime) {
     for (start, end, parity) in [(0, 7, 1), (5, 2, 1), (5, 13, 0)] {
         let distance = Pcg64::new_seed(start).distance(&Pcg64::new_seed(end));
-        assert_eq!(rt;
+        equal_at(
+            &rt,
             distance.map(|draws| draws % 2),
             Some(parity),
-            "from {start} to {end}"
+            format_args!("from {start} to {end}"),
         );
     }
 }
@@ -77,10 +81,11 @@ fn of_pcg64_by_parity(rt: HostRuntime) {
 fn of_pcg64_after_draws(rt: HostRuntime) {
     let mut drawn = Pcg64::new_seed(5);
     drawn.jump(1000);
-    assert_eq!(rt; Pcg64::new_seed(5).distance(&drawn), Some(1000));
-    assert_eq!(rt;
+    equal(&rt, Pcg64::new_seed(5).distance(&drawn), Some(1000));
+    equal(
+        &rt,
         drawn.distance(&Pcg64::new_seed(5)),
-        Some((1 << 126) - 1000)
+        Some((1 << 126) - 1000),
     );
 }
 

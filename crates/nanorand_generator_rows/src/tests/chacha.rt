@@ -2,16 +2,17 @@
 
 ghost use Rattle.std.specs.Prelude.{◌≡◌, ◌%◌};
 
-use crate::callers::rounds::{
-    back_and_there, blocks_of_even_rounds, first_block_of_eight_rounds, second_block,
-    there_and_back,
-};
-use crate::references::in_place::{block_in_place, rounds_in_place};
+use comparing::{debug_is, display_is, equal, equal_at};
 use hex::FromHex;
 use nanorand::crypto::chacha::{
     chacha_block, chacha_increment_counter, chacha_init, chacha_rounds, chacha_unrounds,
 };
 use nanorand::{Blocks, BufferedRng, ChaCha8, ChaCha12, ChaCha20, Rng, SeedableRng, WyRand};
+use nanorand_rows::callers::rounds::{
+    back_and_there, blocks_of_even_rounds, first_block_of_eight_rounds, second_block,
+    there_and_back,
+};
+use nanorand_rows::references::in_place::{block_in_place, rounds_in_place};
 use std::process::Abort;
 use std::test::Fail;
 
@@ -80,8 +81,8 @@ fn test_ietf_chacha20_test_vectors(rt: HostRuntime) -> Result<(), Fail> {
         let mut generator = ChaCha20::new_key(key, nonce);
         for text in blocks {
             let expected = <[u8; 64] as FromHex>::from_hex(*text)?;
-            assert_eq!(rt; bytes_of(&chacha_block::<20>(state)), expected);
-            assert_eq!(rt; generator.rand(), expected);
+            equal(&rt, bytes_of(&chacha_block::<20>(state)), expected);
+            equal(&rt, generator.rand(), expected);
             assert!(rt; chacha_increment_counter(&mut state));
         }
     }
@@ -99,13 +100,17 @@ fn rounds_and_blocks(rt: HostRuntime) -> Result<(), Fail> {
     let key = <[u8; 32] as FromHex>::from_hex(KEY)?;
     let nonce = <[u8; 8] as FromHex>::from_hex(NONCE)?;
     let state = chacha_init(key, nonce);
-    assert_eq!(rt; chacha_rounds::<0>(state), state);
-    assert_eq!(rt; chacha_unrounds::<20>(chacha_rounds::<20>(state)), state);
-    assert_eq!(rt; there_and_back::<20>(state), state);
-    assert_eq!(rt; back_and_there::<20>(state), state);
-    assert_eq!(rt; chacha_block::<0>([1; 16]), [2; 16]);
-    assert_eq!(rt; chacha_block::<8>([0; 16]), [0; 16]);
-    assert_eq!(rt; blocks_of_even_rounds([0; 16]), [0; 16]);
+    equal(&rt, chacha_rounds::<0>(state), state);
+    equal(
+        &rt,
+        chacha_unrounds::<20>(chacha_rounds::<20>(state)),
+        state,
+    );
+    equal(&rt, there_and_back::<20>(state), state);
+    equal(&rt, back_and_there::<20>(state), state);
+    equal(&rt, chacha_block::<0>([1; 16]), [2; 16]);
+    equal(&rt, chacha_block::<8>([0; 16]), [0; 16]);
+    equal(&rt, blocks_of_even_rounds([0; 16]), [0; 16]);
     Ok(())
 }
 
@@ -115,13 +120,24 @@ fn check_rounds<const ROUNDS: u8>(rt: &impl Abort, state: [u32; 16])
     requires { ROUNDS % 2 ≡ 0 }
 {
     let mixed = chacha_rounds::<ROUNDS>(state);
-    assert_eq!(rt; mixed, rounds_in_place::<ROUNDS>(state), "{ROUNDS} rounds");
-    assert_eq!(rt;
+    equal_at(
+        rt,
+        mixed,
+        rounds_in_place::<ROUNDS>(state),
+        format_args!("{ROUNDS} rounds"),
+    );
+    equal_at(
+        rt,
         chacha_block::<ROUNDS>(state),
         block_in_place::<ROUNDS>(state),
-        "{ROUNDS} rounds"
+        format_args!("{ROUNDS} rounds"),
     );
-    assert_eq!(rt; chacha_unrounds::<ROUNDS>(mixed), state, "{ROUNDS} rounds");
+    equal_at(
+        rt,
+        chacha_unrounds::<ROUNDS>(mixed),
+        state,
+        format_args!("{ROUNDS} rounds"),
+    );
 }
 
 #[test]
@@ -147,31 +163,30 @@ fn counters(rt: HostRuntime) {
     state[12] = 0xffff_ffff;
     state[13] = 0;
     assert!(rt; chacha_increment_counter(&mut state));
-    assert_eq!(rt; state, [5, 5, 5, 5, 5, 5, 5, 5, 5, 5, 5, 5, 0, 1, 5, 5]);
+    equal(&rt, state, [5, 5, 5, 5, 5, 5, 5, 5, 5, 5, 5, 5, 0, 1, 5, 5]);
     state[12] = 0xffff_ffff;
     state[13] = 0xffff_ffff;
     let before = state;
     assert!(rt; !chacha_increment_counter(&mut state));
-    assert_eq!(rt; state, before);
+    equal(&rt, state, before);
 }
 
 #[test]
 fn texts(rt: HostRuntime) -> Result<(), Fail> {
     let mut generator = ChaCha8::new_key([0; 32], [0; 8]);
-    assert_eq!(rt;
-        format!(in rt.alloc(); "{generator:?} {generator}")?.as_str(),
-        "ChaCha20 { rounds: 8, counter: 0 } ChaCha (8 rounds)"
-    );
+    display_is(
+        &rt,
+        &format_args!("{generator:?} {generator}"),
+        "ChaCha20 { rounds: 8, counter: 0 } ChaCha (8 rounds)",
+    )?;
     let _ = second_block(&mut generator);
-    assert_eq!(rt;
-        format!(in rt.alloc(); "{generator:?}")?.as_str(),
-        "ChaCha20 { rounds: 8, counter: 2 }"
-    );
+    debug_is(&rt, &generator, "ChaCha20 { rounds: 8, counter: 2 }")?;
     let generator = ChaCha12::new_key([0; 32], [0; 8]);
-    assert_eq!(rt;
-        format!(in rt.alloc(); "{generator:?} {generator}")?.as_str(),
-        "ChaCha20 { rounds: 12, counter: 0 } ChaCha (12 rounds)"
-    );
+    display_is(
+        &rt,
+        &format_args!("{generator:?} {generator}"),
+        "ChaCha20 { rounds: 12, counter: 0 } ChaCha (12 rounds)",
+    )?;
     Ok(())
 }
 
@@ -185,7 +200,7 @@ fn jumps(rt: HostRuntime) -> Result<(), Fail> {
         let mut generator = ChaCha8::new_key([0; 32], [0; 8]);
         generator.jump(draws);
         let _ = generator.rand();
-        assert_eq!(rt; format!(in rt.alloc(); "{generator:?}")?.as_str(), text);
+        debug_is(&rt, &generator, text)?;
     }
     Ok(())
 }
@@ -202,7 +217,12 @@ fn ends_of_the_counter(rt: HostRuntime) {
         generator.jump(draws);
         let _ = generator.rand();
         let expected = bytes_of(&chacha_block::<20>(state));
-        assert_eq!(rt; generator.rand(), expected, "after {draws} draws");
+        equal_at(
+            &rt,
+            generator.rand(),
+            expected,
+            format_args!("after {draws} draws"),
+        );
     }
 }
 
@@ -216,9 +236,9 @@ fn a_buffer_over_the_end_of_the_counter(rt: HostRuntime) -> Result<(), Fail> {
     let mut bytes = [0; 128];
     rng.fill_bytes(&mut bytes);
     assert!(rt; bytes.as_slice().ends_with(first.as_slice()));
-    assert_eq!(rt; rng.buffered(), 0);
+    equal(&rt, rng.buffered(), 0);
     let _ = generator.rand();
-    assert_eq!(rt; generator.rand(), first);
+    equal(&rt, generator.rand(), first);
     Ok(())
 }
 
@@ -236,11 +256,11 @@ fn equal_keys_give_equal_numbers(rt: HostRuntime) -> Result<(), Fail> {
     let _ = reseeded.rand();
     reseeded.reseed(seed);
     for number in [247, 56, 157, 14] {
-        assert_eq!(rt; generator.generate::<u8>(), number);
-        assert_eq!(rt; copy.generate::<u8>(), number);
-        assert_eq!(rt; reseeded.generate::<u8>(), number);
+        equal(&rt, generator.generate::<u8>(), number);
+        equal(&rt, copy.generate::<u8>(), number);
+        equal(&rt, reseeded.generate::<u8>(), number);
     }
     let first = ChaCha8::new_key(key, nonce).rand();
-    assert_eq!(rt; first_block_of_eight_rounds(key, nonce), first);
+    equal(&rt, first_block_of_eight_rounds(key, nonce), first);
     Ok(())
 }

@@ -1,9 +1,10 @@
 //! Known-answer tests of the entropy readers, and of the generators made from them.
 
-use crate::generators::readers::Pieces;
+use comparing::{debug_is, equal, equal_at};
 use hex::FromHex;
 use nanorand::entropy::{EntropyError, backup, rdseed, system};
 use nanorand::{Blocks, ChaCha8, ChaCha12, ChaCha20, Pcg64, WyRand};
+use nanorand_rows::generators::readers::Pieces;
 use std::io::ErrorKind;
 use std::process::Abort;
 use std::test::Fail;
@@ -46,13 +47,24 @@ const MAKERS: [(Made, usize); 6] = [
 // Whether making it succeeds.
 fn outcome_of(made: Made, source: &mut Pieces) -> Result<(), EntropyError> {
     match made {
-        Made::Bytes => system(source, &mut [0; 11]),
-        Made::WyRand => WyRand::new(source).map(|_| ()),
-        Made::Pcg64 => Pcg64::new(source).map(|_| ()),
-        Made::ChaCha8 => ChaCha8::new(source).map(|_| ()),
-        Made::ChaCha12 => ChaCha12::new(source).map(|_| ()),
-        Made::ChaCha20 => ChaCha20::new(source).map(|_| ()),
+        Made::Bytes => system(source, &mut [0; 11])?,
+        Made::WyRand => {
+            let _ = WyRand::new(source)?;
+        }
+        Made::Pcg64 => {
+            let _ = Pcg64::new(source)?;
+        }
+        Made::ChaCha8 => {
+            let _ = ChaCha8::new(source)?;
+        }
+        Made::ChaCha12 => {
+            let _ = ChaCha12::new(source)?;
+        }
+        Made::ChaCha20 => {
+            let _ = ChaCha20::new(source)?;
+        }
     }
+    Ok(())
 }
 
 // The bytes 1 to 50.
@@ -70,45 +82,64 @@ fn next_bytes_in_pieces(rt: HostRuntime) {
     for piece in 1..12 {
         let mut source = Pieces::of(&bytes, piece);
         let mut out = [0; 11];
-        assert_eq!(rt; system(&mut source, &mut out), Ok(()), "{piece}");
-        assert_eq!(rt; out, [1, 2, 3, 4, 5, 6, 7, 8, 9, 10, 11], "{piece}");
-        assert_eq!(rt; system(&mut source, &mut out[..3]), Ok(()), "{piece}");
-        assert_eq!(rt; out, [12, 13, 14, 4, 5, 6, 7, 8, 9, 10, 11], "{piece}");
-        assert_eq!(rt; source.left(), 36, "{piece}");
+        equal_at(
+            &rt,
+            system(&mut source, &mut out),
+            Ok(()),
+            format_args!("{piece}"),
+        );
+        equal_at(
+            &rt,
+            out,
+            [1, 2, 3, 4, 5, 6, 7, 8, 9, 10, 11],
+            format_args!("{piece}"),
+        );
+        equal_at(
+            &rt,
+            system(&mut source, &mut out[..3]),
+            Ok(()),
+            format_args!("{piece}"),
+        );
+        equal_at(
+            &rt,
+            out,
+            [12, 13, 14, 4, 5, 6, 7, 8, 9, 10, 11],
+            format_args!("{piece}"),
+        );
+        equal_at(&rt, source.left(), 36, format_args!("{piece}"));
     }
 }
 
 #[test]
 fn an_empty_slice_reads_nothing(rt: HostRuntime) {
     let mut source = Pieces::failing(&[1], 1, 0, ErrorKind::BrokenPipe);
-    assert_eq!(rt; system(&mut source, &mut []), Ok(()));
-    assert_eq!(rt; source.reads(), 0);
-    assert_eq!(rt; source.left(), 1);
+    equal(&rt, system(&mut source, &mut []), Ok(()));
+    equal(&rt, source.reads(), 0);
+    equal(&rt, source.left(), 1);
 }
 
 #[test]
 fn generators_of_the_next_bytes(rt: HostRuntime) -> Result<(), Fail> {
     let mut source = Pieces::of(&[0x2a, 0, 0, 0, 0, 0, 0, 0], 1);
     let wyrand = WyRand::new(&mut source)?;
-    assert_eq!(rt;
-        format!(in rt.alloc(); "{wyrand:?}")?.as_str(),
-        "WyRand { seed: 0x2a }"
-    );
+    debug_is(&rt, &wyrand, "WyRand { seed: 0x2a }")?;
 
     let mut bytes = [0; 16];
     bytes[0] = 1;
     let pcg64 = Pcg64::new(&mut Pieces::of(&bytes, 1))?;
-    assert_eq!(rt;
-        format!(in rt.alloc(); "{pcg64:?}")?.as_str(),
-        "Pcg64 { seed: 0x1, state: 0x0, inc: 0x0 }"
-    );
+    debug_is(&rt, &pcg64, "Pcg64 { seed: 0x1, state: 0x0, inc: 0x0 }")?;
 
     let bytes = <[u8; 40] as FromHex>::from_hex(KEY_AND_NONCE)?;
     let first = <[u8; 64] as FromHex>::from_hex(FIRST_BLOCK)?;
     for piece in [1, 7, 40] {
         let mut source = Pieces::of(&bytes, piece);
-        assert_eq!(rt; ChaCha20::new(&mut source)?.rand(), first, "{piece}");
-        assert_eq!(rt; source.left(), 0, "{piece}");
+        equal_at(
+            &rt,
+            ChaCha20::new(&mut source)?.rand(),
+            first,
+            format_args!("{piece}"),
+        );
+        equal_at(&rt, source.left(), 0, format_args!("{piece}"));
     }
     Ok(())
 }
@@ -120,8 +151,13 @@ fn bytes_taken(rt: HostRuntime) {
     for (made, size) in MAKERS {
         for piece in [1, 7] {
             let mut source = Pieces::of(&bytes, piece);
-            assert_eq!(rt; outcome_of(made, &mut source), Ok(()), "{size}");
-            assert_eq!(rt; source.left(), 50 - size, "{size}");
+            equal_at(
+                &rt,
+                outcome_of(made, &mut source),
+                Ok(()),
+                format_args!("{size}"),
+            );
+            equal_at(&rt, source.left(), 50 - size, format_args!("{size}"));
         }
     }
 }
@@ -135,7 +171,12 @@ fn short(rt: HostRuntime) {
             for piece in [1, 7] {
                 let mut source = Pieces::of(&bytes[..length], piece);
                 let outcome = outcome_of(made, &mut source);
-                assert_eq!(rt; outcome, Err(EntropyError::Short), "{length} of {size}");
+                equal_at(
+                    &rt,
+                    outcome,
+                    Err(EntropyError::Short),
+                    format_args!("{length} of {size}"),
+                );
             }
         }
     }
@@ -151,10 +192,20 @@ fn fault(rt: HostRuntime) {
             for read in 0..size {
                 let mut source = Pieces::failing(&bytes, 1, read as u64, kind);
                 let outcome = outcome_of(made, &mut source);
-                assert_eq!(rt; outcome, Err(EntropyError::Fault), "{read} of {size}");
+                equal_at(
+                    &rt,
+                    outcome,
+                    Err(EntropyError::Fault),
+                    format_args!("{read} of {size}"),
+                );
             }
             let mut source = Pieces::failing(&bytes, 1, size as u64, kind);
-            assert_eq!(rt; outcome_of(made, &mut source), Ok(()), "{size}");
+            equal_at(
+                &rt,
+                outcome_of(made, &mut source),
+                Ok(()),
+                format_args!("{size}"),
+            );
         }
     }
 }
@@ -162,12 +213,12 @@ fn fault(rt: HostRuntime) {
 #[test]
 fn unavailable_sources(rt: HostRuntime) {
     let mut out = [9, 9];
-    assert_eq!(rt; rdseed(&mut out), None);
-    assert_eq!(rt; out, [9, 9]);
-    assert_eq!(rt; backup(&mut out), Err(EntropyError::Unavailable));
-    assert_eq!(rt; out, [9, 9]);
-    assert_eq!(rt; rdseed(&mut []), None);
-    assert_eq!(rt; backup(&mut []), Err(EntropyError::Unavailable));
+    equal(&rt, rdseed(&mut out), None);
+    equal(&rt, out, [9, 9]);
+    equal(&rt, backup(&mut out), Err(EntropyError::Unavailable));
+    equal(&rt, out, [9, 9]);
+    equal(&rt, rdseed(&mut []), None);
+    equal(&rt, backup(&mut []), Err(EntropyError::Unavailable));
 }
 
 #[test]
@@ -177,7 +228,7 @@ fn texts(rt: HostRuntime) -> Result<(), Fail> {
         (EntropyError::Fault, "the entropy reader failed"),
         (EntropyError::Unavailable, "no entropy source is available"),
     ] {
-        assert_eq!(rt; error.to_string(rt.alloc())?.as_str(), text);
+        equal(&rt, error.to_string(rt.alloc())?.as_str(), text);
     }
     Ok(())
 }

@@ -1,5 +1,6 @@
 //! Shuffles of many items, and replays of many calls.
 
+use comparing::{equal, equal_at};
 use nanorand::replay::{Answer, Call, Kind, Span, replay};
 use nanorand::shuffles::shuffle_full;
 use nanorand::{BufferedRng, ChaCha8, ChaCha12, ChaCha20, Pcg64, Rng, WyRand};
@@ -27,9 +28,14 @@ fn shuffles<G: Rng<OUTPUT> + Drop, const OUTPUT: usize>(
     for count in [0, 1, 2, 1000] {
         let sorted = identity(rt.alloc(), count)?;
         let mut items = identity(rt.alloc(), count)?;
-        assert_eq!(rt; rng.shuffle(&mut items), Ok(()), "{count}");
+        equal_at(rt, rng.shuffle(&mut items), Ok(()), format_args!("{count}"));
         assert!(rt; count < 1000 || items != sorted, "{count}");
-        assert_eq!(rt; shuffle_full(&mut rng, &mut items), Ok(()), "{count}");
+        equal_at(
+            rt,
+            shuffle_full(&mut rng, &mut items),
+            Ok(()),
+            format_args!("{count}"),
+        );
         items.sort_unstable();
         assert!(rt; items == sorted, "{count}");
     }
@@ -94,10 +100,15 @@ fn replays<G: Rng<OUTPUT> + Drop, const OUTPUT: usize>(
     let (mut items, mut others) = ([7, 8, 9], [7, 8, 9]);
     replay(&mut rng, &calls, &mut items, &mut answers);
     for (index, given) in answers.iter().enumerate() {
-        assert_eq!(rt; answer(&mut again, index, &mut others), *given, "{index}");
+        equal_at(
+            rt,
+            answer(&mut again, index, &mut others),
+            *given,
+            format_args!("{index}"),
+        );
     }
-    assert_eq!(rt; items, others);
-    assert_eq!(rt; rng.rand(), again.rand());
+    equal(rt, items, others);
+    equal(rt, rng.rand(), again.rand());
     Ok(())
 }
 

@@ -1,5 +1,6 @@
 //! The `Debug` and `Display` texts of generators, at the least and greatest seeds and counters.
 
+use comparing::{debug_is, display_is};
 use nanorand::{Blocks, ChaCha, ChaCha8, ChaCha12, ChaCha20, Pcg64, WyRand};
 use std::alloc::AllocError;
 use std::fmt;
@@ -14,21 +15,15 @@ fn has_texts<T: fmt::Debug + fmt::Display>(
     debug: &str,
     display: &str,
 ) -> Result<(), AllocError> {
-    assert_eq!(rt; format!(in rt.alloc(); "{value:?}")?.as_str(), debug);
-    assert_eq!(rt; format!(in rt.alloc(); "{value:#?}")?.as_str(), debug);
-    assert_eq!(rt; format!(in rt.alloc(); "{value:>200?}")?.as_str(), debug);
-    assert_eq!(rt; format!(in rt.alloc(); "{value:08?}")?.as_str(), debug);
-    assert_eq!(rt;
-        format!(in rt.alloc(); "{value:*^+200.3?}")?.as_str(),
-        debug
-    );
-    assert_eq!(rt; format!(in rt.alloc(); "{value}")?.as_str(), display);
-    assert_eq!(rt; format!(in rt.alloc(); "{value:#}")?.as_str(), display);
-    assert_eq!(rt; format!(in rt.alloc(); "{value:>20}")?.as_str(), display);
-    assert_eq!(rt;
-        format!(in rt.alloc(); "{value:*^200.3}")?.as_str(),
-        display
-    );
+    debug_is(rt, value, debug)?;
+    display_is(rt, &format_args!("{value:#?}"), debug)?;
+    display_is(rt, &format_args!("{value:>200?}"), debug)?;
+    display_is(rt, &format_args!("{value:08?}"), debug)?;
+    display_is(rt, &format_args!("{value:*^+200.3?}"), debug)?;
+    display_is(rt, value, display)?;
+    display_is(rt, &format_args!("{value:#}"), display)?;
+    display_is(rt, &format_args!("{value:>20}"), display)?;
+    display_is(rt, &format_args!("{value:*^200.3}"), display)?;
     Ok(())
 }
 
