@@ -113,7 +113,7 @@ def layers():
     for x in (280, 490, 695):
         parts.append(arrow(f"M{x} {programs + 54} V{line - 9}", (x, line - 1), "down"))
     parts.append(text(MARGIN, line + 20, "crates/nanorand_core: for every generator", "quiet"))
-    parts.append(text(378, line + 20, "crates/nanorand_streams: the same", "quiet"))
+    parts.append(text(378, line + 20, "crates/nanorand_streams: over any generator", "quiet"))
     parts.append(rect(370, line + 6, 340, 116, "frame", 8))
     parts.append(text(734, line + 20, "crates/nanorand: the generators, and their laws", "quiet"))
     parts.append(f'<path d="M726 {line} V{specs - 14}" class="frame"/>')
