@@ -1,7 +1,7 @@
 use Rattle.std.proofs.Common.{◌<◌, length, sym, subst, ◌∙◌, arith, below_more}
 use Rattle.std.proofs.lemmas.List.{length-map}
 use Rattle.std.specs.Prelude.{string_bytes}
-use Rattle.nanorand_core.specs.declared.replay.Call.{Call}
+use Rattle.nanorand_streams.specs.declared.replay.Call.{Call}
 use Rattle.draw_core.specs.Requests.{IsRequest}
 use Rattle.draw_core.specs.Arguments.{argument_at, texts}
 use Rattle.draw_core.proofs.lemmas.AllRequests.{text_at, said_all, said_more, only_more}
