@@ -101,7 +101,7 @@ def layers():
     programs, modules, traits, specs = 44, 178, 322, 462
     parts = [text(MARGIN, 28, "An arrow goes from a module to what it uses.", "quiet")]
 
-    parts += module(190, programs, 180, 54, "draw", "a command line to a text")
+    parts += module(190, programs, 180, 54, "draw, draw_core", "a command line to a text")
     parts += module(390, programs, 200, 54, "nanorand_users", "one program per kind of user")
     parts += module(610, programs, 170, 54, "nanorand_c", "exports for C and Rust")
     parts += module(836, programs, 184, 54, "rust/", "a safe Rust crate")
@@ -113,13 +113,15 @@ def layers():
     for x in (280, 490, 695):
         parts.append(arrow(f"M{x} {programs + 54} V{line - 9}", (x, line - 1), "down"))
     parts.append(text(MARGIN, line + 20, "crates/nanorand_core: for every generator", "quiet"))
+    parts.append(text(378, line + 20, "crates/nanorand_streams: over any generator", "quiet"))
+    parts.append(rect(370, line + 6, 340, 116, "frame", 8))
     parts.append(text(734, line + 20, "crates/nanorand: the generators, and their laws", "quiet"))
     parts.append(f'<path d="M726 {line} V{specs - 14}" class="frame"/>')
 
     parts += module(MARGIN, modules, 150, 70, "laws", "laws of definitions;", "nothing to run")
-    parts += module(190, modules, 140, 70, "replay", "a list of calls,", "one answer each")
-    parts += module(346, modules, 178, 70, "shuffles", "from all indices, recorded;", "stored choices")
-    parts += module(540, modules, 178, 70, "buffer", "BufferedRng: a generator", "over any generator")
+    parts += module(184, modules, 178, 70, "shuffles", "from all indices, recorded;", "stored choices")
+    parts += module(378, modules, 134, 70, "replay", "a list of calls,", "one answer each")
+    parts += module(526, modules, 176, 70, "buffer", "BufferedRng: a generator", "over any generator")
     parts += module(734, modules, 286, 70, "rand::wyrand, pcg64, chacha", "WyRand, Pcg64, ChaCha: each implements", "the traits by its blocks")
 
     parts.append(rect(190, traits - 24, 528, 124, "frame", 8))
@@ -136,7 +138,7 @@ def layers():
     parts.append(text(389, traits + 83, "random_range", "quiet"))
 
     below = modules + 70
-    for x in (260, 435):
+    for x in (273, 445):
         parts.append(arrow(f"M{x} {below} V{traits - 32}", (x, traits - 25), "down"))
     parts.append(arrow(f"M596 {below} V{traits - 8}", (596, traits - 1), "down"))
     parts.append(arrow(f"M750 {below} V{below + 22} H660 V{traits - 8}", (660, traits - 1), "down"))
@@ -152,8 +154,8 @@ def layers():
     return picture(
         "The layers",
         "The programs use the public contracts alone. replay and shuffles both use values and rand, "
-        "which call each other. The generators and the buffer implement the traits of rand. The crate "
-        "nanorand_core names no generator; the crate nanorand has the generators, entropy and crypto.",
+        "which call each other. The generators and the buffer implement the traits of rand. The crates "
+        "nanorand_core and nanorand_streams name no generator; nanorand has the generators, entropy and crypto.",
         1040,
         specs + 44 + MARGIN,
         parts,

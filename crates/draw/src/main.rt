@@ -13,20 +13,8 @@
 //! may see the arguments of a process.
 #![tactic(auto)]
 
-mod bounds;
-mod command;
-mod error;
-mod generators;
-mod kinds;
-mod numbers;
-mod requests;
-mod run;
-#[cfg(test)]
-mod tests;
-mod text;
-
-use error::DrawError;
-use run::{report, run};
+use draw_core::DrawError;
+use draw_core::run::{report, run};
 use std::env;
 use std::process::ExitCode;
 

@@ -16,10 +16,15 @@ ghost use Rattle.nanorand.specs.generators.WyRand as wyrand;
 
 use crate::rand::{Blocks, ChaCha, Pcg64, Rng, WyRand};
 pub use nanorand_core::laws::{
-    choices_and_arrangements, choices_are_fair, equal_buffers, fairness, fresh_delivery,
-    partial_shuffles, permutations_by_counting, range_limits, replays_join, samples_are_fair,
-    unbroken_delivery, values_join, weighted_choices_are_fair, whole_blocks,
+    choices_and_arrangements, choices_are_fair, fairness, partial_shuffles,
+    permutations_by_counting, range_limits, samples_are_fair, values_join,
+    weighted_choices_are_fair, whole_blocks,
 };
+pub use nanorand_fairness::laws::{
+    fairness_with_rejections, numbers_in_turn_are_fair, sampled_sets_are_fair, shuffles_are_fair,
+    words_of_a_draw,
+};
+pub use nanorand_streams::laws::{equal_buffers, fresh_delivery, replays_join, unbroken_delivery};
 
 /// The three generators implement the traits by the definitions that the laws below speak of: their
 /// blocks, the states that draws leave, and their requests.

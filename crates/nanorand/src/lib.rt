@@ -5,8 +5,9 @@
 //! caller did not pass in. The contract of each call states what it returns and the state that it
 //! leaves.
 //!
-//! The traits, values, ranges, choices, samples, shuffles, buffers and replays are those of
-//! `nanorand_core`, which names no generator; they are passed on here under the same paths.
+//! The traits, values, ranges, choices, samples and shuffles are those of `nanorand_core`, and the
+//! buffers and replays those of `nanorand_streams`. These two crates name no generator; what they
+//! have is passed on here under the same paths.
 //!
 //! `WyRand` and `Pcg64` are not cryptographically secure. `ChaCha` says what it is and is not for.
 #![tactic(auto)]
@@ -16,10 +17,8 @@ pub mod entropy;
 pub mod laws;
 pub mod rand;
 
-pub use nanorand_core::{
-    BufferedRng, RandomGen, RandomRange, RangeError, buffer, choices, replay, samples, shuffles,
-    values,
-};
+pub use nanorand_core::{RandomGen, RandomRange, RangeError, choices, samples, shuffles, values};
+pub use nanorand_streams::{BufferedRng, buffer, replay};
 pub use rand::chacha::{ChaCha, ChaCha8, ChaCha12, ChaCha20};
 pub use rand::pcg64::Pcg64;
 pub use rand::wyrand::WyRand;

@@ -5,13 +5,9 @@ pub mod DecidingWords
 pub mod RangeBounds
 pub mod RunsOfWords
 pub mod WholeTypes
-pub mod BufferedRequests
 pub mod ShuffledItems
 pub mod ShufflePartners
 pub mod PartialShuffles
 pub mod WeightedChoices
-pub mod Replays
-pub mod ReplayRefusals
-pub mod AskedBytes
 pub mod ChoicesOfThree
 pub mod SampledNumbers

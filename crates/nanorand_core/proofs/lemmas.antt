@@ -2,6 +2,4 @@ pub mod ranges
 pub mod shuffles
 pub mod samples
 pub mod choices
-pub mod replay
 pub mod values
-pub mod generators

@@ -6,4 +6,3 @@ pub mod values
 pub mod shuffles
 pub mod choices
 pub mod samples
-pub mod replay

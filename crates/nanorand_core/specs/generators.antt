@@ -1,5 +1,4 @@
--- Any generator: its blocks and requests, a buffer over it, and what many draws leave.
+-- Any generator: its blocks and requests, what many draws leave, and tests of equality.
 pub mod Blocks
-pub mod Buffered
 pub mod Cycles
 pub mod Equality

@@ -1,7 +1,6 @@
 -- Nobody has to believe the files in this folder: lemmas that laws of impls cite, and words used
 -- only in clauses of private functions.
 pub mod BlockLemmas
-pub mod BufferedLemmas
 pub mod BoundLemmas
 pub mod NumberOrderLemmas
 pub mod IterateLemmas

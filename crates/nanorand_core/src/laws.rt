@@ -4,13 +4,8 @@ ghost use Rattle.std.specs.Prelude.{◌≡◌, ◌<◌, ◌≤◌, ◌+◌, ◌+
 ghost use Rattle.std.specs.Fn.{iterate};
 ghost use Rattle.std.specs.declared.ops.Bound.{Bound};
 ghost use Rattle.nanorand_core.specs.choices.Uniform.{IndicesAreFair, RatiosAreFair};
-ghost use Rattle.nanorand_core.specs.generators.Blocks.{taken};
-ghost use Rattle.nanorand_core.specs.generators.Buffered.{Buffered, buffer_of, buffered, buffered_after, buffered_taken};
-ghost use Rattle.nanorand_core.specs.generators.Equality.{DecidesEquality};
 ghost use Rattle.nanorand_core.specs.shuffles.Arrangements.{CorrespondsOneToOne, HoldEquallyOften, HoldsEachOnce, IsArrangement};
 ghost use Rattle.nanorand_core.specs.samples.Samples.{NumbersAreFair, SetsAreFair};
-ghost use Rattle.nanorand_core.specs.replay.Replay.{ReplaysJoin};
-ghost use Rattle.nanorand_core.specs.replay.Unbroken.{IsUnbroken, taken_all};
 ghost use Rattle.nanorand_core.specs.values.Range.{unsigned_number, signed_number};
 ghost use Rattle.nanorand_core.specs.values.RangeLimits.{KeepsLimits};
 ghost use Rattle.nanorand_core.specs.values.Draws.{after_word, unsigned_outcome, signed_outcome};
@@ -19,8 +14,7 @@ ghost use Rattle.nanorand_core.specs.values.Fairness.{RunsAreFair, NoNumberIsPre
 ghost use Rattle.nanorand_core.specs.choices.Weighted.{ChoicesAreFair};
 ghost use Rattle.nanorand_core.specs.shuffles.Shuffles.{from_itself, partly_shuffled, shuffled};
 
-use crate::buffer::BufferedRng;
-use crate::rand::{Blocks, Rng};
+use crate::rand::Rng;
 
 /// A bounded draw prefers no number, for words of N = 8, 16, 32 and 64 bits and every size from 1
 /// to 2^N.
@@ -74,12 +68,6 @@ pub fn range_limits<G: Rng<OUTPUT>, const OUTPUT: usize>()
         (signed_outcome G.requests bits g low high) }
 {}
 
-/// Replaying two lists of calls one after the other is replaying their concatenation, over every
-/// generator: a replay that is stopped, stored and resumed gives what the whole replay gives.
-pub fn replays_join<G: Rng<OUTPUT>, const OUTPUT: usize>()
-    ensures { ReplaysJoin G.requests }
-{}
-
 /// For every n, valid lists of n choices and permutations of 0, 1, .., n - 1 correspond one to one:
 /// a valid list makes a permutation, no other valid list makes the same one, and each permutation
 /// is made by one.
@@ -123,43 +111,6 @@ pub fn permutations_by_counting()
     ensures permutations { (xs ys : List ℕ) → IsPermutation xs ys ↔ HoldEquallyOften xs ys }
     ensures arrangements { (order : List ℕ) →
         IsArrangement order ↔ HoldsEachOnce (length order) order }
-{}
-
-/// A `BufferedRng` over any generator delivers one unbroken stream, whatever requests it is split
-/// into.
-///
-/// `unbroken`: two requests in a row take the same bytes and leave the same state as one request
-/// for the sum of their sizes, and so does any list of requests. A replay leaves the state that one
-/// request for all the bytes of its calls would leave. `row`: the buffer's own blocks, joined, are
-/// the buffered bytes and then the inner blocks. `below`: if less than a block is buffered, less
-/// than a block is buffered after each request.
-pub fn unbroken_delivery<G: Rng<OUTPUT>, const OUTPUT: usize>()
-    ensures unbroken { IsUnbroken ⟦<BufferedRng<G, OUTPUT> as Rng<OUTPUT>>⟧.requests }
-    ensures stream { (b : Buffered G) (n : ℕ) →
-        let buffer = ⟦<BufferedRng<G, OUTPUT> as Blocks<OUTPUT>>⟧ in
-        taken buffer.block buffer.step b n ≡ buffered_taken G.block G.step OUTPUT b n }
-    ensures below { (b : Buffered G) (n : ℕ) → length b.rest < OUTPUT
-        → length (buffered_after G.block G.step OUTPUT b n).rest < OUTPUT }
-{}
-
-/// A fresh `BufferedRng`, with nothing buffered, delivers the bytes of its inner generator.
-///
-/// `one`: a request takes the bytes that the same request to the inner generator takes. `all`: any
-/// list of requests takes, one after another, the bytes of one request to the inner generator for
-/// the sum of their sizes.
-pub fn fresh_delivery<G: Rng<OUTPUT>, const OUTPUT: usize>()
-    ensures one { (g : G) (n : ℕ) →
-        buffered_taken G.block G.step OUTPUT (buffer_of [] g) n ≡ G.requests.bytes g n }
-    ensures all { (g : G) (sizes : List ℕ) →
-        taken_all (buffered G.block G.step OUTPUT) (buffer_of [] g) sizes
-        ≡ G.requests.bytes g (sum sizes) }
-{}
-
-/// `==` of two `BufferedRng` is true exactly if their states are equal, where the same holds of `==`
-/// of their inner generators.
-pub fn equal_buffers<G: Rng<OUTPUT> + PartialEq, const OUTPUT: usize>()
-    ensures { DecidesEquality G.eq
-        → DecidesEquality ⟦<BufferedRng<G, OUTPUT> as PartialEq>⟧.eq }
 {}
 
 /// A request for as many bytes as a block has is a draw, over every generator.

@@ -1,20 +1,16 @@
-//! What holds for every generator: the traits, values and ranges, shuffles, buffers, and lists of
-//! calls that can be replayed.
+//! What holds for every generator: the traits, values and ranges, choices, samples and shuffles.
 //!
-//! No generator stands here. The crate `nanorand` has the generators, and everything of this crate
-//! under the same paths.
+//! No generator stands here. The crate `nanorand_streams` has buffers and replays over any
+//! generator. The crate `nanorand` has the generators, and everything of both under the same paths.
 #![tactic(auto)]
 
-pub mod buffer;
 pub mod choices;
 pub mod laws;
 pub mod rand;
-pub mod replay;
 pub mod samples;
 pub mod shuffles;
 mod swap;
 pub mod values;
 
-pub use buffer::BufferedRng;
 pub use rand::{Blocks, Rng, SeedableRng};
 pub use values::{RandomGen, RandomRange, RangeError};

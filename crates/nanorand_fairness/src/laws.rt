@@ -1,13 +1,19 @@
-//! Fairness over lists of words, rejected words included.
+//! Fairness over lists of words: of every list of n words it is said what is drawn from it, and the
+//! lists are counted. Rejected words are in the lists too. The functions do nothing; a proof calls
+//! one to use its law.
 ghost use Rattle.nanorand_fairness.specs.Lists.{UndecidedListsAreFew, DrawsTakeFewWords, EventsInListsAreFair, RatiosInListsAreFair, WeightsInListsAreFair};
 ghost use Rattle.nanorand_fairness.specs.InTurn.{NumbersInTurnAreFair, RejectionsPreferNothing, NoListOfNumbersIsPreferred};
-ghost use Rattle.nanorand_fairness.specs.Deals.{DealsAreFair, ShufflesAreFair, NoDealIsPreferred, ShufflesDrawInTurn};
-ghost use Rattle.nanorand_fairness.specs.Samples.{SampledSetsAreFair, SamplesDrawInTurn};
+ghost use Rattle.nanorand_fairness.specs.Deals.{DealsAreFair, ShufflesAreFair, NoDealIsPreferred};
+ghost use Rattle.nanorand_fairness.specs.Samples.{SampledSetsAreFair};
 
-use nanorand_core::Rng;
 use nanorand_core::laws::{choices_are_fair, fairness, samples_are_fair, weighted_choices_are_fair};
 
-/// How many words a draw takes, for words of N = 8, 16, 32 and 64 bits.
+/// How many words a bounded draw takes, for words of N = 8, 16, 32 and 64 bits and every size from 1
+/// to 2^N. So a number takes fewer than two words on average, and is refused very seldom.
+///
+/// `undecided`: of the lists of n words, a draw is undecided after exactly t^n, where t of the 2^N
+/// words are rejected. So a draw is refused, after 128 words, for t^128 of 2^(128 N) lists. `few`:
+/// over all lists of n words, fewer than twice as many words are taken as there are lists.
 pub fn words_of_a_draw()
     ensures undecided { UndecidedListsAreFew }
     ensures few { DrawsTakeFewWords }
@@ -15,7 +21,12 @@ pub fn words_of_a_draw()
     fairness();
 }
 
-/// Events, ratios and weights over all lists of words.
+/// One draw from all lists of n words, rejected words included, for words of 8, 16, 32 and 64 bits.
+///
+/// `events`: an event of m numbers is decided by m times as many lists as one number, and all
+/// numbers by equally many. `ratios`: so `choices::ratio` is true for `numerator` times as many lists
+/// as one number has. `weights`: and `choices::choose_weighted` returns an item for as many times as
+/// many lists as its weight is.
 pub fn fairness_with_rejections()
     ensures events { EventsInListsAreFair }
     ensures ratios { RatiosInListsAreFair }
@@ -26,7 +37,13 @@ pub fn fairness_with_rejections()
     weighted_choices_are_fair();
 }
 
-/// Numbers drawn in turn.
+/// Numbers drawn one after another, below sizes of any list, prefer no list of numbers.
+///
+/// A draw takes at most 128 words, and the next draw begins at the word after it. `numbers`: of the
+/// lists with one word for each size, each list of numbers is drawn by equally many: the product of
+/// floor(2^N / size). `rejections`: of all lists of n words, each list of numbers is drawn by equally
+/// many. `swaps`: exchanging two numbers of each draw, word by word, is an involution on lists of
+/// words. It keeps which words are rejected, and exchanges these numbers and nothing else.
 pub fn numbers_in_turn_are_fair()
     ensures numbers { NumbersInTurnAreFair }
     ensures rejections { RejectionsPreferNothing }
@@ -35,7 +52,16 @@ pub fn numbers_in_turn_are_fair()
     fairness();
 }
 
-/// Deals and shuffles.
+/// A shuffle prefers no order, and a partial shuffle no deal.
+///
+/// A deal is the first k items of a shuffle of n, in their order. `deals`: each list of k different
+/// indices is dealt by equally many lists of k words, the product of floor(2^64 / (n - i)) for i from
+/// 0 to k - 1. `orders`: so each order of n items is made by equally many lists of n words. `swaps`:
+/// for any two deals there is a map on lists of words, of any length and with rejected words, that
+/// is an involution, keeps which words are rejected, and exchanges the two deals.
+///
+/// It does not say that seeds deal equally often: a seed of b bits gives at most 2^b of the n!
+/// orders.
 pub fn shuffles_are_fair()
     ensures deals { DealsAreFair }
     ensures orders { ShufflesAreFair }
@@ -45,20 +71,11 @@ pub fn shuffles_are_fair()
     numbers_in_turn_are_fair();
 }
 
-/// Shuffles draw in turn.
-pub fn shuffles_draw_in_turn<G: Rng<OUTPUT>, T, const OUTPUT: usize>()
-    ensures { ShufflesDrawInTurn T G.requests }
-{}
-
-/// Samples.
+/// Each set of k of the numbers below `count` is sampled by equally many lists of k words: k! times
+/// the product of floor(2^64 / size) for the sizes of the draws. It is the law of `samples::sample`.
 pub fn sampled_sets_are_fair()
     ensures { SampledSetsAreFair }
 {
     numbers_in_turn_are_fair();
     samples_are_fair();
 }
-
-/// Samples draw in turn.
-pub fn samples_draw_in_turn<G: Rng<OUTPUT>, const OUTPUT: usize>()
-    ensures { SamplesDrawInTurn G.requests }
-{}

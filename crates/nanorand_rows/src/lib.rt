@@ -1,5 +1,5 @@
 //! Tests of `nanorand`: known-answer tests, and the generators, reference bodies and proved callers
-//! that they use.
+//! that these and the tests of `nanorand_generator_rows` and `nanorand_choice_rows` use.
 #![tactic(auto)]
 
 pub mod callers;

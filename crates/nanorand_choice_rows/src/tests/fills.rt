@@ -1,5 +1,6 @@
 //! Fills by a closure, and arrays of bytes.
 
+use comparing::equal;
 use nanorand::values::fill_with;
 use nanorand::{BufferedRng, Rng, WyRand};
 use nanorand_rows::callers::fills::{fill_bytes_by_closure, throw_dice};
@@ -15,9 +16,9 @@ fn one_call_an_item(rt: HostRuntime) {
         calls = calls.wrapping_add(1);
         rng.generate::<u8>()
     });
-    assert_eq!(rt; bytes, [0, 8, 16]);
-    assert_eq!(rt; calls, 3);
-    assert_eq!(rt; steps.drawn(), 3);
+    equal(&rt, bytes, [0, 8, 16]);
+    equal(&rt, calls, 3);
+    equal(&rt, steps.drawn(), 3);
 }
 
 #[test]
@@ -29,7 +30,7 @@ fn nothing_to_fill(rt: HostRuntime) {
         &mut none,
         |rng: &mut Steps| rng.generate::<u8>(),
     );
-    assert_eq!(rt; steps.drawn(), 0);
+    equal(&rt, steps.drawn(), 0);
 }
 
 // Items that are no value of one type: a number of a range, and a pair.
@@ -41,15 +42,15 @@ fn ranges_and_pairs(rt: HostRuntime) {
         rng.generate_range(Bound::Included(1), Bound::Included(6))
             .unwrap_or(0)
     });
-    assert_eq!(rt; faces, [6, 4, 0]);
-    assert_eq!(rt; script.drawn(), 131);
+    equal(&rt, faces, [6, 4, 0]);
+    equal(&rt, script.drawn(), 131);
 
     let mut steps = Steps::new();
     let mut pairs = [(9u8, 9u16); 2];
     fill_with(&mut steps, &mut pairs, |rng: &mut Steps| {
         (rng.generate::<u8>(), rng.generate::<u16>())
     });
-    assert_eq!(rt; pairs, [(0, 0x0908), (16, 0x1918)]);
+    equal(&rt, pairs, [(0, 0x0908), (16, 0x1918)]);
 }
 
 #[test]
@@ -58,29 +59,34 @@ fn callers(rt: HostRuntime) {
     let mut same = [9; 5];
     fill_bytes_by_closure(&mut WyRand::new_seed(7), &mut some);
     WyRand::new_seed(7).fill(&mut same);
-    assert_eq!(rt; some, same);
+    equal(&rt, some, same);
 
     let mut faces = [0; 4];
     throw_dice(&mut Script::new(&[130, 255, 1, 200]), &mut faces);
-    assert_eq!(rt; faces, [4, 6, 1, 5]);
+    equal(&rt, faces, [4, 6, 1, 5]);
 }
 
 #[test]
 fn arrays_of_bytes(rt: HostRuntime) {
     let mut steps = Steps::new();
-    assert_eq!(rt; steps.generate::<[u8; 4]>(), [0, 1, 2, 3]);
-    assert_eq!(rt; steps.generate::<[u8; 8]>(), [8, 9, 10, 11, 12, 13, 14, 15]);
-    assert_eq!(rt; steps.drawn(), 2);
-    assert_eq!(rt;
-        steps.generate::<[u8; 12]>(),
-        [16, 17, 18, 19, 20, 21, 22, 23, 24, 25, 26, 27]
+    equal(&rt, steps.generate::<[u8; 4]>(), [0, 1, 2, 3]);
+    equal(
+        &rt,
+        steps.generate::<[u8; 8]>(),
+        [8, 9, 10, 11, 12, 13, 14, 15],
     );
-    assert_eq!(rt; steps.drawn(), 4);
+    equal(&rt, steps.drawn(), 2);
+    equal(
+        &rt,
+        steps.generate::<[u8; 12]>(),
+        [16, 17, 18, 19, 20, 21, 22, 23, 24, 25, 26, 27],
+    );
+    equal(&rt, steps.drawn(), 4);
 
     let mut buffered = BufferedRng::new(Steps::new());
-    assert_eq!(rt; buffered.generate::<[u8; 4]>(), [0, 1, 2, 3]);
-    assert_eq!(rt; buffered.generate::<[u8; 4]>(), [4, 5, 6, 7]);
+    equal(&rt, buffered.generate::<[u8; 4]>(), [0, 1, 2, 3]);
+    equal(&rt, buffered.generate::<[u8; 4]>(), [4, 5, 6, 7]);
     let mut pieces = [[9u8; 4]; 2];
     Steps::new().fill(&mut pieces);
-    assert_eq!(rt; pieces, [[0, 1, 2, 3], [8, 9, 10, 11]]);
+    equal(&rt, pieces, [[0, 1, 2, 3], [8, 9, 10, 11]]);
 }

@@ -1,12 +1,15 @@
 //! `partial_shuffle`, which makes the first steps of `shuffle`.
 ghost use Rattle.std.specs.Prelude.{◌≤◌};
 
+use comparing::{equal, equal_at};
 use nanorand::shuffles::partial_shuffle;
 use nanorand::values::RangeError;
 use nanorand::{BufferedRng, ChaCha8, Pcg64, Rng, WyRand};
 use nanorand_rows::{Constant, Script, Steps, Waste, Zeros};
+use std::alloc::AllocError;
 use std::ops::Bound;
 use std::process::Abort;
+use std::test::Fail;
 
 // 0, 1, .., n - 1, n and the greatest count, of four items.
 #[test]
@@ -23,9 +26,13 @@ fn each_count(rt: HostRuntime) {
     for (count, shuffled, drawn) in rows {
         let mut script = Script::new(&[200, 100, 255]);
         let mut letters = ['a', 'b', 'c', 'd'];
-        assert_eq!(rt; partial_shuffle(&mut script, &mut letters, count), Ok(()));
-        assert_eq!(rt; letters, shuffled, "{count}");
-        assert_eq!(rt; script.drawn(), drawn, "{count}");
+        equal(
+            &rt,
+            partial_shuffle(&mut script, &mut letters, count),
+            Ok(()),
+        );
+        equal_at(&rt, letters, shuffled, format_args!("{count}"));
+        equal_at(&rt, script.drawn(), drawn, format_args!("{count}"));
     }
 }
 
@@ -34,12 +41,12 @@ fn nothing_to_shuffle(rt: HostRuntime) {
     let mut zeros = Zeros::new();
     let mut none: [char; 0] = [];
     for count in [0, 1, usize::MAX] {
-        assert_eq!(rt; partial_shuffle(&mut zeros, &mut none, count), Ok(()));
+        equal(&rt, partial_shuffle(&mut zeros, &mut none, count), Ok(()));
     }
     let mut letters = ['a', 'b', 'c'];
-    assert_eq!(rt; partial_shuffle(&mut zeros, &mut letters, 0), Ok(()));
-    assert_eq!(rt; letters, ['a', 'b', 'c']);
-    assert_eq!(rt; zeros.drawn(), 0);
+    equal(&rt, partial_shuffle(&mut zeros, &mut letters, 0), Ok(()));
+    equal(&rt, letters, ['a', 'b', 'c']);
+    equal(&rt, zeros.drawn(), 0);
 }
 
 // Words of ones, each of which draws the last index, and then zeros, which are rejected for 7, 6, 5
@@ -59,12 +66,22 @@ fn refused_at_each_step(rt: HostRuntime) {
             let mut numbers = [0, 1, 2, 3, 4, 5, 6];
             let answer = partial_shuffle(&mut script, &mut numbers, count);
             if count > steps {
-                assert_eq!(rt; answer, Err(RangeError::Exhausted), "{words} {count}");
-                assert_eq!(rt; numbers, items, "{words} {count}");
-                assert_eq!(rt; script.drawn(), (steps as u64).wrapping_add(128));
+                equal_at(
+                    &rt,
+                    answer,
+                    Err(RangeError::Exhausted),
+                    format_args!("{words} {count}"),
+                );
+                equal_at(&rt, numbers, items, format_args!("{words} {count}"));
+                equal(&rt, script.drawn(), (steps as u64).wrapping_add(128));
             } else {
-                assert_eq!(rt; answer, Ok(()), "{words} {count}");
-                assert_eq!(rt; script.drawn(), count as u64, "{words} {count}");
+                equal_at(&rt, answer, Ok(()), format_args!("{words} {count}"));
+                equal_at(
+                    &rt,
+                    script.drawn(),
+                    count as u64,
+                    format_args!("{words} {count}"),
+                );
             }
         }
     }
@@ -93,53 +110,53 @@ fn by_steps<G: Rng<OUTPUT>, const OUTPUT: usize, const N: usize>(
 }
 
 // It does what the steps do one by one, and its first items are those of a whole shuffle.
-fn begins_alike<G: Rng<OUTPUT> + Drop, F: Fn() -> G, const OUTPUT: usize, const N: usize>(
+fn begins_alike<G: Rng<OUTPUT> + Drop, const OUTPUT: usize, const N: usize>(
     rt: &impl Abort,
-    make: &F,
+    fresh: &G,
     count: usize,
-)
-    requires callable { F.IsAlwaysCallable make.now }
-    requires few { N ≤ 50 }
+) -> Result<(), AllocError>
+    requires { N ≤ 50 }
 {
-    let (mut rng, mut other, mut third) = (make(), make(), make());
+    let (mut rng, mut other, mut third) = (fresh.clone()?, fresh.clone()?, fresh.clone()?);
     let mut items = identity::<N>();
     let mut others = identity::<N>();
     let mut whole = identity::<N>();
     let answer = partial_shuffle(&mut rng, &mut items, count);
-    assert_eq!(rt; answer, by_steps(&mut other, &mut others, count));
-    assert_eq!(rt; items, others);
-    assert_eq!(rt; rng.generate::<u64>(), other.generate::<u64>());
+    equal(rt, answer, by_steps(&mut other, &mut others, count));
+    equal(rt, items, others);
+    equal(rt, rng.generate::<u64>(), other.generate::<u64>());
     if answer == Ok(()) {
         let _ = third.shuffle(&mut whole);
         let same = count.min(N);
-        assert_eq!(rt; &items[..same], &whole[..same]);
+        equal(rt, &items[..same], &whole[..same]);
     }
+    Ok(())
 }
 
-// The same, for several lengths and counts.
-fn lengths_alike<G: Rng<OUTPUT> + Drop, F: Fn() -> G, const OUTPUT: usize>(
+// The same, for several lengths and counts, by clones of a generator.
+fn lengths_alike<G: Rng<OUTPUT> + Drop, const OUTPUT: usize>(
     rt: &impl Abort,
-    make: &F,
-)
-    requires { F.IsAlwaysCallable make.now }
-{
+    fresh: &G,
+) -> Result<(), AllocError> {
     for count in [0, 1, 2, 3, 4, 49, 50, 51] {
-        begins_alike::<G, F, OUTPUT, 0>(rt, make, count);
-        begins_alike::<G, F, OUTPUT, 1>(rt, make, count);
-        begins_alike::<G, F, OUTPUT, 3>(rt, make, count);
-        begins_alike::<G, F, OUTPUT, 50>(rt, make, count);
+        begins_alike::<G, OUTPUT, 0>(rt, fresh, count)?;
+        begins_alike::<G, OUTPUT, 1>(rt, fresh, count)?;
+        begins_alike::<G, OUTPUT, 3>(rt, fresh, count)?;
+        begins_alike::<G, OUTPUT, 50>(rt, fresh, count)?;
     }
+    Ok(())
 }
 
 #[test]
-fn the_beginning_of_a_shuffle(rt: HostRuntime) {
-    lengths_alike(&rt, &|| WyRand::new_seed(42));
-    lengths_alike(&rt, &|| Pcg64::new_seed(42));
-    lengths_alike(&rt, &|| ChaCha8::new_key([7; 32], [9; 8]));
-    lengths_alike(&rt, &|| BufferedRng::new(WyRand::new_seed(42)));
-    lengths_alike(&rt, &|| Steps::new());
-    lengths_alike(&rt, &|| Waste::new());
-    lengths_alike(&rt, &|| Zeros::new());
-    lengths_alike(&rt, &|| Constant::new(255));
-    lengths_alike(&rt, &|| Script::new(&[255, 128, 1, 77, 200]));
+fn the_beginning_of_a_shuffle(rt: HostRuntime) -> Result<(), Fail> {
+    lengths_alike(&rt, &WyRand::new_seed(42))?;
+    lengths_alike(&rt, &Pcg64::new_seed(42))?;
+    lengths_alike(&rt, &ChaCha8::new_key([7; 32], [9; 8]))?;
+    lengths_alike(&rt, &BufferedRng::new(WyRand::new_seed(42)))?;
+    lengths_alike(&rt, &Steps::new())?;
+    lengths_alike(&rt, &Waste::new())?;
+    lengths_alike(&rt, &Zeros::new())?;
+    lengths_alike(&rt, &Constant::new(255))?;
+    lengths_alike(&rt, &Script::new(&[255, 128, 1, 77, 200]))?;
+    Ok(())
 }

@@ -1,6 +1,7 @@
 //! Samples without repetition.
 ghost use Rattle.std.specs.Prelude.{◌<◌, ◌≤◌};
 
+use comparing::{equal, equal_at};
 use nanorand::samples::sample;
 use nanorand::{RangeError, WyRand};
 use nanorand_rows::{Script, Steps, Zeros};
@@ -39,40 +40,41 @@ fn three_of_ten(rt: HostRuntime) {
         let bytes = bytes_for(8, draws);
         let mut script = Script::new(&bytes);
         let mut places = [99; 3];
-        assert_eq!(rt; sample(&mut script, 10, &mut places), Ok(()));
-        assert_eq!(rt; places, numbers);
-        assert_eq!(rt; script.drawn(), 3);
+        equal(&rt, sample(&mut script, 10, &mut places), Ok(()));
+        equal(&rt, places, numbers);
+        equal(&rt, script.drawn(), 3);
     }
 }
 
 #[test]
 fn none_one_and_all(rt: HostRuntime) {
     let mut steps = Steps::new();
-    assert_eq!(rt; sample(&mut steps, 0, &mut []), Ok(()));
-    assert_eq!(rt; sample(&mut steps, 5, &mut []), Ok(()));
-    assert_eq!(rt; steps.drawn(), 0);
+    equal(&rt, sample(&mut steps, 0, &mut []), Ok(()));
+    equal(&rt, sample(&mut steps, 5, &mut []), Ok(()));
+    equal(&rt, steps.drawn(), 0);
 
     let mut one = [99];
-    assert_eq!(rt; sample(&mut steps, 1, &mut one), Ok(()));
-    assert_eq!(rt; one, [0]);
-    assert_eq!(rt; steps.drawn(), 1);
-    assert_eq!(rt; sample(&mut Script::new(&[255]), 5, &mut one), Ok(()));
-    assert_eq!(rt; one, [4]);
-    assert_eq!(rt;
+    equal(&rt, sample(&mut steps, 1, &mut one), Ok(()));
+    equal(&rt, one, [0]);
+    equal(&rt, steps.drawn(), 1);
+    equal(&rt, sample(&mut Script::new(&[255]), 5, &mut one), Ok(()));
+    equal(&rt, one, [4]);
+    equal(
+        &rt,
         sample(&mut Script::new(&[255]), usize::MAX, &mut one),
-        Ok(())
+        Ok(()),
     );
-    assert_eq!(rt; one, [usize::MAX - 1]);
+    equal(&rt, one, [usize::MAX - 1]);
 
     let mut three = [99; 3];
-    assert_eq!(rt; sample(&mut Steps::new(), 3, &mut three), Ok(()));
-    assert_eq!(rt; three, [0, 1, 2]);
+    equal(&rt, sample(&mut Steps::new(), 3, &mut three), Ok(()));
+    equal(&rt, three, [0, 1, 2]);
     let bytes = bytes_for(1, [0, 1, 1]);
-    assert_eq!(rt; sample(&mut Script::new(&bytes), 3, &mut three), Ok(()));
-    assert_eq!(rt; three, [0, 1, 2]);
+    equal(&rt, sample(&mut Script::new(&bytes), 3, &mut three), Ok(()));
+    equal(&rt, three, [0, 1, 2]);
     let bytes = bytes_for(2, [1, 0, 3]);
-    assert_eq!(rt; sample(&mut Script::new(&bytes), 4, &mut three), Ok(()));
-    assert_eq!(rt; three, [1, 0, 3]);
+    equal(&rt, sample(&mut Script::new(&bytes), 4, &mut three), Ok(()));
+    equal(&rt, three, [1, 0, 3]);
 }
 
 // The numbers below 5 of a list, as the bits of a mask.
@@ -93,14 +95,18 @@ fn each_pair_equally_often(rt: HostRuntime) {
     for code in 0..12usize {
         let bytes = [byte_for(code % 3, 3), byte_for(code / 3, 4)];
         let mut places = [99; 2];
-        assert_eq!(rt; sample(&mut Script::new(&bytes), 4, &mut places), Ok(()));
+        equal(
+            &rt,
+            sample(&mut Script::new(&bytes), 4, &mut places),
+            Ok(()),
+        );
         let mask = mask_of(&places);
         tally[mask] = tally[mask].wrapping_add(1);
     }
     for (mask, times) in tally.iter().enumerate() {
         let is_pair = mask.count_ones() == 2 && mask < 16;
         let expected = if is_pair { 2 } else { 0 };
-        assert_eq!(rt; *times, expected, "{mask}");
+        equal_at(&rt, *times, expected, format_args!("{mask}"));
     }
 }
 
@@ -111,13 +117,17 @@ fn each_three_equally_often(rt: HostRuntime) {
     for code in 0..60usize {
         let bytes = bytes_for(3, [code % 3, code / 3 % 4, code / 12]);
         let mut places = [99; 3];
-        assert_eq!(rt; sample(&mut Script::new(&bytes), 5, &mut places), Ok(()));
+        equal(
+            &rt,
+            sample(&mut Script::new(&bytes), 5, &mut places),
+            Ok(()),
+        );
         let mask = mask_of(&places);
         tally[mask] = tally[mask].wrapping_add(1);
     }
     for (mask, times) in tally.iter().enumerate() {
         let expected = if mask.count_ones() == 3 { 6 } else { 0 };
-        assert_eq!(rt; *times, expected, "{mask}");
+        equal_at(&rt, *times, expected, format_args!("{mask}"));
     }
 }
 
@@ -133,18 +143,19 @@ fn refused_at_each_draw(rt: HostRuntime) {
     for (kept, left, drawn) in rows {
         let mut script = Script::new(bytes.get(..kept).unwrap_or(&[]));
         let mut places = [99, 98, 97];
-        assert_eq!(rt;
+        equal(
+            &rt,
             sample(&mut script, 7, &mut places),
-            Err(RangeError::Exhausted)
+            Err(RangeError::Exhausted),
         );
-        assert_eq!(rt; places, left);
-        assert_eq!(rt; script.drawn(), drawn);
+        equal(&rt, places, left);
+        equal(&rt, script.drawn(), drawn);
     }
     let mut script = Script::new(&bytes);
     let mut places = [99, 98, 97];
-    assert_eq!(rt; sample(&mut script, 7, &mut places), Ok(()));
-    assert_eq!(rt; places, [1, 4, 0]);
-    assert_eq!(rt; script.drawn(), 3);
+    equal(&rt, sample(&mut script, 7, &mut places), Ok(()));
+    equal(&rt, places, [1, 4, 0]);
+    equal(&rt, script.drawn(), 3);
 }
 
 // Below 4, a power of two, no word is rejected, so the second slot of five is the first refused.
@@ -152,12 +163,13 @@ fn refused_at_each_draw(rt: HostRuntime) {
 fn refused_by_zeros(rt: HostRuntime) {
     let mut zeros = Zeros::new();
     let mut places = [99; 5];
-    assert_eq!(rt;
+    equal(
+        &rt,
         sample(&mut zeros, 8, &mut places),
-        Err(RangeError::Exhausted)
+        Err(RangeError::Exhausted),
     );
-    assert_eq!(rt; places, [0, 99, 99, 99, 99]);
-    assert_eq!(rt; zeros.drawn(), 129);
+    equal(&rt, places, [0, 99, 99, 99, 99]);
+    equal(&rt, zeros.drawn(), 129);
 }
 
 // How many numbers below `count` are in a list.
@@ -171,11 +183,12 @@ fn check_sample<const N: usize>(rt: &impl Abort, seed: u64, count: usize)
     requires few { N ≤ 20 }
 {
     let mut places = [usize::MAX; N];
-    assert_eq!(rt;
+    equal(
+        rt,
         sample(&mut WyRand::new_seed(seed), count, &mut places),
-        Ok(())
+        Ok(()),
     );
-    assert_eq!(rt; held_below(count, &places), N);
+    equal(rt, held_below(count, &places), N);
 }
 
 #[test]

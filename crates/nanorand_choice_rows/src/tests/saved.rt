@@ -1,6 +1,7 @@
 //! Generators that are stored and restored, and the equality of generators.
 ghost use Rattle.std.specs.Prelude.{◌≡◌, ◌%◌};
 
+use comparing::{display_is, equal, equal_at};
 use nanorand::buffer::RestTooLong;
 use nanorand::{
     Blocks, BufferedRng, ChaCha, ChaCha8, ChaCha12, ChaCha20, Pcg64, Rng, SeedableRng, WyRand,
@@ -29,14 +30,14 @@ fn is_restored<G: Rng<OUTPUT> + Drop, const OUTPUT: usize>(
     let mut original = rng.clone()?;
     let inner = rng.inner().clone()?;
     let mut restored = BufferedRng::with_rest(inner, rng.rest()).or(Err("too long"))?;
-    assert_eq!(rt; restored.rest(), rng.rest());
-    assert_eq!(rt; restored.buffered(), rng.buffered());
+    equal(rt, restored.rest(), rng.rest());
+    equal(rt, restored.buffered(), rng.buffered());
     for _ in 0..3u8 {
         let (mut next, mut again) = ([0; 50], [1; 50]);
         original.fill_bytes(&mut next);
         restored.fill_bytes(&mut again);
         assert!(rt; next == again);
-        assert_eq!(rt; restored.rest(), original.rest());
+        equal(rt, restored.rest(), original.rest());
     }
     Ok(())
 }
@@ -73,14 +74,14 @@ fn given_bytes_come_first(rt: HostRuntime) -> Result<(), Fail> {
     for count in 0..8 {
         let given = [101, 102, 103, 104, 105, 106, 107];
         let mut rng = BufferedRng::with_rest(Steps::new(), &given[..count]).or(Err("too long"))?;
-        assert_eq!(rt; rng.buffered(), count);
-        assert_eq!(rt; rng.inner().drawn(), 0);
+        equal(&rt, rng.buffered(), count);
+        equal(&rt, rng.inner().drawn(), 0);
         for byte in &given[..count] {
-            assert_eq!(rt; rng.generate::<u8>(), *byte);
+            equal(&rt, rng.generate::<u8>(), *byte);
         }
-        assert_eq!(rt; rng.generate::<u32>(), 0x0302_0100);
-        assert_eq!(rt; rng.rest(), [4, 5, 6, 7].as_slice());
-        assert_eq!(rt; rng.inner().drawn(), 1);
+        equal(&rt, rng.generate::<u32>(), 0x0302_0100);
+        equal(&rt, rng.rest(), [4, 5, 6, 7].as_slice());
+        equal(&rt, rng.inner().drawn(), 1);
     }
     Ok(())
 }
@@ -90,23 +91,23 @@ fn a_block_or_more_is_refused(rt: HostRuntime) -> Result<(), Fail> {
     let bytes = [7; 70];
     for count in 0..70 {
         let part = &bytes[..count];
-        assert_eq!(rt;
+        equal(
+            &rt,
             BufferedRng::with_rest(Bytes1::new(), part).is_ok(),
-            count < 1
+            count < 1,
         );
-        assert_eq!(rt;
+        equal(
+            &rt,
             BufferedRng::with_rest(Steps::new(), part).is_ok(),
-            count < 8
+            count < 8,
         );
-        assert_eq!(rt;
+        equal(
+            &rt,
             BufferedRng::with_rest(Bytes64::new(), part).is_ok(),
-            count < 64
+            count < 64,
         );
     }
-    assert_eq!(rt;
-        format!(in rt.alloc(); "{RestTooLong}")?.as_str(),
-        "a buffer holds less than a block"
-    );
+    display_is(&rt, &RestTooLong, "a buffer holds less than a block")?;
     Ok(())
 }
 
@@ -119,9 +120,9 @@ fn chacha_is_restored<const ROUNDS: u8>(rt: &impl Abort, counter: u64)
     original.jump(counter);
     let mut restored = ChaCha::<ROUNDS>::at(original.key(), original.nonce(), original.counter());
     assert!(rt; restored == original, "{counter}");
-    assert_eq!(rt; restored.key(), KEY);
-    assert_eq!(rt; restored.nonce(), NONCE);
-    assert_eq!(rt; restored.counter(), counter);
+    equal(rt, restored.key(), KEY);
+    equal(rt, restored.nonce(), NONCE);
+    equal(rt, restored.counter(), counter);
     for _ in 0..3u8 {
         assert!(rt; restored.rand() == original.rand(), "{counter}");
     }
@@ -143,15 +144,17 @@ fn check_equality<G: Eq + Clone + Drop>(rt: &impl Abort, generators: &[G]) -> Re
     for (index, generator) in generators.iter().enumerate() {
         assert!(rt; generator.clone()? == *generator, "{index}");
         for (other_index, other) in generators.iter().enumerate() {
-            assert_eq!(rt;
+            equal_at(
+                rt,
                 generator == other,
                 index == other_index,
-                "{index} {other_index}"
+                format_args!("{index} {other_index}"),
             );
-            assert_eq!(rt;
+            equal_at(
+                rt,
                 generator != other,
                 index != other_index,
-                "{index} {other_index}"
+                format_args!("{index} {other_index}"),
             );
         }
     }
@@ -249,11 +252,11 @@ fn delivered_bytes_do_not_count(rt: HostRuntime) -> Result<(), Fail> {
     let mut first = buffer(7, &[1, 2, 3, 4]).or(Err("too long"))?;
     let mut second = buffer(7, &[9, 9, 3, 4]).or(Err("too long"))?;
     assert!(rt; first != second);
-    assert_eq!(rt; first.generate::<u16>(), 0x0201);
-    assert_eq!(rt; second.generate::<u16>(), 0x0909);
+    equal(&rt, first.generate::<u16>(), 0x0201);
+    equal(&rt, second.generate::<u16>(), 0x0909);
     assert!(rt; first == second);
     assert!(rt; first == buffer(7, &[3, 4]).or(Err("too long"))?);
-    assert_eq!(rt; first.generate::<u64>(), second.generate::<u64>());
+    equal(&rt, first.generate::<u64>(), second.generate::<u64>());
     assert!(rt; first == second);
     Ok(())
 }
@@ -264,19 +267,20 @@ fn callers(rt: HostRuntime) -> Result<(), Fail> {
     assert!(rt; restored_buffer(&rng).or(Err("too long"))? == rng);
     let chacha = ChaCha20::at(KEY, NONCE, 1 << 32);
     assert!(rt; restored_chacha(&chacha) == chacha);
-    assert_eq!(rt; first_word(0x5f89e29b87429bd2), 16646288086500911322);
-    assert_eq!(rt;
+    equal(&rt, first_word(0x5f89e29b87429bd2), 16646288086500911322);
+    equal(
+        &rt,
         next_number(&mut WyRand::new_seed(0x5f89e29b87429bd2)),
-        16646288086500911322
+        16646288086500911322,
     );
 
     let (mut first, mut second) = ([0; 5], [0; 3]);
     fill_two_from_the_start(0x5f89e29b87429bd2, &mut first, &mut second);
-    assert_eq!(rt; first, [218, 40, 180, 160, 209]);
-    assert_eq!(rt; second, [126, 3, 231]);
+    equal(&rt, first, [218, 40, 180, 160, 209]);
+    equal(&rt, second, [126, 3, 231]);
     let (mut low, mut high) = ([0u16; 2], [0u16; 1]);
     fill_values(&mut Steps::new(), &mut low, &mut high);
-    assert_eq!(rt; low, [0x0100, 0x0908]);
-    assert_eq!(rt; high, [0x1110]);
+    equal(&rt, low, [0x0100, 0x0908]);
+    equal(&rt, high, [0x1110]);
     Ok(())
 }

@@ -1,5 +1,6 @@
 //! Choices by one drawn number: compared with the number that the word names.
 
+use comparing::{equal, equal_at};
 use nanorand::choices::{below, choose, choose_mut, ratio};
 use nanorand::values::pick_word;
 use nanorand::{RangeError, Rng, WyRand};
@@ -27,8 +28,8 @@ fn check_below(rt: &impl Abort, size: u64, word: u64) {
     let number = below(&mut rng, size);
     match pick_word(u128::from(size), 64, word) {
         Some(named) => {
-            assert_eq!(rt; number, Ok(named), "{size}, {word}");
-            assert_eq!(rt; rng.drawn(), 8);
+            equal_at(rt, number, Ok(named), format_args!("{size}, {word}"));
+            equal(rt, rng.drawn(), 8);
         }
         None => assert!(rt; rng.drawn() > 8),
     }
@@ -60,40 +61,48 @@ fn a_word_names_the_number_below(rt: HostRuntime) {
 #[test]
 fn below_of_each_type(rt: HostRuntime) {
     let bytes = [255; 8];
-    assert_eq!(rt; below(&mut ByteScript::from_block(&bytes, 0), 6u8), Ok(5));
-    assert_eq!(rt;
+    equal(
+        &rt,
+        below(&mut ByteScript::from_block(&bytes, 0), 6u8),
+        Ok(5),
+    );
+    equal(
+        &rt,
         below(&mut ByteScript::from_block(&bytes, 0), 1000u16),
-        Ok(999)
+        Ok(999),
     );
-    assert_eq!(rt;
+    equal(
+        &rt,
         below(&mut ByteScript::from_block(&bytes, 0), 1000u32),
-        Ok(999)
+        Ok(999),
     );
-    assert_eq!(rt;
+    equal(
+        &rt,
         below(&mut ByteScript::from_block(&bytes, 0), 1000usize),
-        Ok(999)
+        Ok(999),
     );
-    assert_eq!(rt;
+    equal(
+        &rt,
         below(&mut ByteScript::from_block(&bytes, 0), -100i8),
-        Ok(-101)
+        Ok(-101),
     );
-    assert_eq!(rt; below(&mut Zeros::new(), -126i8), Ok(-128));
+    equal(&rt, below(&mut Zeros::new(), -126i8), Ok(-128));
 }
 
 #[test]
 fn powers_of_two_are_never_refused(rt: HostRuntime) {
     for k in 0..64u32 {
         let mut zeros = Zeros::new();
-        assert_eq!(rt; below(&mut zeros, 1u64 << k), Ok(0));
-        assert_eq!(rt; zeros.drawn(), 1);
+        equal(&rt, below(&mut zeros, 1u64 << k), Ok(0));
+        equal(&rt, zeros.drawn(), 1);
     }
     for k in 0..32u32 {
-        assert_eq!(rt; below(&mut Zeros::new(), 1u32 << k), Ok(0));
+        equal(&rt, below(&mut Zeros::new(), 1u32 << k), Ok(0));
     }
     for size in [3u64, 5, 6, 7, 9, 1000, u64::MAX] {
         let mut zeros = Zeros::new();
-        assert_eq!(rt; below(&mut zeros, size), Err(RangeError::Exhausted));
-        assert_eq!(rt; zeros.drawn(), 128);
+        equal(&rt, below(&mut zeros, size), Err(RangeError::Exhausted));
+        equal(&rt, zeros.drawn(), 128);
     }
 }
 
@@ -106,14 +115,14 @@ fn a_word_chooses_the_item(rt: HostRuntime) {
             if let Some(named) = pick_word(count as u128, 64, word) {
                 let item = items[named as usize];
                 let mut rng = ByteScript::from_block(&bytes, 0);
-                assert_eq!(rt; choose(&mut rng, &items[..count]).copied(), Ok(item));
-                assert_eq!(rt; rng.drawn(), 8);
+                equal(&rt, choose(&mut rng, &items[..count]).copied(), Ok(item));
+                equal(&rt, rng.drawn(), 8);
                 let mut rng = ByteScript::from_block(&bytes, 0);
-                assert_eq!(rt; server(&mut rng, &items[..count]), Ok(item));
+                equal(&rt, server(&mut rng, &items[..count]), Ok(item));
                 let mut rng = ByteScript::from_block(&bytes, 0);
-                assert_eq!(rt; pick(&mut rng, &items[..count]), Ok(item));
+                equal(&rt, pick(&mut rng, &items[..count]), Ok(item));
                 let mut rng = ByteScript::from_block(&bytes, 0);
-                assert_eq!(rt; pick_below(&mut rng, &items[..count]), Ok(item));
+                equal(&rt, pick_below(&mut rng, &items[..count]), Ok(item));
             }
         }
     }
@@ -128,7 +137,7 @@ fn the_chosen_item_alone_is_written(rt: HostRuntime) -> Result<(), RangeError> {
             let mut expected = items;
             expected[named as usize] = 99;
             *choose_mut(&mut ByteScript::from_block(&bytes, 0), &mut items)? = 99;
-            assert_eq!(rt; items, expected);
+            equal(&rt, items, expected);
         }
     }
     Ok(())
@@ -138,22 +147,28 @@ fn the_chosen_item_alone_is_written(rt: HostRuntime) -> Result<(), RangeError> {
 fn nothing_to_choose_from(rt: HostRuntime) {
     let mut steps = Steps::new();
     let none: [u32; 0] = [];
-    assert_eq!(rt; choose(&mut steps, &none).copied(), Err(RangeError::Empty));
-    assert_eq!(rt;
-        choose_mut(&mut steps, &mut [0u32; 0]).map(|item| *item),
-        Err(RangeError::Empty)
+    equal(
+        &rt,
+        choose(&mut steps, &none).copied(),
+        Err(RangeError::Empty),
     );
-    assert_eq!(rt; ratio(&mut steps, 1, 0), Err(RangeError::Empty));
-    assert_eq!(rt; steps.drawn(), 0);
+    equal(
+        &rt,
+        choose_mut(&mut steps, &mut [0u32; 0]).map(|item| *item),
+        Err(RangeError::Empty),
+    );
+    equal(&rt, ratio(&mut steps, 1, 0), Err(RangeError::Empty));
+    equal(&rt, steps.drawn(), 0);
 
     let mut zeros = Zeros::new();
-    assert_eq!(rt;
+    equal(
+        &rt,
         choose(&mut zeros, &[1u32, 2, 3]).copied(),
-        Err(RangeError::Exhausted)
+        Err(RangeError::Exhausted),
     );
-    assert_eq!(rt; zeros.drawn(), 128);
-    assert_eq!(rt; ratio(&mut zeros, 1, 3), Err(RangeError::Exhausted));
-    assert_eq!(rt; zeros.drawn(), 256);
+    equal(&rt, zeros.drawn(), 128);
+    equal(&rt, ratio(&mut zeros, 1, 3), Err(RangeError::Exhausted));
+    equal(&rt, zeros.drawn(), 256);
 }
 
 #[test]
@@ -164,11 +179,12 @@ fn a_ratio_is_true_below_its_numerator(rt: HostRuntime) {
                 let bytes = word.to_le_bytes();
                 if let Some(named) = pick_word(u128::from(denominator), 64, word) {
                     let mut rng = ByteScript::from_block(&bytes, 0);
-                    assert_eq!(rt;
+                    equal(
+                        &rt,
                         ratio(&mut rng, numerator, denominator),
-                        Ok(named < numerator)
+                        Ok(named < numerator),
                     );
-                    assert_eq!(rt; rng.drawn(), 8);
+                    equal(&rt, rng.drawn(), 8);
                 }
             }
         }
@@ -201,17 +217,17 @@ fn words_of_split_mix(rt: HostRuntime) {
         16_408_922_859_458_223_821,
     ];
     for word in words {
-        assert_eq!(rt; rng.generate::<u64>(), word);
+        equal(&rt, rng.generate::<u64>(), word);
     }
 }
 
 #[test]
 fn cards_of_a_pack(rt: HostRuntime) {
-    assert_eq!(rt; Zeros::new().generate::<Card>().rank(), 0);
+    equal(&rt, Zeros::new().generate::<Card>().rank(), 0);
     let bytes = [255; 8];
     let last = ByteScript::from_block(&bytes, 0).generate::<Card>();
-    assert_eq!(rt; last.suit(), 3);
-    assert_eq!(rt; last.rank(), 12);
+    equal(&rt, last.suit(), 3);
+    equal(&rt, last.rank(), 12);
 
     let mut rng = SplitMix64::new(5);
     for _ in 0..200 {

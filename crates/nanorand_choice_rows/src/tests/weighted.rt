@@ -1,5 +1,6 @@
 //! Choices by weight.
 
+use comparing::equal;
 use nanorand::choices::weighted::{WeightError, choose_weighted};
 use nanorand::{BufferedRng, ChaCha8, Pcg64, Rng, WyRand};
 use nanorand_rows::{ByteScript, Constant, Script, Steps, Waste, Zeros};
@@ -22,9 +23,9 @@ fn ends_of_shares(rt: HostRuntime) {
     for (weights, items) in rows {
         let mut script = Script::new(&[0, 63, 64, 191, 192, 255]);
         for item in items {
-            assert_eq!(rt; choose_weighted(&mut script, &weights), Ok(item));
+            equal(&rt, choose_weighted(&mut script, &weights), Ok(item));
         }
-        assert_eq!(rt; script.drawn(), 6);
+        equal(&rt, script.drawn(), 6);
     }
 }
 
@@ -43,8 +44,8 @@ fn a_sum_of_256(rt: HostRuntime) {
     ];
     for (weights, byte, item) in rows {
         let mut rng = Constant::new(byte);
-        assert_eq!(rt; choose_weighted(&mut rng, &weights), Ok(item));
-        assert_eq!(rt; rng.drawn, 1);
+        equal(&rt, choose_weighted(&mut rng, &weights), Ok(item));
+        equal(&rt, rng.drawn, 1);
     }
 }
 
@@ -75,8 +76,8 @@ fn great_sums(rt: HostRuntime) {
     for (weights, words, item, drawn) in rows {
         let bytes = words.to_le_bytes();
         let mut script = ByteScript::from_block(&bytes, 0);
-        assert_eq!(rt; choose_weighted(&mut script, &weights), Ok(item));
-        assert_eq!(rt; script.drawn(), drawn);
+        equal(&rt, choose_weighted(&mut script, &weights), Ok(item));
+        equal(&rt, script.drawn(), drawn);
     }
 }
 
@@ -95,8 +96,8 @@ fn refused_sums_draw_nothing(rt: HostRuntime) {
         (&[half, half, 5], WeightError::TooHeavy),
     ];
     for (weights, refusal) in rows {
-        assert_eq!(rt; choose_weighted(&mut zeros, weights), Err(refusal));
-        assert_eq!(rt; zeros.drawn(), 0);
+        equal(&rt, choose_weighted(&mut zeros, weights), Err(refusal));
+        equal(&rt, zeros.drawn(), 0);
     }
 }
 
@@ -104,28 +105,30 @@ fn refused_sums_draw_nothing(rt: HostRuntime) {
 fn the_last_of_128_words_may_decide(rt: HostRuntime) {
     let weights = [0, 1, 2];
     let mut zeros = Zeros::new();
-    assert_eq!(rt;
+    equal(
+        &rt,
         choose_weighted(&mut zeros, &weights),
-        Err(WeightError::Exhausted)
+        Err(WeightError::Exhausted),
     );
-    assert_eq!(rt; zeros.drawn(), 128);
+    equal(&rt, zeros.drawn(), 128);
 
     let mut bytes = [0; 129];
     bytes[127] = 1;
     let mut early = Script::new(&bytes);
-    assert_eq!(rt; choose_weighted(&mut early, &weights), Ok(1));
-    assert_eq!(rt; early.drawn(), 128);
+    equal(&rt, choose_weighted(&mut early, &weights), Ok(1));
+    equal(&rt, early.drawn(), 128);
 
     let mut bytes = [0; 129];
     bytes[128] = 1;
     let mut late = Script::new(&bytes);
-    assert_eq!(rt;
+    equal(
+        &rt,
         choose_weighted(&mut late, &weights),
-        Err(WeightError::Exhausted)
+        Err(WeightError::Exhausted),
     );
-    assert_eq!(rt; late.drawn(), 128);
-    assert_eq!(rt; choose_weighted(&mut late, &weights), Ok(1));
-    assert_eq!(rt; late.drawn(), 129);
+    equal(&rt, late.drawn(), 128);
+    equal(&rt, choose_weighted(&mut late, &weights), Ok(1));
+    equal(&rt, late.drawn(), 129);
 }
 
 // The item of each number below 16, for the weights 5, 0, 1 and 10.
@@ -140,14 +143,15 @@ fn chosen_by_number<G: Rng<OUTPUT> + Drop, const OUTPUT: usize>(
     for _ in 0..20 {
         let low = Bound::Included(0usize);
         match other.generate_range(low, Bound::Excluded(16)) {
-            Ok(number) => assert_eq!(rt;
+            Ok(number) => equal(
+                rt,
                 choose_weighted(&mut rng, &[5, 0, 1, 10]),
-                Ok(ITEMS[number])
+                Ok(ITEMS[number]),
             ),
-            Err(refusal) => assert_eq!(rt; Err(refusal), Ok(())),
+            Err(refusal) => equal(rt, Err(refusal), Ok(())),
         }
     }
-    assert_eq!(rt; rng.generate::<u64>(), other.generate::<u64>());
+    equal(rt, rng.generate::<u64>(), other.generate::<u64>());
 }
 
 #[test]
@@ -177,7 +181,7 @@ fn texts_of_the_refusals(rt: HostRuntime) -> Result<(), Fail> {
     ];
     for (refusal, text) in refusals {
         let told = format!(in rt.alloc(); "{refusal}")?;
-        assert_eq!(rt; told.as_str(), text);
+        equal(&rt, told.as_str(), text);
     }
     Ok(())
 }

@@ -1,16 +1,11 @@
 -- Known answers: ranges and draws from them, computed from the definitions alone.
-use Rattle.std.specs.Prelude.{◌≡◌, ◌+◌, [], ◌∷◌, true, Some, None, Ok, Err, replicate, pos, negsuc, ◌++◌, map, refl}
+use Rattle.std.specs.Prelude.{◌≡◌, ◌+◌, [], ◌∷◌, Some, None, Ok, Err, replicate, pos, negsuc, ◌++◌, map, refl}
 use Rattle.std.specs.declared.ops.Bound.TheVariants.{Included, Excluded, Unbounded}
 use Rattle.nanorand_core.specs.generators.Blocks.{taken, plain}
 use Rattle.nanorand_core.specs.values.Runs.{named}
 use Rattle.nanorand_core.specs.values.Range.{unsigned_range, signed_range, range_within}
 use Rattle.nanorand_core.specs.values.Draws.{unsigned_outcome, signed_outcome, deciding_place, value_drawn, left_by, left_after, words_from}
 use Rattle.nanorand_core.specs.declared.values.range.RangeError.TheVariants.{Empty, Exhausted}
-use Rattle.nanorand_core.specs.replay.Replay.{replayed}
-use Rattle.nanorand_core.specs.declared.replay.Kind.TheVariants as kinds
-use Rattle.nanorand_core.specs.declared.replay.Span.TheVariants as spans
-use Rattle.nanorand_core.specs.declared.replay.Call.TheVariants.{Gen, Range}
-use Rattle.nanorand_core.specs.declared.replay.Answer.TheVariants as answers
 use Rattle.nanorand_core.proofs.known_answers.SmallGenerators.{steps}
 
 -- the numbers that words of 8 bits name, for the sizes 3, 171 and 256
@@ -97,9 +92,3 @@ signed_by_the_word = refl
 least_of_all : signed_outcome steps 8 0 Unbounded Unbounded ≡ (Ok (negsuc 127), 1)
 unfolding named range_within words_from value_drawn left_by left_after taken
 least_of_all = refl
-
--- a refused call does not end a replay
-refused_call_goes_on : (replayed steps 0 [] (Gen kinds.U8 ∷ Range (spans.U8 (Included 5) (Excluded 5)) ∷ Range (spans.U8 (Included 10) (Included 12)) ∷ Gen kinds.Bool ∷ [])).answers
-    ≡ answers.Unsigned 0 ∷ answers.Empty ∷ answers.Unsigned 10 ∷ answers.Truth true ∷ []
-unfolding named range_within words_from value_drawn left_by left_after taken
-refused_call_goes_on = refl

@@ -3,15 +3,15 @@ use Rattle.std.specs.Prelude.{◌≡◌, ℕ, ◌-◌, ◌^◌, List, [], ◌∷
 use Rattle.std.specs.List.{range_with_len}
 use Rattle.std.specs.declared.ops.Bound.TheVariants.{Included, Unbounded}
 use Rattle.nanorand_core.specs.generators.Blocks.{taken, plain_after, plain}
-use Rattle.nanorand_core.specs.generators.Buffered.{Buffered, buffered, buffer_of, buffered_block, buffered_step, buffered_taken, buffered_after}
+use Rattle.nanorand_streams.specs.generators.Buffered.{Buffered, buffered, buffer_of, buffered_block, buffered_step, buffered_taken, buffered_after}
 use Rattle.nanorand_core.specs.values.Runs.{named}
 use Rattle.nanorand_core.specs.values.Range.{range_within}
 use Rattle.nanorand_core.specs.values.Draws.{unsigned_outcome, words_from, value_drawn, left_by, left_after}
-use Rattle.nanorand_core.specs.replay.Replay.{replayed}
-use Rattle.nanorand_core.specs.declared.replay.Kind.TheVariants as kinds
-use Rattle.nanorand_core.specs.declared.replay.Span.TheVariants as spans
-use Rattle.nanorand_core.specs.declared.replay.Call.TheVariants.{Gen, Range}
-use Rattle.nanorand_core.specs.declared.replay.Answer.TheVariants.{Unsigned, Exhausted}
+use Rattle.nanorand_streams.specs.replay.Replay.{replayed}
+use Rattle.nanorand_streams.specs.declared.replay.Kind.TheVariants as kinds
+use Rattle.nanorand_streams.specs.declared.replay.Span.TheVariants as spans
+use Rattle.nanorand_streams.specs.declared.replay.Call.TheVariants.{Gen, Range}
+use Rattle.nanorand_streams.specs.declared.replay.Answer.TheVariants.{Unsigned, Exhausted}
 use Rattle.nanorand_rows.specs.Steps.{next_count, steps_block}
 use Rattle.nanorand_rows.specs.Rising.{rising_block}
 use Rattle.nanorand_rows.specs.Constant.{constant_block, constant_step}

@@ -1,7 +1,7 @@
 //! A proved caller of a buffer around a buffer, which has the same contract as a buffer around any
 //! generator.
 ghost use Rattle.std.specs.Prelude.{◌≡◌, length, Ok};
-ghost use Rattle.nanorand_core.specs.generators.Buffered.{buffered_after, buffered_block, buffered_step, buffered_taken};
+ghost use Rattle.nanorand_streams.specs.generators.Buffered.{buffered_after, buffered_block, buffered_step, buffered_taken};
 ghost use Rattle.nanorand_rows.specs.Steps.{next_count, steps_block};
 
 use crate::Steps;

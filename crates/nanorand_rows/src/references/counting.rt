@@ -2,6 +2,7 @@
 ghost use Rattle.std.specs.Prelude.{◌≡◌, ◌≤◌};
 ghost use Rattle.nanorand_core.specs.shuffles.Arrangements.{copies};
 
+use comparing::equal;
 use nanorand::shuffles::choices_of;
 use std::process::Abort;
 
@@ -38,12 +39,12 @@ fn check_by_counting<const N: usize>(rt: &impl Abort, lists: usize, permutations
         write_digits(code, &mut order);
         let once = holds_each_once(&order);
         let made = choices_of(&order, &mut [9; N], &mut [9; N]);
-        assert_eq!(rt; made.is_ok(), once);
+        equal(rt, made.is_ok(), once);
         if once {
             found = found.wrapping_add(1);
         }
     }
-    assert_eq!(rt; found, permutations);
+    equal(rt, found, permutations);
 }
 
 #[test]
@@ -60,7 +61,7 @@ fn a_number_twice_and_one_beyond(rt: HostRuntime) {
     for numbers in [[0, 0, 1], [3, 0, 1], [2, 0, 1]] {
         let once = holds_each_once(&numbers);
         let made = choices_of(&numbers, &mut [9; 3], &mut [9; 3]);
-        assert_eq!(rt; once, numbers == [2, 0, 1]);
-        assert_eq!(rt; made.is_ok(), once);
+        equal(&rt, once, numbers == [2, 0, 1]);
+        equal(&rt, made.is_ok(), once);
     }
 }

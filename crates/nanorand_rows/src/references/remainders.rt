@@ -3,6 +3,7 @@
 ghost use Rattle.std.specs.Prelude.{◌^◌, ◌<◌, ◌≤◌};
 ghost use Rattle.nanorand_core.specs.values.Runs.{IsWordWidth};
 
+use comparing::equal_at;
 use nanorand::values::pick_word;
 
 pub(super) fn pick_by_remainder(size: u128, bits: u32, word: u64) -> Option<u64>
@@ -26,10 +27,11 @@ fn both_agree_on_every_size_and_word_of_eight_bits(rt: HostRuntime) {
         let size = u128::from(below) + 1;
         for byte in 0..=255u8 {
             let word = u64::from(byte);
-            assert_eq!(rt;
+            equal_at(
+                &rt,
                 pick_word(size, 8, word),
                 pick_by_remainder(size, 8, word),
-                "{size} {word}"
+                format_args!("{size} {word}"),
             );
         }
     }

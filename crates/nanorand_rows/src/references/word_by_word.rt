@@ -5,6 +5,7 @@ ghost use Rattle.nanorand_core.specs.values.Runs.{IsWordWidth};
 
 use super::remainders::pick_by_remainder;
 use crate::ByteScript;
+use comparing::{equal, equal_at};
 use nanorand::Rng;
 use nanorand::values::pick_word;
 use nanorand::values::word::draw_below;
@@ -86,15 +87,17 @@ fn check_draw(rt: &impl Abort, size: u128, bits: u32, zeros: u8, words: [u64; 2]
     let by_picks = draw_by_picks(&mut once, size, bits);
     let (by_formula, drawn) = draw_by_formula(size, bits, usize::from(zeros), words);
     let end = start.wrapping_add(drawn.wrapping_mul(length));
-    assert_eq!(rt;
+    equal_at(
+        rt,
         (number, now.drawn()),
         (by_picks, once.drawn()),
-        "{size} {bits} {zeros} {words:?}"
+        format_args!("{size} {bits} {zeros} {words:?}"),
     );
-    assert_eq!(rt;
+    equal_at(
+        rt,
         (number, now.drawn()),
         (by_formula, end),
-        "{size} {bits} {zeros} {words:?}"
+        format_args!("{size} {bits} {zeros} {words:?}"),
     );
 }
 
@@ -152,7 +155,7 @@ fn check_size(rt: &impl Abort, size: u128, bits: u32)
     let (accepted, rejected) = boundary_words(size, bits);
     if size % 2 == 1 {
         assert!(rt; pick_word(size, bits, accepted).is_some());
-        assert_eq!(rt; pick_word(size, bits, rejected).is_none(), size > 1);
+        equal(rt, pick_word(size, bits, rejected).is_none(), size > 1);
     }
     let beside = [accepted.wrapping_add(1), rejected.wrapping_add(1)];
     check_words(

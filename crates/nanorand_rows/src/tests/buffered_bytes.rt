@@ -1,38 +1,40 @@
 //! The number of buffered bytes after one request and another.
 
 use crate::Steps;
+use comparing::equal;
 use nanorand::{BufferedRng, Rng};
 use std::test::Fail;
 
 #[test]
 fn requests_and_buffered_bytes(rt: HostRuntime) -> Result<(), Fail> {
     let mut buffer = BufferedRng::new(Steps::new());
-    assert_eq!(rt; buffer.buffered(), 0);
-    assert_eq!(rt; buffer.generate::<u8>(), 0);
+    equal(&rt, buffer.buffered(), 0);
+    equal(&rt, buffer.generate::<u8>(), 0);
 
     let mut bytes = [0; 20];
     buffer.fill_bytes(&mut bytes);
-    assert_eq!(rt;
+    equal(
+        &rt,
         bytes,
         [
-            1, 2, 3, 4, 5, 6, 7, 8, 9, 10, 11, 12, 13, 14, 15, 16, 17, 18, 19, 20
-        ]
+            1, 2, 3, 4, 5, 6, 7, 8, 9, 10, 11, 12, 13, 14, 15, 16, 17, 18, 19, 20,
+        ],
     );
-    assert_eq!(rt; buffer.buffered(), 3);
-    assert_eq!(rt; buffer.clone()?.into_inner().drawn(), 3);
+    equal(&rt, buffer.buffered(), 3);
+    equal(&rt, buffer.clone()?.into_inner().drawn(), 3);
 
-    assert_eq!(rt; buffer.generate::<u8>(), 21);
-    assert_eq!(rt; buffer.buffered(), 2);
+    equal(&rt, buffer.generate::<u8>(), 21);
+    equal(&rt, buffer.buffered(), 2);
 
     buffer.fill_bytes(&mut []);
-    assert_eq!(rt; buffer.buffered(), 2);
-    assert_eq!(rt; buffer.clone()?.into_inner().drawn(), 3);
+    equal(&rt, buffer.buffered(), 2);
+    equal(&rt, buffer.clone()?.into_inner().drawn(), 3);
 
     let mut rest = Vec::new(rt.alloc());
-    assert_eq!(rt; buffer.read_to_end(&mut rest), Ok(2));
-    assert_eq!(rt; rest.as_slice(), [22, 23].as_slice());
-    assert_eq!(rt; buffer.buffered(), 0);
-    assert_eq!(rt; buffer.into_inner().drawn(), 3);
+    equal(&rt, buffer.read_to_end(&mut rest), Ok(2));
+    equal(&rt, rest.as_slice(), [22, 23].as_slice());
+    equal(&rt, buffer.buffered(), 0);
+    equal(&rt, buffer.into_inner().drawn(), 3);
     Ok(())
 }
 
@@ -43,13 +45,14 @@ fn whole_blocks_leave_nothing_buffered(rt: HostRuntime) {
     let mut buffer = BufferedRng::new(Steps::new());
     let mut bytes = [0; 16];
     buffer.fill_bytes(&mut bytes);
-    assert_eq!(rt;
+    equal(
+        &rt,
         bytes,
-        [0, 1, 2, 3, 4, 5, 6, 7, 8, 9, 10, 11, 12, 13, 14, 15]
+        [0, 1, 2, 3, 4, 5, 6, 7, 8, 9, 10, 11, 12, 13, 14, 15],
     );
-    assert_eq!(rt; buffer.buffered(), 0);
+    equal(&rt, buffer.buffered(), 0);
     buffer.fill_bytes(&mut []);
-    assert_eq!(rt; buffer.generate::<u64>(), 0x1716151413121110);
-    assert_eq!(rt; buffer.buffered(), 0);
-    assert_eq!(rt; buffer.into_inner().drawn(), 3);
+    equal(&rt, buffer.generate::<u64>(), 0x1716151413121110);
+    equal(&rt, buffer.buffered(), 0);
+    equal(&rt, buffer.into_inner().drawn(), 3);
 }

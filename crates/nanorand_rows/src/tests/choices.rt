@@ -1,6 +1,7 @@
 //! Choices, and the permutations that they make.
 ghost use Rattle.std.specs.Prelude.{◌≤◌};
 
+use comparing::{display_is, equal};
 use nanorand::shuffles::{NotArrangement, apply_choices, choices_of};
 use std::process::Abort;
 use std::test::Fail;
@@ -9,15 +10,20 @@ use std::test::Fail;
 fn lists_and_their_choices(rt: HostRuntime) {
     let mut choices = [9; 3];
     let mut scratch = [9; 3];
-    assert_eq!(rt; choices_of(&[2, 0, 1], &mut choices, &mut scratch), Ok(()));
-    assert_eq!(rt; choices, [2, 2, 2]);
+    equal(
+        &rt,
+        choices_of(&[2, 0, 1], &mut choices, &mut scratch),
+        Ok(()),
+    );
+    equal(&rt, choices, [2, 2, 2]);
     for order in [[0, 0, 1], [3, 0, 1]] {
-        assert_eq!(rt;
+        equal(
+            &rt,
             choices_of(&order, &mut choices, &mut scratch),
-            Err(NotArrangement)
+            Err(NotArrangement),
         );
     }
-    assert_eq!(rt; choices_of(&[], &mut [], &mut []), Ok(()));
+    equal(&rt, choices_of(&[], &mut [], &mut []), Ok(()));
 }
 
 // The six valid lists of three choices, and the permutations of 0, 1, 2 that they make.
@@ -35,12 +41,12 @@ fn three_choices(rt: HostRuntime) {
         let mut found = [9; 3];
         match choices_of(&order, &mut found, &mut [9; 3]) {
             Ok(()) => {
-                assert_eq!(rt; found, choices);
+                equal(&rt, found, choices);
                 let mut items = [0, 1, 2];
                 apply_choices(&found, &mut items);
-                assert_eq!(rt; items, order);
+                equal(&rt, items, order);
             }
-            Err(refusal) => assert_eq!(rt; Err(refusal), Ok(())),
+            Err(refusal) => equal(&rt, Err(refusal), Ok(())),
         }
     }
 }
@@ -76,13 +82,13 @@ fn check_inverse<const N: usize>(rt: &impl Abort, lists: usize, permutations: us
             let mut items = [0; N];
             write_indices(&mut items);
             apply_choices(&choices, &mut items);
-            assert_eq!(rt; items, order);
+            equal(rt, items, order);
             let mut again = [9; N];
-            assert_eq!(rt; choices_of(&items, &mut again, &mut [9; N]), Ok(()));
-            assert_eq!(rt; again, choices);
+            equal(rt, choices_of(&items, &mut again, &mut [9; N]), Ok(()));
+            equal(rt, again, choices);
         }
     }
-    assert_eq!(rt; found, permutations);
+    equal(rt, found, permutations);
 }
 
 #[test]
@@ -97,9 +103,6 @@ fn each_undoes_the_other(rt: HostRuntime) {
 
 #[test]
 fn text_of_the_refusal(rt: HostRuntime) -> Result<(), Fail> {
-    assert_eq!(rt;
-        format!(in rt.alloc(); "{NotArrangement}")?.as_str(),
-        "the list is no arrangement"
-    );
+    display_is(&rt, &NotArrangement, "the list is no arrangement")?;
     Ok(())
 }

@@ -1,5 +1,6 @@
 //! The derived `Clone`, `Copy`, `PartialEq` and `Debug` of the small types.
 
+use comparing::{debug_is, equal, equal_at};
 use nanorand::buffer::{RestTooLong, TextRefused};
 use nanorand::choices::weighted::WeightError;
 use nanorand::entropy::EntropyError;
@@ -68,8 +69,18 @@ const ENTROPY_ERRORS: [(EntropyError, &str); 3] = [
 // The value at the index equals no other value of the rows.
 fn check_equality<T: Eq>(rt: &impl Abort, rows: &[(T, &str)], index: usize, value: &T) {
     for (other_index, (other, text)) in rows.iter().enumerate() {
-        assert_eq!(rt; value == other, index == other_index, "{index} and {text}");
-        assert_eq!(rt; value != other, index != other_index, "{index} and {text}");
+        equal_at(
+            rt,
+            value == other,
+            index == other_index,
+            format_args!("{index} and {text}"),
+        );
+        equal_at(
+            rt,
+            value != other,
+            index != other_index,
+            format_args!("{index} and {text}"),
+        );
     }
 }
 
@@ -80,9 +91,9 @@ fn check<T: Copy + Eq + fmt::Debug + Drop>(
 ) -> Result<(), AllocError> {
     for (index, (value, text)) in rows.iter().enumerate() {
         let (first, second) = (*value, *value);
-        assert_eq!(rt; first, second);
-        assert_eq!(rt; value.clone()?, first);
-        assert_eq!(rt; format!(in rt.alloc(); "{value:?}")?.as_str(), *text);
+        equal(rt, first, second);
+        equal(rt, value.clone()?, first);
+        debug_is(rt, &value, *text)?;
         check_equality(rt, rows, index, value);
     }
     Ok(())

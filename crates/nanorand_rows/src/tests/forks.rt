@@ -2,19 +2,20 @@
 
 use crate::Forking;
 use crate::generators::forking::{fill_from_clone, parts_of_clone};
+use comparing::{equal, equal_at};
 use nanorand::{Blocks, BufferedRng, Rng};
 use std::test::Fail;
 
 #[test]
 fn a_clone_gives_the_next_stream(rt: HostRuntime) -> Result<(), Fail> {
     let mut original = Forking::new(7);
-    assert_eq!(rt; original.rand(), [7, 0, 7, 0, 7, 0, 7, 0]);
+    equal(&rt, original.rand(), [7, 0, 7, 0, 7, 0, 7, 0]);
     let mut copy = original.clone()?;
-    assert_eq!(rt; copy.rand(), [8, 1, 8, 1, 8, 1, 8, 1]);
-    assert_eq!(rt; original.rand(), [7, 1, 7, 1, 7, 1, 7, 1]);
-    assert_eq!(rt; copy.generate::<u16>(), 0x0208);
-    assert_eq!(rt; original.generate::<u16>(), 0x0207);
-    assert_eq!(rt; copy.clone()?.stream, 9);
+    equal(&rt, copy.rand(), [8, 1, 8, 1, 8, 1, 8, 1]);
+    equal(&rt, original.rand(), [7, 1, 7, 1, 7, 1, 7, 1]);
+    equal(&rt, copy.generate::<u16>(), 0x0208);
+    equal(&rt, original.generate::<u16>(), 0x0207);
+    equal(&rt, copy.clone()?.stream, 9);
     Ok(())
 }
 
@@ -32,17 +33,17 @@ fn after_five() -> BufferedRng<Forking, 8> {
 fn a_buffer_keeps_the_bytes_of_its_original(rt: HostRuntime) -> Result<(), Fail> {
     let mut original = after_five();
     let mut copy = original.clone()?;
-    assert_eq!(rt; original.buffered(), 3);
-    assert_eq!(rt; copy.buffered(), 3);
+    equal(&rt, original.buffered(), 3);
+    equal(&rt, copy.buffered(), 3);
     let (mut own, mut other) = ([9; 6], [9; 6]);
     original.fill_bytes(&mut own);
     copy.fill_bytes(&mut other);
-    assert_eq!(rt; own, [0, 7, 0, 7, 1, 7]);
-    assert_eq!(rt; other, [0, 7, 0, 8, 1, 8]);
-    assert_eq!(rt; original.into_inner().stream, 7);
+    equal(&rt, own, [0, 7, 0, 7, 1, 7]);
+    equal(&rt, other, [0, 7, 0, 8, 1, 8]);
+    equal(&rt, original.into_inner().stream, 7);
     let inner = copy.into_inner();
-    assert_eq!(rt; inner.stream, 8);
-    assert_eq!(rt; inner.drawn, 2);
+    equal(&rt, inner.stream, 8);
+    equal(&rt, inner.drawn, 2);
     Ok(())
 }
 
@@ -53,15 +54,17 @@ fn a_buffer_is_cloned_where_its_generator_is(rt: HostRuntime) {
     for stream in 0..=255 {
         let mut rng = BufferedRng::new(Forking::new(stream));
         for buffered in [0, 7, 6, 5, 4, 3, 2, 1] {
-            assert_eq!(rt; rng.buffered(), buffered);
-            assert_eq!(rt;
+            equal(&rt, rng.buffered(), buffered);
+            equal_at(
+                &rt,
                 rng.clone().is_ok(),
                 stream < 255,
-                "{stream} and {buffered}"
+                format_args!("{stream} and {buffered}"),
             );
-            assert_eq!(rt;
+            equal(
+                &rt,
                 rng.generate::<u8>(),
-                if buffered % 2 == 0 { stream } else { 0 }
+                if buffered % 2 == 0 { stream } else { 0 },
             );
         }
     }
@@ -71,12 +74,12 @@ fn a_buffer_is_cloned_where_its_generator_is(rt: HostRuntime) {
 fn callers_of_a_clone(rt: HostRuntime) -> Result<(), Fail> {
     let rng = after_five();
     let (buffered, inner) = parts_of_clone(&rng)?;
-    assert_eq!(rt; buffered, 3);
-    assert_eq!(rt; inner.stream, 8);
-    assert_eq!(rt; inner.drawn, 1);
+    equal(&rt, buffered, 3);
+    equal(&rt, inner.stream, 8);
+    equal(&rt, inner.drawn, 1);
     let mut bytes = [9; 6];
     fill_from_clone(&rng, &mut bytes)?;
-    assert_eq!(rt; bytes, [0, 7, 0, 8, 1, 8]);
-    assert_eq!(rt; rng.buffered(), 3);
+    equal(&rt, bytes, [0, 7, 0, 8, 1, 8]);
+    equal(&rt, rng.buffered(), 3);
     Ok(())
 }

@@ -2,6 +2,7 @@
 ghost use Rattle.std.specs.Prelude.{◌≤◌};
 
 use crate::{Bytes1, Bytes64, Constant, Die, Script, Steps, Waste, Zeros};
+use comparing::{equal, equal_at};
 use nanorand::replay::{Answer, Call, Kind, Span, replay};
 use nanorand::{BufferedRng, RangeError, Rng};
 use std::ops::Bound;
@@ -26,15 +27,15 @@ fn a_refused_range_and_a_byte(rt: HostRuntime) {
     let mut plain = Script::new(&list);
     let mut answers = [Answer::Empty; 2];
     replay(&mut plain, &calls, &mut [], &mut answers);
-    assert_eq!(rt; answers, [Answer::Exhausted, Answer::Unsigned(1)]);
-    assert_eq!(rt; plain.drawn(), 129);
+    equal(&rt, answers, [Answer::Exhausted, Answer::Unsigned(1)]);
+    equal(&rt, plain.drawn(), 129);
 
     let mut buffered = BufferedRng::new(Script::new(&list));
     let mut answers = [Answer::Empty; 2];
     replay(&mut buffered, &calls, &mut [], &mut answers);
-    assert_eq!(rt; answers, [Answer::Exhausted, Answer::Unsigned(0)]);
-    assert_eq!(rt; buffered.buffered(), 7);
-    assert_eq!(rt; buffered.into_inner().drawn(), 17);
+    equal(&rt, answers, [Answer::Exhausted, Answer::Unsigned(0)]);
+    equal(&rt, buffered.buffered(), 7);
+    equal(&rt, buffered.into_inner().drawn(), 17);
 }
 
 #[test]
@@ -48,64 +49,64 @@ fn a_refused_shuffle_and_a_bool(rt: HostRuntime) {
         &mut items,
         &mut answers,
     );
-    assert_eq!(rt; answers, [Answer::Exhausted, Answer::Truth(true)]);
-    assert_eq!(rt; items, [7, 8, 9]);
-    assert_eq!(rt; zeros.drawn(), 129);
+    equal(&rt, answers, [Answer::Exhausted, Answer::Truth(true)]);
+    equal(&rt, items, [7, 8, 9]);
+    equal(&rt, zeros.drawn(), 129);
 }
 
 #[test]
 fn blocks_of_one_byte(rt: HostRuntime) {
     let mut plain = Bytes1::new();
-    assert_eq!(rt; plain.generate::<u16>(), 0x0100);
-    assert_eq!(rt; plain.drawn(), 2);
+    equal(&rt, plain.generate::<u16>(), 0x0100);
+    equal(&rt, plain.drawn(), 2);
     let mut buffered = BufferedRng::new(Bytes1::new());
-    assert_eq!(rt; buffered.generate::<u16>(), 0x0100);
-    assert_eq!(rt; buffered.buffered(), 0);
-    assert_eq!(rt; buffered.into_inner().drawn(), 2);
+    equal(&rt, buffered.generate::<u16>(), 0x0100);
+    equal(&rt, buffered.buffered(), 0);
+    equal(&rt, buffered.into_inner().drawn(), 2);
 }
 
 #[test]
 fn blocks_of_64_bytes(rt: HostRuntime) {
     let mut plain = Bytes64::new();
-    assert_eq!(rt; plain.generate::<u8>(), 0);
-    assert_eq!(rt; plain.generate::<u8>(), 64);
-    assert_eq!(rt; plain.drawn(), 2);
+    equal(&rt, plain.generate::<u8>(), 0);
+    equal(&rt, plain.generate::<u8>(), 64);
+    equal(&rt, plain.drawn(), 2);
     let mut buffered = BufferedRng::new(Bytes64::new());
-    assert_eq!(rt; buffered.generate::<u8>(), 0);
-    assert_eq!(rt; buffered.generate::<u8>(), 1);
-    assert_eq!(rt; buffered.buffered(), 62);
-    assert_eq!(rt; buffered.into_inner().drawn(), 1);
+    equal(&rt, buffered.generate::<u8>(), 0);
+    equal(&rt, buffered.generate::<u8>(), 1);
+    equal(&rt, buffered.buffered(), 62);
+    equal(&rt, buffered.into_inner().drawn(), 1);
 }
 
 #[test]
 fn wasted_blocks(rt: HostRuntime) {
     let mut waste = Waste::new();
-    assert_eq!(rt; waste.generate::<u8>(), 0);
-    assert_eq!(rt; waste.generate::<u64>(), 0x1716151413121110);
-    assert_eq!(rt; waste.generate::<u8>(), 24);
-    assert_eq!(rt; waste.drawn(), 5);
+    equal(&rt, waste.generate::<u8>(), 0);
+    equal(&rt, waste.generate::<u64>(), 0x1716151413121110);
+    equal(&rt, waste.generate::<u8>(), 24);
+    equal(&rt, waste.drawn(), 5);
     let mut buffered = BufferedRng::new(Waste::new());
-    assert_eq!(rt; buffered.generate::<u8>(), 0);
-    assert_eq!(rt; buffered.generate::<u8>(), 1);
+    equal(&rt, buffered.generate::<u8>(), 0);
+    equal(&rt, buffered.generate::<u8>(), 1);
 }
 
 #[test]
 fn throws_of_a_die(rt: HostRuntime) -> Result<(), Fail> {
     let mut zeros = Zeros::new();
-    assert_eq!(rt; zeros.generate::<Die>().pips(), 1);
-    assert_eq!(rt; zeros.drawn(), 128);
+    equal(&rt, zeros.generate::<Die>().pips(), 1);
+    equal(&rt, zeros.drawn(), 128);
 
     let mut steps = Steps::new();
-    assert_eq!(rt; steps.generate::<Die>().pips(), 1);
-    assert_eq!(rt; steps.drawn(), 2);
+    equal(&rt, steps.generate::<Die>().pips(), 1);
+    equal(&rt, steps.drawn(), 2);
 
     let mut steps = Steps::new();
     let pips = steps.generate_range(Bound::Included(Die::new(2)), Bound::Unbounded);
-    assert_eq!(rt; pips.map(|die| die.pips()), Ok(2));
-    assert_eq!(rt; steps.drawn(), 2);
+    equal(&rt, pips.map(|die| die.pips()), Ok(2));
+    equal(&rt, steps.drawn(), 2);
 
     let none = Steps::new().generate_range(Bound::Excluded(Die::new(6)), Bound::Unbounded);
-    assert_eq!(rt; none.map(|die| die.pips()), Err(RangeError::Empty));
+    equal(&rt, none.map(|die| die.pips()), Err(RangeError::Empty));
     Ok(())
 }
 
@@ -127,9 +128,9 @@ fn ranges_of_dice(rt: HostRuntime) {
             let both = (die_between(low, high, 1), die_between(low, high, 255));
             if high < low {
                 let empty = (Err(RangeError::Empty), Err(RangeError::Empty));
-                assert_eq!(rt; both, empty, "{low} {high}");
+                equal_at(&rt, both, empty, format_args!("{low} {high}"));
             } else {
-                assert_eq!(rt; both, (Ok(low), Ok(high)), "{low} {high}");
+                equal_at(&rt, both, (Ok(low), Ok(high)), format_args!("{low} {high}"));
             }
         }
     }
@@ -161,13 +162,18 @@ fn every_size_and_byte(rt: HostRuntime) {
             };
             let drawn = constant.generate_range::<u8>(Bound::Included(0), high);
             match named_by_counting(size, byte) {
-                Some(number) => assert_eq!(rt; drawn, Ok(number), "{byte} of {size}"),
+                Some(number) => equal_at(&rt, drawn, Ok(number), format_args!("{byte} of {size}")),
                 None => {
-                    assert_eq!(rt; drawn, Err(RangeError::Exhausted), "{byte} of {size}");
+                    equal_at(
+                        &rt,
+                        drawn,
+                        Err(RangeError::Exhausted),
+                        format_args!("{byte} of {size}"),
+                    );
                     refused = refused.wrapping_add(1);
                 }
             }
         }
-        assert_eq!(rt; refused, 256 % size, "{size}");
+        equal_at(&rt, refused, 256 % size, format_args!("{size}"));
     }
 }

@@ -1,6 +1,7 @@
 //! Ranges of unsigned numbers, and the numbers that words name.
 
 use crate::{Constant, Script, Steps, Zeros};
+use comparing::{debug_is, display_is, equal};
 use nanorand::replay::{Answer, Call, Kind, Span, replay};
 use nanorand::values::pick_word;
 use nanorand::{RangeError, Rng, WyRand};
@@ -19,7 +20,7 @@ fn bytes_name_numbers(rt: HostRuntime) {
         (255, Some(2)),
     ];
     for (word, number) in thirds {
-        assert_eq!(rt; pick_word(3, 8, u64::from(word)), number);
+        equal(&rt, pick_word(3, 8, u64::from(word)), number);
     }
     let two_thirds = [
         (0u8, None),
@@ -30,10 +31,10 @@ fn bytes_name_numbers(rt: HostRuntime) {
         (255, Some(170)),
     ];
     for (word, number) in two_thirds {
-        assert_eq!(rt; pick_word(171, 8, u64::from(word)), number);
+        equal(&rt, pick_word(171, 8, u64::from(word)), number);
     }
-    assert_eq!(rt; pick_word(256, 8, 0), Some(0));
-    assert_eq!(rt; pick_word(256, 8, 255), Some(255));
+    equal(&rt, pick_word(256, 8, 0), Some(0));
+    equal(&rt, pick_word(256, 8, 255), Some(255));
 }
 
 #[test]
@@ -46,31 +47,34 @@ fn words_name_numbers(rt: HostRuntime) {
         (u64::MAX, Some(1 << 63)),
     ];
     for (word, number) in halves {
-        assert_eq!(rt; pick_word((1 << 63) + 1, 64, word), number);
+        equal(&rt, pick_word((1 << 63) + 1, 64, word), number);
     }
-    assert_eq!(rt; pick_word(1 << 64, 64, u64::MAX), Some(u64::MAX));
+    equal(&rt, pick_word(1 << 64, 64, u64::MAX), Some(u64::MAX));
 }
 
 #[test]
 fn the_first_accepted_word_decides(rt: HostRuntime) {
     let mut zeros = Zeros::new();
-    assert_eq!(rt;
+    equal(
+        &rt,
         zeros.generate_range::<u8>(Included(10), Included(12)),
-        Err(RangeError::Exhausted)
+        Err(RangeError::Exhausted),
     );
-    assert_eq!(rt; zeros.drawn(), 128);
+    equal(&rt, zeros.drawn(), 128);
 
-    assert_eq!(rt;
+    equal(
+        &rt,
         Zeros::new().generate_range::<u8>(Included(10), Included(13)),
-        Ok(10)
+        Ok(10),
     );
 
     let mut steps = Steps::new();
-    assert_eq!(rt;
+    equal(
+        &rt,
         steps.generate_range::<u8>(Included(10), Included(12)),
-        Ok(10)
+        Ok(10),
     );
-    assert_eq!(rt; steps.drawn(), 2);
+    equal(&rt, steps.drawn(), 2);
 }
 
 #[test]
@@ -78,36 +82,44 @@ fn the_last_of_128_words_may_decide(rt: HostRuntime) {
     let mut bytes = [0; 129];
     bytes[127] = 1;
     let mut early = Script::new(&bytes);
-    assert_eq!(rt;
+    equal(
+        &rt,
         early.generate_range::<u8>(Included(10), Included(12)),
-        Ok(10)
+        Ok(10),
     );
-    assert_eq!(rt; early.drawn(), 128);
+    equal(&rt, early.drawn(), 128);
 
     let mut bytes = [0; 129];
     bytes[128] = 1;
     let mut late = Script::new(&bytes);
-    assert_eq!(rt;
+    equal(
+        &rt,
         late.generate_range::<u8>(Included(10), Included(12)),
-        Err(RangeError::Exhausted)
+        Err(RangeError::Exhausted),
     );
-    assert_eq!(rt; late.drawn(), 128);
-    assert_eq!(rt;
+    equal(&rt, late.drawn(), 128);
+    equal(
+        &rt,
         late.generate_range::<u8>(Included(10), Included(12)),
-        Ok(10)
+        Ok(10),
     );
 }
 
 #[test]
 fn whole_types_and_single_numbers(rt: HostRuntime) {
-    assert_eq!(rt;
+    equal(
+        &rt,
         Constant::new(255).generate_range::<u8>(Unbounded, Unbounded),
-        Ok(255)
+        Ok(255),
     );
     for byte in [0, 255] {
         let mut any = Constant::new(byte);
-        assert_eq!(rt; any.generate_range::<u64>(Included(7), Included(7)), Ok(7));
-        assert_eq!(rt; any.drawn, 1);
+        equal(
+            &rt,
+            any.generate_range::<u64>(Included(7), Included(7)),
+            Ok(7),
+        );
+        equal(&rt, any.drawn, 1);
     }
 }
 
@@ -121,9 +133,21 @@ fn empty_ranges_draw_nothing(rt: HostRuntime) {
     ];
     let mut steps = Steps::new();
     for (low, high) in rows {
-        assert_eq!(rt; steps.generate_range(low, high), Err(RangeError::Empty));
+        equal(&rt, steps.generate_range(low, high), Err(RangeError::Empty));
     }
-    assert_eq!(rt; steps.drawn(), 0);
+    equal(&rt, steps.drawn(), 0);
+}
+
+// Whether a number was drawn, and is one of these.
+pub fn is_within<T: PartialOrd + Drop>(
+    drawn: Result<T, RangeError>,
+    least: T,
+    greatest: T,
+) -> bool {
+    match drawn {
+        Ok(number) => least <= number && number <= greatest,
+        Err(_) => false,
+    }
 }
 
 #[test]
@@ -131,13 +155,13 @@ fn ensure_unsigned_in_range(rt: HostRuntime) {
     let mut wyrand = WyRand::new_seed(42);
     for _ in 0..1000 {
         let number = wyrand.generate_range::<u64>(Included(10), Included(20));
-        assert!(rt; number.is_ok_and(|number| 10 <= number && number <= 20));
+        assert!(rt; is_within(number, 10, 20));
         let number = wyrand.generate_range::<u64>(Included(10), Excluded(30));
-        assert!(rt; number.is_ok_and(|number| 10 <= number && number < 30));
+        assert!(rt; is_within(number, 10, 29));
         let number = wyrand.generate_range::<u64>(Included(512), Unbounded);
-        assert!(rt; number.is_ok_and(|number| 512 <= number));
+        assert!(rt; is_within(number, 512, u64::MAX));
         let number = wyrand.generate_range::<u64>(Unbounded, Excluded(1024));
-        assert!(rt; number.is_ok_and(|number| number < 1024));
+        assert!(rt; is_within(number, 0, 1023));
     }
 }
 
@@ -152,9 +176,9 @@ fn texts_of_refusals(rt: HostRuntime) -> Result<(), Fail> {
         ),
     ];
     for (refusal, debug, display) in rows {
-        assert_eq!(rt; format!(in rt.alloc(); "{refusal:?}")?.as_str(), debug);
-        assert_eq!(rt; format!(in rt.alloc(); "{refusal}")?.as_str(), display);
-        assert_eq!(rt; refusal.clone()?, refusal);
+        debug_is(&rt, &refusal, debug)?;
+        display_is(&rt, &refusal, display)?;
+        equal(&rt, refusal.clone()?, refusal);
     }
     assert!(rt; RangeError::Empty != RangeError::Exhausted);
     Ok(())
@@ -171,16 +195,17 @@ fn a_refusal_does_not_end_a_replay(rt: HostRuntime) {
     ];
     let mut answers = [Answer::Truth(false); 4];
     replay(&mut steps, &calls, &mut [], &mut answers);
-    assert_eq!(rt;
+    equal(
+        &rt,
         answers,
         [
             Answer::Unsigned(0),
             Answer::Empty,
             Answer::Unsigned(10),
-            Answer::Truth(true)
-        ]
+            Answer::Truth(true),
+        ],
     );
-    assert_eq!(rt; steps.drawn(), 3);
+    equal(&rt, steps.drawn(), 3);
 }
 
 #[test]
@@ -195,15 +220,16 @@ fn unsigned_spans_are_replayed(rt: HostRuntime) {
     ];
     let mut answers = [Answer::Truth(false); 5];
     replay(&mut zeros, &calls, &mut [], &mut answers);
-    assert_eq!(rt;
+    equal(
+        &rt,
         answers,
         [
             Answer::Exhausted,
             Answer::Unsigned(0),
             Answer::Unsigned(1),
             Answer::Exhausted,
-            Answer::Unsigned(3)
-        ]
+            Answer::Unsigned(3),
+        ],
     );
-    assert_eq!(rt; zeros.drawn(), 259);
+    equal(&rt, zeros.drawn(), 259);
 }

@@ -1,6 +1,7 @@
 //! Replays of lists of calls.
 
 use crate::Steps;
+use comparing::equal;
 use nanorand::replay::{Answer, Call, Kind, Span, replay};
 use std::ops::Bound;
 
@@ -20,17 +21,18 @@ fn each_call_begins_a_block(rt: HostRuntime) {
     let mut items = [7, 8, 9];
     let mut answers = [Answer::Empty; 4];
     replay(&mut steps, &calls(), &mut items, &mut answers);
-    assert_eq!(rt;
+    equal(
+        &rt,
         answers,
         [
             Answer::Unsigned(0),
             Answer::Unsigned(10),
             Answer::Shuffled,
             Answer::Truth(true),
-        ]
+        ],
     );
-    assert_eq!(rt; items, [7, 8, 9]);
-    assert_eq!(rt; steps.drawn(), 6);
+    equal(&rt, items, [7, 8, 9]);
+    equal(&rt, steps.drawn(), 6);
 }
 
 #[test]
@@ -38,6 +40,6 @@ fn no_calls(rt: HostRuntime) {
     let mut steps = Steps::new();
     let mut items = [7];
     replay(&mut steps, &[], &mut items, &mut []);
-    assert_eq!(rt; items, [7]);
-    assert_eq!(rt; steps.drawn(), 0);
+    equal(&rt, items, [7]);
+    equal(&rt, steps.drawn(), 0);
 }

@@ -1,7 +1,0 @@
-use Rattle.std.proofs.lemmas.Result.{err_from_is_err_and}
-use Rattle.draw.proofs.run.text_for_arguments.Goals as goal
-
-pub returns-in_err-command-clause-bad_word : goal.returns-in_err-command-clause-bad_word
-returns-in_err-command-clause-bad_word g c = λ k failed.
-    let error = err_from_is_err_and c.from_residual.result c.from_residual.ensures.1 in
-    c.in_err-command.ensures.bad k (let made = error.1 in let kept = error.2 in cc)

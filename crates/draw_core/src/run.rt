@@ -1,0 +1,116 @@
+//! The whole run: from the arguments of the command line to the text that is written.
+
+ghost use Rattle.std.specs.Prelude.{◌≡◌, ◌≢◌, ◌≤◌, ℕ, length, IfOk, IfErr, OnOk, string_bytes};
+ghost use Rattle.std.specs.List.{range_with_len};
+ghost use Rattle.std.specs.Io.KnownBytes.{Appends};
+ghost use Rattle.draw_core.specs.Text.{text_asked, status_of};
+ghost use Rattle.draw_core.specs.Arguments.{Asked, AsksFor, IsFirstUnreadable, asked_by, texts};
+
+use crate::command::{Command, read};
+use crate::error::DrawError;
+use crate::generators::replay_seeded;
+use crate::text::text_of;
+use nanorand::replay::Answer;
+use std::alloc::{AllocError, Allocator};
+use std::io::Write;
+
+/// The items at the start: the numbers 0, 1, .. below the count.
+fn items_below<A: Allocator>(alloc: A, count: u64) -> Result<Vec<u64, A>, AllocError>
+    ensures { IfOk result (λ items. items.items ≡ range_with_len 0 count) }
+{
+    let mut items = Vec::new(alloc);
+    'items: for item in 0..count {
+        items.push(item)?;
+    }
+    Ok(items)
+}
+
+/// The text that the command asks for.
+fn text_of_command<'a, A: Allocator>(
+    alloc: &'a A,
+    command: &Command<&'a A>,
+) -> Result<String<&'a A>, AllocError>
+    ensures { IfOk result (λ text. string_bytes text ≡ text_asked (asked_by command.now)) }
+{
+    let mut items = items_below(alloc, command.count)?;
+    let calls = command.calls.as_slice();
+    let mut answers = vec![in alloc; Answer::Truth(false); calls.len()]?;
+    replay_seeded(
+        command.generator,
+        command.mode,
+        calls,
+        &mut items,
+        &mut answers,
+    );
+    text_of(alloc, &answers, &items)
+}
+
+/// The text that the arguments ask for. Fails with `BadWord` or `Memory`.
+fn text_for_arguments<'a, A: Allocator>(
+    alloc: &'a A,
+    arguments: &[String],
+) -> Result<String<&'a A>, DrawError>
+    ensures said { OnOk result ((asked : Asked) × AsksFor (texts arguments.now) asked) }
+    ensures text { IfOk result (λ text. (asked : Asked) → AsksFor (texts arguments.now) asked →
+        string_bytes text ≡ text_asked asked) }
+    ensures not_write { result ≢ Err DrawError.Write }
+    ensures bad_word { (k : ℕ) → result ≡ Err (DrawError.BadWord k) →
+        IsFirstUnreadable (texts arguments.now) k }
+    ensures early { (k : ℕ) → k ≤ 4 → IsFirstUnreadable (texts arguments.now) k →
+        result ≡ Err (DrawError.BadWord k) }
+{
+    let command = read(alloc, arguments)?;
+    Ok(text_of_command(alloc, &command)?)
+}
+
+/// Writes the text that the arguments ask for, all of it at once, and then flushes. The arguments
+/// are those after the name of the program.
+///
+/// With the error `Write`, how much of the text `out` took is unspecified. With any other error,
+/// nothing was written.
+pub fn run<A: Allocator, W: Write>(
+    alloc: A,
+    arguments: &[String],
+    out: &mut W,
+) -> Result<(), DrawError>
+    // On success the arguments can be read, and `out` has taken the text that they ask for.
+    ensures readable { OnOk result ((asked : Asked) × AsksFor (texts arguments.now) asked) }
+    ensures written { OnOk result ((asked : Asked) → AsksFor (texts arguments.now) asked →
+        Appends (W.contents out.old) (W.contents out.new) (text_asked asked)) }
+
+    // `BadWord` has the number of the first argument that cannot be read. `Write` is returned only
+    // if all arguments can be read.
+    ensures bad_word { (k : ℕ) → result ≡ Err (DrawError.BadWord k) →
+        IsFirstUnreadable (texts arguments.now) k }
+    ensures write { result ≡ Err DrawError.Write →
+        (asked : Asked) × AsksFor (texts arguments.now) asked }
+
+    // If one of the first four arguments cannot be read, `BadWord` is returned, also when no memory
+    // is left.
+    ensures early { (k : ℕ) → k ≤ 4 → IsFirstUnreadable (texts arguments.now) k →
+        result ≡ Err (DrawError.BadWord k) }
+
+    // With any error but `Write`, nothing was written.
+    ensures untouched { IfErr result (λ error. error ≢ DrawError.Write → out.new ≡ out.old) }
+{
+    let text = text_for_arguments(&alloc, arguments)?;
+    out.write_all(text.as_bytes())
+        .map_err(|_| DrawError::Write)?;
+    out.flush().map_err(|_| DrawError::Write)
+}
+
+/// Returns the exit status of an outcome, and writes an error as one line to `err`. A failure to
+/// write that line is ignored.
+pub fn report<W: Write>(outcome: Result<(), DrawError>, err: &mut W) -> u8
+    ensures { result ≡ status_of outcome }
+{
+    let Err(error) = outcome else {
+        return 0;
+    };
+    let _ = writeln!(err, "draw: {error}");
+    match error {
+        DrawError::BadWord(_) => 2,
+        DrawError::Memory => 3,
+        DrawError::Write => 4,
+    }
+}

@@ -1,0 +1,2 @@
+-- A buffer over any generator.
+pub mod Buffered

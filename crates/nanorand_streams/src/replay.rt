@@ -1,0 +1,194 @@
+//! Lists of calls on a generator, made in order, with one answer each.
+ghost use Rattle.std.specs.Prelude.{◌≡◌, length};
+ghost use Rattle.nanorand_streams.specs.replay.Replay.{outcome, replayed, size_of, value_of, span_outcome, unsigned_answer, signed_answer, refusal_answer};
+
+use nanorand_core::{RangeError, Rng};
+use std::ops::Bound;
+
+/// The type of the value that `Call::Gen` draws.
+#[derive(Clone, Copy, Debug, PartialEq, Eq)]
+pub enum Kind {
+    I8,
+    I16,
+    I32,
+    I64,
+    I128,
+    Isize,
+    U8,
+    U16,
+    U32,
+    U64,
+    U128,
+    Usize,
+    Bool,
+}
+
+/// A range of an integer type: its low bound and its high bound.
+#[derive(Drop)]
+pub enum Span {
+    I8(Bound<i8>, Bound<i8>),
+    I16(Bound<i16>, Bound<i16>),
+    I32(Bound<i32>, Bound<i32>),
+    I64(Bound<i64>, Bound<i64>),
+    Isize(Bound<isize>, Bound<isize>),
+    U8(Bound<u8>, Bound<u8>),
+    U16(Bound<u16>, Bound<u16>),
+    U32(Bound<u32>, Bound<u32>),
+    U64(Bound<u64>, Bound<u64>),
+    Usize(Bound<usize>, Bound<usize>),
+}
+
+/// A call on a generator.
+#[derive(Drop)]
+pub enum Call {
+    /// Draws a value of a type, as `Rng::generate` does.
+    Gen(Kind),
+    /// Draws a number of a range, as `Rng::generate_range` does.
+    Range(Span),
+    /// Shuffles the items, as `Rng::shuffle` does.
+    Shuffle,
+}
+
+/// The answer to a call.
+#[derive(Clone, Copy, Debug, PartialEq, Eq)]
+pub enum Answer {
+    /// A value or a number of an unsigned type.
+    Unsigned(u128),
+    /// A value or a number of a signed type.
+    Signed(i128),
+    /// A `bool`.
+    Truth(bool),
+    /// The range has no number, and nothing was drawn.
+    Empty,
+    /// 128 words in a row were rejected, for a number or for one index of a shuffle.
+    Exhausted,
+    /// The items were shuffled.
+    Shuffled,
+}
+
+/// Makes the calls in order on the generator, and writes one answer for each.
+///
+/// Precondition: `answers` is as long as `calls`; both may be empty. A call that fails is answered
+/// by `Empty` or `Exhausted` and does not stop the list. The replay itself always succeeds, and
+/// nothing is allocated. Equal generators, items and calls give equal answers, items and
+/// generators.
+pub fn replay<G: Rng<OUTPUT>, const OUTPUT: usize>(
+    rng: &mut G,
+    calls: &[Call],
+    items: &mut [u64],
+    answers: &mut [Answer],
+)
+    requires { length answers.old ≡ length calls.now }
+    ensures answers { answers.new ≡ (replayed G.requests rng.old items.old calls.now).answers }
+    ensures items { items.new ≡ (replayed G.requests rng.old items.old calls.now).items }
+    ensures state { rng.new ≡ (replayed G.requests rng.old items.old calls.now).state }
+{
+    for (place, call) in calls.iter().enumerate() {
+        answers[place] = make_call(rng, call, items);
+    }
+}
+
+fn make_call<G: Rng<OUTPUT>, const OUTPUT: usize>(
+    rng: &mut G,
+    call: &Call,
+    items: &mut [u64],
+) -> Answer
+    ensures answer { result ≡ (outcome G.requests rng.old items.old call.now).answer }
+    ensures items { items.new ≡ (outcome G.requests rng.old items.old call.now).items }
+    ensures state { rng.new ≡ (outcome G.requests rng.old items.old call.now).state }
+{
+    match call {
+        Call::Gen(kind) => draw(rng, *kind),
+        Call::Range(span) => draw_within(rng, span),
+        Call::Shuffle => match rng.shuffle(items) {
+            Ok(()) => Answer::Shuffled,
+            Err(refusal) => refusal_answer(refusal),
+        },
+    }
+}
+
+fn draw<G: Rng<OUTPUT>, const OUTPUT: usize>(rng: &mut G, kind: Kind) -> Answer
+    ensures answer { result ≡ value_of kind (G.requests.bytes rng.old (size_of kind)) }
+    ensures state { rng.new ≡ G.requests.after rng.old (size_of kind) }
+{
+    match kind {
+        Kind::I8 => Answer::Signed(i128::from(rng.generate::<i8>())),
+        Kind::I16 => Answer::Signed(i128::from(rng.generate::<i16>())),
+        Kind::I32 => Answer::Signed(i128::from(rng.generate::<i32>())),
+        Kind::I64 => Answer::Signed(i128::from(rng.generate::<i64>())),
+        Kind::I128 => Answer::Signed(rng.generate::<i128>()),
+        Kind::Isize => Answer::Signed(rng.generate::<isize>() as i128),
+        Kind::U8 => Answer::Unsigned(u128::from(rng.generate::<u8>())),
+        Kind::U16 => Answer::Unsigned(u128::from(rng.generate::<u16>())),
+        Kind::U32 => Answer::Unsigned(u128::from(rng.generate::<u32>())),
+        Kind::U64 => Answer::Unsigned(u128::from(rng.generate::<u64>())),
+        Kind::U128 => Answer::Unsigned(rng.generate::<u128>()),
+        Kind::Usize => Answer::Unsigned(rng.generate::<usize>() as u128),
+        Kind::Bool => Answer::Truth(rng.generate::<bool>()),
+    }
+}
+
+fn draw_within<G: Rng<OUTPUT>, const OUTPUT: usize>(rng: &mut G, span: &Span) -> Answer
+    ensures answer { result ≡ (span_outcome G.requests rng.old span.now).0 }
+    ensures state { rng.new ≡ (span_outcome G.requests rng.old span.now).1 }
+{
+    match span {
+        Span::I8(low, high) => signed_answer(rng.generate_range::<i8>(*low, *high).map(i128::from)),
+        Span::I16(low, high) => signed_answer(
+            rng.generate_range::<i16>(*low, *high).map(i128::from),
+        ),
+        Span::I32(low, high) => signed_answer(
+            rng.generate_range::<i32>(*low, *high).map(i128::from),
+        ),
+        Span::I64(low, high) => signed_answer(
+            rng.generate_range::<i64>(*low, *high).map(i128::from),
+        ),
+        Span::Isize(low, high) => signed_answer(
+            rng.generate_range::<isize>(*low, *high)
+                .map(|number| number as i128),
+        ),
+        Span::U8(low, high) => unsigned_answer(
+            rng.generate_range::<u8>(*low, *high).map(u128::from),
+        ),
+        Span::U16(low, high) => unsigned_answer(
+            rng.generate_range::<u16>(*low, *high).map(u128::from),
+        ),
+        Span::U32(low, high) => unsigned_answer(
+            rng.generate_range::<u32>(*low, *high).map(u128::from),
+        ),
+        Span::U64(low, high) => unsigned_answer(
+            rng.generate_range::<u64>(*low, *high).map(u128::from),
+        ),
+        Span::Usize(low, high) => unsigned_answer(
+            rng.generate_range::<usize>(*low, *high)
+                .map(|number| number as u128),
+        ),
+    }
+}
+
+fn unsigned_answer(drawn: Result<u128, RangeError>) -> Answer
+    ensures { result ≡ unsigned_answer drawn }
+{
+    match drawn {
+        Ok(number) => Answer::Unsigned(number),
+        Err(refusal) => refusal_answer(refusal),
+    }
+}
+
+fn signed_answer(drawn: Result<i128, RangeError>) -> Answer
+    ensures { result ≡ signed_answer drawn }
+{
+    match drawn {
+        Ok(number) => Answer::Signed(number),
+        Err(refusal) => refusal_answer(refusal),
+    }
+}
+
+fn refusal_answer(refusal: RangeError) -> Answer
+    ensures { result ≡ refusal_answer refusal }
+{
+    match refusal {
+        RangeError::Empty => Answer::Empty,
+        RangeError::Exhausted => Answer::Exhausted,
+    }
+}
