@@ -6,7 +6,9 @@ ghost use Rattle.nanorand_fairness.specs.InTurn.{NumbersInTurnAreFair, Rejection
 ghost use Rattle.nanorand_fairness.specs.Deals.{DealsAreFair, ShufflesAreFair, NoDealIsPreferred};
 ghost use Rattle.nanorand_fairness.specs.Samples.{SampledSetsAreFair};
 
-use nanorand_core::laws::{choices_are_fair, fairness, samples_are_fair, weighted_choices_are_fair};
+use nanorand_core::laws::{
+    choices_are_fair, fairness, samples_are_fair, weighted_choices_are_fair,
+};
 
 /// How many words a bounded draw takes, for words of N = 8, 16, 32 and 64 bits and every size from 1
 /// to 2^N. So a number takes fewer than two words on average, and is refused very seldom.

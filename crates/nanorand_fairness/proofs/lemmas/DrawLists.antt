@@ -1,16 +1,14 @@
 -- One draw from a list of words: the first word, and the rest of the list.
-use Rattle.std.proofs.Common.{◌≡◌, ℕ, zero, suc, ◌+◌, ◌*◌, ◌<◌, ◌≤◌, ◌^◌, Bool, true, false, cond, nat_eq, nat_lt, List, [], ◌∷◌, length, Option, Some, None, is_some, is_none, position, option_map, option_and_then, slice_index, refl, sym, ◌∙◌, ap, inl, inr, arith}
-use Rattle.std.specs.List.{sum_by, count_by, range_with_len}
+use Rattle.std.proofs.Common.{◌≡◌, ℕ, zero, suc, ◌+◌, ◌*◌, ◌^◌, Bool, true, false, nat_lt, List, [], ◌∷◌, length, Option, Some, None, is_some, position, option_map, option_and_then, slice_index, refl, ◌∙◌, ap, inl, inr, arith}
 use Rattle.std.specs.Option.{option_map_or}
 use Rattle.std.proofs.Math.Nat.{pow-zero, pow-suc}
 use Rattle.std.proofs.lemmas.Bool.{cases_lt, lt-ltb, le-ltb}
 use Rattle.std.specs.List.{position_or_len}
-use Rattle.nanorand_core.specs.values.Runs.{IsWordWidth, named, quota, rejected}
+use Rattle.nanorand_core.specs.values.Runs.{named}
 use Rattle.nanorand_core.specs.values.Draws.{deciding_place, decided}
-use Rattle.nanorand_core.specs.values.Fairness.{passes, RunsAreFair, EventsAreFair}
-use Rattle.nanorand_fairness.specs.Lists.{sum_over_lists, lists_that, words_taken}
-use Rattle.nanorand_fairness.proofs.lemmas.Sums.{sum-same, sum-terms, sum-times, sum-plus, sum-constant}
-use Rattle.nanorand_fairness.proofs.lemmas.NamedSums.{sum-named}
+use Rattle.nanorand_core.specs.values.Fairness.{passes}
+use Rattle.nanorand_fairness.specs.Lists.{sum_over_lists, words_taken}
+use Rattle.nanorand_fairness.proofs.lemmas.Sums.{sum-terms, sum-plus, sum-constant}
 
 -- equal terms have equal sums over all lists
 pub lists-same : (bits n : ℕ) (f h : List ℕ → ℕ) → ((words : List ℕ) → f words ≡ h words)

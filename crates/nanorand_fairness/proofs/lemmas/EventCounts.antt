@@ -1,6 +1,6 @@
 -- How many numbers an event has, from how many words name it.
-use Rattle.std.proofs.Common.{◌≡◌, ℕ, zero, suc, ◌+◌, ◌*◌, ◌<◌, ◌≤◌, ◌^◌, Bool, true, false, cond, nat_eq, List, [], ◌∷◌, Option, Some, None, option_map, refl, sym, ◌∙◌, ap, arith}
-use Rattle.std.specs.List.{sum_by, sum, count_by, range_with_len}
+use Rattle.std.proofs.Common.{◌≡◌, ℕ, ◌*◌, ◌≤◌, ◌^◌, Bool, cond, nat_eq, List, Option, Some, None, option_map, refl, sym, ◌∙◌, ap}
+use Rattle.std.specs.List.{sum, count_by, range_with_len}
 use Rattle.std.proofs.Math.Nat.{eq_of_mul-eq-mul_right}
 use Rattle.nanorand_core.specs.values.Runs.{IsWordWidth, named, quota, words_that}
 use Rattle.nanorand_core.specs.values.Draws.{decided}

@@ -1,5 +1,5 @@
 -- How many lists leave a draw undecided, how many words draws take, and how many lists decide an event.
-use Rattle.std.proofs.Common.{◌≡◌, ℕ, zero, suc, ◌+◌, ◌*◌, ◌<◌, ◌≤◌, ◌^◌, Bool, true, false, cond, nat_eq, List, [], ◌∷◌, length, Option, Some, None, is_none, option_map, refl, sym, ◌∙◌, ap, arith}
+use Rattle.std.proofs.Common.{◌≡◌, ℕ, zero, suc, ◌+◌, ◌*◌, ◌<◌, ◌≤◌, ◌^◌, Bool, cond, List, ◌∷◌, Option, Some, None, is_none, option_map, refl, sym, ◌∙◌, ap, arith}
 use Rattle.std.specs.List.{sum_by, count_by, range_with_len}
 use Rattle.std.proofs.Math.Nat.{pow-zero, pow-suc, one-le-pow, mul-le-mul_left, mul-le-mul_right}
 use Rattle.std.proofs.lemmas.Nat.{pow_pos}
@@ -8,7 +8,7 @@ use Rattle.nanorand_core.specs.values.Draws.{deciding_place, decided}
 use Rattle.nanorand_core.specs.values.Fairness.{passes, RunsAreFair, EventsAreFair}
 use Rattle.nanorand_fairness.specs.Lists.{sum_over_lists, lists_that, words_taken}
 use Rattle.nanorand_fairness.proofs.lemmas.Sums.{sum-terms, sum-times, sum-constant}
-use Rattle.nanorand_fairness.proofs.lemmas.NamedSums.{sum-named, one_number}
+use Rattle.nanorand_fairness.proofs.lemmas.NamedSums.{sum-named}
 use Rattle.nanorand_fairness.proofs.lemmas.DrawLists.{lists-same, lists-constant, lists-plus, place-first, place-later, decided-first, decided-later, taken-first, taken-later}
 
 module _ (runs : RunsAreFair) (events : EventsAreFair) (bits size : ℕ) (width : IsWordWidth bits) (some : 1 ≤ size) (fits : size ≤ 2 ^ bits) where
@@ -81,9 +81,9 @@ module _ (runs : RunsAreFair) (events : EventsAreFair) (bits size : ℕ) (width 
       let power = pow-suc (2 ^ bits) n in
       let some_words : 1 ≤ (2 ^ bits) ^ n = one-le-pow n (2 ^ bits) (pow_pos bits) in
       let rest : rejected bits size * sum_over_lists bits n (words_taken bits size) ≤ rejected bits size * (2 * (2 ^ bits) ^ n) =
-          mul-le-mul_left (rejected bits size) (omega (arith, taken_few n)) in
+      mul-le-mul_left (rejected bits size) (omega (arith, taken_few n)) in
       let few : (2 * rejected bits size + 1) * (2 ^ bits) ^ n ≤ 2 ^ bits * (2 ^ bits) ^ n =
-          mul-le-mul_right ((2 ^ bits) ^ n) (omega (arith, (runs bits size width some fits).few)) in
+      mul-le-mul_right ((2 ^ bits) ^ n) (omega (arith, (runs bits size width some fits).few)) in
       omega (arith, more, power, some_words, rest, few)
 
   -- an event

@@ -1,4 +1,4 @@
-use Rattle.std.proofs.Common.{ℕ, Bool, List, ◌-◌, ◌+◌, ◌*◌, [], refl, sym, ap, ◌∙◌, inl, inr}
+use Rattle.std.proofs.Common.{ℕ, Bool, List, ◌-◌, ◌+◌, ◌*◌, [], refl, sym, ap, ◌∙◌, inr}
 use Rattle.std.specs.List.{list_all}
 use Rattle.std.proofs.lemmas.List.FromFn.{length-range_with_len}
 use Rattle.nanorand_fairness.specs.InTurn.{quotas, word_lists_that}

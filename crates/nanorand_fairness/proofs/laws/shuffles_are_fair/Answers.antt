@@ -1,4 +1,4 @@
-use Rattle.std.proofs.Common.{ℕ, Bool, List, ◌+◌, ◌*◌, ◌==◌, ◌&&◌, length, nat_eq, refl, sym, ap, ◌∙◌, inl, inr, arith}
+use Rattle.std.proofs.Common.{ℕ, Bool, List, ◌*◌, length, nat_eq, refl, sym, ap, ◌∙◌, inr, arith}
 use Rattle.std.specs.Cmp.Lexicographic.{pointwise}
 use Rattle.nanorand_core.specs.values.Runs.{IsWordWidth}
 use Rattle.nanorand_core.specs.shuffles.Shuffles.{arranged}

@@ -1,6 +1,6 @@
 -- A deal is dealt by exactly one list of numbers.
-use Rattle.std.proofs.Common.{◌≡◌, ◌≢◌, ℕ, zero, suc, ◌+◌, ◌-◌, ◌<◌, ◌≤◌, ◌^◌, Bool, true, false, List, [], ◌∷◌, length, get_or, map, take, swap, nat_eq, refl, sym, ◌∙◌, ap, inl, inr, arith, IsPermutation}
-use Rattle.std.specs.List.{All, range_with_len}
+use Rattle.std.proofs.Common.{◌≡◌, ℕ, ◌+◌, ◌-◌, ◌<◌, ◌≤◌, ◌^◌, true, List, [], ◌∷◌, length, get_or, swap, nat_eq, refl, sym, ◌∙◌, inl, inr, arith}
+use Rattle.std.specs.List.{range_with_len}
 use Rattle.std.specs.Cmp.Lexicographic.{pointwise, pointwise_decides}
 use Rattle.std.proofs.lemmas.Bool.{cases_Bool, cases_lt, eq-eqb, eqb-true}
 use Rattle.std.proofs.lemmas.List.{length-map, take_all}
@@ -12,9 +12,9 @@ use Rattle.nanorand_core.specs.shuffles.Shuffles.{arranged}
 use Rattle.nanorand_core.specs.shuffles.Arrangements.{rising, IsArrangement}
 use Rattle.nanorand_fairness.specs.InTurn.{AreSizes, number_lists_that}
 use Rattle.nanorand_fairness.specs.Deals.{choices_by, deal_sizes, dealt, IsDeal}
-use Rattle.nanorand_fairness.proofs.lemmas.deals.StepLemmas.{AreBelow, after_steps}
+use Rattle.nanorand_fairness.proofs.lemmas.deals.StepLemmas.{after_steps}
 use Rattle.nanorand_fairness.proofs.lemmas.deals.OneList.{one_list}
-use Rattle.nanorand_fairness.proofs.lemmas.deals.FoundLemmas.{AreDifferent, AreFrom, Finds, finds, swap-different}
+use Rattle.nanorand_fairness.proofs.lemmas.deals.FoundLemmas.{AreDifferent, Finds, finds, swap-different}
 
 pub rising-different : (n : ℕ) → AreDifferent (rising n)
 rising-different n j k j_low k_low same =

@@ -1,9 +1,8 @@
 -- Exchanges that turn one list of numbers into another.
-use Rattle.std.proofs.Common.{◌≡◌, ◌≢◌, ℕ, zero, suc, ◌+◌, ◌<◌, ◌≤◌, ◌^◌, Bool, true, false, List, [], ◌∷◌, length, get_or, map, Option, Some, None, nat_eq, refl, sym, ◌∙◌, ap, inl, inr, arith}
-use Rattle.std.specs.List.{All, AllZip}
+use Rattle.std.proofs.Common.{◌≡◌, ℕ, zero, suc, ◌<◌, ◌≤◌, ◌^◌, List, [], ◌∷◌, length, get_or, map, Option, Some, None, refl, ap, inl, inr, arith}
+use Rattle.std.specs.List.{All}
 use Rattle.std.proofs.lemmas.Bool.{cases_eq, eq-eqb, ne_eqb}
-use Rattle.std.proofs.lemmas.List.Elements.{All-from_get_or}
-use Rattle.nanorand_core.specs.values.Runs.{IsWordWidth, named}
+use Rattle.nanorand_core.specs.values.Runs.{named}
 use Rattle.nanorand_core.specs.values.Draws.{word_limit}
 use Rattle.nanorand_core.specs.values.Fairness.{swapped_number}
 use Rattle.nanorand_fairness.specs.InTurn.{Exchange, IsExchange, AreSizes, by_word, numbers_from, swapped_numbers}

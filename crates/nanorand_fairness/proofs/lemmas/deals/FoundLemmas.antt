@@ -49,7 +49,7 @@ module _ (items : List ℕ) (i p : ℕ) (low : i < length items) (high : p < len
           × (((j ≡ i) × (q ≡ p)) ⊎ ((j ≡ p) × (q ≡ i)) ⊎ ((j ≢ i) × (j ≢ p) × (q ≡ j)))
 
       within : (j : ℕ) (w : Was j) → j < length items → w.0 < length items
-      within j w low' = elim w.2 [ | inl first ↦ omega arith | inr (inl second) ↦ omega arith | inr (inr neither) ↦ omega arith ]
+      within j w low' = elim w.2 [ inl first ↦ omega arith | inr (inl second) ↦ omega arith | inr (inr neither) ↦ omega arith ]
 
       back : (j k : ℕ) (one : Was j) (other : Was k) → one.0 ≡ other.0 → j ≡ k
       back j k one other place =
@@ -82,7 +82,7 @@ module _ (items : List ℕ) (i p : ℕ) (low : i < length items) (high : p < len
       ]
     where
       next : (a b : ℕ) → a ≤ b → ((a ≡ b) → ⊥) → a + 1 ≤ b
-      next a b le apart = elim (cases_lt a b) [ | inl less ↦ omega arith | inr not_less ↦ absurd (apart (omega arith)) ]
+      next a b le apart = elim (cases_lt a b) [ inl less ↦ omega arith | inr not_less ↦ absurd (apart (omega arith)) ]
 
 -- the items after the steps, from index i on, are the item at i and those from i + 1 on
 module _ (k i n t : ℕ) (ts items : List ℕ) (below : AreBelow (t ∷ ts) (sizes_from i (suc k) n)) (size : length items ≡ n) (room : i + suc k ≤ n) where
