@@ -1,13 +1,12 @@
 -- The outcome of a draw from a range: the number at the place that was drawn, or a refusal.
-use Rattle.std.proofs.Common.{◌≡◌, ℕ, zero, suc, ◌+◌, ◌<◌, ◌≤◌, Bool, true, false, List, Option, Some, None, Result, Ok, Err, nat_eq, length, find, slice_get, slice_index, option_and_then, ok_or, refl, sym, ◌∙◌, ap, inl, inr, arith}
+use Rattle.std.proofs.Common.{◌≡◌, ℕ, zero, suc, ◌+◌, ◌<◌, Bool, false, List, Option, Some, None, Ok, Err, nat_eq, length, find, slice_get, slice_index, option_and_then, ok_or, refl, ◌∙◌, ap, inl, inr, arith}
 use Rattle.std.specs.List.{range_with_len}
 use Rattle.std.proofs.lemmas.Bool.{cases_Bool, ne_eqb}
 use Rattle.std.proofs.lemmas.List.FromFn.{length-range_with_len, get_or-range_with_len}
 use Rattle.std.proofs.lemmas.Option.{slice_get-get_or}
 use Rattle.nanorand_core.specs.generators.Blocks.{Requests}
 use Rattle.nanorand_core.specs.values.Runs.{named, is_in_run}
-use Rattle.nanorand_core.specs.values.Draws.{next_word, after_word, range_outcome, word_limit, words_from, deciding_place, number_drawn, left_after, value_drawn, left_by}
-use Rattle.nanorand_core.specs.declared.values.range.RangeError.{RangeError}
+use Rattle.nanorand_core.specs.values.Draws.{next_word, after_word, drawn_below, range_outcome, word_limit, words_from, deciding_place, number_drawn, left_after, value_drawn, left_by}
 use Rattle.nanorand_core.specs.declared.values.range.RangeError.TheVariants.{Exhausted}
 use Rattle.nanorand_fairness.specs.InTurn.{by_word}
 
@@ -25,7 +24,7 @@ find-below p a (suc n) k is =
           omega (arith, find-below p (a + 1) n k later)
     ]
 
-pub word-below : (bits size word k : ℕ) → named bits size word ≡ Some k → k < size
+word-below : (bits size word k : ℕ) → named bits size word ≡ Some k → k < size
 unfolding named
 word-below bits size word k is = omega (arith, find-below (is_in_run bits size word) 0 size k is)
 
@@ -58,11 +57,11 @@ module _ {G : Type 0} (word : G → ℕ) (after : G → G) (bits first size : �
   unfolding left_by
   state_by = rw (not_empty, length-range_with_len first size) refl
 
--- the outcome over the numbers of a range
-pub outcome_by : {G : Type 0} (requests : Requests G) (bits first size : ℕ) (numbers : List ℕ) (g : G) → 0 < size
-    → numbers ≡ range_with_len first size → range_outcome requests bits numbers g
-    ≡ (by_word (number_drawn (next_word requests bits) (after_word requests bits) word_limit bits size g) (λ k. Ok (first + k)) (Err Exhausted),
-    left_after (next_word requests bits) (after_word requests bits) word_limit bits size g)
+-- the outcome over the numbers of a range is that of a draw of a place
+pub outcome_by : {G : Type 0} (requests : Requests G) (bits first size : ℕ) (numbers : List ℕ) (g : G) → 0 < size → numbers ≡ range_with_len first size
+    → let draw = drawn_below requests bits size g in
+    range_outcome requests bits numbers g ≡ (by_word draw.number (λ k. Ok (first + k)) (Err Exhausted), draw.state)
 outcome_by requests bits first size numbers g some is =
-    rw (is, value_by (next_word requests bits) (after_word requests bits) bits first size some g,
-    state_by (next_word requests bits) (after_word requests bits) bits first size some g) refl
+    let word = next_word requests bits in
+    let after = after_word requests bits in
+    rw (is, value_by word after bits first size some g, state_by word after bits first size some g) refl

@@ -1,5 +1,5 @@
 -- A bounded draw takes its number from the front of the words, and the next draw goes on from there.
-use Rattle.std.proofs.Common.{◌≡◌, ℕ, zero, suc, ◌+◌, ◌<◌, ◌≤◌, List, [], ◌∷◌, Option, Some, None, option_map, slice_index, refl, sym, ◌∙◌, ap, arith}
+use Rattle.std.proofs.Common.{◌≡◌, ℕ, zero, suc, ◌+◌, ◌≤◌, List, [], ◌∷◌, Option, Some, None, option_map, refl, arith}
 use Rattle.std.specs.Fn.{iterate}
 use Rattle.std.specs.Option.{option_map_or}
 use Rattle.nanorand_core.specs.values.Runs.{named}
