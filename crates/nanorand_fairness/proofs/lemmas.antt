@@ -6,3 +6,4 @@ pub mod EventCounts
 pub mod turns
 pub mod samples
 pub mod deals
+pub mod streams

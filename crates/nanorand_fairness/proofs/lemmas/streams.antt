@@ -1,0 +1,6 @@
+pub mod Words
+pub mod Turns
+pub mod Ranges
+pub mod Outcomes
+pub mod Shuffles
+pub mod Samples
