@@ -70,7 +70,7 @@ NoDealIsPreferred =
 -- turn.
 abbrev pub ShufflesDrawInTurn : {G : Type 0} → Type 0 → Requests G → Type 0
 ShufflesDrawInTurn {G} T requests =
-    (steps : ℕ) (g : G) (items : List T) → length items < 2 ^ 64
+    (steps : ℕ) (g : G) (items : List T) → length items ≤ 2 ^ 64
     → let draws = min steps (length items) in
     let words = words_from (next_word requests 64) (after_word requests 64) (word_limit * draws) g in
     (partly_shuffled requests from_itself steps g items).choices

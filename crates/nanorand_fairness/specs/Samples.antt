@@ -28,7 +28,7 @@ SampledSetsAreFair =
 -- The numbers of `sample` are those by the numbers that its words draw in turn.
 abbrev pub SamplesDrawInTurn : {G : Type 0} → Requests G → Type 0
 SamplesDrawInTurn {G} requests =
-    (size count : ℕ) (g : G) → size ≤ count → count < 2 ^ 64
+    (size count : ℕ) (g : G) → size ≤ count → count ≤ 2 ^ 64
     → let words = words_from (next_word requests 64) (after_word requests 64) (word_limit * size) g in
     (sampled requests size count g).numbers
     ≡ sample_by (count - size) (numbers_in_turn 64 (sample_sizes size count) words) []

@@ -3,9 +3,10 @@
 //! one to use its law.
 ghost use Rattle.nanorand_fairness.specs.Lists.{UndecidedListsAreFew, DrawsTakeFewWords, EventsInListsAreFair, RatiosInListsAreFair, WeightsInListsAreFair};
 ghost use Rattle.nanorand_fairness.specs.InTurn.{NumbersInTurnAreFair, RejectionsPreferNothing, NoListOfNumbersIsPreferred};
-ghost use Rattle.nanorand_fairness.specs.Deals.{DealsAreFair, ShufflesAreFair, NoDealIsPreferred};
-ghost use Rattle.nanorand_fairness.specs.Samples.{SampledSetsAreFair};
+ghost use Rattle.nanorand_fairness.specs.Deals.{DealsAreFair, ShufflesAreFair, NoDealIsPreferred, ShufflesDrawInTurn};
+ghost use Rattle.nanorand_fairness.specs.Samples.{SampledSetsAreFair, SamplesDrawInTurn};
 
+use nanorand_core::Rng;
 use nanorand_core::laws::{
     choices_are_fair, fairness, samples_are_fair, weighted_choices_are_fair,
 };
@@ -73,6 +74,15 @@ pub fn shuffles_are_fair()
     numbers_in_turn_are_fair();
 }
 
+/// The choices of `Rng::shuffle`, `shuffles::shuffle_and_record` and `shuffles::partial_shuffle` are
+/// those by the numbers that the generator's words draw in turn, over every generator. So what
+/// `shuffles_are_fair` says of lists of words is said of these functions.
+///
+/// 128 words for each step are enough. A refused draw ends the choices and the numbers alike.
+pub fn shuffles_draw_in_turn<G: Rng<OUTPUT>, T, const OUTPUT: usize>()
+    ensures { ShufflesDrawInTurn T G.requests }
+{}
+
 /// Each set of k of the numbers below `count` is sampled by equally many lists of k words: k! times
 /// the product of floor(2^64 / size) for the sizes of the draws. It is the law of `samples::sample`.
 pub fn sampled_sets_are_fair()
@@ -81,3 +91,10 @@ pub fn sampled_sets_are_fair()
     numbers_in_turn_are_fair();
     samples_are_fair();
 }
+
+/// The numbers that `samples::sample` writes are those by the numbers that the generator's words draw
+/// in turn, over every generator. So what `sampled_sets_are_fair` says of lists of words is said of
+/// it.
+pub fn samples_draw_in_turn<G: Rng<OUTPUT>, const OUTPUT: usize>()
+    ensures { SamplesDrawInTurn G.requests }
+{}

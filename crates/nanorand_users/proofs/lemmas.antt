@@ -5,4 +5,5 @@ pub mod PartLemmas
 pub mod RetryLemmas
 pub mod SampleCountLemmas
 pub mod SampleLemmas
+pub mod SampleWordLemmas
 pub mod StreamLemmas

@@ -1,11 +1,12 @@
 -- Reservoir sampling, Waterman's algorithm R: a sample of indices, kept in slots while the indices
 -- go by.
-use Rattle.std.specs.Prelude.{◌≡◌, ℕ, zero, suc, ◌+◌, ◌-◌, ◌*◌, ◌<◌, ◌≤◌, ◌==◌, Bool, true, List, length, Result, Ok, Err, nat_lt, slice_set, sum_by, if◌then◌else◌}
+use Rattle.std.specs.Prelude.{◌≡◌, ℕ, zero, suc, ◌+◌, ◌-◌, ◌*◌, ◌^◌, ◌<◌, ◌≤◌, ◌==◌, Bool, true, List, [], ◌∷◌, length, Result, Ok, Err, nat_lt, slice_set, sum_by, if◌then◌else◌}
 use Rattle.std.specs.List.{list_any, range_with_len}
 use Rattle.std.specs.declared.ops.Bound.TheVariants.{Included}
 use Rattle.nanorand_core.specs.generators.Blocks.{Requests}
 use Rattle.nanorand_core.specs.values.Draws.{unsigned_outcome}
 use Rattle.nanorand_core.specs.declared.values.range.RangeError.{RangeError}
+use Rattle.nanorand_fairness.specs.InTurn.{word_lists_that}
 
 -- The result of a pass, the sample that it leaves, and the state of the generator after it.
 pub record Sample (G : Type 0) : Type 0 where
@@ -56,3 +57,25 @@ SamplesAreFair =
     (size count place : ℕ) → size ≤ count → place < count
     → samples_that size count (list_any (λ other. other == place)) * count
     ≡ size * samples_that size count (λ chosen. true)
+
+-- The sample after draws with these results, the first of them for index i.
+abbrev pub chosen_by : ℕ → List ℕ → List ℕ → List ℕ
+chosen_by i [] chosen = chosen
+chosen_by i (drawn ∷ draws) chosen = chosen_by (i + 1) draws (placed chosen i drawn)
+
+-- The sizes of the draws: size + 1, size + 2, .., count.
+abbrev pub draw_sizes : ℕ → ℕ → List ℕ
+draw_sizes size count = range_with_len (size + 1) (count - size)
+
+-- How many lists of words, one word for each draw, make a sample that passes a test.
+abbrev pub word_samples_that : ℕ → ℕ → (List ℕ → Bool) → ℕ
+word_samples_that size count test =
+    word_lists_that 64 (count - size) (draw_sizes size count)
+    (λ draws. test (chosen_by size draws (range_with_len 0 size)))
+
+-- The same over lists of words: each index is in the same fraction of the samples.
+abbrev pub SampledWordsAreFair : Type 0
+SampledWordsAreFair =
+    (size count place : ℕ) → size ≤ count → count ≤ 2 ^ 64 → place < count
+    → word_samples_that size count (list_any (λ other. other == place)) * count
+    ≡ size * word_samples_that size count (λ chosen. true)

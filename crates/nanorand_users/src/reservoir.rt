@@ -6,9 +6,9 @@ ghost use Rattle.std.specs.Prelude.{◌≡◌, ◌≢◌, ℕ, ◌-◌, ◌*◌,
 ghost use Rattle.std.specs.List.{AllPairs, range_with_len};
 ghost use Rattle.nanorand_core.specs.values.Draws.{after_words};
 ghost use Rattle.nanorand_core.specs.declared.values.range.RangeError.TheVariants.{Exhausted};
-ghost use Rattle.nanorand_users.specs.Reservoir.{SamplesAreFair, place_up_to, placed, sampled};
+ghost use Rattle.nanorand_users.specs.Reservoir.{SampledWordsAreFair, SamplesAreFair, place_up_to, placed, sampled};
 
-use nanorand::laws::range_limits;
+use nanorand::laws::{numbers_in_turn_are_fair, range_limits};
 use nanorand::{RangeError, Rng};
 use std::ops::Bound;
 
@@ -85,3 +85,12 @@ fn draw_place<G: Rng<OUTPUT>, const OUTPUT: usize>(
 pub fn sample_is_fair()
     ensures { SamplesAreFair }
 {}
+
+/// The same law over lists of words, by `nanorand::laws::numbers_in_turn_are_fair`: of the lists with
+/// one word for each draw, each index is in the samples of the same fraction.
+pub fn sampled_words_are_fair()
+    ensures { SampledWordsAreFair }
+{
+    numbers_in_turn_are_fair();
+    sample_is_fair();
+}
