@@ -13,6 +13,7 @@ ghost use Rattle.nanorand_core.specs.values.Values.{number_of};
 ghost use Rattle.nanorand.specs.generators.WyRand.{wyrand_requests};
 
 pub mod card;
+pub mod counted;
 pub mod die;
 pub mod examples;
 pub mod fills;

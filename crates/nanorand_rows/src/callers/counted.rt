@@ -1,0 +1,54 @@
+//! What the laws of whole draws say of a die, tiles, a hand of cards and winners.
+ghost use Rattle.std.specs.Prelude.{◌≡◌, ℕ, ◌*◌, ◌==◌, Bool, List, [], ◌∷◌, is_none, option_map, count_by};
+ghost use Rattle.std.specs.List.{list_all, range_with_len};
+ghost use Rattle.std.specs.Cmp.Lexicographic.{pointwise};
+ghost use Rattle.nanorand_core.specs.values.Draws.{deciding_place, decided};
+ghost use Rattle.nanorand_core.specs.values.Fairness.{passes};
+ghost use Rattle.nanorand_core.specs.choices.Weighted.{item_at};
+ghost use Rattle.nanorand_fairness.specs.Lists.{lists_that};
+ghost use Rattle.nanorand_fairness.specs.InTurn.{word_lists_that};
+ghost use Rattle.nanorand_fairness.specs.Deals.{deal_sizes, dealt, IsDeal};
+ghost use Rattle.nanorand_fairness.specs.Samples.{sample_by, sample_sizes};
+
+use nanorand::laws::{
+    fairness_with_rejections, sampled_sets_are_fair, shuffles_are_fair, words_of_a_draw,
+};
+
+/// A throw of a die is undecided after three bytes for 64 of the 2^24 lists: 4 of 256 bytes are
+/// rejected.
+pub fn throws_that_wait()
+    ensures { lists_that 8 3 (λ words. is_none (deciding_place 8 6 words)) ≡ 64 }
+{
+    words_of_a_draw();
+}
+
+/// Of tiles with the weights 6, 3 and 1, the first is chosen by twice as many lists of ten words as
+/// the second.
+pub fn tiles_by_weight()
+    ensures { let kind = option_map (item_at (6 ∷ 3 ∷ 1 ∷ [])) in
+        lists_that 64 10 (λ words. passes (λ j. j == 0) (kind (decided 64 10 words)))
+        ≡ 2 * lists_that 64 10 (λ words. passes (λ j. j == 1) (kind (decided 64 10 words))) }
+{
+    fairness_with_rejections();
+}
+
+/// Any two hands of five cards of a deck are dealt by equally many lists of five words.
+pub fn hands_are_alike()
+    ensures { (hand other : List ℕ) → IsDeal 5 52 hand → IsDeal 5 52 other
+        → let deals = word_lists_that 64 5 (deal_sizes 5 52) in
+        deals (λ numbers. pointwise ◌==◌ (dealt 5 52 numbers) hand)
+        ≡ deals (λ numbers. pointwise ◌==◌ (dealt 5 52 numbers) other) }
+{
+    shuffles_are_fair();
+}
+
+/// Any three of ten entrants win by equally many lists of three words.
+pub fn winners_are_alike()
+    ensures { (three others : ℕ → Bool)
+        → count_by three (range_with_len 0 10) ≡ 3 → count_by others (range_with_len 0 10) ≡ 3
+        → let wins = word_lists_that 64 3 (sample_sizes 3 10) in
+        wins (λ draws. list_all three (sample_by 7 draws []))
+        ≡ wins (λ draws. list_all others (sample_by 7 draws [])) }
+{
+    sampled_sets_are_fair();
+}
