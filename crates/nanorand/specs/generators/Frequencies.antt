@@ -1,0 +1,26 @@
+-- How often each word comes among the next words of a seed.
+use Rattle.std.specs.Prelude.{◌≢◌, ◌==◌, ℕ, ◌+◌, ◌<◌, ◌^◌, count_by}
+use Rattle.std.specs.List.{range_with_len}
+use Rattle.nanorand.specs.generators.Halves.{folded}
+use Rattle.nanorand.specs.generators.Pcg64 as pcg64
+use Rattle.nanorand.specs.generators.WyRand as wyrand
+
+-- How many of the next n words of a seed of `Pcg64` are w.
+unfoldable pub pcg64_word_count : ℕ → ℕ → ℕ → ℕ
+pcg64_word_count n seed w =
+    count_by (λ i. folded (pcg64.seed_after (i + 1) seed) == w) (range_with_len 0 n)
+
+-- How many of the next n words of a seed of `WyRand` are w.
+unfoldable pub wyrand_word_count : ℕ → ℕ → ℕ → ℕ
+wyrand_word_count n seed w =
+    count_by (λ i. wyrand.word (wyrand.seed_after (i + 1) seed) == w) (range_with_len 0 n)
+
+-- How many seeds of `WyRand` have the word w.
+unfoldable pub wyrand_seeds_with : ℕ → ℕ
+wyrand_seeds_with w = count_by (λ seed. wyrand.word seed == w) (range_with_len 0 (2 ^ 64))
+
+-- Some 64-bit word is the word of no seed of `WyRand`, so no draw gives it.
+abbrev pub SomeWordNeverComes : Type 0
+SomeWordNeverComes =
+    (w : ℕ) × (w < 2 ^ 64)
+    × ((n seed : ℕ) → wyrand.word (wyrand.seed_after n seed) ≢ w)
