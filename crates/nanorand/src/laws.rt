@@ -1,12 +1,13 @@
 //! Laws of the three generators, beside those of every generator. Each contract states a law. The
 //! functions do nothing; a proof calls one to use its law.
-ghost use Rattle.std.specs.Prelude.{◌≡◌, ◌<◌, ◌≤◌, ℕ, ◌+◌, ◌^◌, bit_xor, ◌≢◌, ◌%◌, ◌↔◌, List, slice_index};
+ghost use Rattle.std.specs.Prelude.{◌≡◌, ◌<◌, ◌≤◌, Bool, ℕ, ◌+◌, ◌*◌, ◌^◌, bit_xor, ◌≢◌, ◌%◌, ◌↔◌, List, slice_index};
 ghost use Rattle.std.specs.Fn.{iterate};
 ghost use Rattle.std.specs.Int.{w64, to_le_bytes, ◌∣◌};
 ghost use Rattle.nanorand_core.specs.generators.Cycles.{AgreeModulo, DrawsAdd, DrawsLeave, OneMoreDraw, PeriodsAreMultiplesOf, IsPeriod, Reaches, ReachesOnceBelow};
 ghost use Rattle.nanorand_core.specs.generators.Equality.{DecidesEquality};
+ghost use Rattle.nanorand_core.specs.values.Runs.{words_that};
 ghost use Rattle.nanorand_core.specs.values.Values.{number_of};
-ghost use Rattle.nanorand.specs.generators.Frequencies.{SomeWordNeverComes, pcg64_word_count, wyrand_seeds_with, wyrand_word_count};
+ghost use Rattle.nanorand.specs.generators.Frequencies.{SomeWordNeverComes, pcg64_word_count, pcg64_words_that, wyrand_seeds_with, wyrand_word_count};
 ghost use Rattle.nanorand.specs.generators.Halves.{folded};
 ghost use Rattle.nanorand.specs.generators.ChaCha.{counter, advanced, next_state, chacha_after, chacha_block, chacha_requests};
 ghost use Rattle.nanorand.specs.generators.ChaChaRounds.{IsMatrix, RoundsAreInjective};
@@ -157,10 +158,13 @@ pub fn pcg64_reach()
 
 /// In 2^126 draws in a row, each of the 2^64 words of `Pcg64` comes exactly 2^62 times.
 ///
-/// From every seed, so also after any number of draws.
+/// `words`: from every seed, so also after any number of draws. `events`: the words that pass a
+/// test are 2^62 for each 64-bit number that passes it.
 pub fn pcg64_words_are_equally_frequent()
-    ensures { (seed w : ℕ) → seed < 2 ^ 128 → w < 2 ^ 64
+    ensures words { (seed w : ℕ) → seed < 2 ^ 128 → w < 2 ^ 64
         → pcg64_word_count (2 ^ 126) seed w ≡ 2 ^ 62 }
+    ensures events { (seed : ℕ) (test : ℕ → Bool) → seed < 2 ^ 128
+        → pcg64_words_that (2 ^ 126) seed test ≡ words_that 64 test * 2 ^ 62 }
 {}
 
 /// The words of `WyRand` are not equally frequent: the word 0 comes at least twice in 2^64 draws,

@@ -25,6 +25,16 @@ sum-plus f g first (suc n) =
     let rest = sum-plus f g (first + 1) n in
     omega (arith, both, one, other, rest)
 
+-- one factor of all terms
+sum-times : (f : ℕ → ℕ) (c first n : ℕ)
+    → sum_by (λ k. f k * c) (range_with_len first n) ≡ sum_by f (range_with_len first n) * c
+sum-times f c first zero = omega arith
+sum-times f c first (suc n) =
+    let one = sum_by-cons (λ k. f k * c) first (range_with_len (first + 1) n) in
+    let other = ap (λ (s : ℕ). s * c) (sum_by-cons f first (range_with_len (first + 1) n)) in
+    let rest = sum-times f c (first + 1) n in
+    omega (arith, one, other, rest)
+
 -- all terms are one number
 sum-constant : (c first n : ℕ) → sum_by (λ k. c) (range_with_len first n) ≡ n * c
 sum-constant c first zero = omega arith
@@ -161,17 +171,13 @@ module _ (p : ℕ → Bool) (n m : ℕ) (value number : ℕ → ℕ)
       ∙ sum-same (λ j. count_by (λ i. hits i j) (range_with_len 0 n)) (λ j. 1) 0 m (λ j _ to. by_number j (omega arith))
       ∙ sum-constant 1 0 m ∙ omega arith
 
--- If the values of the indices are the numbers below n, each once, then a test passes as many values as numbers.
-module _ (q : ℕ → Bool) (n : ℕ) (value : ℕ → ℕ)
-    (fits : (i : ℕ) → i < n → value i < n)
-    (found : (s : ℕ) → s < n → (i : ℕ) × (i < n) × (value i ≡ s))
-    (once : (i k : ℕ) → i < n → k < n → value i ≡ value k → i ≡ k) where
-  column : (s : ℕ) → s < n → (b : Bool)
-      → sum_by (λ i. cond (nat_eq (value i) s) (cond b 1 0) 0) (range_with_len 0 n) ≡ cond b 1 0
-  column s below true =
-      let i = found s below in
-      count-one (λ i. nat_eq (value i) s) i.0 n i.1 (eq-eqb (value i.0) s i.2)
-      (λ k to same. once k i.0 to i.1 (eqb-true (value k) s same ∙ sym i.2))
+-- If each number below m is the value of `times` indices, then for each number that passes a test so many values do.
+module _ (q : ℕ → Bool) (n m times : ℕ) (value : ℕ → ℕ)
+    (fits : (i : ℕ) → i < n → value i < m)
+    (each : (s : ℕ) → s < m → count_by (λ i. nat_eq (value i) s) (range_with_len 0 n) ≡ times) where
+  column : (s : ℕ) → s < m → (b : Bool)
+      → sum_by (λ i. cond (nat_eq (value i) s) (cond b 1 0) 0) (range_with_len 0 n) ≡ cond b 1 0 * times
+  column s below true = each s below ∙ omega arith
   column s below false =
       sum-same (λ i. cond (nat_eq (value i) s) 0 0) (λ i. 0) 0 n (λ i _ _. nothing (nat_eq (value i) s)) ∙ sum-constant 0 0 n ∙ omega arith
     where
@@ -179,13 +185,20 @@ module _ (q : ℕ → Bool) (n : ℕ) (value : ℕ → ℕ)
       nothing true = refl
       nothing false = refl
 
-  pub count-moved : count_by (λ i. q (value i)) (range_with_len 0 n) ≡ count_by q (range_with_len 0 n)
-  count-moved =
-      sum-same (λ i. cond (q (value i)) 1 0) (λ i. sum_by (λ s. cond (nat_eq (value i) s) (cond (q s) 1 0) 0) (range_with_len 0 n)) 0 n
-      (λ i _ to. sym (sum-only (λ s. cond (q s) 1 0) (value i) 0 n (omega arith) (omega (arith, fits i (omega arith)))))
-      ∙ sum-swap (λ i s. cond (nat_eq (value i) s) (cond (q s) 1 0) 0) 0 n 0 n
-      ∙ sum-same (λ s. sum_by (λ i. cond (nat_eq (value i) s) (cond (q s) 1 0) 0) (range_with_len 0 n)) (λ s. cond (q s) 1 0) 0 n
+  pub count-values : count_by (λ i. q (value i)) (range_with_len 0 n) ≡ count_by q (range_with_len 0 m) * times
+  count-values =
+      sum-same (λ i. cond (q (value i)) 1 0) (λ i. sum_by (λ s. cond (nat_eq (value i) s) (cond (q s) 1 0) 0) (range_with_len 0 m)) 0 n
+      (λ i _ to. sym (sum-only (λ s. cond (q s) 1 0) (value i) 0 m (omega arith) (omega (arith, fits i (omega arith)))))
+      ∙ sum-swap (λ i s. cond (nat_eq (value i) s) (cond (q s) 1 0) 0) 0 n 0 m
+      ∙ sum-same (λ s. sum_by (λ i. cond (nat_eq (value i) s) (cond (q s) 1 0) 0) (range_with_len 0 n)) (λ s. cond (q s) 1 0 * times) 0 m
       (λ s _ to. column s (omega arith) (q s))
+      ∙ sum-times (λ s. cond (q s) 1 0) times 0 m
+
+-- the same, where each number is one value
+pub count-moved : (q : ℕ → Bool) (n m : ℕ) (value : ℕ → ℕ) → ((i : ℕ) → i < n → value i < m)
+    → ((s : ℕ) → s < m → count_by (λ i. nat_eq (value i) s) (range_with_len 0 n) ≡ 1)
+    → count_by (λ i. q (value i)) (range_with_len 0 n) ≡ count_by q (range_with_len 0 m)
+count-moved q n m value fits each = count-values q n m 1 value fits each ∙ omega arith
 
 -- If two of the numbers below n have the same value, and all values are below n, then some number below n is no value.
 module _ (f : ℕ → ℕ) (n : ℕ) (fits : (s : ℕ) → s < n → f s < n) (j k : ℕ) (j_below : j < n) (k_below : k < n)

@@ -3,10 +3,12 @@ use Rattle.std.proofs.Common.{◌≡◌, ℕ, ◌+◌, ◌-◌, ◌*◌, ◌/◌
 use Rattle.std.specs.Int.Bits.{xor_assoc, xor_zero_r, xor_self}
 use Rattle.std.proofs.lemmas.Nat.{xor_lt}
 use Rattle.std.proofs.lemmas.Bool.{cases_eq, eq-eqb, ne_eqb, eqb-true}
+use Rattle.nanorand_core.specs.values.Runs.{words_that}
 use Rattle.nanorand.specs.generators.Halves.{folded}
 use Rattle.nanorand.specs.generators.Pcg64.{seed_after, SameCycle}
-use Rattle.nanorand.specs.generators.Frequencies.{pcg64_word_count}
-use Rattle.nanorand.proofs.lemmas.cycles.CountLemmas.{count-matched}
+use Rattle.nanorand.specs.generators.Frequencies.{pcg64_word_count, pcg64_words_that}
+use Rattle.nanorand.proofs.lemmas.cycles.CountLemmas.{count-matched, count-values}
+use Rattle.nanorand.proofs.lemmas.cycles.HalvesLemmas.{folded-lt}
 use Rattle.nanorand.proofs.lemmas.cycles.Pcg64Lemmas.{seed_after-agree}
 use Rattle.nanorand.proofs.lemmas.cycles.ReachLemmas.{reached, seed_after-class}
 
@@ -135,3 +137,10 @@ module _ (s w : ℕ) (w_fits : w < 2 ^ 64) where
   pub pcg64_words_of_a_cycle : pcg64_word_count (2 ^ 126) s w ≡ 2 ^ 62
   unfolding pcg64_word_count
   pcg64_words_of_a_cycle = count-matched comes (2 ^ 126) (2 ^ 62) value number found once number-apart passing pass
+
+-- of the words of a cycle, a test passes 2 ^ 62 for each of the 2 ^ 64 numbers that it passes
+pub pcg64_events_of_a_cycle : (s : ℕ) (test : ℕ → Bool) → pcg64_words_that (2 ^ 126) s test ≡ words_that 64 test * 2 ^ 62
+unfolding pcg64_words_that words_that pcg64_word_count
+pcg64_events_of_a_cycle s test =
+    count-values test (2 ^ 126) (2 ^ 64) (2 ^ 62) (λ i. folded (seed_after (i + 1) s)) (λ i _. folded-lt (seed_after (i + 1) s) (omega arith))
+    (λ w fits. pcg64_words_of_a_cycle s w fits)

@@ -1,9 +1,11 @@
 -- How often each word of WyRand comes on its cycle, and that some word never does.
-use Rattle.std.proofs.Common.{◌≡◌, ◌≢◌, ℕ, ◌+◌, ◌-◌, ◌*◌, ◌%◌, ◌^◌, ◌<◌, ◌≤◌, nat_eq, refl, ◌∙◌, arith, lit<, bit_xor}
+use Rattle.std.proofs.Common.{◌≡◌, ◌≢◌, ℕ, ◌+◌, ◌-◌, ◌*◌, ◌%◌, ◌^◌, ◌<◌, ◌≤◌, nat_eq, refl, sym, ◌∙◌, arith, lit<, bit_xor}
+use Rattle.std.specs.List.{count_by, range_with_len}
+use Rattle.std.proofs.lemmas.Bool.{eq-eqb, eqb-true}
 use Rattle.std.proofs.lemmas.Nat.{mul-lt, xor_lt}
 use Rattle.nanorand.specs.generators.WyRand.{word, seed_after}
 use Rattle.nanorand.specs.generators.Frequencies.{wyrand_word_count, wyrand_seeds_with, SomeWordNeverComes}
-use Rattle.nanorand.proofs.lemmas.cycles.CountLemmas.{count-moved, comes_twice, some_value_missing}
+use Rattle.nanorand.proofs.lemmas.cycles.CountLemmas.{count-moved, count-one, comes_twice, some_value_missing}
 use Rattle.nanorand.proofs.lemmas.cycles.HalvesLemmas.{folded-lt}
 use Rattle.nanorand.proofs.lemmas.cycles.WyRandLemmas.{draws_between, seed_after-draws_between, seed_after-agree}
 
@@ -29,10 +31,16 @@ module _ (s : ℕ) (s_fits : s < 2 ^ 64) where
   once : (i k : ℕ) → i < 2 ^ 64 → k < 2 ^ 64 → value i ≡ value k → i ≡ k
   once i k i_below k_below same = let agree = (seed_after-agree s s_fits (i + 1) (k + 1)).0 same in omega (arith, agree)
 
+  each : (t : ℕ) → t < 2 ^ 64 → count_by (λ i. nat_eq (value i) t) (range_with_len 0 (2 ^ 64)) ≡ 1
+  each t fits =
+      let i = found t fits in
+      count-one (λ i. nat_eq (value i) t) i.0 (2 ^ 64) i.1 (eq-eqb (value i.0) t i.2)
+      (λ k below same. once k i.0 below i.1 (eqb-true (value k) t same ∙ sym i.2))
+
   -- in a whole cycle each word comes once for each seed that has it
   pub wyrand_words_of_the_cycle : (w : ℕ) → wyrand_word_count (2 ^ 64) s w ≡ wyrand_seeds_with w
   unfolding wyrand_word_count wyrand_seeds_with
-  wyrand_words_of_the_cycle w = count-moved (λ t. nat_eq (word t) w) (2 ^ 64) value value-fits found once
+  wyrand_words_of_the_cycle w = count-moved (λ t. nat_eq (word t) w) (2 ^ 64) (2 ^ 64) value value-fits each
 
 -- the seeds 0 and 0xe7037ed1a0b428db have the word 0
 zeros_apart : ◌≢◌ {A = ℕ} 0 0xe7037ed1a0b428db
