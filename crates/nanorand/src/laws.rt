@@ -175,7 +175,7 @@ pub fn pcg64_words_are_equally_frequent()
 /// from any seed.
 pub fn wyrand_words_are_not_equally_frequent()
     ensures seeds { (seed w : ℕ) → seed < 2 ^ 64
-        → wyrand_word_count (2 ^ 64) seed w ≡ wyrand_seeds_with w }
-    ensures twice { 2 ≤ wyrand_seeds_with 0 }
+        → wyrand_word_count (2 ^ 64) seed w ≡ wyrand_seeds_with (2 ^ 64) w }
+    ensures twice { 2 ≤ wyrand_seeds_with (2 ^ 64) 0 }
     ensures never { SomeWordNeverComes }
 {}

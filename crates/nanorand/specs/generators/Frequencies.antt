@@ -20,9 +20,9 @@ unfoldable pub wyrand_word_count : ℕ → ℕ → ℕ → ℕ
 wyrand_word_count n seed w =
     count_by (λ i. wyrand.word (wyrand.seed_after (i + 1) seed) == w) (range_with_len 0 n)
 
--- How many seeds of `WyRand` have the word w.
-unfoldable pub wyrand_seeds_with : ℕ → ℕ
-wyrand_seeds_with w = count_by (λ seed. wyrand.word seed == w) (range_with_len 0 (2 ^ 64))
+-- How many of the seeds of `WyRand` below n have the word w.
+unfoldable pub wyrand_seeds_with : ℕ → ℕ → ℕ
+wyrand_seeds_with n w = count_by (λ seed. wyrand.word seed == w) (range_with_len 0 n)
 
 -- Some 64-bit word is the word of no seed of `WyRand`, so no draw gives it.
 abbrev pub SomeWordNeverComes : Type 0

@@ -1,5 +1,6 @@
 -- How often each word of Pcg64 comes on a cycle: the seeds of a cycle whose word is w are counted, and each comes once.
-use Rattle.std.proofs.Common.{◌≡◌, ℕ, ◌+◌, ◌-◌, ◌*◌, ◌/◌, ◌%◌, ◌^◌, ◌<◌, ◌⊎◌, inl, inr, Bool, true, cond, nat_eq, sym, ap, ◌∙◌, arith, bit_xor}
+use Rattle.std.proofs.Common.{◌≡◌, ℕ, ◌+◌, ◌-◌, ◌*◌, ◌/◌, ◌%◌, ◌^◌, ◌<◌, ◌⊎◌, inl, inr, Bool, true, cond, nat_eq, refl, sym, ap, ◌∙◌, arith, bit_xor}
+use Rattle.std.specs.List.{count_by, range_with_len}
 use Rattle.std.specs.Int.Bits.{xor_assoc, xor_zero_r, xor_self}
 use Rattle.std.proofs.lemmas.Nat.{xor_lt}
 use Rattle.std.proofs.lemmas.Bool.{cases_eq, eq-eqb, ne_eqb, eqb-true}
@@ -134,13 +135,29 @@ module _ (s w : ℕ) (w_fits : w < 2 ^ 64) where
   pass : (i j : ℕ) → i < 2 ^ 126 → j < 2 ^ 62 → value i ≡ number j → comes i ≡ true
   pass i j i_below j_below same = eq-eqb (folded (value i)) w (ap folded same ∙ number-word j j_below)
 
-  pub pcg64_words_of_a_cycle : pcg64_word_count (2 ^ 126) s w ≡ 2 ^ 62
-  unfolding pcg64_word_count
-  pcg64_words_of_a_cycle = count-matched comes (2 ^ 126) (2 ^ 62) value number found once number-apart passing pass
+  comes-one : count_by comes (range_with_len 0 (2 ^ 126)) ≡ 2 ^ 62
+  comes-one = count-matched comes (2 ^ 126) (2 ^ 62) value number found once number-apart passing pass
+
+-- the definitions, unfolded where n is a variable: at a numeral they would list all numbers below it
+word_count-is : (n s w : ℕ) → pcg64_word_count n s w ≡ count_by (λ i. nat_eq (folded (seed_after (i + 1) s)) w) (range_with_len 0 n)
+unfolding pcg64_word_count
+word_count-is n s w = refl
+
+words_that-is : (n s : ℕ) (test : ℕ → Bool) → pcg64_words_that n s test ≡ count_by (λ i. test (folded (seed_after (i + 1) s))) (range_with_len 0 n)
+unfolding pcg64_words_that
+words_that-is n s test = refl
+
+all_words-are : (bits : ℕ) (test : ℕ → Bool) → words_that bits test ≡ count_by test (range_with_len 0 (2 ^ bits))
+unfolding words_that
+all_words-are bits test = refl
+
+pub pcg64_words_of_a_cycle : (s w : ℕ) → w < 2 ^ 64 → pcg64_word_count (2 ^ 126) s w ≡ 2 ^ 62
+pcg64_words_of_a_cycle s w w_fits = word_count-is (2 ^ 126) s w ∙ comes-one s w w_fits
 
 -- of the words of a cycle, a test passes 2 ^ 62 for each of the 2 ^ 64 numbers that it passes
 pub pcg64_events_of_a_cycle : (s : ℕ) (test : ℕ → Bool) → pcg64_words_that (2 ^ 126) s test ≡ words_that 64 test * 2 ^ 62
-unfolding pcg64_words_that words_that pcg64_word_count
 pcg64_events_of_a_cycle s test =
-    count-values test (2 ^ 126) (2 ^ 64) (2 ^ 62) (λ i. folded (seed_after (i + 1) s)) (λ i _. folded-lt (seed_after (i + 1) s) (omega arith))
-    (λ w fits. pcg64_words_of_a_cycle s w fits)
+    words_that-is (2 ^ 126) s test
+    ∙ count-values test (2 ^ 126) (2 ^ 64) (2 ^ 62) (λ i. folded (seed_after (i + 1) s)) (λ i _. folded-lt (seed_after (i + 1) s) (omega arith))
+    (comes-one s)
+    ∙ ap (λ (k : ℕ). k * 2 ^ 62) (sym (all_words-are 64 test))

@@ -9,6 +9,15 @@ use Rattle.nanorand.proofs.lemmas.cycles.CountLemmas.{count-moved, count-one, co
 use Rattle.nanorand.proofs.lemmas.cycles.HalvesLemmas.{folded-lt}
 use Rattle.nanorand.proofs.lemmas.cycles.WyRandLemmas.{draws_between, seed_after-draws_between, seed_after-agree}
 
+-- the definitions, unfolded where n is a variable: at a numeral they would list all numbers below it
+word_count-is : (n s w : ℕ) → wyrand_word_count n s w ≡ count_by (λ i. nat_eq (word (seed_after (i + 1) s)) w) (range_with_len 0 n)
+unfolding wyrand_word_count
+word_count-is n s w = refl
+
+seeds_with-is : (n w : ℕ) → wyrand_seeds_with n w ≡ count_by (λ t. nat_eq (word t) w) (range_with_len 0 n)
+unfolding wyrand_seeds_with
+seeds_with-is n w = refl
+
 word-fits : (s : ℕ) → s < 2 ^ 64 → word s < 2 ^ 64
 word-fits s fits =
     folded-lt (s * bit_xor s 0xe7037ed1a0b428db)
@@ -38,9 +47,9 @@ module _ (s : ℕ) (s_fits : s < 2 ^ 64) where
       (λ k below same. once k i.0 below i.1 (eqb-true (value k) t same ∙ sym i.2))
 
   -- in a whole cycle each word comes once for each seed that has it
-  pub wyrand_words_of_the_cycle : (w : ℕ) → wyrand_word_count (2 ^ 64) s w ≡ wyrand_seeds_with w
-  unfolding wyrand_word_count wyrand_seeds_with
-  wyrand_words_of_the_cycle w = count-moved (λ t. nat_eq (word t) w) (2 ^ 64) (2 ^ 64) value value-fits each
+  pub wyrand_words_of_the_cycle : (w : ℕ) → wyrand_word_count (2 ^ 64) s w ≡ wyrand_seeds_with (2 ^ 64) w
+  wyrand_words_of_the_cycle w =
+      word_count-is (2 ^ 64) s w ∙ count-moved (λ t. nat_eq (word t) w) (2 ^ 64) (2 ^ 64) value value-fits each ∙ sym (seeds_with-is (2 ^ 64) w)
 
 -- the seeds 0 and 0xe7037ed1a0b428db have the word 0
 zeros_apart : ◌≢◌ {A = ℕ} 0 0xe7037ed1a0b428db
@@ -49,9 +58,8 @@ zeros_apart same = omega arith
 zeros : word 0 ≡ word 0xe7037ed1a0b428db
 zeros = refl
 
-pub zero_comes_twice : 2 ≤ wyrand_seeds_with 0
-unfolding wyrand_seeds_with
-zero_comes_twice = comes_twice word (2 ^ 64) word-fits 0 0xe7037ed1a0b428db (lit< tt) (lit< tt) zeros_apart zeros
+pub zero_comes_twice : 2 ≤ wyrand_seeds_with (2 ^ 64) 0
+zero_comes_twice = rw (seeds_with-is (2 ^ 64) 0) (comes_twice word (2 ^ 64) word-fits 0 0xe7037ed1a0b428db (lit< tt) (lit< tt) zeros_apart zeros)
 
 pub some_word_never_comes : SomeWordNeverComes
 some_word_never_comes =
