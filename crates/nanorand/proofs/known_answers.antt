@@ -1,5 +1,6 @@
 pub mod Pcg64Words
 pub mod WyRandWords
+pub mod WordCounts
 pub mod Distances
 pub mod ChaChaVectors
 pub mod ChaChaBlocks

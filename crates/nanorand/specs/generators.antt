@@ -4,5 +4,6 @@ pub mod WyRand
 pub mod ChaChaRounds
 pub mod ChaCha
 pub mod Pcg64
+pub mod Frequencies
 pub mod Entropy
 pub mod DebugTexts

@@ -1,11 +1,13 @@
 //! Laws of the three generators, beside those of every generator. Each contract states a law. The
 //! functions do nothing; a proof calls one to use its law.
-ghost use Rattle.std.specs.Prelude.{◌≡◌, ◌<◌, ℕ, ◌+◌, ◌^◌, bit_xor, ◌≢◌, ◌%◌, ◌↔◌, List, slice_index};
+ghost use Rattle.std.specs.Prelude.{◌≡◌, ◌<◌, ◌≤◌, Bool, ℕ, ◌+◌, ◌*◌, ◌^◌, bit_xor, ◌≢◌, ◌%◌, ◌↔◌, List, slice_index};
 ghost use Rattle.std.specs.Fn.{iterate};
 ghost use Rattle.std.specs.Int.{w64, to_le_bytes, ◌∣◌};
 ghost use Rattle.nanorand_core.specs.generators.Cycles.{AgreeModulo, DrawsAdd, DrawsLeave, OneMoreDraw, PeriodsAreMultiplesOf, IsPeriod, Reaches, ReachesOnceBelow};
 ghost use Rattle.nanorand_core.specs.generators.Equality.{DecidesEquality};
+ghost use Rattle.nanorand_core.specs.values.Runs.{words_that};
 ghost use Rattle.nanorand_core.specs.values.Values.{number_of};
+ghost use Rattle.nanorand.specs.generators.Frequencies.{SomeWordNeverComes, pcg64_word_count, pcg64_words_that, wyrand_seeds_with, wyrand_word_count};
 ghost use Rattle.nanorand.specs.generators.Halves.{folded};
 ghost use Rattle.nanorand.specs.generators.ChaCha.{counter, advanced, next_state, chacha_after, chacha_block, chacha_requests};
 ghost use Rattle.nanorand.specs.generators.ChaChaRounds.{IsMatrix, RoundsAreInjective};
@@ -157,4 +159,28 @@ pub fn pcg64_reach()
         → Reaches pcg64.seed_after s t ↔ pcg64.SameCycle s t }
     ensures once { (s t : ℕ) → s < 2 ^ 128 → t < 2 ^ 128 → pcg64.SameCycle s t
         → ReachesOnceBelow (2 ^ 126) pcg64.seed_after s t }
+{}
+
+/// In 2^126 draws in a row, each of the 2^64 words of `Pcg64` comes exactly 2^62 times.
+///
+/// `words`: from every seed, so also after any number of draws. `events`: the words that pass a
+/// test are 2^62 for each 64-bit number that passes it.
+pub fn pcg64_words_are_equally_frequent()
+    ensures words { (seed w : ℕ) → seed < 2 ^ 128 → w < 2 ^ 64
+        → pcg64_word_count (2 ^ 126) seed w ≡ 2 ^ 62 }
+    ensures events { (seed : ℕ) (test : ℕ → Bool) → seed < 2 ^ 128
+        → pcg64_words_that (2 ^ 126) seed test ≡ words_that 64 test * 2 ^ 62 }
+{}
+
+/// The words of `WyRand` are not equally frequent: the word 0 comes at least twice in 2^64 draws,
+/// and some word never comes.
+///
+/// `seeds`: in 2^64 draws in a row, from any seed, a word comes as often as there are seeds that
+/// have it. `twice`: at least two seeds have the word 0. `never`: some 64-bit word comes at no draw
+/// from any seed.
+pub fn wyrand_words_are_not_equally_frequent()
+    ensures seeds { (seed w : ℕ) → seed < 2 ^ 64
+        → wyrand_word_count (2 ^ 64) seed w ≡ wyrand_seeds_with (2 ^ 64) w }
+    ensures twice { 2 ≤ wyrand_seeds_with (2 ^ 64) 0 }
+    ensures never { SomeWordNeverComes }
 {}

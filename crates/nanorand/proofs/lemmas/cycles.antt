@@ -1,10 +1,13 @@
+pub mod CountLemmas
 pub mod CycleLemmas
 pub mod DistanceLemmas
 pub mod DoublingLemmas
+pub mod FrequencyLemmas
 pub mod HalvesLemmas
 pub mod JumpLemmas
 pub mod ModulusLemmas
 pub mod Pcg64Lemmas
 pub mod PeriodLemmas
 pub mod ReachLemmas
+pub mod WyRandFrequencyLemmas
 pub mod WyRandLemmas

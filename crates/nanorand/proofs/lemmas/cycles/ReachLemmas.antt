@@ -14,7 +14,7 @@ reached s t fits class =
     (found.0, found.1 ∙ mod-eq_of_lt fits)
 
 -- draws stay on a cycle
-seed_after-class : (n s : ℕ) → SameCycle s (seed_after n s)
+pub seed_after-class : (n s : ℕ) → SameCycle s (seed_after n s)
 seed_after-class n s =
     elim (walk_mod_8 u v n s) [
       | inl even ↦ inl (omega (arith, even.1))
