@@ -1,1 +1,2 @@
 pub mod NumbersInTurn
+pub mod DealsAndSamples

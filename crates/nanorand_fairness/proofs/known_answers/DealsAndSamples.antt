@@ -1,0 +1,51 @@
+-- Deals, samples and taken words of small lists.
+use Rattle.std.specs.Prelude.{◌≡◌, ◌==◌, ℕ, true, List, [], ◌∷◌, refl}
+use Rattle.std.specs.Cmp.Lexicographic.{pointwise}
+use Rattle.nanorand_core.specs.values.Runs.{named}
+use Rattle.nanorand_fairness.specs.Lists.{words_taken}
+use Rattle.nanorand_fairness.specs.InTurn.{number_lists_that}
+use Rattle.nanorand_fairness.specs.Deals.{choices_by, deal_sizes, dealt}
+use Rattle.nanorand_fairness.specs.Samples.{sample_by, sample_sizes}
+
+-- The numbers 2, 0, 0 choose the indices 2, 1, 2, which turns 0, 1, 2 round.
+three_choices : choices_by 0 (2 ∷ 0 ∷ 0 ∷ []) ≡ 2 ∷ 1 ∷ 2 ∷ []
+three_choices = refl
+
+whole_shuffle : dealt 3 3 (2 ∷ 0 ∷ 0 ∷ []) ≡ 2 ∷ 1 ∷ 0 ∷ []
+whole_shuffle = refl
+
+-- Two of four items: 3 comes to the front, and then 2.
+two_of_four : dealt 2 4 (3 ∷ 1 ∷ []) ≡ 3 ∷ 2 ∷ []
+two_of_four = refl
+
+sizes_of_a_deal : deal_sizes 3 5 ≡ 5 ∷ 4 ∷ 3 ∷ []
+sizes_of_a_deal = refl
+
+-- Of the six lists of numbers of a shuffle of three, one makes each order.
+all_shuffles : number_lists_that (deal_sizes 3 3) (λ numbers. true) ≡ 6
+all_shuffles = refl
+
+one_order : number_lists_that (deal_sizes 3 3) (λ numbers. pointwise ◌==◌ (dealt 3 3 numbers) (1 ∷ 2 ∷ 0 ∷ [])) ≡ 1
+one_order = refl
+
+one_hand : number_lists_that (deal_sizes 2 4) (λ numbers. pointwise ◌==◌ (dealt 2 4 numbers) (3 ∷ 0 ∷ [])) ≡ 1
+one_hand = refl
+
+no_double : number_lists_that (deal_sizes 2 4) (λ numbers. pointwise ◌==◌ (dealt 2 4 numbers) (3 ∷ 3 ∷ [])) ≡ 0
+no_double = refl
+
+-- Three of five: 2 joins, then 3 in the place of a second 2, then 0.
+sample_of_three : sample_by 2 (2 ∷ 2 ∷ 0 ∷ []) [] ≡ 2 ∷ 3 ∷ 0 ∷ []
+sample_of_three = refl
+
+sizes_of_a_sample : sample_sizes 3 5 ≡ 3 ∷ 4 ∷ 5 ∷ []
+sizes_of_a_sample = refl
+
+-- Below 3 the byte 0 is rejected and the byte 9 decides; of 0 alone all is taken.
+taken_to_the_deciding_word : words_taken 8 3 (0 ∷ 9 ∷ 7 ∷ []) ≡ 2
+unfolding named
+taken_to_the_deciding_word = refl
+
+taken_in_vain : words_taken 8 3 (0 ∷ 0 ∷ []) ≡ 2
+unfolding named
+taken_in_vain = refl
