@@ -3,14 +3,18 @@
 //!
 //! A stream is a generator, and its draws are numbered from 0. Worker i takes `share` draws from
 //! draw number i * share on. It reaches them by `skip`, without making the draws of the others.
-ghost use Rattle.std.specs.Prelude.{◌≡◌, ◌+◌, ◌*◌, ◌^◌, ◌<◌, ℕ, List, length, slice_index, refl};
+ghost use Rattle.std.specs.Prelude.{◌≡◌, ◌+◌, ◌*◌, ◌^◌, ◌<◌, ◌≤◌, ℕ, List, length, slice_index, refl};
+ghost use Rattle.nanorand_core.specs.values.Runs.{is_in_run, quota};
 ghost use Rattle.nanorand.specs.generators.ChaCha.{next_state};
 ghost use Rattle.nanorand.specs.generators.ChaChaRounds.{IsMatrix};
+ghost use Rattle.nanorand.specs.generators.Frequencies.{pcg64_words_that};
 ghost use Rattle.nanorand.specs.generators.Pcg64 as pcg64;
 ghost use Rattle.nanorand.specs.generators.WyRand as wyrand;
 ghost use Rattle.nanorand_users.specs.Streams.{after_draws, word_of_draw, PartsAreApart};
 
-use nanorand::laws::{chacha_counter, pcg64_cycles, wyrand_cycle};
+use nanorand::laws::{
+    chacha_counter, fairness, pcg64_cycles, pcg64_words_are_equally_frequent, wyrand_cycle,
+};
 use nanorand::{Blocks, ChaCha, Pcg64, Rng, WyRand};
 
 /// A generator that can skip draws.
@@ -94,6 +98,16 @@ pub fn pcg64_parts_are_apart()
         → PartsAreApart (2 ^ 126) (λ n. (after_draws pcg64.next n g).seed) }
 {
     pcg64_cycles();
+}
+
+/// In the 2^126 words of a whole `Pcg64` stream, each number below a size has equally many words.
+pub fn pcg64_stream_is_fair()
+    ensures { (seed size k : ℕ) → seed < 2 ^ 128 → 1 ≤ size → size ≤ 2 ^ 64 → k < size
+        → pcg64_words_that (2 ^ 126) seed (λ word. is_in_run 64 size word k)
+        ≡ quota 64 size * 2 ^ 62 }
+{
+    fairness();
+    pcg64_words_are_equally_frequent();
 }
 
 /// Parts of a `ChaCha` stream within 2^64 draws do not overlap: no state comes twice.
