@@ -32,8 +32,8 @@ pub record Deals (k n : ℕ) (deal numbers : List ℕ) : Type 0 where
   pub drawn : length numbers ≡ k
   pub is : dealt k n numbers ≡ deal
 
--- Every deal of k of n items is dealt by equally many lists of k words: the product of the quotas of
--- n, n - 1, .. With k = n it is a shuffle.
+-- Every deal of k of n items is dealt by equally many lists of k words: the product of the quotas
+-- of n, n - 1, .. With k = n it is a shuffle.
 abbrev pub DealsAreFair : Type 0
 DealsAreFair =
     (k n : ℕ) (deal : List ℕ) → k ≤ n → n ≤ 2 ^ 64 → IsDeal k n deal
@@ -72,6 +72,7 @@ abbrev pub ShufflesDrawInTurn : {G : Type 0} → Type 0 → Requests G → Type 
 ShufflesDrawInTurn {G} T requests =
     (steps : ℕ) (g : G) (items : List T) → length items ≤ 2 ^ 64
     → let draws = min steps (length items) in
-    let words = words_from (next_word requests 64) (after_word requests 64) (word_limit * draws) g in
+    let words = words_from (next_word requests 64)
+    (after_word requests 64) (word_limit * draws) g in
     (partly_shuffled requests from_itself steps g items).choices
     ≡ choices_by 0 (numbers_in_turn 64 (deal_sizes draws (length items)) words)

@@ -66,9 +66,11 @@ AreSizes bits sizes = All (λ size. (1 ≤ size) × (size ≤ 2 ^ bits)) sizes
 abbrev pub NumbersInTurnAreFair : Type 0
 NumbersInTurnAreFair =
     (bits : ℕ) (sizes : List ℕ) (test : List ℕ → Bool) → IsWordWidth bits → AreSizes bits sizes
-    → word_lists_that bits (length sizes) sizes test ≡ number_lists_that sizes test * quotas bits sizes
+    → word_lists_that bits (length sizes) sizes test
+    ≡ number_lists_that sizes test * quotas bits sizes
 
--- The same with rejections: of all lists of n words, every list of numbers is drawn by equally many.
+-- The same with rejections: of all lists of n words, every list of numbers is drawn by equally
+-- many.
 abbrev pub RejectionsPreferNothing : Type 0
 RejectionsPreferNothing =
     (bits n : ℕ) (sizes : List ℕ) (test : List ℕ → Bool) → IsWordWidth bits → AreSizes bits sizes
@@ -115,9 +117,11 @@ pub record SwapsInTurn (bits : ℕ) (exchanges : List Exchange) (words : List �
   pub fits : All (λ word. word < 2 ^ bits) words
       → All (λ word. word < 2 ^ bits) (swapped_in_turn bits exchanges words)
   pub back : swapped_in_turn bits exchanges (swapped_in_turn bits exchanges words) ≡ words
-  pub deciding : deciding_in_turn bits (map (λ e. e.size) exchanges) (swapped_in_turn bits exchanges words)
+  pub deciding :
+      deciding_in_turn bits (map (λ e. e.size) exchanges) (swapped_in_turn bits exchanges words)
       ≡ deciding_in_turn bits (map (λ e. e.size) exchanges) words
-  pub numbers : numbers_in_turn bits (map (λ e. e.size) exchanges) (swapped_in_turn bits exchanges words)
+  pub numbers :
+      numbers_in_turn bits (map (λ e. e.size) exchanges) (swapped_in_turn bits exchanges words)
       ≡ swapped_numbers exchanges (numbers_in_turn bits (map (λ e. e.size) exchanges) words)
 
 abbrev pub NoListOfNumbersIsPreferred : Type 0

@@ -29,6 +29,7 @@ SampledSetsAreFair =
 abbrev pub SamplesDrawInTurn : {G : Type 0} → Requests G → Type 0
 SamplesDrawInTurn {G} requests =
     (size count : ℕ) (g : G) → size ≤ count → count ≤ 2 ^ 64
-    → let words = words_from (next_word requests 64) (after_word requests 64) (word_limit * size) g in
+    → let words = words_from (next_word requests 64)
+    (after_word requests 64) (word_limit * size) g in
     (sampled requests size count g).numbers
     ≡ sample_by (count - size) (numbers_in_turn 64 (sample_sizes size count) words) []
