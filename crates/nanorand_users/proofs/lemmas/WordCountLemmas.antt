@@ -1,5 +1,5 @@
 -- How many words several draws take.
-use Rattle.std.proofs.Common.{◌≡◌, ℕ, zero, suc, ◌+◌, ◌*◌, ◌≤◌, ◌∙◌, ap, arith}
+use Rattle.std.proofs.Common.{◌≡◌, ℕ, ◌+◌, ◌*◌, ◌≤◌, ◌∙◌, ap, arith}
 use Rattle.std.specs.Fn.{iterate}
 use Rattle.nanorand_users.proofs.lemmas.StreamLemmas.{iterate-add}
 

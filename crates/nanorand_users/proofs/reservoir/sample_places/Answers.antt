@@ -1,7 +1,6 @@
 use Rattle.std.proofs.Common.{◌-◌, length, refl, ap, arith}
 use Rattle.std.proofs.lemmas.List.FromFn.{length-range_with_len}
 use Rattle.std.proofs.lemmas.Result.{err_from_is_err_and}
-use Rattle.nanorand_core.specs.generators.Blocks.{taken}
 use Rattle.nanorand_core.specs.values.Draws.{after_word}
 use Rattle.nanorand_users.proofs.lemmas.WordCountLemmas.{words_more}
 use Rattle.nanorand_users.proofs.lemmas.SampleLemmas.{first_below, first_apart, placed_below, placed_apart, pass_goes_on, pass_ends}

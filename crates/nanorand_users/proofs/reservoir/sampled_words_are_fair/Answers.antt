@@ -1,4 +1,4 @@
-use Rattle.std.proofs.Common.{ℕ, List, true, ◌*◌, ◌==◌, refl, ap, inl, inr, arith}
+use Rattle.std.proofs.Common.{ℕ, true, ◌*◌, ◌==◌, refl, ap, inr, arith}
 use Rattle.std.specs.List.{list_any}
 use Rattle.nanorand_core.specs.values.Runs.{IsWordWidth}
 use Rattle.nanorand_fairness.specs.InTurn.{quotas}

@@ -1,5 +1,4 @@
 use Rattle.std.proofs.Common.{◌≢◌, ◌<◌, length, get_or-set_other, get_or-set_same, below_more, ◌∙◌, arith}
-use Rattle.nanorand_core.specs.generators.Blocks.{taken}
 use Rattle.nanorand_core.specs.values.Draws.{after_word}
 use Rattle.nanorand_users.proofs.lemmas.WordCountLemmas.{words_more}
 use Rattle.nanorand_users.proofs.lemmas.RetryLemmas.{next_ceiling, delays_more, state_more}

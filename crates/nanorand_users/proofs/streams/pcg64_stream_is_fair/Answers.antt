@@ -1,4 +1,4 @@
-use Rattle.std.proofs.Common.{◌≡◌, ℕ, ◌*◌, ◌^◌, ◌∙◌, ap, inr, refl}
+use Rattle.std.proofs.Common.{ℕ, ◌*◌, ◌^◌, ◌∙◌, ap, inr, refl}
 use Rattle.nanorand_core.specs.values.Runs.{IsWordWidth, is_in_run}
 use Rattle.nanorand_users.proofs.streams.pcg64_stream_is_fair.Goals as goal
 
