@@ -25,6 +25,16 @@ SampledSetsAreFair =
     (λ draws. list_all test (sample_by (count - size) draws []))
     ≡ factorial size * quotas 64 (sample_sizes size count)
 
+-- The same with rejections: of all lists of n words, any two sets are sampled by equally many.
+abbrev pub NoSetIsPreferred : Type 0
+NoSetIsPreferred =
+    (size count n : ℕ) (test other : ℕ → Bool) → size ≤ count → count ≤ 2 ^ 64
+    → count_by test (range_with_len 0 count) ≡ size
+    → count_by other (range_with_len 0 count) ≡ size
+    → let lists = word_lists_that 64 n (sample_sizes size count) in
+    lists (λ draws. list_all test (sample_by (count - size) draws []))
+    ≡ lists (λ draws. list_all other (sample_by (count - size) draws []))
+
 -- The numbers of `sample` are those by the numbers that its words draw in turn.
 abbrev pub SamplesDrawInTurn : {G : Type 0} → Requests G → Type 0
 SamplesDrawInTurn {G} requests =

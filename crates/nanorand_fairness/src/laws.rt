@@ -4,7 +4,7 @@
 ghost use Rattle.nanorand_fairness.specs.Lists.{UndecidedListsAreFew, DrawsTakeFewWords, EventsInListsAreFair, RatiosInListsAreFair, WeightsInListsAreFair};
 ghost use Rattle.nanorand_fairness.specs.InTurn.{NumbersInTurnAreFair, RejectionsPreferNothing, NoListOfNumbersIsPreferred};
 ghost use Rattle.nanorand_fairness.specs.Deals.{DealsAreFair, ShufflesAreFair, NoDealIsPreferred, ShufflesDrawInTurn};
-ghost use Rattle.nanorand_fairness.specs.Samples.{SampledSetsAreFair, SamplesDrawInTurn};
+ghost use Rattle.nanorand_fairness.specs.Samples.{NoSetIsPreferred, SampledSetsAreFair, SamplesDrawInTurn};
 
 use nanorand_core::Rng;
 use nanorand_core::laws::{
@@ -83,10 +83,14 @@ pub fn shuffles_draw_in_turn<G: Rng<OUTPUT>, T, const OUTPUT: usize>()
     ensures { ShufflesDrawInTurn T G.requests }
 {}
 
-/// Each set of k of the numbers below `count` is sampled by equally many lists of k words: k! times
-/// the product of floor(2^64 / size) for the sizes of the draws. It is the law of `samples::sample`.
+/// A sample of `samples::sample` prefers no set of numbers.
+///
+/// `sets`: each set of k of the numbers below `count` is sampled by equally many lists of k words, k!
+/// times the product of floor(2^64 / size) for the sizes of the draws. `rejections`: of all lists of
+/// n words, rejected ones included, any two sets are sampled by equally many.
 pub fn sampled_sets_are_fair()
-    ensures { SampledSetsAreFair }
+    ensures sets { SampledSetsAreFair }
+    ensures rejections { NoSetIsPreferred }
 {
     numbers_in_turn_are_fair();
     samples_are_fair();

@@ -3,6 +3,8 @@
 #![tactic(auto)]
 
 pub mod callers;
+#[cfg(test)]
+mod comparing;
 pub mod generators;
 pub mod references;
 #[cfg(test)]

@@ -1,6 +1,6 @@
 //! Fills by a closure, and arrays of bytes.
 
-use comparing::equal;
+use crate::comparing::equal;
 use nanorand::values::fill_with;
 use nanorand::{BufferedRng, Rng, WyRand};
 use nanorand_rows::callers::fills::{fill_bytes_by_closure, throw_dice};

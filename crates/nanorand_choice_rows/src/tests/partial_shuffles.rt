@@ -1,7 +1,7 @@
 //! `partial_shuffle`, which makes the first steps of `shuffle`.
 ghost use Rattle.std.specs.Prelude.{◌≤◌};
 
-use comparing::{equal, equal_at};
+use crate::comparing::{equal, equal_at};
 use nanorand::shuffles::partial_shuffle;
 use nanorand::values::RangeError;
 use nanorand::{BufferedRng, ChaCha8, Pcg64, Rng, WyRand};

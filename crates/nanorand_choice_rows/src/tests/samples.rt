@@ -1,7 +1,7 @@
 //! Samples without repetition.
 ghost use Rattle.std.specs.Prelude.{◌<◌, ◌≤◌};
 
-use comparing::{equal, equal_at};
+use crate::comparing::{equal, equal_at};
 use nanorand::samples::sample;
 use nanorand::{RangeError, WyRand};
 use nanorand_rows::{Script, Steps, Zeros};

@@ -1,7 +1,7 @@
 //! Generators that are stored and restored, and the equality of generators.
 ghost use Rattle.std.specs.Prelude.{◌≡◌, ◌%◌};
 
-use comparing::{display_is, equal, equal_at};
+use crate::comparing::{display_is, equal, equal_at};
 use nanorand::buffer::RestTooLong;
 use nanorand::{
     Blocks, BufferedRng, ChaCha, ChaCha8, ChaCha12, ChaCha20, Pcg64, Rng, SeedableRng, WyRand,

@@ -1,6 +1,6 @@
 //! Choices by one drawn number: compared with the number that the word names.
 
-use comparing::{equal, equal_at};
+use crate::comparing::{equal, equal_at};
 use nanorand::choices::{below, choose, choose_mut, ratio};
 use nanorand::values::pick_word;
 use nanorand::{RangeError, Rng, WyRand};

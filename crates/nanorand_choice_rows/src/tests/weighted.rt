@@ -1,6 +1,6 @@
 //! Choices by weight.
 
-use comparing::equal;
+use crate::comparing::equal;
 use nanorand::choices::weighted::{WeightError, choose_weighted};
 use nanorand::{BufferedRng, ChaCha8, Pcg64, Rng, WyRand};
 use nanorand_rows::{ByteScript, Constant, Script, Steps, Waste, Zeros};

@@ -1,2 +1,3 @@
 pub mod TurnCounts
 pub mod TurnSwaps
+pub mod EvenLists

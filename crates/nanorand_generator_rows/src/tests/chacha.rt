@@ -2,7 +2,7 @@
 
 ghost use Rattle.std.specs.Prelude.{◌≡◌, ◌%◌};
 
-use comparing::{debug_is, display_is, equal, equal_at};
+use crate::comparing::{debug_is, display_is, equal, equal_at};
 use hex::FromHex;
 use nanorand::crypto::chacha::{
     chacha_block, chacha_increment_counter, chacha_init, chacha_rounds, chacha_unrounds,

@@ -1,7 +1,7 @@
 //! Known-answer tests of distances. A body that tries each number of draws would take too long on
 //! most of them.
 
-use comparing::{debug_is, equal, equal_at};
+use crate::comparing::{debug_is, equal, equal_at};
 use nanorand::{Pcg64, WyRand};
 use std::alloc::AllocError;
 use std::process::Abort;

@@ -1,6 +1,6 @@
 //! Known-answer tests of the entropy readers, and of the generators made from them.
 
-use comparing::{debug_is, equal, equal_at};
+use crate::comparing::{debug_is, equal, equal_at};
 use hex::FromHex;
 use nanorand::entropy::{EntropyError, backup, rdseed, system};
 use nanorand::{Blocks, ChaCha8, ChaCha12, ChaCha20, Pcg64, WyRand};

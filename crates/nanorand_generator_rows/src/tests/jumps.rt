@@ -1,6 +1,6 @@
 //! Known-answer tests of jumps.
 
-use comparing::{debug_is, equal, equal_at, same_debug};
+use crate::comparing::{debug_is, equal, equal_at, same_debug};
 use nanorand::{Blocks, Pcg64, WyRand};
 use std::alloc::AllocError;
 use std::process::Abort;

@@ -2,7 +2,7 @@
 ghost use Rattle.std.specs.Prelude.{◌≤◌};
 
 use super::makers::counted;
-use comparing::equal;
+use crate::comparing::equal;
 use nanorand::{BufferedRng, ChaCha8, ChaCha12, ChaCha20, Pcg64, Rng, WyRand};
 use nanorand_rows::{Bytes64, Steps};
 use std::alloc::AllocError;

@@ -1,6 +1,6 @@
 //! Shuffles of many items, and replays of many calls.
 
-use comparing::{equal, equal_at};
+use crate::comparing::{equal, equal_at};
 use nanorand::replay::{Answer, Call, Kind, Span, replay};
 use nanorand::shuffles::shuffle_full;
 use nanorand::{BufferedRng, ChaCha8, ChaCha12, ChaCha20, Pcg64, Rng, WyRand};

@@ -1,7 +1,7 @@
 //! Entropy readers with enough bytes: slices of many sizes, and each generator made from them.
 ghost use Rattle.std.specs.Prelude.{◌≡◌, ◌%◌};
 
-use comparing::{equal, equal_at};
+use crate::comparing::{equal, equal_at};
 use nanorand::entropy::{EntropyError, system};
 use nanorand::{Blocks, ChaCha, Pcg64, WyRand};
 use nanorand_rows::generators::readers::Pieces;

@@ -1,6 +1,6 @@
 //! Known-answer tests of Pcg64.
 
-use comparing::{debug_is, display_is, equal};
+use crate::comparing::{debug_is, display_is, equal};
 use nanorand::{Blocks, Pcg64, Rng, SeedableRng};
 use std::test::Fail;
 

@@ -1,7 +1,7 @@
 //! Allocations that are refused.
 
 use super::makers::counted;
-use comparing::equal;
+use crate::comparing::equal;
 use nanorand::{BufferedRng, ChaCha20, Rng, WyRand};
 use nanorand_rows::Steps;
 use refusing::Refusing;

@@ -1,6 +1,6 @@
 //! The `Debug` and `Display` texts of generators, at the least and greatest seeds and counters.
 
-use comparing::{debug_is, display_is};
+use crate::comparing::{debug_is, display_is};
 use nanorand::{Blocks, ChaCha, ChaCha8, ChaCha12, ChaCha20, Pcg64, WyRand};
 use std::alloc::AllocError;
 use std::fmt;

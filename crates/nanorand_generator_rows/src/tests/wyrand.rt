@@ -1,6 +1,6 @@
 //! Known-answer tests of WyRand.
 
-use comparing::{debug_is, display_is, equal, equal_at};
+use crate::comparing::{debug_is, display_is, equal, equal_at};
 use nanorand::{Blocks, Rng, SeedableRng, WyRand};
 use std::test::Fail;
 

@@ -2,7 +2,7 @@
 ghost use Rattle.std.specs.Prelude.{◌≡◌, ◌≤◌};
 ghost use Rattle.nanorand_core.specs.shuffles.Arrangements.{copies};
 
-use comparing::equal;
+use crate::comparing::equal;
 use nanorand::shuffles::choices_of;
 use std::process::Abort;
 

@@ -3,7 +3,7 @@
 ghost use Rattle.std.specs.Prelude.{◌^◌, ◌<◌, ◌≤◌};
 ghost use Rattle.nanorand_core.specs.values.Runs.{IsWordWidth};
 
-use comparing::equal_at;
+use crate::comparing::equal_at;
 use nanorand::values::pick_word;
 
 pub(super) fn pick_by_remainder(size: u128, bits: u32, word: u64) -> Option<u64>

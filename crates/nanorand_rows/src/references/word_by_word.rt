@@ -5,7 +5,7 @@ ghost use Rattle.nanorand_core.specs.values.Runs.{IsWordWidth};
 
 use super::remainders::pick_by_remainder;
 use crate::ByteScript;
-use comparing::{equal, equal_at};
+use crate::comparing::{equal, equal_at};
 use nanorand::Rng;
 use nanorand::values::pick_word;
 use nanorand::values::word::draw_below;

@@ -1,8 +1,8 @@
 //! Buffered generators: requests, reads, reseeding, clones and replays.
 
 use super::replays::calls;
+use crate::comparing::{display_is, equal};
 use crate::{Steps, Zeros};
-use comparing::{display_is, equal};
 use nanorand::buffer::TextRefused;
 use nanorand::replay::{Answer, Call, Kind, replay};
 use nanorand::{BufferedRng, ChaCha8, Pcg64, Rng, SeedableRng, WyRand};

@@ -1,7 +1,7 @@
 //! The number of buffered bytes after one request and another.
 
 use crate::Steps;
-use comparing::equal;
+use crate::comparing::equal;
 use nanorand::{BufferedRng, Rng};
 use std::test::Fail;
 

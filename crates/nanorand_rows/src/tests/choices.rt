@@ -1,7 +1,7 @@
 //! Choices, and the permutations that they make.
 ghost use Rattle.std.specs.Prelude.{◌≤◌};
 
-use comparing::{display_is, equal};
+use crate::comparing::{display_is, equal};
 use nanorand::shuffles::{NotArrangement, apply_choices, choices_of};
 use std::process::Abort;
 use std::test::Fail;

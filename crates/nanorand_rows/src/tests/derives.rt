@@ -1,6 +1,6 @@
 //! The derived `Clone`, `Copy`, `PartialEq` and `Debug` of the small types.
 
-use comparing::{debug_is, equal, equal_at};
+use crate::comparing::{debug_is, equal, equal_at};
 use nanorand::buffer::{RestTooLong, TextRefused};
 use nanorand::choices::weighted::WeightError;
 use nanorand::entropy::EntropyError;

@@ -1,8 +1,8 @@
 //! Clones that are not equal to their original, and a buffer around such a generator.
 
 use crate::Forking;
+use crate::comparing::{equal, equal_at};
 use crate::generators::forking::{fill_from_clone, parts_of_clone};
-use comparing::{equal, equal_at};
 use nanorand::{Blocks, BufferedRng, Rng};
 use std::test::Fail;
 

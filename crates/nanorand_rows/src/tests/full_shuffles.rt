@@ -1,7 +1,7 @@
 //! `shuffle_full`, which draws each partner from all indices.
 
+use crate::comparing::equal;
 use crate::{Script, Steps, Zeros};
-use comparing::equal;
 use nanorand::shuffles::shuffle_full;
 use nanorand::values::RangeError;
 use nanorand::{BufferedRng, Rng};

@@ -1,8 +1,8 @@
 //! Unusual generators that keep the contract, and a user's own value type.
 ghost use Rattle.std.specs.Prelude.{◌≤◌};
 
+use crate::comparing::{equal, equal_at};
 use crate::{Bytes1, Bytes64, Constant, Die, Script, Steps, Waste, Zeros};
-use comparing::{equal, equal_at};
 use nanorand::replay::{Answer, Call, Kind, Span, replay};
 use nanorand::{BufferedRng, RangeError, Rng};
 use std::ops::Bound;

@@ -1,7 +1,7 @@
 //! Ranges of unsigned numbers, and the numbers that words name.
 
+use crate::comparing::{debug_is, display_is, equal};
 use crate::{Constant, Script, Steps, Zeros};
-use comparing::{debug_is, display_is, equal};
 use nanorand::replay::{Answer, Call, Kind, Span, replay};
 use nanorand::values::pick_word;
 use nanorand::{RangeError, Rng, WyRand};

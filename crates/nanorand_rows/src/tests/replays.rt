@@ -1,7 +1,7 @@
 //! Replays of lists of calls.
 
 use crate::Steps;
-use comparing::equal;
+use crate::comparing::equal;
 use nanorand::replay::{Answer, Call, Kind, Span, replay};
 use std::ops::Bound;
 

@@ -1,7 +1,7 @@
 //! `fill` and `shuffle`.
 
+use crate::comparing::equal;
 use crate::{Script, Steps, Zeros};
-use comparing::equal;
 use nanorand::values::RangeError;
 use nanorand::{Rng, WyRand};
 use std::test::Fail;

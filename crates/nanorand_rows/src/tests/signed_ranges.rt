@@ -1,8 +1,8 @@
 //! Ranges of signed numbers, and every pair of bounds at both ends of the ten types.
 
 use super::ranges::is_within;
+use crate::comparing::equal;
 use crate::{Constant, Script, Zeros};
-use comparing::equal;
 use nanorand::replay::{Answer, Call, Span, replay};
 use nanorand::{RandomRange, RangeError, Rng, WyRand};
 use std::ops::Bound::{self, Excluded, Included, Unbounded};

@@ -1,8 +1,8 @@
 //! `shuffle_and_record`, which records the choices that it draws.
 ghost use Rattle.std.specs.Prelude.{◌≤◌};
 
+use crate::comparing::equal;
 use crate::{Constant, Script, Steps, Zeros};
-use comparing::equal;
 use nanorand::shuffles::{apply_choices, shuffle_and_record};
 use nanorand::values::RangeError;
 use nanorand::{BufferedRng, ChaCha8, Pcg64, Rng, WyRand};

@@ -1,7 +1,7 @@
 //! Values of plain generators.
 
 use crate::Steps;
-use comparing::equal;
+use crate::comparing::equal;
 use nanorand::{Blocks, Rng};
 
 #[test]
