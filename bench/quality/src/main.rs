@@ -22,8 +22,8 @@ fn main() -> Result<(), Failed> {
     match stream.as_str() {
         "wyrand" => write(seeded(WyRand::new_seed(0), seed)?, <[u8]>::to_vec),
         "pcg64" => write(seeded(Pcg64::new_seed(0), seed)?, <[u8]>::to_vec),
-        "pcg64-low" => write(seeded(Pcg64::new_seed(0), seed)?, low_halves),
-        "pcg64-high" => write(seeded(Pcg64::new_seed(0), seed)?, high_halves),
+        "pcg64-low" => write(seeded(Pcg64::new_seed(0), seed)?, |bytes| halves(bytes, 0)),
+        "pcg64-high" => write(seeded(Pcg64::new_seed(0), seed)?, |bytes| halves(bytes, 4)),
         "chacha8" => write(seeded(chacha::<8>(), seed)?, <[u8]>::to_vec),
         "chacha12" => write(seeded(chacha::<12>(), seed)?, <[u8]>::to_vec),
         "chacha20" => write(seeded(chacha::<20>(), seed)?, <[u8]>::to_vec),
@@ -71,22 +71,9 @@ fn write<const OUTPUT: usize>(
     }
 }
 
-/// The low 32 bits of each word of 64 bits. A word's least byte is its first.
-fn low_halves(bytes: &[u8]) -> Vec<u8> {
-    let (words, _) = bytes.as_chunks();
-    let halves: Vec<_> = words
-        .iter()
-        .map(|&[a, b, c, d, _, _, _, _]| [a, b, c, d])
-        .collect();
-    halves.into_flattened()
-}
-
-/// The high 32 bits of each word of 64 bits.
-fn high_halves(bytes: &[u8]) -> Vec<u8> {
-    let (words, _) = bytes.as_chunks();
-    let halves: Vec<_> = words
-        .iter()
-        .map(|&[_, _, _, _, e, f, g, h]| [e, f, g, h])
-        .collect();
-    halves.into_flattened()
+/// Four bytes of each word of 64 bits, from its byte `first` on. A word's least byte is byte 0.
+fn halves(bytes: &[u8], first: usize) -> Vec<u8> {
+    let (words, _) = bytes.as_chunks::<8>();
+    let halves = words.iter().flat_map(|word| &word[first..first + 4]);
+    halves.copied().collect()
 }
