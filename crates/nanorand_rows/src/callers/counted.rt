@@ -1,18 +1,24 @@
 //! What the laws of whole draws say of a die, tiles, a hand of cards and winners.
-ghost use Rattle.std.specs.Prelude.{◌≡◌, ℕ, ◌*◌, ◌==◌, Bool, List, [], ◌∷◌, is_none, option_map, count_by};
+ghost use Rattle.std.specs.Prelude.{◌≡◌, ℕ, ◌*◌, ◌<◌, ◌^◌, ◌==◌, Bool, List, [], ◌∷◌, length, is_none, option_map, count_by, OnOk};
 ghost use Rattle.std.specs.List.{list_all, range_with_len};
 ghost use Rattle.std.specs.Cmp.Lexicographic.{pointwise};
-ghost use Rattle.nanorand_core.specs.values.Draws.{deciding_place, decided};
+ghost use Rattle.nanorand_core.specs.values.Draws.{deciding_place, decided, next_word, after_word, words_from};
 ghost use Rattle.nanorand_core.specs.values.Fairness.{passes};
 ghost use Rattle.nanorand_core.specs.choices.Weighted.{item_at};
 ghost use Rattle.nanorand_fairness.specs.Lists.{lists_that};
-ghost use Rattle.nanorand_fairness.specs.InTurn.{word_lists_that};
-ghost use Rattle.nanorand_fairness.specs.Deals.{deal_sizes, dealt, IsDeal};
+ghost use Rattle.nanorand_fairness.specs.InTurn.{numbers_in_turn, word_lists_that};
+ghost use Rattle.nanorand_fairness.specs.Deals.{choices_by, deal_sizes, dealt, IsDeal};
 ghost use Rattle.nanorand_fairness.specs.Samples.{sample_by, sample_sizes};
+ghost use Rattle.nanorand.specs.generators.WyRand as wyrand;
 
 use nanorand::laws::{
-    fairness_with_rejections, sampled_sets_are_fair, shuffles_are_fair, words_of_a_draw,
+    fairness_with_rejections, partial_shuffles, sampled_sets_are_fair, samples_draw_in_turn,
+    shuffles_are_fair, shuffles_draw_in_turn, words_of_a_draw,
+    wyrand_words_are_not_equally_frequent,
 };
+use nanorand::samples::sample;
+use nanorand::shuffles::shuffle_and_record;
+use nanorand::{RangeError, WyRand};
 
 /// A throw of a die is undecided after three bytes for 64 of the 2^24 lists: 4 of 256 bytes are
 /// rejected.
@@ -51,4 +57,39 @@ pub fn winners_are_alike()
         ≡ wins (λ draws. list_all others (sample_by 7 draws [])) }
 {
     sampled_sets_are_fair();
+}
+
+/// Three of ten entrants: the winners are those by the numbers that the next words of the generator
+/// draw in turn.
+pub fn winners_by_words(rng: &mut WyRand, winners: &mut [usize; 3]) -> Result<(), RangeError>
+    ensures { let requests = wyrand.wyrand_requests in
+        let words = words_from (next_word requests 64) (after_word requests 64) 384 rng.old in
+        OnOk result (winners.new ≡ sample_by 7 (numbers_in_turn 64 (sample_sizes 3 10) words) []) }
+{
+    samples_draw_in_turn::<WyRand, 8>();
+    sample(rng, 10, winners)
+}
+
+/// A shuffle of five cards, recorded: the choices are those by the numbers that the next words draw
+/// in turn.
+pub fn choices_by_words(
+    rng: &mut WyRand,
+    cards: &mut [u8; 5],
+    choices: &mut [usize; 5],
+) -> Result<(), RangeError>
+    ensures { let requests = wyrand.wyrand_requests in
+        let words = words_from (next_word requests 64) (after_word requests 64) 640 rng.old in
+        OnOk result (choices.new ≡ choices_by 0 (numbers_in_turn 64 (deal_sizes 5 5) words)) }
+{
+    partial_shuffles::<WyRand, u8, 8>();
+    shuffles_draw_in_turn::<WyRand, u8, 8>();
+    shuffle_and_record(rng, cards, choices)
+}
+
+/// Who waits for every 64-bit word of a `WyRand` waits in vain.
+pub fn waits_in_vain()
+    ensures { (seed : ℕ)
+        → ¬ ((w : ℕ) → w < 2 ^ 64 → (n : ℕ) × (wyrand.word (wyrand.seed_after n seed) ≡ w)) }
+{
+    wyrand_words_are_not_equally_frequent();
 }
