@@ -1,5 +1,5 @@
 -- A user's value type: a die, with a number from 1 to 6.
-use Rattle.std.specs.Prelude.{ℕ, ◌≤◌, List, Result, Ok, Err}
+use Rattle.std.specs.Prelude.{ℕ, ◌≤◌, Result, Ok, Err}
 use Rattle.std.specs.declared.ops.Bound.{Bound}
 use Rattle.std.specs.declared.ops.Bound.TheVariants.{Included, Excluded, Unbounded}
 use Rattle.nanorand_core.specs.generators.Blocks.{Requests}

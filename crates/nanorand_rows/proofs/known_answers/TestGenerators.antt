@@ -2,8 +2,8 @@
 use Rattle.std.specs.Prelude.{◌≡◌, ℕ, ◌-◌, ◌^◌, List, [], ◌∷◌, ◌++◌, replicate, Ok, refl}
 use Rattle.std.specs.List.{range_with_len}
 use Rattle.std.specs.declared.ops.Bound.TheVariants.{Included, Unbounded}
-use Rattle.nanorand_core.specs.generators.Blocks.{taken, plain_after, plain}
-use Rattle.nanorand_streams.specs.generators.Buffered.{Buffered, buffered, buffer_of, buffered_block, buffered_step, buffered_taken, buffered_after}
+use Rattle.nanorand_core.specs.generators.Blocks.{taken, plain}
+use Rattle.nanorand_streams.specs.generators.Buffered.{buffered, buffer_of, buffered_taken, buffered_after}
 use Rattle.nanorand_core.specs.values.Runs.{named}
 use Rattle.nanorand_core.specs.values.Range.{range_within}
 use Rattle.nanorand_core.specs.values.Draws.{unsigned_outcome, words_from, value_drawn, left_by, left_after}
