@@ -1,10 +1,12 @@
-//! The seeded random generators of `nanorand`, proved in Rattle, for Rust programs.
+//! Seeded random generators, exact ranges, shuffles, samples, and lists of calls that can be replayed.
 //!
-//! The proved functions are linked as the static library `nanorand_c`. This crate is safe Rust over
-//! them, with the names of the Rust crate `nanorand` 0.7.0. `rust/test` builds the library, for Linux
-//! on x86-64 from x86-64-v2 on. A generator is a plain Rust value, whose state each call borrows: it can
-//! be cloned, compared, moved, sent to a thread and dropped as any other. Equal seeds give equal
-//! numbers. `WyRand` and `Pcg64` are not cryptographically secure.
+//! Equal seeds give equal numbers, on every machine. The functions are the proved source of `nanorand` in
+//! Rattle, which is Rust with contracts, with the contracts erased; the crate's README says what is
+//! proved, what is written by hand and what is trusted. Names and paths are those of the Rust crate
+//! `nanorand` 0.7.0.
+//!
+//! **`WyRand` and `Pcg64` are not cryptographically secure.** Never draw a key, a token or a password
+//! from them. `ChaCha` says what it is and is not for.
 //!
 //! A number:
 //!
@@ -17,16 +19,16 @@
 //! # let _ = coin;
 //! ```
 //!
-//! A number of a range: each has equally many of the possible words. An empty range is an error, and
-//! draws nothing:
+//! A number of a range: each is named by equally many words. An empty range is an error, and draws
+//! nothing:
 //!
 //! ```
 //! use nanorand_proved::{RangeError, Rng, WyRand};
 //!
 //! let mut rng = WyRand::new_seed(42);
-//! let percent: u64 = rng.generate_range(1..=100)?;
-//! assert!((1..=100).contains(&percent));
-//! assert_eq!(rng.generate_range::<usize>(3..3), Err(RangeError::Empty));
+//! let pips: u8 = rng.generate_range(1..=6)?;
+//! assert!((1..=6).contains(&pips));
+//! assert_eq!(rng.generate_range(3..3_i64), Err(RangeError::Empty));
 //! # Ok::<(), RangeError>(())
 //! ```
 //!
@@ -50,20 +52,21 @@
 //!
 //! let mut cards = vec!["ace", "king", "queen", "jack"];
 //! WyRand::new_seed(7).shuffle(&mut cards)?;
-//! cards.sort();
+//! cards.sort_unstable();
 //! assert_eq!(cards, ["ace", "jack", "king", "queen"]);
 //! # Ok::<(), RangeError>(())
 //! ```
 //!
-//! Seeds and jumps. There is no default source of seeds: take the bytes of a seed from a source that
-//! you trust, and give them to `reseed`. A jump leads to any point of a stream at once:
+//! Seeds and jumps. A seed is a number, bytes, a reader's bytes, or the operating system's; a jump leads
+//! to any point of a stream at once:
 //!
 //! ```
-//! use nanorand_proved::{ChaCha8, Pcg64, Rng, SeedableRng, WyRand};
+//! use nanorand_proved::{ChaCha8, Pcg64, Rng, WyRand};
 //!
-//! let mut rng = WyRand::new_seed(0);
-//! rng.reseed([42, 0, 0, 0, 0, 0, 0, 0]);
-//! assert_eq!(rng, WyRand::new_seed(42));
+//! const START: WyRand = WyRand::from_seed([42, 0, 0, 0, 0, 0, 0, 0]);
+//! assert_eq!(START, WyRand::new_seed(42));
+//! # #[cfg(feature = "std")]
+//! let mut other = WyRand::from_entropy()?;
 //!
 //! let mut far = Pcg64::new_seed(1);
 //! far.jump(1 << 100);
@@ -73,97 +76,87 @@
 //! third.jump(2);
 //! let _ = (first.rand(), first.rand());
 //! assert_eq!(first.rand(), third.rand());
+//! # Ok::<(), nanorand_proved::entropy::EntropyError>(())
 //! ```
-#![deny(unsafe_code, missing_docs)]
+//!
+//! A generator of your own is one function:
+//!
+//! ```
+//! use nanorand_proved::{BufferedRng, Rng};
+//!
+//! struct Counter(u32);
+//!
+//! impl Rng<4> for Counter {
+//!     fn rand(&mut self) -> [u8; 4] {
+//!         self.0 = self.0.wrapping_add(1);
+//!         self.0.to_le_bytes()
+//!     }
+//! }
+//!
+//! let mut rng = BufferedRng::new(Counter(6));
+//! assert_eq!(rng.generate::<u64>(), 7 + (8 << 32));
+//! ```
+//!
+//! `ChaCha` has an even number of rounds; another does not compile:
+//!
+//! ```compile_fail
+//! let rng = nanorand_proved::ChaCha::<7>::new_key([0; 32], [0; 8]);
+//! ```
+//!
+//! Features: `std` (on by default) has readers, vectors, `std::error::Error` and seeds from the system;
+//! without it the crate is `no_std` and allocates nothing. `rand_core` implements the traits of the crate
+//! of that name.
+#![no_std]
+#![deny(missing_docs)]
+// The proved source has the form of Rattle, and its proofs say that no cast loses a bit that counts.
+#![allow(
+    clippy::cast_possible_truncation,
+    clippy::cast_sign_loss,
+    clippy::inline_always,
+    clippy::manual_find,
+    clippy::many_single_char_names,
+    clippy::needless_bitwise_bool,
+    clippy::needless_range_loop,
+    clippy::semicolon_if_nothing_returned,
+    clippy::unreadable_literal
+)]
 
-mod border;
-mod chacha;
-mod pcg64;
-mod range;
-mod shuffle;
-mod values;
-mod wyrand;
+#[cfg(not(target_pointer_width = "64"))]
+compile_error!("what is proved of this crate holds where usize has 64 bits");
 
-pub use chacha::{ChaCha, ChaCha8, ChaCha12, ChaCha20};
-pub use pcg64::Pcg64;
-pub use range::{RandomRange, RangeError};
-pub use shuffle::Shuffle;
-use std::ops::RangeBounds;
-pub use values::RandomGen;
-pub use wyrand::WyRand;
+#[cfg(feature = "std")]
+extern crate std;
 
-/// A generator of random values, by blocks of `OUTPUT` bytes.
-///
-/// Each request begins a new block and drops the rest of the last one.
-pub trait Rng<const OUTPUT: usize>: Clone {
-    /// Draws the next block.
-    fn rand(&mut self) -> [u8; OUTPUT];
+#[forbid(unsafe_code)]
+pub mod buffer;
+#[forbid(unsafe_code)]
+pub mod choices;
+#[forbid(unsafe_code)]
+pub mod crypto;
+#[forbid(unsafe_code)]
+pub mod entropy;
+#[forbid(unsafe_code)]
+mod layer;
+#[forbid(unsafe_code)]
+pub mod rand;
+#[forbid(unsafe_code)]
+pub mod replay;
+#[forbid(unsafe_code)]
+pub mod samples;
+#[forbid(unsafe_code)]
+pub mod shuffles;
+mod simd;
+#[forbid(unsafe_code)]
+mod swap;
+#[forbid(unsafe_code)]
+pub mod values;
 
-    /// Fills the slice with the next bytes, by one request. An empty slice draws nothing.
-    fn fill_bytes(&mut self, buffer: &mut [u8]);
+#[cfg(doctest)]
+#[doc = include_str!("../tests/does_not_compile.md")]
+struct DoesNotCompile;
 
-    /// Draws the number of the next eight bytes, least byte first: a `u64`.
-    fn next_u64(&mut self) -> u64 {
-        let mut bytes = [0; 8];
-        self.fill_bytes(&mut bytes);
-        u64::from_le_bytes(bytes)
-    }
-
-    /// Draws a value.
-    fn generate<T: RandomGen<Self, OUTPUT>>(&mut self) -> T {
-        T::random(self)
-    }
-
-    /// Fills the slice with values, one request an item, in order.
-    fn fill<T: RandomGen<Self, OUTPUT>>(&mut self, target: &mut [T]) {
-        for item in target {
-            *item = self.generate();
-        }
-    }
-
-    /// Draws a number of the range.
-    ///
-    /// # Errors
-    ///
-    /// [`RangeError::Empty`] if the range has no number; nothing was drawn.
-    /// [`RangeError::Exhausted`] if 128 words in a row were rejected; they stay drawn.
-    fn generate_range<T: RandomRange<Self>>(
-        &mut self,
-        range: impl RangeBounds<T>,
-    ) -> Result<T, RangeError> {
-        T::random_range(self, range)
-    }
-
-    /// Shuffles the items: for each index i, from the first on, draws a partner in `i..n` and swaps the
-    /// two items. It is the shuffle of Fisher and Yates (1938) in Richard Durstenfeld's form, "Algorithm
-    /// 235: Random permutation", CACM 7(7), 1964.
-    ///
-    /// # Errors
-    ///
-    /// [`RangeError::Exhausted`] if 128 words in a row were rejected for one partner. The swaps made
-    /// before it stay, and the items are a permutation of what they were.
-    fn shuffle<T>(&mut self, items: &mut [T]) -> Result<(), RangeError>
-    where
-        Self: Shuffle,
-    {
-        shuffle::arrange(items, |places| self.shuffle_places(places))
-    }
-
-    /// Shuffles the items with partners from all indices, as the Rust crate `nanorand` does.
-    ///
-    /// # Errors
-    ///
-    /// As of [`shuffle`](Rng::shuffle).
-    fn shuffle_full<T>(&mut self, items: &mut [T]) -> Result<(), RangeError>
-    where
-        Self: Shuffle,
-    {
-        shuffle::arrange(items, |places| self.shuffle_places_full(places))
-    }
-}
-
-/// A generator that can be seeded anew.
-pub trait SeedableRng<const SEED_SIZE: usize, const OUTPUT: usize>: Rng<OUTPUT> {
-    /// Seeds the generator anew, least byte first on every machine.
-    fn reseed(&mut self, seed: [u8; SEED_SIZE]);
-}
+pub use buffer::BufferedRng;
+#[cfg(feature = "rand_core")]
+pub use layer::ChaChaSeed;
+pub use rand::{ChaCha, ChaCha12, ChaCha20, ChaCha8, Pcg64, Rng, SeedableRng, WyRand};
+pub use values::{RandomGen, RandomRange, RangeError};

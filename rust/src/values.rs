@@ -1,38 +1,53 @@
+// Written by `python3 rust/erase` from:
+// crates/nanorand_core/src/values.rt
+
 //! The values that a generator draws.
 
-use crate::Rng;
+mod bytes;
+pub mod number;
+pub mod range;
+mod signed;
+mod unsigned;
+pub mod word;
 
-/// A type whose values a generator draws.
+use crate::rand::Rng;
+pub use range::{RandomRange, RangeError};
+pub use word::pick_word;
+
+/// A type whose values can be drawn from a generator. A draw of a value cannot be refused.
 ///
-/// A whole number of N bits is one request of N / 8 bytes, least byte first, the signed types in
-/// two's complement. A `bool` is one byte, and true if it is below 128.
-pub trait RandomGen<G: Rng<OUTPUT>, const OUTPUT: usize>: Sized {
+/// There are no floats: draw a number below a power of two with `choices::below`, and an event of
+/// a given probability with `choices::ratio`.
+///
+/// An integer of N bits takes one request of N / 8 bytes, read least byte first, the signed types
+/// in two's complement. `usize` and `isize` have 64 bits. An array of N bytes takes one request of
+/// N bytes.
+pub trait RandomGen<G: Rng<OUTPUT>, const OUTPUT: usize> {
     /// Draws a value.
     fn random(rng: &mut G) -> Self;
 }
 
+/// Takes one byte, and is true if it is below 128.
 impl<G: Rng<OUTPUT>, const OUTPUT: usize> RandomGen<G, OUTPUT> for bool {
-    fn random(rng: &mut G) -> Self {
-        rng.generate::<u8>() < 128
+    #[inline]
+    fn random(rng: &mut G) -> bool {
+        u8::from_le_bytes(next_bytes(rng)) < 128
     }
 }
 
-impl<G: Rng<OUTPUT>, const OUTPUT: usize> RandomGen<G, OUTPUT> for u64 {
-    fn random(rng: &mut G) -> Self {
-        rng.next_u64()
+/// Fills the slice by a closure: calls `draw` once for each item, in the order of the items.
+///
+/// It is `Rng::fill` for draws that are no type of their own, as a range or a choice.
+pub fn fill_with<G, T, F: FnMut(&mut G) -> T>(rng: &mut G, target: &mut [T], mut draw: F) {
+    for item in target.iter_mut() {
+        *item = draw(rng);
     }
 }
 
-macro_rules! from_bytes {
-    ($($number:ty),+) => { $(
-        impl<G: Rng<OUTPUT>, const OUTPUT: usize> RandomGen<G, OUTPUT> for $number {
-            fn random(rng: &mut G) -> Self {
-                let mut bytes = [0; size_of::<Self>()];
-                rng.fill_bytes(&mut bytes);
-                Self::from_le_bytes(bytes)
-            }
-        }
-    )+ };
+// The next `SIZE` bytes, by one request.
+#[inline]
+fn next_bytes<G: Rng<OUTPUT>, const SIZE: usize, const OUTPUT: usize>(rng: &mut G) -> [u8; SIZE] {
+    let mut bytes = [0; SIZE];
+    rng.fill_bytes(&mut bytes);
+    bytes
 }
-
-from_bytes!(u8, u16, u32, u128, usize, i8, i16, i32, i64, i128, isize);

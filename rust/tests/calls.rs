@@ -1,180 +1,554 @@
-//! What the Rust side does around the proved functions.
+//! What the crate does around the proved functions: ranges as Rust writes them, borrowed generators,
+//! readers, constants, texts that keep secrets, and preconditions that panic.
+#![cfg(feature = "std")]
+#![allow(clippy::mut_mut)] // a lent generator is lent again
 
-use nanorand_proved::{
-    ChaCha8, ChaCha12, ChaCha20, Pcg64, RangeError, Rng, SeedableRng, Shuffle, WyRand,
+mod generators;
+
+use generators::{rising, zeros, Constant, Script, Steps, Waste};
+use nanorand_proved::choices::{below, choose, choose_mut, choose_weighted, ratio};
+use nanorand_proved::rand::fill_by_blocks;
+use nanorand_proved::replay::{replay, Answer, Call, Kind};
+use nanorand_proved::samples::sample;
+use nanorand_proved::shuffles::{
+    apply_choices, choices_of, partial_shuffle, shuffle_and_record, shuffle_full,
 };
-use std::ops::Bound::{self, Excluded, Included, Unbounded};
+use nanorand_proved::values::number::Number;
+use nanorand_proved::values::range::draw_number;
+use nanorand_proved::values::word::draw_below;
+use nanorand_proved::values::{fill_with, pick_word};
+use nanorand_proved::{
+    BufferedRng, ChaCha12, ChaCha20, ChaCha8, Pcg64, RangeError, Rng, SeedableRng, WyRand,
+};
+use std::fmt::Debug;
+use std::io::{self, Read};
+use std::ops::Bound::{Excluded, Included, Unbounded};
+use std::panic::{catch_unwind, AssertUnwindSafe};
+use std::sync::Mutex;
 
-/// A request of n bytes delivers the first n bytes of a longer one, and values are read from requests.
-fn check_requests<G: Rng<OUTPUT> + PartialEq + std::fmt::Debug, const OUTPUT: usize>(rng: &G) {
-    let mut long = vec![0; 1000];
-    rng.clone().fill_bytes(&mut long);
-    for length in 0..long.len() {
-        let mut drawn = rng.clone();
-        let mut blocks = rng.clone();
-        let mut short = vec![7; length];
-        drawn.fill_bytes(&mut short);
-        assert_eq!(short, long[..length]);
-        for _ in 0..length.div_ceil(OUTPUT) {
-            let _ = blocks.rand();
+/// Every way to write a range of a type, between two numbers beside each other and at both ends.
+macro_rules! check_forms {
+    ($($number:ty),+) => { $({
+        let (least, greatest): ($number, $number) = (<$number>::MIN, <$number>::MAX);
+        let (low, high): ($number, $number) = (5, 6);
+        let ones = || Constant::new(255);
+        assert_eq!(zeros().generate_range(low..high), Ok(low));
+        assert_eq!(ones().generate_range(low..high), Ok(low));
+        assert_eq!(zeros().generate_range(low..=high), Ok(low));
+        assert_eq!(ones().generate_range(low..=high), Ok(high));
+        assert_eq!(ones().generate_range(low..), Ok(greatest));
+        assert_eq!(zeros().generate_range(greatest..), Ok(greatest));
+        assert_eq!(ones().generate_range(..high), Ok(low));
+        assert_eq!(zeros().generate_range(..=least), Ok(least));
+        assert_eq!(ones().generate_range(..=high), Ok(high));
+        assert_eq!(zeros().generate_range::<$number>(..), Ok(least));
+        assert_eq!(ones().generate_range::<$number>(..), Ok(greatest));
+        assert_eq!(zeros().generate_range((Excluded(low), Included(high))), Ok(high));
+        assert_eq!(ones().generate_range((Included(low), Excluded(high))), Ok(low));
+        assert_eq!(ones().generate_range((Excluded(low), Unbounded)), Ok(greatest));
+        assert_eq!(ones().generate_range::<$number>((Unbounded, Included(&low))), Ok(low));
+        assert_eq!(zeros().generate_range::<$number>(&low..&high), Ok(low));
+        assert_eq!(ones().generate_range::<$number>(&low..=&high), Ok(high));
+        assert_eq!(ones().generate_range::<$number>(&low..), Ok(greatest));
+        assert_eq!(ones().generate_range::<$number>(..&high), Ok(low));
+        assert_eq!(ones().generate_range::<$number>(..=&high), Ok(high));
+        let mut rng = zeros();
+        for empty in [low..low, high..low, greatest..least] {
+            assert_eq!(rng.generate_range(empty), Err(RangeError::Empty));
         }
-        assert_eq!(drawn, blocks, "{length} bytes");
-    }
-    let mut first = [0; 16];
-    first.copy_from_slice(&long[..16]);
-    assert_eq!(rng.clone().rand(), long[..OUTPUT]);
-    assert_eq!(rng.clone().generate::<u128>(), u128::from_le_bytes(first));
-    assert_eq!(rng.clone().next_u64().to_le_bytes(), long[..8]);
-    assert_eq!(rng.clone().generate::<u64>().to_le_bytes(), long[..8]);
-    assert_eq!(rng.clone().generate::<usize>().to_le_bytes(), long[..8]);
-    assert_eq!(rng.clone().generate::<i32>().to_le_bytes(), long[..4]);
-    assert_eq!(rng.clone().generate::<u8>(), long[0]);
-    assert_eq!(rng.clone().generate::<bool>(), long[0] < 128);
-    let mut one_by_one = rng.clone();
-    let mut values = [0_u16; 9];
-    rng.clone().fill(&mut values);
-    assert_eq!(values, std::array::from_fn(|_| one_by_one.generate()));
+        for empty in [high..=low, greatest..=least] {
+            assert_eq!(rng.generate_range(empty), Err(RangeError::Empty));
+        }
+        assert_eq!(rng.generate_range(..least), Err(RangeError::Empty));
+        // A range that an iterator used up has no number left.
+        let mut used = low..=low;
+        assert_eq!(used.next(), Some(low));
+        assert_eq!(rng.generate_range(used), Err(RangeError::Empty));
+        assert_eq!(rng.drawn(), 0);
+    })+ };
 }
 
 #[test]
-fn requests() {
-    check_requests(&WyRand::new_seed(3));
-    check_requests(&Pcg64::new_seed(3));
-    check_requests(&ChaCha8::new_key([3; 32], [4; 8]));
-    check_requests(&ChaCha12::new_key([3; 32], [4; 8]));
-    check_requests(&ChaCha20::new_key([3; 32], [4; 8]));
+fn every_form_of_bounds_of_every_type() {
+    check_forms!(u8, u16, u32, u64, usize, i8, i16, i32, i64, isize);
+}
+
+/// A word of one range is that of the range of bounds, from each generator.
+fn check_ranges<G: Rng<OUTPUT> + Clone + PartialEq + Debug, const OUTPUT: usize>(mut rng: G) {
+    for size in 1..300_u64 {
+        let mut same = rng.clone();
+        let drawn = rng.generate_range(10..10 + size);
+        let bounds = (Included(10), Excluded(10 + size));
+        assert_eq!(drawn, same.generate_range(bounds));
+        assert_eq!(rng, same);
+        assert!((10..10 + size).contains(&drawn.expect("a number")));
+    }
+    let whole = rng.clone().generate_range::<u64>(..);
+    assert_eq!(whole, Ok(rng.next_u64()));
 }
 
 #[test]
-fn jumps() {
-    let mut wyrand = WyRand::new_seed(3);
-    let mut pcg64 = Pcg64::new_seed(3);
-    let mut chacha = ChaCha12::new_key([3; 32], [4; 8]);
-    for draws in 0..200_u8 {
-        let mut jumped = WyRand::new_seed(3);
-        jumped.jump(u64::from(draws));
-        assert_eq!(jumped, wyrand);
-        let mut jumped = Pcg64::new_seed(3);
-        jumped.jump(u128::from(draws));
-        assert_eq!(jumped, pcg64);
-        let mut jumped = ChaCha12::new_key([3; 32], [4; 8]);
-        jumped.jump(u64::from(draws));
-        assert_eq!(jumped, chacha);
-        let _ = (wyrand.rand(), pcg64.rand(), chacha.rand());
-    }
-    // A jump of 2^64 + 1 draws: both halves of the number count.
-    let mut there = Pcg64::new_seed(3);
-    there.jump((1 << 64) + 1);
-    let mut halves = Pcg64::new_seed(3);
-    halves.jump(1 << 63);
-    halves.jump(1 << 63);
-    let _ = halves.rand();
-    assert_eq!(there, halves);
-    // The period of the seeds is 2^126.
-    there.jump((1 << 126) - 1 - (1 << 64));
-    assert_eq!(there, Pcg64::new_seed(3));
+fn ranges_of_every_generator() {
+    check_ranges(WyRand::new_seed(3));
+    check_ranges(Pcg64::new_seed(3));
+    check_ranges(ChaCha8::new_key([3; 32], [4; 8]));
+    check_ranges(ChaCha12::new_key([3; 32], [4; 8]));
+    check_ranges(ChaCha20::new_key([3; 32], [4; 8]));
+    check_ranges(BufferedRng::new(WyRand::new_seed(3)));
+    check_ranges(BufferedRng::new(BufferedRng::new(Pcg64::new_seed(3))));
 }
 
+/// A call gives the same, and leaves the same generator, if the generator is lent by `&mut`.
+macro_rules! check_lent {
+    ($rng:ident, $call:expr) => {{
+        let mut own = WyRand::new_seed(7);
+        let expected = {
+            let $rng = &mut own;
+            $call
+        };
+        let mut lent = WyRand::new_seed(7);
+        let given = {
+            let mut borrowed = &mut lent;
+            let $rng = &mut borrowed;
+            $call
+        };
+        assert_eq!(given, expected);
+        assert_eq!(lent, own);
+        assert_ne!(lent, WyRand::new_seed(7));
+    }};
+}
+
+/// What a call leaves of a buffer, with the call's result.
+macro_rules! left_in {
+    ($buffer:expr, $call:expr) => {{
+        let mut buffer = $buffer;
+        let result = $call(&mut buffer);
+        (result, buffer)
+    }};
+}
+
+#[test]
+fn methods_of_a_lent_generator() {
+    check_lent!(rng, rng.rand());
+    check_lent!(rng, left_in!([0; 11], |out: &mut [u8]| rng.fill_bytes(out)));
+    check_lent!(rng, rng.generate::<u8>());
+    check_lent!(rng, rng.generate::<i128>());
+    check_lent!(rng, rng.generate::<bool>());
+    check_lent!(rng, rng.generate::<[u8; 9]>());
+    check_lent!(rng, left_in!([0; 5], |out: &mut [u16]| rng.fill(out)));
+    check_lent!(rng, rng.generate_range::<i8>(-5..=5));
+    check_lent!(
+        rng,
+        left_in!(rising(9), |out: &mut [usize]| rng.shuffle(out))
+    );
+    check_lent!(rng, rng.next_u32());
+    check_lent!(rng, rng.next_u64());
+}
+
+#[test]
+fn functions_over_a_lent_generator() {
+    check_lent!(rng, below(rng, 6_u32));
+    check_lent!(rng, choose(rng, &[1, 2, 3]).copied());
+    check_lent!(rng, choose_mut(rng, &mut [1, 2, 3]).map(|item| *item));
+    check_lent!(rng, ratio(rng, 1, 3));
+    check_lent!(rng, choose_weighted(rng, &[1, 2, 3]));
+    check_lent!(rng, draw_below(rng, 1000, 16));
+    check_lent!(rng, draw_number(rng, Included(-5), Unbounded::<i32>));
+    check_lent!(
+        rng,
+        left_in!([0; 3], |out: &mut [usize]| sample(rng, 99, out))
+    );
+    check_lent!(
+        rng,
+        left_in!([0; 9], |out: &mut [u8]| fill_by_blocks(rng, out))
+    );
+    check_lent!(
+        rng,
+        left_in!(rising(9), |out: &mut [usize]| shuffle_full(rng, out))
+    );
+    check_lent!(
+        rng,
+        left_in!(rising(9), |out: &mut [usize]| partial_shuffle(rng, out, 4))
+    );
+    check_lent!(rng, {
+        let mut choices = [0; 9];
+        (
+            shuffle_and_record(rng, &mut rising(9), &mut choices),
+            choices,
+        )
+    });
+    check_lent!(rng, {
+        let mut answers = [Answer::Empty; 2];
+        replay(
+            rng,
+            &[Call::Gen(Kind::U8), Call::Shuffle],
+            &mut [1, 2],
+            &mut answers,
+        );
+        answers
+    });
+}
+
+#[test]
+fn fills_and_buffers_over_a_lent_generator() {
+    let (mut own, mut lent) = (WyRand::new_seed(7), WyRand::new_seed(7));
+    let (mut some, mut again) = ([0_u8; 5], [1_u8; 5]);
+    fill_with(&mut own, &mut some, |rng: &mut WyRand| rng.generate());
+    fill_with(&mut &mut lent, &mut again, |rng: &mut &mut WyRand| {
+        rng.generate()
+    });
+    assert_eq!(some, again);
+    assert_eq!(lent, own);
+
+    let mut buffered = BufferedRng::new(&mut lent);
+    assert_eq!(buffered.generate::<[u8; 5]>(), own.rand()[..5]);
+    assert_eq!(buffered.buffered(), 3);
+    assert_eq!(lent, own);
+}
+
+/// A generic function takes a generator by value or lent, also lent twice.
+#[test]
+fn generators_are_passed_down() {
+    fn two<R: Rng<8>>(mut rng: R) -> [u64; 2] {
+        [one(&mut rng), one(rng)]
+    }
+    fn one(mut rng: impl Rng<8>) -> u64 {
+        rng.next_u64()
+    }
+    let mut rng = WyRand::new_seed(42);
+    let expected = [12_558_987_674_375_533_620, 16_846_851_108_956_068_306];
+    assert_eq!(two(rng.clone()), expected);
+    assert_eq!(two(&mut &mut rng), expected);
+    assert_eq!(one(&mut rng), 14_652_274_819_296_609_082);
+}
+
+/// A lent generator makes requests as its own `fill_bytes` does.
+#[test]
+fn a_lent_generator_keeps_its_requests() {
+    let (mut own, mut lent) = (Waste::new(), Waste::new());
+    for _ in 0..3 {
+        let mut borrowed = &mut lent;
+        assert_eq!(Rng::<8>::generate::<u8>(&mut borrowed), own.generate());
+    }
+    assert_eq!(own.drawn(), 6);
+    assert_eq!(lent, own);
+}
+
+#[test]
+fn words_are_values() {
+    fn check<G: Rng<OUTPUT> + Clone + PartialEq + Debug, const OUTPUT: usize>(mut rng: G) {
+        for _ in 0..40 {
+            let mut same = rng.clone();
+            assert_eq!(rng.next_u32(), same.generate::<u32>());
+            assert_eq!(rng.next_u64(), same.generate::<u64>());
+            assert_eq!(rng, same);
+        }
+    }
+    check(WyRand::new_seed(5));
+    check(Pcg64::new_seed(5));
+    check(ChaCha8::new_key([5; 32], [6; 8]));
+    check(ChaCha12::new_key([5; 32], [6; 8]));
+    check(ChaCha20::new_key([5; 32], [6; 8]));
+    check(BufferedRng::new(ChaCha20::new_key([5; 32], [6; 8])));
+    check(Steps::new());
+    check(Waste::new());
+    assert_eq!(Steps::new().next_u32(), 0x0302_0100);
+    assert_eq!(Steps::new().next_u64(), 0x0706_0504_0302_0100);
+}
+
+/// A generator of a seed's bytes is the one that a reseed leaves.
 #[test]
 fn seeds() {
+    let mut bytes = [0; 40];
+    for (place, byte) in (0..).zip(&mut bytes) {
+        *byte = 6 * place + 1;
+    }
+    let eight = bytes[..8].try_into().expect("8 bytes");
+    let sixteen = bytes[..16].try_into().expect("16 bytes");
     let mut wyrand = WyRand::new_seed(0);
-    wyrand.reseed([1, 2, 0, 0, 0, 0, 0, 3]);
-    assert_eq!(wyrand, WyRand::new_seed(0x0300_0000_0000_0201));
+    wyrand.reseed(eight);
+    assert_eq!(WyRand::from_seed(eight), wyrand);
+    assert_eq!(wyrand.seed(), u64::from_le_bytes(eight));
     let mut pcg64 = Pcg64::new_seed(0);
-    pcg64.reseed([1, 2, 0, 0, 0, 0, 0, 0, 0, 0, 0, 0, 0, 0, 0, 3]);
-    assert_eq!(pcg64, Pcg64::new_seed((3 << 120) + 0x201));
-    assert_eq!(pcg64.seed(), (3 << 120) + 0x201);
-    let mut chacha = ChaCha8::new_key([0; 32], [0; 8]);
+    pcg64.reseed(sixteen);
+    assert_eq!(Pcg64::from_seed(sixteen), pcg64);
+    assert_eq!(pcg64.seed(), u128::from_le_bytes(sixteen));
+    let mut chacha = ChaCha20::new_key([0; 32], [0; 8]);
     let _ = chacha.rand();
-    chacha.reseed(std::array::from_fn(|place| if place < 32 { 1 } else { 2 }));
-    assert_eq!(chacha, ChaCha8::new_key([1; 32], [2; 8]));
-}
-
-#[test]
-fn empty_ranges_draw_nothing() {
-    let empty: [(Bound<u64>, Bound<u64>); 6] = [
-        (Included(5), Excluded(5)),
-        (Included(10), Included(9)),
-        (Excluded(4), Excluded(5)),
-        (Excluded(u64::MAX), Unbounded),
-        (Unbounded, Excluded(0)),
-        (Included(u64::MAX), Excluded(0)),
-    ];
-    for range in empty {
-        let mut wyrand = WyRand::new_seed(1);
-        let mut pcg64 = Pcg64::new_seed(1);
-        assert_eq!(wyrand.generate_range(range), Err(RangeError::Empty));
-        assert_eq!(pcg64.generate_range(range), Err(RangeError::Empty));
-        assert_eq!(wyrand, WyRand::new_seed(1));
-        assert_eq!(pcg64, Pcg64::new_seed(1));
-    }
-}
-
-#[test]
-fn bounds() {
-    let single: [(Bound<usize>, Bound<usize>, usize); 6] = [
-        (Included(5), Included(5), 5),
-        (Included(5), Excluded(6), 5),
-        (Excluded(4), Included(5), 5),
-        (Excluded(4), Excluded(6), 5),
-        (Excluded(usize::MAX - 1), Unbounded, usize::MAX),
-        (Unbounded, Excluded(1), 0),
-    ];
-    for (low, high, number) in single {
-        let mut wyrand = WyRand::new_seed(1);
-        assert_eq!(wyrand.generate_range((low, high)), Ok(number));
-        let mut pcg64 = Pcg64::new_seed(1);
-        assert_eq!(pcg64.generate_range((low, high)), Ok(number));
-        // A range of one number draws a word.
-        assert_ne!(wyrand, WyRand::new_seed(1));
-        assert_ne!(pcg64, Pcg64::new_seed(1));
-    }
-    // In the range of all numbers each word names itself.
-    let rng = WyRand::new_seed(8);
+    chacha.reseed(bytes);
+    assert_eq!(ChaCha20::from_seed(bytes), chacha);
+    assert_eq!(chacha.key(), bytes[..32]);
+    assert_eq!(chacha.nonce(), bytes[32..]);
+    assert_eq!(chacha.counter(), 0);
     assert_eq!(
-        rng.clone().generate_range::<u64>(..),
-        Ok(rng.clone().next_u64())
+        WyRand::from_seed([42, 0, 0, 0, 0, 0, 0, 0]),
+        WyRand::new_seed(42)
     );
 }
 
+static SHARED: Mutex<WyRand> = Mutex::new(WyRand::new_seed(42));
+static BUFFERED: Mutex<BufferedRng<Pcg64, 8>> = Mutex::new(BufferedRng::new(Pcg64::new_seed(42)));
+const KEYED: ChaCha20 = ChaCha20::new_key([1; 32], [2; 8]);
+const SEEDED: (WyRand, Pcg64) = (WyRand::from_seed([1; 8]), Pcg64::from_seed([2; 16]));
+const SEEDED_CHACHA: ChaCha8 = ChaCha8::from_seed([3; 40]);
+const STATE: [u32; 16] = nanorand_proved::crypto::chacha::chacha_init([0; 32], [0; 8]);
+
 #[test]
-fn shuffles_move_any_items() {
-    for count in 0..100 {
-        let words: Vec<String> = (0..count).map(|n: usize| n.to_string()).collect();
-        let mut places: Vec<usize> = (0..count).collect();
-        let mut shuffled = words.clone();
-        let mut rng = WyRand::new_seed(5);
-        let mut same = rng.clone();
-        assert_eq!(rng.shuffle(&mut shuffled), Ok(()));
-        assert_eq!(same.shuffle_places(&mut places), Ok(()));
-        assert_eq!(
-            shuffled,
-            places.iter().map(usize::to_string).collect::<Vec<_>>()
-        );
-        assert_eq!(rng, same);
-        places.sort_unstable();
-        assert!(places.into_iter().eq(0..count));
-    }
+fn constants_and_statics() {
+    let number = SHARED.lock().expect("no panic").generate::<u64>();
+    assert_eq!(number, 12_558_987_674_375_533_620);
+    let byte = BUFFERED.lock().expect("no panic").generate::<u8>();
+    assert_eq!(byte, Pcg64::new_seed(42).rand()[0]);
+    assert_eq!(KEYED, ChaCha20::new_key([1; 32], [2; 8]));
+    assert_eq!(SEEDED.0.seed(), u64::from_le_bytes([1; 8]));
+    assert_eq!(SEEDED.1.seed(), u128::from_le_bytes([2; 16]));
+    assert_eq!(SEEDED_CHACHA, ChaCha8::new_key([3; 32], [3; 8]));
+    assert_eq!(
+        STATE[..4],
+        [0x6170_7865, 0x3320_646e, 0x7962_2d32, 0x6b20_6574]
+    );
+}
+
+/// A buffer around `Steps` that has given five bytes.
+fn after_five() -> BufferedRng<Steps, 8> {
+    let mut rng = BufferedRng::new(Steps::new());
+    rng.fill(&mut [0_u8; 5]);
+    rng
+}
+
+/// The whole of a reader, as a function over any reader takes it.
+fn all_of(reader: &mut dyn Read) -> io::Result<Vec<u8>> {
+    let mut bytes = vec![99];
+    let count = reader.read_to_end(&mut bytes)?;
+    assert_eq!(bytes.len(), count + 1);
+    Ok(bytes)
 }
 
 #[test]
-fn values_of_rust() {
-    fn goes_to_a_thread<T: Send + Sync + 'static>(_: &T) {}
+fn a_buffer_is_a_reader() -> io::Result<()> {
+    let mut rng = after_five();
+    let mut bytes = [0; 10];
+    rng.read_exact(&mut bytes)?;
+    assert!(bytes.into_iter().eq(5..15));
+    assert_eq!(rng.read(&mut [])?, 0);
+    assert_eq!(rng.buffered(), 1);
+    assert_eq!(all_of(&mut rng)?, [99, 15]);
+    assert_eq!(all_of(&mut rng)?, [99]);
+    assert_eq!(rng.inner().drawn(), 2);
+
+    let mut copied = Vec::new();
+    assert_eq!(io::copy(&mut rng.by_ref().take(20), &mut copied)?, 20);
+    assert!(copied.into_iter().eq(16..36));
+    let mut chained = [0; 5];
+    (&[1, 2][..]).chain(&mut rng).read_exact(&mut chained)?;
+    assert_eq!(chained, [1, 2, 36, 37, 38]);
+    Ok(())
+}
+
+#[test]
+fn a_buffer_is_no_text() {
+    let mut rng = after_five();
+    let mut text = String::from("as it was");
+    assert!(Read::read_to_string(&mut rng, &mut text).is_err());
+    assert_eq!(text, "as it was");
+    let reader: &mut dyn Read = &mut rng;
+    assert!(reader.read_to_string(&mut text).is_err());
+    assert_eq!(rng.rest(), [5, 6, 7]);
+}
+
+/// The text of a key, a nonce or buffered bytes is the same whatever they are.
+#[test]
+fn texts_keep_secrets() {
+    fn texts<const ROUNDS: u8>(byte: u8) -> [String; 4] {
+        let key = nanorand_proved::ChaCha::<ROUNDS>::new_key([byte; 32], [byte; 8]);
+        let rest = [byte; 9];
+        let buffered = BufferedRng::with_rest(key.clone(), &rest).expect("less than a block");
+        let twice = BufferedRng::new(buffered.clone());
+        [
+            format!("{key:?} {key:#?} {key:x?}"),
+            format!("{key}"),
+            format!("{buffered:?} {buffered:#?} {buffered:x?}"),
+            format!("{twice:?} {twice:#?}"),
+        ]
+    }
+    for byte in [1, 77, 171, 255] {
+        assert_eq!(texts::<8>(byte), texts::<8>(0));
+        assert_eq!(texts::<20>(byte), texts::<20>(0));
+    }
+    let buffer = |rest: &[u8]| BufferedRng::with_rest(WyRand::new_seed(1), rest);
+    let text = |rest| format!("{:?}", buffer(rest).expect("less than a block"));
+    assert_eq!(text(&[1, 2, 3]), text(&[200, 201, 202]));
+}
+
+#[test]
+fn generators_go_to_threads() {
+    fn check<T: Send + Sync + Unpin + 'static>(_: &T) {}
+    check(&WyRand::new_seed(1));
+    check(&Pcg64::new_seed(1));
+    check(&ChaCha8::new_key([0; 32], [0; 8]));
+    check(&BufferedRng::new(ChaCha20::new_key([0; 32], [0; 8])));
+    check(&RangeError::Empty);
+    let mut rng = WyRand::new_seed(42);
+    let there = std::thread::spawn(move || rng.next_u64()).join();
+    assert_eq!(there.expect("no panic"), 12_558_987_674_375_533_620);
+}
+
+#[test]
+fn clones_are_apart() {
     let mut first = WyRand::new_seed(1);
     let second = first.clone();
+    assert_eq!(first, second);
     let _ = first.rand();
     assert_ne!(first, second);
-    goes_to_a_thread(&first);
-    goes_to_a_thread(&Pcg64::new_seed(1));
-    goes_to_a_thread(&ChaCha8::new_key([0; 32], [0; 8]));
-    assert_eq!(format!("{second:?}"), "WyRand { seed: 1 }");
-    assert_eq!(format!("{:?}", Pcg64::new_seed(1)), "Pcg64 { seed: 1 }");
-    assert_eq!(
-        format!("{:?}", ChaCha8::new_key([9; 32], [9; 8])),
-        "ChaCha { rounds: 8, counter: 0, .. }"
-    );
-    assert_eq!(
-        RangeError::Exhausted.to_string(),
-        "128 words in a row were rejected"
-    );
+    assert_eq!(second, WyRand::new_seed(1));
+}
+
+/// Errors pass through `?` into a box, as an owned and shared value of any thread.
+#[test]
+fn errors_are_passed_on() {
+    type Boxed = Box<dyn std::error::Error + Send + Sync>;
+    fn draw() -> Result<u8, Boxed> {
+        let mut rng = WyRand::new(&mut [1_u8, 0, 0, 0, 0, 0, 0, 0].as_slice())?;
+        let _ = choose_weighted(&mut rng, &[1, 2])?;
+        let _ = BufferedRng::with_rest(rng.clone(), &[])?;
+        choices_of(&[1, 0], &mut [0; 2], &mut [0; 2])?;
+        Ok(rng.generate_range(5..5)?)
+    }
+    let refused = draw().expect_err("an empty range");
+    assert_eq!(refused.to_string(), "the range contains no number");
+    assert!(WyRand::new(&mut io::empty()).is_err());
+}
+
+#[cfg(unix)]
+#[test]
+fn seeds_from_the_system() {
+    let keys: Vec<[u8; 32]> = (0..4)
+        .map(|_| ChaCha20::from_entropy().expect("entropy").key())
+        .collect();
+    for (index, key) in keys.iter().enumerate() {
+        assert_ne!(*key, [0; 32]);
+        assert!(!keys[..index].contains(key));
+    }
+    assert!(WyRand::from_entropy().is_ok());
+    assert!(Pcg64::from_entropy().is_ok());
+}
+
+fn panics<T>(call: impl FnOnce() -> T) -> bool {
+    catch_unwind(AssertUnwindSafe(call)).is_err()
+}
+
+#[test]
+fn preconditions_of_words() {
+    let mut rng = WyRand::new_seed(1);
+    for bits in [0, 1, 7, 9, 15, 24, 63, 65, 128, u32::MAX] {
+        assert!(panics(|| pick_word(1, bits, 0)), "{bits}");
+        assert!(panics(|| draw_below(&mut rng, 1, bits)), "{bits}");
+    }
+    for bits in [8, 16, 32, 64] {
+        let beyond = (1_u128 << bits) + 1;
+        for size in [0, beyond, u128::MAX] {
+            assert!(panics(|| pick_word(size, bits, 0)), "{size} {bits}");
+            assert!(panics(|| draw_below(&mut rng, size, bits)), "{size} {bits}");
+        }
+        if bits < 64 {
+            assert!(panics(|| pick_word(3, bits, 1 << bits)), "{bits}");
+            assert!(panics(|| pick_word(1 << bits, bits, 1 << bits)), "{bits}");
+        }
+    }
+    assert_eq!(rng, WyRand::new_seed(1));
+}
+
+/// `below` the least number of a type is an empty range.
+#[test]
+fn nothing_below_the_least() {
+    let mut rng = WyRand::new_seed(1);
+    assert_eq!(below(&mut rng, 0_u8), Err(RangeError::Empty));
+    assert_eq!(below(&mut rng, 0_u64), Err(RangeError::Empty));
+    assert_eq!(below(&mut rng, 0_usize), Err(RangeError::Empty));
+    assert_eq!(below(&mut rng, i8::MIN), Err(RangeError::Empty));
+    assert_eq!(below(&mut rng, isize::MIN), Err(RangeError::Empty));
+    assert_eq!(rng, WyRand::new_seed(1));
+}
+
+#[test]
+fn preconditions_of_lists() {
+    let mut rng = WyRand::new_seed(1);
+    assert!(panics(|| sample(&mut rng, 2, &mut [0; 3])));
+    assert!(panics(|| sample(&mut rng, 0, &mut [0; 1])));
+    for length in [0, 1, 3, 9] {
+        let mut other = vec![0; length];
+        assert!(panics(|| apply_choices(&vec![9; length], &mut ['a', 'b'])));
+        assert!(panics(|| choices_of(&[0, 1], &mut other, &mut [0; 2])));
+        assert!(panics(|| choices_of(&[0, 1], &mut [0; 2], &mut other)));
+        let mut items = ['a', 'b'];
+        assert!(panics(|| shuffle_and_record(
+            &mut rng, &mut items, &mut other
+        )));
+        assert_eq!(items, ['a', 'b']);
+        let calls = [Call::Shuffle, Call::Gen(Kind::U8)];
+        let mut answers = vec![Answer::Empty; length];
+        assert!(panics(|| replay(
+            &mut rng,
+            &calls,
+            &mut [1, 2],
+            &mut answers
+        )));
+    }
+    for choices in [
+        [0, 0, 2],
+        [0, 1, 1],
+        [0, 1, 3],
+        [3, 1, 2],
+        [1, 2, usize::MAX],
+    ] {
+        let mut items = ['a', 'b', 'c'];
+        assert!(
+            panics(|| apply_choices(&choices, &mut items)),
+            "{choices:?}"
+        );
+    }
+    assert_eq!(rng, WyRand::new_seed(1));
+}
+
+/// A number and its rank, from 0 for the least.
+#[test]
+fn ranks_of_numbers() {
+    macro_rules! check {
+        ($($number:ty),+) => { $(
+            for number in [<$number>::MIN, <$number>::MIN + 1, 0, 1, 77, <$number>::MAX] {
+                assert_eq!(<$number>::at_place(number.place()), number);
+            }
+            assert_eq!(<$number>::MIN.place(), 0);
+            assert_eq!(<$number>::MAX.place(), u64::MAX >> (64 - <$number as Number>::BITS));
+        )+ };
+    }
+    check!(u8, u16, u32, u64, usize, i8, i16, i32, i64, isize);
+}
+
+/// A lent generator is reseeded, too.
+#[test]
+fn a_lent_generator_is_reseeded() {
+    fn seed<R: SeedableRng<8, 8>>(mut rng: R) {
+        rng.reseed([42, 0, 0, 0, 0, 0, 0, 0]);
+    }
+    let mut rng = BufferedRng::new(WyRand::new_seed(0));
+    seed(&mut rng);
+    assert_eq!(rng, BufferedRng::new(WyRand::new_seed(42)));
+}
+
+/// A generator that panics in the middle of a shuffle leaves a permutation of the items.
+#[test]
+fn a_panic_in_a_shuffle_loses_nothing() {
+    struct Panicking(Script);
+    impl Rng<8> for Panicking {
+        fn rand(&mut self) -> [u8; 8] {
+            assert!(self.0.drawn() < 4, "no more blocks");
+            self.0.rand()
+        }
+    }
+    let mut items: Vec<String> = (0..9).map(|n| n.to_string()).collect();
+    let mut rng = Panicking(Script::new(&[200; 9]));
+    assert!(panics(|| rng.shuffle(&mut items)));
+    items.sort();
+    assert!(items.into_iter().eq((0..9).map(|n| n.to_string())));
 }

@@ -64,7 +64,7 @@ pub fn rdseed(out: &mut [u8]) -> Option<usize>
     None
 }
 
-/// Stands for an entropy source of last resort, of which there is none: always returns
+/// Stands for an entropy source of last resort, of which there is none. It always returns
 /// `Unavailable`, for an empty slice too, and leaves the slice unchanged.
 pub fn backup(out: &mut [u8]) -> Result<(), EntropyError>
     ensures unavailable { result ≡ Err EntropyError.Unavailable }

@@ -7,6 +7,7 @@ ghost use Rattle.nanorand_core.specs.shuffles.Shuffles.{from_itself, shuffled};
 ghost use Rattle.nanorand_core.specs.values.Values.{values_from};
 ghost use Rattle.nanorand_core.specs.declared.values.range.RangeError.TheVariants.{Exhausted};
 
+use crate::shuffles::draw_partner;
 use crate::swap::swap;
 use crate::values::{RandomGen, RandomRange, RangeError};
 use std::ops::Bound;
@@ -118,7 +119,7 @@ pub trait Rng<const OUTPUT: usize>: Clone + Blocks<OUTPUT> {
     {
         let count = target.len();
         for place in 0..count {
-            let partner = self.generate_range(Bound::Included(place), Bound::Excluded(count))?;
+            let partner = draw_partner(self, place, count)?;
             swap(target, place, partner);
         }
         Ok(())

@@ -1,13 +1,14 @@
 //! Shuffles as lists of choices, and the shuffle that draws from all indices.
 ghost use Rattle.std.specs.Prelude.{◌≡◌, ◌≢◌, ℕ, ◌*◌, ◌<◌, ◌≤◌, length, min, slice_index, MatchOption, IfErr, OnOk, OnErr, List, IsPermutation};
 ghost use Rattle.nanorand_core.specs.shuffles.Arrangements.{completed, rising, IsValid, IsArrangement};
-ghost use Rattle.nanorand_core.specs.shuffles.Shuffles.{arranged, from_all, from_itself, partly_shuffled, shuffled};
+ghost use Rattle.nanorand_core.specs.shuffles.Shuffles.{arranged, from_all, from_itself, partly_shuffled, partner_drawn, shuffled};
 ghost use Rattle.nanorand_core.specs.values.Draws.{after_words, word_limit};
 ghost use Rattle.nanorand_core.specs.declared.values.range.RangeError.TheVariants.{Exhausted};
 
 use crate::rand::Rng;
 use crate::swap::swap;
 use crate::values::RangeError;
+use crate::values::word::draw_below;
 use std::ops::Bound;
 use thiserror::Error;
 
@@ -93,10 +94,13 @@ fn place_from(items: &[usize], from: usize, wanted: usize) -> Option<usize>
 /// Shuffles the slice as `Rng::shuffle` does, and records the choices that it draws.
 ///
 /// Precondition: `choices` is as long as `target`; its old contents are overwritten. Result, items
-/// and generator are those of `Rng::shuffle`. On success `choices` holds the drawn choices. After
-/// `Exhausted` it holds the choices drawn before the failure, and for each index from there on that
-/// index itself, which moves nothing. So the choices are valid in both cases, and `apply_choices`
-/// repeats with them what was done here. Nothing is allocated.
+/// and generator are those of `Rng::shuffle`. On success `choices` holds the drawn choices. Nothing
+/// is allocated.
+///
+/// It returns `Exhausted` if 128 words in a row were rejected for one index. Then `choices` holds
+/// those drawn before the failure, and for each index from there on that index itself, which moves
+/// nothing. So the choices are valid in both cases, and `apply_choices` repeats with them what was
+/// done here.
 pub fn shuffle_and_record<G: Rng<OUTPUT>, T, const OUTPUT: usize>(
     rng: &mut G,
     target: &mut [T],
@@ -118,7 +122,7 @@ pub fn shuffle_and_record<G: Rng<OUTPUT>, T, const OUTPUT: usize>(
     write_places(choices);
     let count = target.len();
     for place in 0..count {
-        let partner = rng.generate_range(Bound::Included(place), Bound::Excluded(count))?;
+        let partner = draw_partner(rng, place, count)?;
         swap(target, place, partner);
         choices[place] = partner;
     }
@@ -157,10 +161,28 @@ pub fn partial_shuffle<G: Rng<OUTPUT>, T, const OUTPUT: usize>(
 {
     let items = target.len();
     for place in 0..count.min(items) {
-        let chosen = rng.generate_range(Bound::Included(place), Bound::Excluded(items))?;
+        let chosen = draw_partner(rng, place, items)?;
         swap(target, place, chosen);
     }
     Ok(())
+}
+
+// Draws the index that the item at `place` is swapped with: its own or a later one. A number below the
+// items that are left is drawn faster than one between two bounds.
+#[inline]
+pub(crate) fn draw_partner<G: Rng<OUTPUT>, const OUTPUT: usize>(
+    rng: &mut G,
+    place: usize,
+    count: usize,
+) -> Result<usize, RangeError>
+    requires { place < count }
+    ensures value { result ≡ (partner_drawn G.requests from_itself count place rng.old).0 }
+    ensures state { rng.new ≡ (partner_drawn G.requests from_itself count place rng.old).1 }
+{
+    match draw_below(rng, (count - place) as u128, 64) {
+        Some(ahead) => Ok(place + ahead as usize),
+        None => Err(RangeError::Exhausted),
+    }
 }
 
 /// Shuffles the slice as the Rust crate `nanorand` 0.7.0 does: for each index, from 0 up, swaps the

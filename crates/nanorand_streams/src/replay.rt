@@ -8,33 +8,56 @@ use std::ops::Bound;
 /// The type of the value that `Call::Gen` draws.
 #[derive(Clone, Copy, Debug, PartialEq, Eq)]
 pub enum Kind {
+    /// An `i8`.
     I8,
+    /// An `i16`.
     I16,
+    /// An `i32`.
     I32,
+    /// An `i64`.
     I64,
+    /// An `i128`.
     I128,
+    /// An `isize`.
     Isize,
+    /// A `u8`.
     U8,
+    /// A `u16`.
     U16,
+    /// A `u32`.
     U32,
+    /// A `u64`.
     U64,
+    /// A `u128`.
     U128,
+    /// A `usize`.
     Usize,
+    /// A `bool`.
     Bool,
 }
 
 /// A range of an integer type: its low bound and its high bound.
 #[derive(Drop)]
 pub enum Span {
+    /// A range of `i8`.
     I8(Bound<i8>, Bound<i8>),
+    /// A range of `i16`.
     I16(Bound<i16>, Bound<i16>),
+    /// A range of `i32`.
     I32(Bound<i32>, Bound<i32>),
+    /// A range of `i64`.
     I64(Bound<i64>, Bound<i64>),
+    /// A range of `isize`.
     Isize(Bound<isize>, Bound<isize>),
+    /// A range of `u8`.
     U8(Bound<u8>, Bound<u8>),
+    /// A range of `u16`.
     U16(Bound<u16>, Bound<u16>),
+    /// A range of `u32`.
     U32(Bound<u32>, Bound<u32>),
+    /// A range of `u64`.
     U64(Bound<u64>, Bound<u64>),
+    /// A range of `usize`.
     Usize(Bound<usize>, Bound<usize>),
 }
 

@@ -62,6 +62,8 @@ pub fn choose<'a, T, G: Rng<OUTPUT>, const OUTPUT: usize>(
 
 /// Chooses an item of the slice as `choose` does, and lends it for writing.
 ///
+/// It returns `Empty` and `Exhausted` as `choose` does.
+///
 /// No contract can say yet what a slice is after an item was lent inside a `Result`. If a caller's
 /// proof needs that, draw the index: `let i = below(rng, items.len())?`, and write to `items[i]`.
 #[inline]

@@ -27,8 +27,11 @@ pub enum WeightError {
 /// Chooses an item by its weight, and returns its index: `weights[i]` is the weight of item i.
 ///
 /// It draws a number below the sum of the weights, from words of 64 bits, at most 128 of them. Item
-/// i has `weights[i]` of these numbers, so an item of weight 0 is never chosen. After `Exhausted`
-/// exactly 128 words were drawn; after any other error, none.
+/// i has `weights[i]` of these numbers, so an item of weight 0 is never chosen.
+///
+/// It returns `NoWeight` if there are no weights or all of them are 0, `TooHeavy` if they add up to
+/// 2^64 or more, and `Exhausted` if 128 words in a row were rejected. After `Exhausted` exactly 128
+/// words were drawn; after any other error, none.
 ///
 /// The law `weighted_choices_are_fair` counts the words that choose an item.
 pub fn choose_weighted<G: Rng<OUTPUT>, const OUTPUT: usize>(

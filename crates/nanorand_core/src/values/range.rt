@@ -44,6 +44,9 @@ pub trait RandomRange<G: Rng<OUTPUT>, const OUTPUT: usize>: RandomGen<G, OUTPUT>
         → Result Self RangeError × G → Type 0 } = { λ _ _ _ _. Unit {0} };
 
     /// Draws a value between the bounds.
+    ///
+    /// It returns an error as the type defines. The integer types return `Empty` if the range has no
+    /// number, and `Exhausted` if 128 words in a row were rejected.
     fn random_range(rng: &mut G, low: Bound<Self>, high: Bound<Self>) -> Result<Self, RangeError>
         ensures value { result ≡ (outcome rng.old low high).0 }
         ensures state { rng.new ≡ (outcome rng.old low high).1 }

@@ -1,0 +1,111 @@
+//! One row: its timing by turns, and its line.
+
+use std::fmt;
+use std::hint::black_box;
+use std::str::FromStr;
+use std::time::Instant;
+
+const TURNS: usize = 15;
+
+/// What one library does in a row, again and again.
+pub struct Work {
+    pub name: String,
+    /// How many items one run makes.
+    pub items: u32,
+    /// The most that the library's time may be of the old crate's.
+    pub limit: f64,
+    pub run: Box<dyn FnMut() -> u64>,
+}
+
+pub struct Row {
+    here: Work,
+    original: Option<Work>,
+}
+
+impl Row {
+    pub fn new(here: Work, original: Option<Work>) -> Self {
+        Self { here, original }
+    }
+
+    /// Times both works of the row, which take turns, so that a busy moment of the machine meets both.
+    pub fn timed(&mut self) -> Times {
+        let mut here = Best::new();
+        let mut original = Best::new();
+        for _ in 0..TURNS {
+            here.time(&mut self.here);
+            if let Some(work) = &mut self.original {
+                original.time(work);
+            }
+        }
+        Times {
+            name: self.here.name.clone(),
+            limit: self.here.limit,
+            here: here.nanoseconds,
+            original: original.nanoseconds,
+            same: here.result == original.result,
+        }
+    }
+}
+
+struct Best {
+    nanoseconds: f64,
+    result: u64,
+}
+
+impl Best {
+    fn new() -> Self {
+        Self {
+            nanoseconds: f64::MAX,
+            result: 0,
+        }
+    }
+
+    fn time(&mut self, work: &mut Work) {
+        let start = Instant::now();
+        self.result = black_box((work.run)());
+        let nanoseconds = start.elapsed().as_secs_f64() * 1e9;
+        self.nanoseconds = self.nanoseconds.min(nanoseconds / f64::from(work.items));
+    }
+}
+
+/// Nanoseconds an item, each the least of the turns.
+pub struct Times {
+    pub name: String,
+    pub limit: f64,
+    pub here: f64,
+    pub original: f64,
+    /// Whether both libraries' results are the same.
+    pub same: bool,
+}
+
+impl fmt::Display for Times {
+    fn fmt(&self, f: &mut fmt::Formatter<'_>) -> fmt::Result {
+        let Self {
+            name,
+            limit,
+            here,
+            original,
+            same,
+        } = self;
+        write!(f, "{name}\t{limit}\t{here}\t{original}\t{same}")
+    }
+}
+
+impl FromStr for Times {
+    type Err = String;
+
+    fn from_str(line: &str) -> Result<Self, String> {
+        let cells: Vec<&str> = line.split('\t').collect();
+        let [name, limit, here, original, same] = cells[..] else {
+            return Err(format!("not five cells: {line}"));
+        };
+        let number = |cell: &str| cell.parse().map_err(|_| format!("not a number: {cell}"));
+        Ok(Self {
+            name: name.to_string(),
+            limit: number(limit)?,
+            here: number(here)?,
+            original: number(original)?,
+            same: same == "true",
+        })
+    }
+}

@@ -1,0 +1,129 @@
+"""Doc comments: those of the proved source, in the words and the sections of Rust."""
+
+import re
+import textwrap
+
+# Columns of a doc comment's text.
+WIDTH = 95
+
+# Paragraphs, by how they begin, that speak of proofs alone.
+LEFT_OUT = (
+    "`ran`: the items are what the calls returned",
+    "Precondition: the closure may be called",
+    "The law `weighted_choices_are_fair`",
+    "The law `partial_shuffles`",
+    "No contract can say yet",
+)
+
+# Sentences that are otherwise in Rust. An empty one is left out.
+SENTENCES = {
+    " (`laws::samples_are_fair`)": "",
+    "Rust's `Pcg64::new()` takes its seed from the system; here the caller passes a reader.": (
+        "`from_entropy` takes a seed from the system."
+    ),
+    "Rust's `WyRand::new()` takes its seed from the system; here the caller passes a reader, or a number"
+    " to `new_seed`.": "`from_entropy` takes a seed from the system.",
+    "`ROUNDS` is even, as an invariant of the type.": "An odd `ROUNDS` does not compile.",
+    "Precondition: `ROUNDS` is even.": "An odd `ROUNDS` does not compile.",
+    "The modelled state is always sixteen 32-bit words.": "",
+    "nothing here takes a seed from the system, reseeds on its own or erases": (
+        "nothing here reseeds on its own or erases"
+    ),
+    "Precondition: the rank is below 2^BITS.": "A rank is below 2^BITS; of others nothing is said.",
+    "This is promised for every reader whose bytes a contract can name (a slice, not a file).": (
+        "This is proved for readers such as a slice."
+    ),
+    "Only `backup` returns this.": (
+        "`backup` returns this, and `from_entropy` where the system has none."
+    ),
+    "Precondition: the type has a number below `n`. The only error is `Exhausted`, after 128 rejected"
+    " words, and for a power of two there is none: no word is rejected then.": (
+        "It returns `Empty` if the type has no number below `n`, and `Exhausted` if 128 words in a row"
+        " were rejected. For a power of two no word is rejected."
+    ),
+    "Nothing is promised about the provided methods of `Read`.": "",
+    "It allocates nothing itself, so it never fails if the inner clone never does.": (
+        "It allocates nothing itself."
+    ),
+    "Nothing is allocated, so it never fails.": "Nothing is allocated.",
+    "Draws a value, as `RandomGen` defines it for the type.": (
+        "Draws a value, as [`RandomGen`] says for the type."
+    ),
+}
+
+# How the sentence begins that says which errors there are.
+ERRORS = re.compile(r"(?:^|(?<=\. ))It (?:always )?returns (?:`|an error)|(?:^|(?<=\. ))The only error is ")
+
+PRECONDITION = re.compile(r"Preconditions?: ([^.;]*(?:\.\.[^.;]*)*)([.;]) ?")
+
+used = set()
+
+
+def in_rust(lines, panics=False, fails=False):
+    """The lines of a doc comment, or None if a section should stand that it has no sentence for."""
+    if not lines:
+        return None if panics or fails else []
+    paragraphs, errors, refusals = [], [], []
+    for text in paragraphs_of(lines):
+        if not left_out(text):
+            text = reworded(text)
+            text, refused = without_precondition(text) if panics else (text, None)
+            text, error = without_errors(text) if fails else (text, None)
+            paragraphs += [text] if text else []
+            refusals += [refused] if refused else []
+            errors += [error] if error else []
+    if panics and not refusals or fails and not errors:
+        return None
+    paragraphs += ["# Errors", *errors] if errors else []
+    paragraphs += ["# Panics", *refusals] if refusals else []
+    return lines_of(paragraphs)
+
+
+def paragraphs_of(lines):
+    text = "\n".join(line.strip() for line in lines)
+    return [" ".join(part.split()) for part in text.split("\n\n")]
+
+
+def lines_of(paragraphs):
+    lines = []
+    for text in paragraphs:
+        wrapped = textwrap.wrap(text, WIDTH, break_long_words=False, break_on_hyphens=False)
+        lines += [""] * bool(lines) + [f" {line}" for line in wrapped]
+    return lines
+
+
+def left_out(text):
+    found = [beginning for beginning in LEFT_OUT if text.startswith(beginning)]
+    used.update(found)
+    return bool(found)
+
+
+def reworded(text):
+    for old, new in SENTENCES.items():
+        if old in text:
+            used.add(old)
+            text = text.replace(old, new)
+    return " ".join(text.split())
+
+
+def without_precondition(text):
+    """A paragraph without its precondition, and what panics where it does not hold."""
+    match = PRECONDITION.search(text)
+    if not match:
+        return text, None
+    rest = text[match.end() :]
+    rest = rest[:1].upper() + rest[1:] if match[2] == ";" else rest
+    return (text[: match.start()] + rest).strip(), f"Unless {match[1]}."
+
+
+def without_errors(text):
+    """A paragraph without its sentences on errors, and these."""
+    match = ERRORS.search(text)
+    if not match:
+        return text, None
+    return text[: match.start()].strip(), text[match.start() :]
+
+
+def unused():
+    """What stands in a table above and in no doc comment."""
+    return [text for text in (*LEFT_OUT, *SENTENCES) if text not in used]

@@ -1,0 +1,500 @@
+"""Tests of the eraser: python3 rust/erase/tests.py. The last line counts them."""
+
+import contextlib
+import importlib.util
+import io
+import re
+import sys
+import tempfile
+import unittest
+from pathlib import Path
+from unittest import mock
+
+HERE = Path(__file__).resolve().parent
+sys.path.insert(0, str(HERE))
+
+import documents
+import join
+import shape
+from items import file_of, paths_of, split
+from source import Source, Unknown, tokens_of
+from writer import text_of
+
+ROOT = HERE.parent.parent
+
+
+def command():
+    """The program itself, as a module."""
+    spec = importlib.util.spec_from_file_location("command", HERE / "__main__.py")
+    module = importlib.util.module_from_spec(spec)
+    spec.loader.exec_module(module)
+    return module
+
+
+def source_of(text, name="crates/x/src/x.rt"):
+    return Source(name, text)
+
+
+def erased(*texts, layer=None):
+    """What Rust has for files of one module, without its first line."""
+    sources = [source_of(text) for text in texts]
+    file = join.one_module("crate::x", [shape.rust_of(s, file_of(s)) for s in sources])
+    join.blocks_in_generators(file)
+    if layer:
+        join.graft(source_of(layer), file, file_of(source_of(layer)))
+    join.sort_uses(file)
+    return text_of(file, "").strip() + "\n"
+
+
+def words(text):
+    return [token.text for token in tokens_of(text)]
+
+
+class Same(unittest.TestCase):
+    """What comes out has the same tokens as the Rust that is expected."""
+
+    def same(self, rattle, rust, **others):
+        self.assertEqual(words(erased(rattle, **others)), words(rust))
+
+
+class Tokens(unittest.TestCase):
+    def test_kinds(self):
+        for text, kinds in [
+            ("'a: loop", ["lifetime", "symbol", "name"]),
+            ("'a'", ["character"]),
+            ("'\\n' b'x'", ["character", "character"]),
+            ('"{ // }" x', ["string", "name"]),
+            ("0..count", ["number", "symbol", "symbol", "name"]),
+            ("0x61c8_8646u64", ["number"]),
+            ("// a { b", ["comment"]),
+            ("/// a", ["doc"]),
+            ("//! a", ["inner"]),
+            ("//// a", ["comment"]),
+            ("a ≡ b", ["name", "symbol", "name"]),
+        ]:
+            self.assertEqual([token.kind for token in tokens_of(text)], kinds, text)
+
+    def test_brackets(self):
+        self.assertEqual(source_of("{ a (b) [c {}] } d").group(), " a (b) [c {}] ")
+        for text in ("{ (a } )", "{ a", "("):
+            with self.assertRaises(Unknown):
+                source_of(text).group()
+
+    def test_a_bracket_in_a_string_is_none(self):
+        self.assertEqual(source_of('("}", \'{\') x').group(), '"}", \'{\'')
+
+    def test_until_passes_brackets_and_arrows(self):
+        self.assertEqual(source_of("F: Fn(&T) -> U, V>").until(">"), "F: Fn(&T) -> U, V")
+        self.assertEqual(source_of("Vec<A, B>, C").until(","), "Vec<A, B>")
+        self.assertEqual(source_of("; x").until(";"), "")
+
+
+class Parts(unittest.TestCase):
+    def test_split(self):
+        self.assertEqual(split("a: B<C, D>, e: [f; g], h"), ["a: B<C, D>", "e: [f; g]", "h"])
+        self.assertEqual(split("F: FnMut(&mut G) -> T, const N: usize"), ["F: FnMut(&mut G) -> T", "const N: usize"])
+        self.assertEqual(split(""), [])
+
+    def test_paths(self):
+        self.assertEqual(paths_of("a::{self, b, c::{d, e}}"), ["a", "a::b", "a::c::d", "a::c::e"])
+        self.assertEqual(paths_of("a::b"), ["a::b"])
+
+
+class Contracts(Same):
+    def test_clauses_go(self):
+        self.same(
+            "#![tactic(auto)]\nghost use A.{B};\nfn f(x: u8) -> u8\n requires { x < 3 }\n requires n { 0 < x }\n"
+            " // why\n ensures { result ≡ (x, { 1 }).0 }\n ensures* y { follows }\n{ x }",
+            "fn f(x: u8) -> u8 { x }",
+        )
+
+    def test_ghost_members_go(self):
+        self.same(
+            "pub trait Number: Copy + Drop {\n ghost use A.{B};\n const BITS: u32;\n ghost a: { ℕ };\n"
+            " ghost b: { ℕ } = { 0 };\n fn f(self) -> u8\n ensures { result ≡ 0 };\n}",
+            "pub trait Number: Copy { const BITS: u32; fn f(self) -> u8; }",
+        )
+        self.same(
+            "impl Number for u8 {\n const BITS: u32 = 8;\n ghost a = { λ x. x };\n fn f(self) -> u8 { 0 }\n}",
+            "impl Number for u8 { const BITS: u32 = 8; fn f(self) -> u8 { 0 } }",
+        )
+
+    def test_models_and_laws_go(self):
+        self.same("impl Model for X { ghost Value = { ℕ }; }\nmod laws;\npub use crate::laws::{a, b};", "")
+
+    def test_clauses_after_conditions(self):
+        self.same(
+            "fn f<G: Rng<N>, const N: usize>(g: G)\nwhere\n G: Drop,\n ensures { ⊤ }\n{ g; }",
+            "fn f<G: Rng<N>, const N: usize>(g: G) { g; }",
+        )
+
+    def test_words_of_rattle_go(self):
+        self.same("final fn f() { 'a: for x in y { g(x); } }", "fn f() { for x in y { g(x); } }")
+
+    def test_a_label_that_is_used_stays(self):
+        self.same("fn f() { 'a: loop { break 'a; } }", "fn f() { 'a: loop { break 'a; } }")
+
+    def test_comments_in_bodies_stay(self):
+        self.assertIn("// why {", erased("fn f() {\n    // why {\n    g();\n}"))
+
+
+class Differences(Same):
+    def test_clone(self):
+        self.same(
+            "use std::alloc::AllocError;\nimpl<G: Rng<N>, const N: usize> Clone for X<G, N> {\n ghost is_clone = { a };\n"
+            " fn clone(&self) -> Result<Self, AllocError> { Ok(X { g: self.g.clone()?, b: self.b }) }\n}",
+            "impl<G: Rng<N> + Clone, const N: usize> Clone for X<G, N> {"
+            " fn clone(&self) -> Self { X { g: self.g.clone(), b: self.b, } } }",
+        )
+
+    def test_texts(self):
+        self.same(
+            "use std::fmt;\nimpl fmt::Display for X { ghost output = { a };\n"
+            " fn fmt<W: fmt::Write>(&self, f: &mut fmt::Formatter<W>) -> fmt::Result { write!(f, \"x\") } }",
+            "use core::fmt; impl fmt::Display for X {"
+            " fn fmt(&self, f: &mut fmt::Formatter<'_>) -> fmt::Result { write!(f, \"x\") } }",
+        )
+
+    def test_errors(self):
+        self.same(
+            'use thiserror::Error;\n#[derive(Clone, Error)]\npub enum E {\n /// A.\n #[error("a")]\n A,\n #[error("b")]\n B,\n}',
+            "#[derive(Clone)] pub enum E {\n/// A.\nA, B, }"
+            " impl core::fmt::Display for E { fn fmt(&self, f: &mut core::fmt::Formatter<'_>) -> core::fmt::Result"
+            ' { f.write_str(match self { E::A => "a", E::B => "b", }) } }'
+            ' #[cfg(feature = "std")] impl std::error::Error for E {}',
+        )
+
+    def test_drop_goes(self):
+        self.same(
+            "#[derive(Drop)]\npub struct X<T: Drop> { t: T }\nfn f<T: Drop + Copy>(t: T) { t; }",
+            "pub struct X<T> { t: T, } fn f<T: Copy>(t: T) { t; }",
+        )
+
+    def test_memory(self):
+        self.same(
+            "use std::alloc::{AllocError, Allocator};\nimpl X { pub fn f<A: Allocator>(&mut self, out: &mut Vec<u8, A>)"
+            " { g(out); } }",
+            'impl X { #[cfg(feature = "std")] pub fn f(&mut self, out: &mut std::vec::Vec<u8>) { g(out); } }',
+        )
+
+    def test_readers_need_std(self):
+        self.same(
+            "use std::io::Read;\npub fn f<R: Read>(r: &mut R) { g(r); }",
+            '#[cfg(feature = "std")] use std::io::Read;'
+            ' #[cfg(feature = "std")] pub fn f<R: Read>(r: &mut R) { g(r); }',
+        )
+
+    def test_lanes(self):
+        self.same(
+            "use std::simd::u32x4;\ntype R = [u32x4; 4];\nfn f(x: u32x4) -> u32x4 { u32x4::splat(1) + x }",
+            "use crate::simd::U32x4; type R = [U32x4; 4]; fn f(x: U32x4) -> U32x4 { U32x4::splat(1) + x }",
+        )
+
+    def test_ranged_draws_take_a_range(self):
+        self.same(
+            "fn f() { a.generate_range(B::I(g(1, 2)), B::E([3, 4]))?; b.generate_range::<i8>(*l, *h).map(k); }",
+            "fn f() { a.generate_range((B::I(g(1, 2)), B::E([3, 4])))?; b.generate_range::<i8>((*l, *h)).map(k); }",
+        )
+
+    def test_crates_are_one(self):
+        self.same("use nanorand_core::rand::{Blocks, Rng};\npub use nanorand_streams::buffer;",
+                  "pub use crate::buffer; use crate::rand::Rng;")
+        self.same("pub use nanorand_core::x::{A, B};", "")
+
+    def test_preconditions_are_checked(self):
+        checked = erased(
+            "/// F. Precondition: there are at most `count` slots.\npub fn f(count: usize, places: &mut [usize])\n"
+            " requires { length places.old ≤ count }\n{ g(); }"
+        )
+        self.assertIn("assert!(places.len() <= count", checked)
+        self.assertIn("/// # Panics\n///\n/// Unless there are at most `count` slots.", checked)
+        self.same("fn f(n: usize)\n requires { n < 4 }\n{ g(n); }", "fn f(n: usize) { g(n); }")
+
+    def test_results_are_used(self):
+        self.same("pub fn f(x: &u8) -> u8 { *x }", "#[must_use] pub fn f(x: &u8) -> u8 { *x }")
+        self.same("pub fn f(x: &mut u8) -> u8 { *x }", "pub fn f(x: &mut u8) -> u8 { *x }")
+
+    def test_what_rust_inlines(self):
+        self.same("fn rejected() {}", "#[inline(always)] fn rejected() {}")
+        self.same("pub trait Number { fn rejected(); }", "pub trait Number { fn rejected(); }")
+
+    def test_constants(self):
+        self.same("pub fn chacha_init() -> u8 { 1 }", "#[must_use] pub const fn chacha_init() -> u8 { 1 }")
+        self.same("impl Pcg64 { fn seed(&self) -> u8 { 1 } }\nimpl Other { fn seed(&self) -> u8 { 1 } }",
+                  "impl Pcg64 { const fn seed(&self) -> u8 { 1 } } impl Other { fn seed(&self) -> u8 { 1 } }")
+
+
+class Joined(Same):
+    BLOCKS = (
+        "pub trait Blocks<const N: usize> { ghost a: { b };\n /// Draws.\n fn rand(&mut self) -> [u8; N]; }\n"
+        "pub trait Rng<const N: usize>: Clone + Blocks<N> { /// Fills.\n fn fill_bytes(&mut self, b: &mut [u8]); }\n"
+    )
+
+    def test_blocks_and_generators(self):
+        self.same(
+            self.BLOCKS + "impl Blocks<8> for X { fn rand(&mut self) -> [u8; 8] { r() } }\n"
+            "impl Rng<8> for X { fn fill_bytes(&mut self, b: &mut [u8]) { f(b) } }\nfn g<G: Blocks<N>>(g: G) { h(g); }",
+            "pub trait Rng<const N: usize>: Clone {\n/// Draws.\nfn rand(&mut self) -> [u8; N];"
+            "\n/// Fills.\nfn fill_bytes(&mut self, b: &mut [u8]); }"
+            " impl Rng<8> for X { fn rand(&mut self) -> [u8; 8] { r() } fn fill_bytes(&mut self, b: &mut [u8]) { f(b) } }"
+            " fn g<G: Rng<N>>(g: G) { h(g); }",
+        )
+
+    def test_the_layer_adds_functions(self):
+        self.same(
+            self.BLOCKS,
+            "pub trait Rng<const N: usize>: Sized {\n/// Draws.\nfn rand(&mut self) -> [u8; N];"
+            "\n/// Fills.\nfn fill_bytes(&mut self, b: &mut [u8]) { g(self, b); } fn more(&mut self) { h(); } }",
+            layer="pub trait Rng<const N: usize>: Sized { fn fill_bytes(&mut self, b: &mut [u8]) { g(self, b); }"
+            " fn more(&mut self) { h(); } }",
+        )
+
+    def test_what_only_a_replaced_function_used_goes(self):
+        text = erased(
+            "use std::ops::Bound;\nuse crate::a::{A, B};\npub trait Rng: Clone { fn f(&self, b: Bound<u8>) { g::<A>(); }\n"
+            " fn h(&self) { i::<A, B>(); } }",
+            layer="pub trait Rng: Sized { fn f(&self) { j(); } }",
+        )
+        self.assertIn("use crate::a::{A, B};", text)
+        self.assertNotIn("Bound", text)
+
+    def test_the_layer_has_a_counterpart(self):
+        with self.assertRaisesRegex(Unknown, "should have this once"):
+            erased("fn f() {}", layer="impl Read for X { fn f() { g(); } }")
+
+    def test_two_files_of_a_module(self):
+        text = erased("//! First.\nuse crate::a::A;\nmod m;\nfn f() {}", "//! Second.\nuse crate::a::A;\nfn g() {}")
+        self.assertEqual(text.count("use crate::a::A;"), 1)
+        self.assertLess(text.index("fn f"), text.index("fn g"))
+        self.assertIn("//! First.", text)
+
+
+class Documents(unittest.TestCase):
+    def written(self, text, **sections):
+        return documents.in_rust([f" {line}" for line in text.split("\n")], **sections)
+
+    def test_sections_come_last(self):
+        self.assertEqual(
+            self.written("Draws. It returns `Empty` if none.\n\nMore.", fails=True),
+            [" Draws.", "", " More.", "", " # Errors", "", " It returns `Empty` if none."],
+        )
+        self.assertEqual(
+            self.written("F. Precondition: a is b; both may be empty. G.", panics=True),
+            [" F. Both may be empty. G.", "", " # Panics", "", " Unless a is b."],
+        )
+
+    def test_a_section_without_a_sentence(self):
+        self.assertIsNone(self.written("Draws.", fails=True))
+        self.assertIsNone(self.written("Draws.", panics=True))
+        self.assertIsNone(documents.in_rust([], fails=True))
+
+    def test_lines_have_a_width(self):
+        lines = self.written("word " * 60)
+        self.assertTrue(all(len(line) <= documents.WIDTH + 1 for line in lines))
+        self.assertEqual(" ".join(lines).split(), ["word"] * 60)
+
+    def test_reworded(self):
+        self.assertEqual(self.written("A. Precondition: `ROUNDS` is even. B."), [" A. An odd `ROUNDS` does not compile. B."])
+        self.assertEqual(self.written("A.\n\nThe law `partial_shuffles` says it."), [" A."])
+
+
+class Strangers(unittest.TestCase):
+    """Whatever the eraser does not know stops it, with the file and the line."""
+
+    def test_strangers(self):
+        for what, text in {
+            "no item begins with 'static'": "static X: u8 = 1;",
+            "no item begins with 'unsafe'": "unsafe fn f() {}",
+            "no item begins with 'macro_rules'": "macro_rules! m { () => {} }",
+            "no item begins with 'extern'": 'extern "C" fn f() {}',
+            "no item begins with 'let'": "let x = 1;",
+            "a function that is 'async'": "final async fn f() {}",
+            "an attribute 'test'": "#[test]\nfn f() {}",
+            "an attribute 'cfg\\(x\\)'": "#[cfg(x)]\nfn f() {}",
+            "a derive of 'Hash'": "#[derive(Hash)]\nstruct X;",
+            "an implementation of 'Iterator'": "impl Iterator for X { fn next(&mut self) {} }",
+            "a bound 'Send'": "fn f<T: Send>(t: T) {}",
+            "a use of 'std::thread'": "use std::thread;",
+            "a use of 'std::io::Write'": "use std::io::{Read, Write};",
+            "a macro 'panic!'": 'fn f() { panic!("x"); }',
+            "a macro 'vec!'": "fn f() { g(vec![1]); }",
+            "'unsafe' in a body": "fn f() { unsafe { g(); } }",
+            "a precondition 'x < 2'": "pub fn f(x: u8)\n requires { x < 2 }\n{}",
+            "should say its errors": "/// F.\npub fn f() -> Result<u8, E> { Ok(1) }",
+            "should say its errors or its precondition": "/// F.\npub fn f(count: usize, places: &[usize])\n"
+            " requires { length places.old ≤ count }\n{}",
+            "a clone whose body is no Ok": "impl Clone for X { fn clone(&self) -> Result<Self, AllocError> { g() } }",
+            "an inner attribute 'no_std'": "#![no_std]\nfn f() {}",
+            "a trait with a where": "trait T where Self: Copy { }",
+            "an attribute 'error\\(": '#[derive(Error)]\n#[error("{0}")]\nstruct X;',
+            "the file ends here": "fn f() {",
+            "should follow": "/// lost",
+        }.items():
+            with self.subTest(what), self.assertRaisesRegex(Unknown, r"^crates/x/src/x\.rt:\d+: .*" + what):
+                erased(text)
+
+    def test_the_line_is_named(self):
+        with self.assertRaisesRegex(Unknown, r"x\.rt:4: "):
+            erased("fn f() {}\n\n// c\nstatic X: u8 = 1;\n")
+
+
+class Command(unittest.TestCase):
+    """Writing, and comparing, in a folder of its own."""
+
+    TEXTS = {"a.rs": "fn a() {}\n", "b/c.rs": "fn c() {}\n"}
+
+    def setUp(self):
+        folder = tempfile.TemporaryDirectory()
+        self.addCleanup(folder.cleanup)
+        self.command = command()
+        self.command.TARGET = self.target = Path(folder.name)
+
+    def printed(self, call, *arguments):
+        with contextlib.redirect_stdout(io.StringIO()) as out, contextlib.redirect_stderr(io.StringIO()) as err:
+            status = call(*arguments)
+        return status, out.getvalue() + err.getvalue()
+
+    def test_what_is_written_is_the_same(self):
+        self.printed(self.command.write, self.TEXTS)
+        self.assertEqual(self.printed(self.command.check, self.TEXTS), (0, "2 passed, 0 failed\n"))
+
+    def test_a_changed_or_missing_file_fails(self):
+        self.printed(self.command.write, self.TEXTS)
+        (self.target / "a.rs").write_text("fn a() { b() }\n")
+        (self.target / "b/c.rs").unlink()
+        status, text = self.printed(self.command.check, self.TEXTS)
+        self.assertEqual((status, text.splitlines()[-1]), (1, "0 passed, 2 failed"))
+
+    def test_a_file_that_nothing_writes_fails_and_goes(self):
+        self.printed(self.command.write, self.TEXTS)
+        for name in ("lib.rs", "layer/seeds.rs"):
+            (self.target / name).parent.mkdir(exist_ok=True)
+            (self.target / name).write_text("by hand")
+        (self.target / "b/old.rs").write_text("fn old() {}\n")
+        status, text = self.printed(self.command.check, self.TEXTS)
+        self.assertEqual(status, 1)
+        self.assertIn("rust/src/b/old.rs: nothing writes it", text)
+        self.printed(self.command.write, self.TEXTS)
+        self.assertFalse((self.target / "b/old.rs").exists())
+        self.assertTrue((self.target / "lib.rs").exists())
+        self.assertEqual(self.printed(self.command.check, self.TEXTS)[0], 0)
+
+    def test_a_row_that_nothing_uses_stops_it(self):
+        tables = [
+            (shape.PATHS, {"std::gone": None}), (shape.PRECONDITIONS, {"a < b": None}), (shape.NAMES, {"gone": "x"}),
+            (shape.DERIVED, {"Gone": ()}), (shape.GROWTH, {"gone();": ""}), (shape.ALLOCATING, {"Gone<A>": "Gone"}),
+            (shape.CHECKED_LAWS, {"gone": ""}), (documents.SENTENCES, {"Gone.": ""}),
+        ]
+        for table, row in tables:
+            with self.subTest(row), mock.patch.dict(table, row):
+                status, text = self.printed(self.command.main, ["--check"])
+                self.assertEqual(status, 1)
+                self.assertIn("nothing in the proved source has this any more", text)
+
+    def test_arguments(self):
+        self.assertEqual(self.printed(self.command.main, ["--chek"])[0], 2)
+
+    def test_what_is_unknown_is_printed(self):
+        with mock.patch.object(shape, "MACROS", ("write",)):
+            status, text = self.printed(self.command.main, [])
+        self.assertEqual(status, 1)
+        self.assertRegex(text, r"crates/nanorand_core/src/choices/weighted\.rt:\d+: a macro 'unreachable!'")
+        self.assertEqual(list(self.target.iterdir()), [])
+
+
+class Whole(unittest.TestCase):
+    """What is written for the library, compared with the proved source by other means."""
+
+    # Functions whose bodies the tables change.
+    CHANGED = {"clone", "generate_range", "read_to_end"}
+
+    # Functions that check a precondition first, and then do what the proved body does.
+    CHECKED = {
+        "apply_choices", "at", "chacha_block", "chacha_rounds", "chacha_unrounds", "choices_of",
+        "draw_below", "fill_by_blocks", "new", "new_key", "pick_word", "replay", "sample",
+        "shuffle_and_record",
+    }
+
+    @classmethod
+    def setUpClass(cls):
+        cls.proved, cls.written = {}, {}
+        for crate in ("nanorand_core", "nanorand_streams", "nanorand"):
+            for path in sorted((ROOT / "crates" / crate / "src").rglob("*.rt")):
+                if path.name not in ("lib.rt", "laws.rt", "swap.rt"):
+                    key = path.relative_to(ROOT / "crates" / crate / "src").with_suffix("")
+                    cls.proved.setdefault(str(key), []).append(path.read_text(encoding="utf-8"))
+        for key in cls.proved:
+            cls.written[key] = (ROOT / "rust/src" / f"{key}.rs").read_text(encoding="utf-8")
+
+    @staticmethod
+    def bodies(text):
+        """Each function with a body, in order: its name and the body's tokens."""
+        found = []
+        text = re.sub(r"(?m)^\s*(requires|ensures)\b", r"\n\1 ", re.sub(r"//[^\n]*", "", text))
+        for match in re.finditer(r"\bfn (\w+)", text):
+            place = match.end()
+            while text[place] not in "{;":
+                clause = re.compile(r"\s(?:requires|ensures)\*?\s+(?:\w+\s+)?\{").match(text, place)
+                if clause or text[place] == "[":
+                    place = Whole.closing(text, clause.end() - 1 if clause else place)
+                else:
+                    place += 1
+            if text[place] == "{":
+                found.append((match[1], text[place : Whole.closing(text, place)]))
+        return found
+
+    @staticmethod
+    def closing(text, place):
+        depth = 0
+        while True:
+            depth += (text[place] in "[{(") - (text[place] in "]})")
+            place += 1
+            if depth == 0:
+                return place
+
+    @staticmethod
+    def plain(body):
+        body = re.sub(r"'\w+: ", "", body.replace("u32x4", "U32x4"))
+        body = re.sub(r"\.generate_range(::<\w+>)?\(\((.*?)\)\)", r".generate_range\1(\2)", "".join(body.split()))
+        body = re.sub(r"=>\{([^{};]*)\}", r"=>\1,", body)
+        return body.replace(",)", ")").replace(",}", "}").replace(",]", "]")
+
+    def test_bodies_are_the_proved_ones(self):
+        compared = 0
+        for key, texts in self.proved.items():
+            written = [(name, self.plain(body)) for name, body in self.bodies(self.written[key])]
+            for name, body in (found for text in texts for found in self.bodies(text)):
+                if name not in self.CHANGED:
+                    self.assertTrue(self.stands(name, self.plain(body), written), f"{key}: {name}")
+                    compared += 1
+        self.assertGreater(compared, 170)
+
+    def stands(self, name, body, written):
+        """Whether a function of this name has this body, or checks something first and then has it."""
+        found = [other for known, other in written if known == name]
+        checked = name in self.CHECKED and any(other.endswith(body[1:]) for other in found)
+        return body in found or checked
+
+    def test_no_function_is_lost(self):
+        for key, texts in self.proved.items():
+            written = [name for name, _ in self.bodies(self.written[key])]
+            for text in texts:
+                for name, _ in self.bodies(text):
+                    self.assertIn(name, written, key)
+                    written.remove(name)
+
+    def test_no_contract_is_left(self):
+        for key, text in self.written.items():
+            code = re.sub(r"//[^\n]*", "", text)
+            self.assertIsNone(re.search(r"\b(ghost|requires|ensures|tactic|AllocError|thiserror)\b|[^\x00-\x7f]", code), key)
+
+    def test_documents_speak_of_rust(self):
+        for key, text in self.written.items():
+            self.assertIsNone(re.search(r"//[/!].*\b(prove|proof|law|laws|clause|contract|Rattle)\b", text), key)
+
+
+if __name__ == "__main__":
+    result = unittest.main(exit=False, verbosity=1).result
+    failed = len(result.failures) + len(result.errors)
+    print(f"{result.testsRun - failed} passed, {failed} failed")
+    sys.exit(1 if failed else 0)

@@ -1,0 +1,16 @@
+//! Six different numbers of 49. The sample is a set: sorted, it says nothing of the order of the draws.
+
+use nanorand_proved::samples::sample;
+use nanorand_proved::{Pcg64, RangeError};
+
+fn main() -> Result<(), RangeError> {
+    let mut rng = Pcg64::new_seed(2026);
+    let mut numbers = [0; 6];
+    sample(&mut rng, 49, &mut numbers)?;
+    numbers.sort_unstable();
+    let numbers = numbers.map(|number| number + 1);
+    println!("{numbers:?}");
+    assert!(numbers.windows(2).all(|pair| pair[0] < pair[1]));
+    assert!(numbers.iter().all(|number| (1..=49).contains(number)));
+    Ok(())
+}

@@ -1,0 +1,30 @@
+//! Generators are stored as numbers and bytes, and go on after a restart as if nothing had happened.
+
+use nanorand_proved::buffer::RestTooLong;
+use nanorand_proved::{BufferedRng, ChaCha20, Pcg64, Rng, WyRand};
+
+fn main() -> Result<(), RestTooLong> {
+    let mut wyrand = WyRand::new_seed(1);
+    let _ = wyrand.generate::<u64>();
+    let saved: u64 = wyrand.seed();
+    assert_eq!(WyRand::new_seed(saved).next_u64(), wyrand.next_u64());
+
+    let mut pcg64 = Pcg64::new_seed(1);
+    let _ = pcg64.generate::<u64>();
+    let saved: u128 = pcg64.seed();
+    assert_eq!(Pcg64::new_seed(saved).next_u64(), pcg64.next_u64());
+
+    let mut chacha = ChaCha20::new_key([1; 32], [2; 8]);
+    let _ = chacha.generate::<u64>();
+    let (key, nonce, counter) = (chacha.key(), chacha.nonce(), chacha.counter());
+    assert_eq!(ChaCha20::at(key, nonce, counter), chacha);
+
+    let mut buffered = BufferedRng::new(wyrand);
+    let _ = buffered.generate::<[u8; 3]>();
+    let (saved, rest) = (buffered.inner().seed(), buffered.rest().to_vec());
+    println!("seed {saved:#x}, bytes {rest:?}");
+    let mut restored = BufferedRng::with_rest(WyRand::new_seed(saved), &rest)?;
+    assert_eq!(restored, buffered);
+    assert_eq!(restored.generate::<u128>(), buffered.generate::<u128>());
+    Ok(())
+}

@@ -1,0 +1,73 @@
+// Written by `python3 rust/erase` from:
+// crates/nanorand_core/src/choices/uniform.rt
+
+//! Choices of which each is as likely as any other: by fairness, each has equally many words.
+
+use crate::rand::Rng;
+use crate::values::number::Number;
+use crate::values::range::draw_number;
+use crate::values::RangeError;
+use core::ops::Bound;
+
+/// Draws a number below `n`: of an unsigned type one of 0, 1, .., `n` - 1, and of a signed type
+/// one from the type's least number on.
+///
+/// # Errors
+///
+/// It returns `Empty` if the type has no number below `n`, and `Exhausted` if 128 words in a row
+/// were rejected. For a power of two no word is rejected.
+#[inline]
+pub fn below<T: Number, G: Rng<OUTPUT>, const OUTPUT: usize>(
+    rng: &mut G,
+    n: T,
+) -> Result<T, RangeError> {
+    draw_number(rng, Bound::Unbounded, Bound::Excluded(n))
+}
+
+/// Chooses an item of the slice; each is chosen by equally many words.
+///
+/// # Errors
+///
+/// It returns `Empty` for an empty slice, and draws nothing then. It returns `Exhausted` if 128
+/// words in a row were rejected; they stay drawn.
+#[inline]
+pub fn choose<'a, T, G: Rng<OUTPUT>, const OUTPUT: usize>(
+    rng: &mut G,
+    items: &'a [T],
+) -> Result<&'a T, RangeError> {
+    let index = rng.generate_range((Bound::Included(0), Bound::Excluded(items.len())))?;
+    Ok(&items[index])
+}
+
+/// Chooses an item of the slice as `choose` does, and lends it for writing.
+///
+/// # Errors
+///
+/// It returns `Empty` and `Exhausted` as `choose` does.
+#[inline]
+pub fn choose_mut<'a, T, G: Rng<OUTPUT>, const OUTPUT: usize>(
+    rng: &mut G,
+    items: &'a mut [T],
+) -> Result<&'a mut T, RangeError> {
+    let index = rng.generate_range((Bound::Included(0), Bound::Excluded(items.len())))?;
+    Ok(&mut items[index])
+}
+
+/// Returns true with the probability `numerator / denominator`: for exactly `numerator` times as
+/// many words as one number below `denominator` has.
+///
+/// If `numerator` is `denominator` or more, it is always true.
+///
+/// # Errors
+///
+/// It returns `Empty` if `denominator` is 0, and draws nothing then. It returns `Exhausted` if 128
+/// words in a row were rejected; they stay drawn.
+#[inline]
+pub fn ratio<G: Rng<OUTPUT>, const OUTPUT: usize>(
+    rng: &mut G,
+    numerator: u64,
+    denominator: u64,
+) -> Result<bool, RangeError> {
+    let number = rng.generate_range((Bound::Included(0), Bound::Excluded(denominator)))?;
+    Ok(number < numerator)
+}

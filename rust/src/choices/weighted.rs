@@ -1,0 +1,76 @@
+// Written by `python3 rust/erase` from:
+// crates/nanorand_core/src/choices/weighted.rt
+
+//! Choices by weight, in whole numbers and exactly: no floating point takes part.
+
+use crate::rand::Rng;
+use crate::values::word::draw_below;
+
+/// Why nothing was chosen.
+#[derive(Clone, Copy, Debug, PartialEq, Eq)]
+pub enum WeightError {
+    /// There are no weights, or all of them are 0. Nothing was drawn.
+    NoWeight,
+    /// The weights add up to 2^64 or more. Nothing was drawn.
+    TooHeavy,
+    /// 128 words in a row were rejected. They stay drawn.
+    Exhausted,
+}
+
+impl core::fmt::Display for WeightError {
+    fn fmt(&self, f: &mut core::fmt::Formatter<'_>) -> core::fmt::Result {
+        f.write_str(match self {
+            WeightError::NoWeight => "no item has a weight",
+            WeightError::TooHeavy => "the weights add up to 2^64 or more",
+            WeightError::Exhausted => "128 words in a row were rejected",
+        })
+    }
+}
+
+#[cfg(feature = "std")]
+impl std::error::Error for WeightError {}
+
+/// Chooses an item by its weight, and returns its index: `weights[i]` is the weight of item i.
+///
+/// It draws a number below the sum of the weights, from words of 64 bits, at most 128 of them.
+/// Item i has `weights[i]` of these numbers, so an item of weight 0 is never chosen.
+///
+/// # Errors
+///
+/// It returns `NoWeight` if there are no weights or all of them are 0, `TooHeavy` if they add up
+/// to 2^64 or more, and `Exhausted` if 128 words in a row were rejected. After `Exhausted` exactly
+/// 128 words were drawn; after any other error, none.
+pub fn choose_weighted<G: Rng<OUTPUT>, const OUTPUT: usize>(
+    rng: &mut G,
+    weights: &[u64],
+) -> Result<usize, WeightError> {
+    let total = total_weight(weights)?;
+    match draw_below(rng, u128::from(total), 64) {
+        Some(number) => Ok(item_at(weights, number)),
+        None => Err(WeightError::Exhausted),
+    }
+}
+
+// The sum of the weights, unless it is 0, or 2^64 or more.
+fn total_weight(weights: &[u64]) -> Result<u64, WeightError> {
+    let mut total: u64 = 0;
+    for weight in weights {
+        total = total.checked_add(*weight).ok_or(WeightError::TooHeavy)?;
+    }
+    if total == 0 {
+        return Err(WeightError::NoWeight);
+    }
+    Ok(total)
+}
+
+// The item whose share contains the number.
+fn item_at(weights: &[u64], number: u64) -> usize {
+    let mut left = number;
+    for (i, weight) in weights.iter().enumerate() {
+        if left < *weight {
+            return i;
+        }
+        left -= *weight;
+    }
+    unreachable!()
+}

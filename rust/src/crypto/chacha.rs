@@ -1,0 +1,21 @@
+// Written by `python3 rust/erase` from:
+// crates/nanorand/src/crypto/chacha.rt
+
+//! ChaCha, after Daniel J. Bernstein, "ChaCha, a variant of Salsa20" (2008), in its original
+//! layout: a 64-bit counter and a 64-bit nonce.
+//!
+//! A word of ChaCha has 32 bits. The state is a matrix of 4 by 4 words, row by row: four words of
+//! constants, eight of key, two of counter, two of nonce. Words are read and written least byte
+//! first.
+
+mod block;
+mod four_blocks;
+mod inverse;
+mod lanes;
+mod state;
+
+pub use block::{chacha_block, chacha_rounds};
+pub(crate) use four_blocks::four_blocks;
+pub use inverse::chacha_unrounds;
+pub use state::{chacha_increment_counter, chacha_init};
+pub(crate) use state::{counter, set_counter};

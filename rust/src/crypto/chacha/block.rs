@@ -1,0 +1,30 @@
+// Written by `python3 rust/erase` from:
+// crates/nanorand/src/crypto/chacha/block.rt
+
+//! The rounds and the block.
+
+use super::lanes::{add, matrix_of, mix, rows_of};
+
+/// The matrix after the rounds alone, without the final addition of the input.
+///
+/// An odd `ROUNDS` does not compile. A double round is one round on the columns and then one on
+/// the diagonals.
+#[must_use]
+pub fn chacha_rounds<const ROUNDS: u8>(input: [u32; 16]) -> [u32; 16] {
+    let () = crate::layer::Rounds::<ROUNDS>::EVEN;
+
+    matrix_of(mix::<ROUNDS>(rows_of(&input)))
+}
+
+/// The block: the matrix after the rounds plus the input, word by word, modulo 2^32.
+///
+/// An odd `ROUNDS` does not compile. With 0 rounds the block is the input plus itself.
+#[must_use]
+pub fn chacha_block<const ROUNDS: u8>(input: [u32; 16]) -> [u32; 16] {
+    let () = crate::layer::Rounds::<ROUNDS>::EVEN;
+
+    let rows = rows_of(&input);
+    let [a, b, c, d] = rows;
+    let [p, q, r, s] = mix::<ROUNDS>(rows);
+    matrix_of([add(p, a), add(q, b), add(r, c), add(s, d)])
+}

@@ -1,0 +1,135 @@
+// Written by `python3 rust/erase` from:
+// crates/nanorand/src/rand.rt
+// crates/nanorand_core/src/rand.rt
+// rust/erase/layer/rand.rs
+
+//! The generators, and the traits that they implement.
+
+pub mod chacha;
+mod halves;
+mod hexadecimal;
+pub mod pcg64;
+pub mod wyrand;
+
+use crate::shuffles::draw_partner;
+use crate::swap::swap;
+use crate::values::{RandomGen, RandomRange, RangeError};
+pub use chacha::{ChaCha, ChaCha12, ChaCha20, ChaCha8};
+use core::ops::RangeBounds;
+pub use pcg64::Pcg64;
+pub use wyrand::WyRand;
+
+/// A generator of random values, by blocks of `OUTPUT` bytes.
+///
+/// A generator of your own writes `rand` alone. Its requests then start each on a new block, and drop what
+/// is left of the last; [`BufferedRng`](crate::BufferedRng) over it joins them without a break. A
+/// `fill_bytes` of its own fills with the same bytes as the blocks.
+///
+/// Functions over generators are generic: `fn f<R: Rng<OUTPUT>, const OUTPUT: usize>(rng: &mut R)`. A
+/// `&mut R` is a generator too, so it can be lent where a generator is taken. There is no `dyn Rng`,
+/// since the calls are generic. `OUTPUT` is at least 1: blocks of no bytes do not compile.
+pub trait Rng<const OUTPUT: usize>: Sized {
+    /// Draws the next block.
+    fn rand(&mut self) -> [u8; OUTPUT];
+
+    /// Fills the slice with the next bytes, by one request. An empty slice draws nothing.
+    #[inline]
+    fn fill_bytes(&mut self, buffer: &mut [u8]) {
+        fill_by_blocks(self, buffer);
+    }
+
+    /// Draws a value, as [`RandomGen`] says for the type.
+    #[inline]
+    fn generate<T: RandomGen<Self, OUTPUT>>(&mut self) -> T {
+        T::random(self)
+    }
+
+    /// Fills the slice with values, drawn one after another in the order of the items.
+    fn fill<T: RandomGen<Self, OUTPUT>>(&mut self, target: &mut [T]) {
+        for item in target.iter_mut() {
+            *item = self.generate();
+        }
+    }
+
+    /// Draws a number of the range, such as `1..=6` or `..10`, or a value of a type of your own.
+    ///
+    /// Each number of a range of an integer type is named by equally many words, after Daniel Lemire
+    /// ("Fast Random Integer Generation in an Interval", 2019). A type of your own says what its bounds
+    /// mean, and when it returns each error.
+    ///
+    /// # Errors
+    ///
+    /// For the integer types `Empty` if the range has no number; nothing is drawn then. `Exhausted` if 128
+    /// words in a row were rejected; they stay drawn.
+    #[inline]
+    fn generate_range<T: RandomRange<Self, OUTPUT> + Clone>(
+        &mut self,
+        range: impl RangeBounds<T>,
+    ) -> Result<T, RangeError> {
+        T::random_range(
+            self,
+            range.start_bound().cloned(),
+            range.end_bound().cloned(),
+        )
+    }
+
+    /// Shuffles the slice: for each index, from 0 up, swaps the item there with the one at an index
+    /// drawn from that index and those after it.
+    ///
+    /// It is the shuffle of Fisher and Yates (1938) in Durstenfeld's form ("Algorithm 235: Random
+    /// permutation", 1964), from the first index up. It leaves a permutation of the items. Each
+    /// permutation of the indices 0, 1, .. is made by exactly one list of drawn indices.
+    ///
+    /// # Errors
+    ///
+    /// It returns `Exhausted` if 128 words in a row were rejected for one index. The swaps before that
+    /// stay, and so do all draws. An empty slice draws nothing.
+    #[inline]
+    fn shuffle<T>(&mut self, target: &mut [T]) -> Result<(), RangeError> {
+        let count = target.len();
+        for place in 0..count {
+            let partner = draw_partner(self, place, count)?;
+            swap(target, place, partner);
+        }
+        Ok(())
+    }
+
+    /// Draws a `u32`: the number of the next four bytes, least byte first.
+    #[inline]
+    fn next_u32(&mut self) -> u32 {
+        self.generate()
+    }
+
+    /// Draws a `u64`: the number of the next eight bytes, least byte first.
+    #[inline]
+    fn next_u64(&mut self) -> u64 {
+        self.generate()
+    }
+}
+
+/// A generator that can be reseeded.
+pub trait SeedableRng<const SEED_SIZE: usize, const OUTPUT: usize>: Rng<OUTPUT> {
+    /// Seeds the generator anew from the bytes of `seed`.
+    fn reseed(&mut self, seed: [u8; SEED_SIZE]);
+}
+
+/// Fills the slice block by block through `rand`, and drops the unused bytes of the last block.
+///
+/// It is the `fill_bytes` of a plain generator, which starts each request on a new block. `WyRand`
+/// and `Pcg64` use it, `ChaCha` uses it for the bytes after the last whole group of four blocks,
+/// and a user's generator may.
+pub fn fill_by_blocks<G: Rng<OUTPUT>, const OUTPUT: usize>(rng: &mut G, buffer: &mut [u8]) {
+    let () = crate::layer::BlockLength::<OUTPUT>::POSITIVE;
+
+    let mut filled = 0;
+    while OUTPUT <= buffer.len() - filled {
+        let block = rng.rand();
+        buffer[filled..filled + OUTPUT].copy_from_slice(&block);
+        filled += OUTPUT;
+    }
+    let left = buffer.len() - filled;
+    if left > 0 {
+        let block = rng.rand();
+        buffer[filled..].copy_from_slice(&block[..left]);
+    }
+}

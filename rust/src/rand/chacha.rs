@@ -1,0 +1,212 @@
+// Written by `python3 rust/erase` from:
+// crates/nanorand/src/rand/chacha.rt
+
+//! ChaCha as a generator: a block of 64 bytes per draw, from a 256-bit key.
+
+use crate::crypto::chacha::{
+    chacha_block, chacha_increment_counter, chacha_init, counter, four_blocks, set_counter,
+};
+#[cfg(feature = "std")]
+use crate::entropy::{system, EntropyError};
+use crate::rand::{fill_by_blocks, Rng, SeedableRng};
+use core::fmt;
+#[cfg(feature = "std")]
+use std::io::Read;
+
+/// ChaCha with 8 rounds, fewer than the standard's 20.
+pub type ChaCha8 = ChaCha<8>;
+
+/// ChaCha with 12 rounds, fewer than the standard's 20.
+pub type ChaCha12 = ChaCha<12>;
+
+/// ChaCha with the standard's 20 rounds.
+pub type ChaCha20 = ChaCha<20>;
+
+/// The keystream of the stream cipher ChaCha, with a 64-bit counter and a 64-bit nonce, after
+/// Daniel J. Bernstein, "ChaCha, a variant of Salsa20" (2008).
+///
+/// A draw returns the block of the state as 64 bytes, each 32-bit word least byte first, and adds
+/// 1 to the counter. After the block of the greatest counter, 2^64 - 1, the counter is 0 again,
+/// under the same key and nonce. It is a plain generator: each request starts a new block.
+///
+/// It is for long reproducible streams whose blocks can be reached by index. The cipher is fast
+/// and long-studied, and its stream is believed unpredictable while the key is secret. It is not a
+/// vetted cryptographic generator: nothing here reseeds on its own or erases keys from memory, and
+/// nothing was audited. Where an adversary matters, take one that is vetted. For encryption, never
+/// use a pair of key and nonce twice. `ChaCha8` and `ChaCha12` have fewer rounds than the
+/// standard's 20.
+///
+/// An odd `ROUNDS` does not compile.
+pub struct ChaCha<const ROUNDS: u8> {
+    state: [u32; 16],
+}
+
+impl<const ROUNDS: u8> ChaCha<ROUNDS> {
+    /// A generator with this key and nonce and the counter 0. An odd `ROUNDS` does not compile.
+    #[must_use]
+    pub const fn new_key(key: [u8; 32], nonce: [u8; 8]) -> Self {
+        let () = crate::layer::Rounds::<ROUNDS>::EVEN;
+
+        ChaCha {
+            state: chacha_init(key, nonce),
+        }
+    }
+
+    /// A generator with this key and nonce, whose next block is the one at this index: the counter is
+    /// `index`. An odd `ROUNDS` does not compile.
+    ///
+    /// `key`, `nonce` and `counter` are what has to be stored of a generator: `at` of the three makes
+    /// an equal one.
+    #[must_use]
+    pub fn at(key: [u8; 32], nonce: [u8; 8], index: u64) -> Self {
+        let () = crate::layer::Rounds::<ROUNDS>::EVEN;
+
+        let mut state = chacha_init(key, nonce);
+        set_counter(&mut state, index);
+        ChaCha { state }
+    }
+
+    /// A generator made of the reader's next 40 bytes, with the counter 0: the first 32 are the key
+    /// and the other 8 the nonce. An odd `ROUNDS` does not compile.
+    ///
+    /// # Errors
+    ///
+    /// It returns `Short` or `Fault` as `entropy::system` does. The position of the reader is then
+    /// unspecified.
+    #[cfg(feature = "std")]
+    pub fn new<R: Read>(source: &mut R) -> Result<Self, EntropyError> {
+        let () = crate::layer::Rounds::<ROUNDS>::EVEN;
+
+        let mut key = [0; 32];
+        let mut nonce = [0; 8];
+        system(source, &mut key)?;
+        system(source, &mut nonce)?;
+        Ok(ChaCha::new_key(key, nonce))
+    }
+
+    /// The key, as 32 bytes. With the nonce and the counter it makes up the state.
+    #[must_use]
+    pub fn key(&self) -> [u8; 32] {
+        let bytes: &[u8] = &bytes_of(&self.words());
+        let mut key = [0; 32];
+        key.copy_from_slice(&bytes[16..48]);
+        key
+    }
+
+    /// The nonce, as 8 bytes.
+    #[must_use]
+    pub fn nonce(&self) -> [u8; 8] {
+        let bytes: &[u8] = &bytes_of(&self.words());
+        let mut nonce = [0; 8];
+        nonce.copy_from_slice(&bytes[56..64]);
+        nonce
+    }
+
+    /// The counter: the index of the next block under this key and nonce.
+    #[inline]
+    #[must_use]
+    pub fn counter(&self) -> u64 {
+        counter(&self.words())
+    }
+
+    #[inline]
+    fn words(&self) -> [u32; 16] {
+        self.state
+    }
+
+    /// Advances by n draws, with one addition. The period of the states is exactly 2^64.
+    #[inline]
+    pub fn jump(&mut self, n: u64) {
+        let counter = counter(&self.state).wrapping_add(n);
+        set_counter(&mut self.state, counter);
+    }
+
+    // The next four blocks, as one request of 256 bytes.
+    fn fill_group(&mut self, out: &mut [u8]) {
+        let (first, second, third, fourth) = four_blocks::<ROUNDS>(&self.state);
+        self.jump(4);
+        out[0..64].copy_from_slice(&bytes_of(&first));
+        out[64..128].copy_from_slice(&bytes_of(&second));
+        out[128..192].copy_from_slice(&bytes_of(&third));
+        out[192..].copy_from_slice(&bytes_of(&fourth));
+    }
+}
+
+/// An equal generator. Nothing is allocated.
+impl<const ROUNDS: u8> Clone for ChaCha<ROUNDS> {
+    #[inline]
+    fn clone(&self) -> Self {
+        ChaCha { state: self.state }
+    }
+}
+
+/// Equal exactly if the states are: the key, the nonce and the counter.
+impl<const ROUNDS: u8> PartialEq for ChaCha<ROUNDS> {
+    #[inline]
+    fn eq(&self, other: &Self) -> bool {
+        self.state == other.state
+    }
+}
+
+impl<const ROUNDS: u8> Eq for ChaCha<ROUNDS> {}
+
+impl<const ROUNDS: u8> fmt::Debug for ChaCha<ROUNDS> {
+    fn fmt(&self, f: &mut fmt::Formatter<'_>) -> fmt::Result {
+        let counter = counter(&self.state);
+        write!(f, "ChaCha20 {{ rounds: {ROUNDS}, counter: {counter} }}")
+    }
+}
+
+impl<const ROUNDS: u8> fmt::Display for ChaCha<ROUNDS> {
+    fn fmt(&self, f: &mut fmt::Formatter<'_>) -> fmt::Result {
+        write!(f, "ChaCha ({ROUNDS} rounds)")
+    }
+}
+
+impl<const ROUNDS: u8> Rng<64> for ChaCha<ROUNDS> {
+    #[inline]
+    fn rand(&mut self) -> [u8; 64] {
+        let block = chacha_block::<ROUNDS>(self.state);
+        if !chacha_increment_counter(&mut self.state) {
+            set_counter(&mut self.state, 0);
+        }
+        bytes_of(&block)
+    }
+
+    /// Computes whole groups of 256 bytes four blocks side by side.
+    fn fill_bytes(&mut self, buffer: &mut [u8]) {
+        let mut filled = 0;
+        while 256 <= buffer.len() - filled {
+            self.fill_group(&mut buffer[filled..filled + 256]);
+            filled += 256;
+        }
+        fill_by_blocks(self, &mut buffer[filled..])
+    }
+}
+
+impl<const ROUNDS: u8> SeedableRng<40, 64> for ChaCha<ROUNDS> {
+    /// The first 32 bytes of the seed become the key and the last 8 the nonce. The counter is 0.
+    fn reseed(&mut self, seed: [u8; 40]) {
+        let (key, nonce) = split_seed(&seed);
+        self.state = chacha_init(key, nonce);
+    }
+}
+
+#[inline]
+fn split_seed(seed: &[u8; 40]) -> ([u8; 32], [u8; 8]) {
+    let mut key = [0; 32];
+    let mut nonce = [0; 8];
+    key.copy_from_slice(&seed[..32]);
+    nonce.copy_from_slice(&seed[32..]);
+    (key, nonce)
+}
+
+// The words as bytes, each least byte first.
+#[inline]
+fn bytes_of(words: &[u32; 16]) -> [u8; 64] {
+    let mut bytes = [0; 64];
+    for i in 0..16 {
+        bytes[4 * i..4 * i + 4].copy_from_slice(&words[i].to_le_bytes());
+    }
+    bytes
+}

@@ -1,0 +1,133 @@
+// Written by `python3 rust/erase` from:
+// crates/nanorand/src/rand/wyrand.rt
+
+//! WyRand: a 64-bit seed, and a 64-bit word per draw.
+
+#[cfg(feature = "std")]
+use crate::entropy::{system, EntropyError};
+use crate::rand::halves::folded;
+use crate::rand::{fill_by_blocks, Rng, SeedableRng};
+use core::fmt;
+#[cfg(feature = "std")]
+use std::io::Read;
+
+const INCREMENT: u64 = 0xa076_1d64_78bd_642f;
+
+// The inverse of INCREMENT: their product is 1 modulo 2^64.
+const INVERSE: u64 = 0x939c_72e4_af1e_62cf;
+
+const MASK: u64 = 0xe703_7ed1_a0b4_28db;
+
+/// The generator wyrand of Wang Yi's wyhash (2019).
+///
+/// Not cryptographically secure: its state can be recovered from its outputs.
+///
+/// A draw adds a constant to the seed, modulo 2^64, and multiplies the new seed s by (s xor
+/// another constant). The word is the high half of this 128-bit product xor its low half. The
+/// block is the word's eight bytes, least byte first. It is a plain generator: each request starts
+/// a new block.
+#[repr(C)]
+pub struct WyRand {
+    seed: u64,
+}
+
+impl WyRand {
+    /// A generator with this seed.
+    #[inline]
+    #[must_use]
+    pub const fn new_seed(seed: u64) -> Self {
+        WyRand { seed }
+    }
+
+    /// A generator whose seed is the reader's next 8 bytes, least byte first. `from_entropy` takes a
+    /// seed from the system.
+    ///
+    /// # Errors
+    ///
+    /// It returns `Short` or `Fault` as `entropy::system` does. The position of the reader is then
+    /// unspecified.
+    #[cfg(feature = "std")]
+    pub fn new<R: Read>(source: &mut R) -> Result<Self, EntropyError> {
+        let mut seed = [0; 8];
+        system(source, &mut seed)?;
+        Ok(WyRand::new_seed(u64::from_le_bytes(seed)))
+    }
+
+    /// The seed.
+    #[inline]
+    #[must_use]
+    pub const fn seed(&self) -> u64 {
+        self.seed
+    }
+
+    /// Advances by n draws, with one multiplication. The period of the seeds is exactly 2^64.
+    #[inline]
+    pub fn jump(&mut self, n: u64) {
+        self.seed = self.seed.wrapping_add(n.wrapping_mul(INCREMENT));
+    }
+
+    /// The number of draws below 2^64 that leads from this seed to the other's. There is exactly one.
+    #[inline]
+    #[must_use]
+    pub fn distance(&self, other: &WyRand) -> u64 {
+        other.seed.wrapping_sub(self.seed).wrapping_mul(INVERSE)
+    }
+}
+
+/// An equal generator. Nothing is allocated.
+impl Clone for WyRand {
+    #[inline]
+    fn clone(&self) -> Self {
+        WyRand { seed: self.seed }
+    }
+}
+
+/// Equal exactly if the seeds are.
+impl PartialEq for WyRand {
+    #[inline]
+    fn eq(&self, other: &Self) -> bool {
+        self.seed == other.seed
+    }
+}
+
+impl Eq for WyRand {}
+
+impl fmt::Debug for WyRand {
+    fn fmt(&self, f: &mut fmt::Formatter<'_>) -> fmt::Result {
+        write!(f, "WyRand {{ seed: 0x{:x} }}", self.seed)
+    }
+}
+
+impl fmt::Display for WyRand {
+    fn fmt(&self, f: &mut fmt::Formatter<'_>) -> fmt::Result {
+        f.write_str("WyRand")
+    }
+}
+
+impl Rng<8> for WyRand {
+    #[inline]
+    fn rand(&mut self) -> [u8; 8] {
+        self.seed = self.seed.wrapping_add(INCREMENT);
+        word(self.seed).to_le_bytes()
+    }
+
+    #[inline]
+    fn fill_bytes(&mut self, buffer: &mut [u8]) {
+        fill_by_blocks(self, buffer)
+    }
+}
+
+impl SeedableRng<8, 8> for WyRand {
+    /// The bytes are the new seed, least byte first.
+    #[inline]
+    fn reseed(&mut self, seed: [u8; 8]) {
+        self.seed = u64::from_le_bytes(seed);
+    }
+}
+
+// The word of the seed that a draw leaves.
+#[inline]
+fn word(seed: u64) -> u64 {
+    let product = u128::from(seed) * u128::from(seed ^ MASK);
+    folded(product)
+}

@@ -1,0 +1,197 @@
+// Written by `python3 rust/erase` from:
+// crates/nanorand_core/src/shuffles.rt
+
+//! Shuffles as lists of choices, and the shuffle that draws from all indices.
+
+use crate::rand::Rng;
+use crate::swap::swap;
+use crate::values::word::draw_below;
+use crate::values::RangeError;
+use core::ops::Bound;
+
+/// The list is not a permutation of the numbers below its length.
+#[derive(Clone, Copy, Debug, PartialEq, Eq)]
+pub struct NotArrangement;
+
+impl core::fmt::Display for NotArrangement {
+    fn fmt(&self, f: &mut core::fmt::Formatter<'_>) -> core::fmt::Result {
+        f.write_str("the list is no arrangement")
+    }
+}
+
+#[cfg(feature = "std")]
+impl std::error::Error for NotArrangement {}
+
+/// Applies stored choices: for each index i, from 0 up, swaps the items at i and `choices[i]`.
+///
+/// It leaves a permutation of the items. Applied to the items that a shuffle started from, the
+/// choices that `shuffle_and_record` recorded leave the items that the shuffle left.
+///
+/// # Panics
+///
+/// Unless there is one choice for each item, and the choice of index i is i or a later index.
+pub fn apply_choices<T>(choices: &[usize], items: &mut [T]) {
+    assert!(
+        choices.len() == items.len(),
+        "there is one choice for each item"
+    );
+    let within = |(place, choice): (usize, &usize)| (place..choices.len()).contains(choice);
+    assert!(
+        choices.iter().enumerate().all(within),
+        "the choice of an index is it or a later one"
+    );
+
+    for (place, choice) in choices.iter().enumerate() {
+        swap(items, place, *choice);
+    }
+}
+
+/// Writes to `out` the unique valid choices that turn the identity 0, 1, .. into `order`.
+///
+/// Their old contents do not matter, and nothing is allocated.
+///
+/// # Errors
+///
+/// It returns `NotArrangement` exactly if `order` is not a permutation of the numbers below its
+/// length; the contents of `out` are then unspecified. Those of `scratch` always are.
+///
+/// # Panics
+///
+/// Unless `out` and `scratch` are as long as `order`.
+pub fn choices_of(
+    order: &[usize],
+    out: &mut [usize],
+    scratch: &mut [usize],
+) -> Result<(), NotArrangement> {
+    assert!(out.len() == order.len(), "`out` is as long as `order`");
+    assert!(
+        scratch.len() == order.len(),
+        "`scratch` is as long as `order`"
+    );
+
+    write_places(scratch);
+    for (place, wanted) in order.iter().enumerate() {
+        match place_from(scratch, place, *wanted) {
+            Some(choice) => {
+                out[place] = choice;
+                swap(scratch, place, choice);
+            }
+            None => return Err(NotArrangement),
+        }
+    }
+    Ok(())
+}
+
+// Writes the identity 0, 1, .. to the slice.
+fn write_places(slots: &mut [usize]) {
+    for (place, slot) in slots.iter_mut().enumerate() {
+        *slot = place;
+    }
+}
+
+// An index from `from` up whose item is `wanted`.
+fn place_from(items: &[usize], from: usize, wanted: usize) -> Option<usize> {
+    for place in from..items.len() {
+        if items[place] == wanted {
+            return Some(place);
+        }
+    }
+    None
+}
+
+/// Shuffles the slice as `Rng::shuffle` does, and records the choices that it draws.
+///
+/// Its old contents are overwritten. Result, items and generator are those of `Rng::shuffle`. On
+/// success `choices` holds the drawn choices. Nothing is allocated.
+///
+/// # Errors
+///
+/// It returns `Exhausted` if 128 words in a row were rejected for one index. Then `choices` holds
+/// those drawn before the failure, and for each index from there on that index itself, which moves
+/// nothing. So the choices are valid in both cases, and `apply_choices` repeats with them what was
+/// done here.
+///
+/// # Panics
+///
+/// Unless `choices` is as long as `target`.
+pub fn shuffle_and_record<G: Rng<OUTPUT>, T, const OUTPUT: usize>(
+    rng: &mut G,
+    target: &mut [T],
+    choices: &mut [usize],
+) -> Result<(), RangeError> {
+    assert!(
+        choices.len() == target.len(),
+        "`choices` is as long as `target`"
+    );
+
+    write_places(choices);
+    let count = target.len();
+    for place in 0..count {
+        let partner = draw_partner(rng, place, count)?;
+        swap(target, place, partner);
+        choices[place] = partner;
+    }
+    Ok(())
+}
+
+/// Shuffles the beginning of the slice: makes the first `count` steps of `Rng::shuffle`, or all of
+/// them if there are fewer items.
+///
+/// The first `count` items are then a selection from all items, in random order, and the other
+/// items follow. For each index below `count`, from 0 up, it swaps the item there with the one at
+/// an index drawn from that index and all later ones.
+///
+/// # Errors
+///
+/// It returns `Exhausted` if 128 words in a row were rejected for one index. The swaps before that
+/// stay, and so do all draws. A `count` of 0 draws nothing.
+pub fn partial_shuffle<G: Rng<OUTPUT>, T, const OUTPUT: usize>(
+    rng: &mut G,
+    target: &mut [T],
+    count: usize,
+) -> Result<(), RangeError> {
+    let items = target.len();
+    for place in 0..count.min(items) {
+        let chosen = draw_partner(rng, place, items)?;
+        swap(target, place, chosen);
+    }
+    Ok(())
+}
+
+// Draws the index that the item at `place` is swapped with: its own or a later one. A number below the
+// items that are left is drawn faster than one between two bounds.
+#[inline]
+pub(crate) fn draw_partner<G: Rng<OUTPUT>, const OUTPUT: usize>(
+    rng: &mut G,
+    place: usize,
+    count: usize,
+) -> Result<usize, RangeError> {
+    match draw_below(rng, (count - place) as u128, 64) {
+        Some(ahead) => Ok(place + ahead as usize),
+        None => Err(RangeError::Exhausted),
+    }
+}
+
+/// Shuffles the slice as the Rust crate `nanorand` 0.7.0 does: for each index, from 0 up, swaps
+/// the item there with the one at an index drawn from the whole slice.
+///
+/// It is not the shuffle of Fisher and Yates, whose partners come from the rest of the slice
+/// alone. It leaves a permutation of the items, but several lists of choices make the same
+/// permutation.
+///
+/// # Errors
+///
+/// It returns `Exhausted` if 128 words in a row were rejected for one index. The swaps before that
+/// stay, and so do all draws. An empty slice draws nothing.
+#[inline]
+pub fn shuffle_full<G: Rng<OUTPUT>, T, const OUTPUT: usize>(
+    rng: &mut G,
+    target: &mut [T],
+) -> Result<(), RangeError> {
+    let count = target.len();
+    for place in 0..count {
+        let other = rng.generate_range((Bound::Included(0), Bound::Excluded(count)))?;
+        swap(target, place, other);
+    }
+    Ok(())
+}

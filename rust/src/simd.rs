@@ -1,0 +1,390 @@
+//! Four words of 32 bits side by side: what the proved code uses of `std::simd::u32x4`, which is not
+//! stable.
+//!
+//! SSE2 computes on x86-64, NEON on `AArch64` with the least byte first, and plain words elsewhere. Both
+//! belong to every processor of these targets, so nothing is asked of the processor at run time. The
+//! words are the same everywhere: the tests compare with plain words.
+//!
+//! This is the only file with unsafe code.
+
+// The rounds are fast only if every operation becomes its one instruction.
+#![allow(clippy::inline_always)]
+
+use core::ops::{Add, BitOr, BitXor, Shl, Shr};
+
+#[cfg(not(any(
+    all(target_arch = "x86_64", target_feature = "sse2"),
+    all(
+        target_arch = "aarch64",
+        target_feature = "neon",
+        target_endian = "little"
+    )
+)))]
+use plain as lanes;
+
+#[cfg(all(target_arch = "x86_64", target_feature = "sse2"))]
+use sse2 as lanes;
+
+#[cfg(all(
+    target_arch = "aarch64",
+    target_feature = "neon",
+    target_endian = "little"
+))]
+use neon as lanes;
+
+/// Four words of 32 bits. `+` wraps in each.
+#[derive(Clone, Copy)]
+pub(crate) struct U32x4(lanes::Words);
+
+impl U32x4 {
+    #[inline(always)]
+    pub(crate) fn splat(word: u32) -> Self {
+        Self::from_array([word; 4])
+    }
+
+    #[inline(always)]
+    pub(crate) fn from_array(words: [u32; 4]) -> Self {
+        Self(lanes::from_array(words))
+    }
+
+    #[inline(always)]
+    pub(crate) fn to_array(self) -> [u32; 4] {
+        lanes::to_array(self.0)
+    }
+
+    // The one number of bits by which all four words are shifted: SSE2 has no other shifts. Shifts by 32
+    // and more differ from processor to processor, so there are none.
+    #[inline(always)]
+    fn shift(self) -> u32 {
+        let [bits, ..] = self.to_array();
+        debug_assert!(
+            self.to_array() == [bits; 4],
+            "all words are shifted by one number of bits"
+        );
+        debug_assert!(bits < 32, "a word is shifted by less than its 32 bits");
+        bits
+    }
+}
+
+impl Add for U32x4 {
+    type Output = Self;
+
+    #[inline(always)]
+    fn add(self, other: Self) -> Self {
+        Self(lanes::add(self.0, other.0))
+    }
+}
+
+impl BitXor for U32x4 {
+    type Output = Self;
+
+    #[inline(always)]
+    fn bitxor(self, other: Self) -> Self {
+        Self(lanes::xor(self.0, other.0))
+    }
+}
+
+impl BitOr for U32x4 {
+    type Output = Self;
+
+    #[inline(always)]
+    fn bitor(self, other: Self) -> Self {
+        Self(lanes::or(self.0, other.0))
+    }
+}
+
+/// The words of the right side are equal, and below 32.
+impl Shl for U32x4 {
+    type Output = Self;
+
+    #[inline(always)]
+    fn shl(self, other: Self) -> Self {
+        Self(lanes::left(self.0, other.shift()))
+    }
+}
+
+/// The words of the right side are equal, and below 32.
+impl Shr for U32x4 {
+    type Output = Self;
+
+    #[inline(always)]
+    fn shr(self, other: Self) -> Self {
+        Self(lanes::right(self.0, other.shift()))
+    }
+}
+
+#[cfg(all(target_arch = "x86_64", target_feature = "sse2"))]
+mod sse2 {
+    use core::arch::x86_64::{
+        __m128i, _mm_add_epi32, _mm_cvtsi64_si128, _mm_or_si128, _mm_sll_epi32, _mm_srl_epi32,
+        _mm_xor_si128,
+    };
+    use core::mem::transmute;
+
+    pub(super) type Words = __m128i;
+
+    #[inline(always)]
+    pub(super) fn from_array(words: [u32; 4]) -> Words {
+        // SAFETY: both types are 16 bytes, and every 16 bytes are a value of both.
+        unsafe { transmute(words) }
+    }
+
+    #[inline(always)]
+    pub(super) fn to_array(words: Words) -> [u32; 4] {
+        // SAFETY: both types are 16 bytes, and every 16 bytes are a value of both.
+        unsafe { transmute(words) }
+    }
+
+    #[inline(always)]
+    pub(super) fn add(a: Words, b: Words) -> Words {
+        // SAFETY: the target has SSE2, or this module would not be compiled.
+        unsafe { _mm_add_epi32(a, b) }
+    }
+
+    #[inline(always)]
+    pub(super) fn xor(a: Words, b: Words) -> Words {
+        // SAFETY: the target has SSE2, or this module would not be compiled.
+        unsafe { _mm_xor_si128(a, b) }
+    }
+
+    #[inline(always)]
+    pub(super) fn or(a: Words, b: Words) -> Words {
+        // SAFETY: the target has SSE2, or this module would not be compiled.
+        unsafe { _mm_or_si128(a, b) }
+    }
+
+    #[inline(always)]
+    pub(super) fn left(words: Words, bits: u32) -> Words {
+        // SAFETY: the target has SSE2, or this module would not be compiled.
+        unsafe { _mm_sll_epi32(words, _mm_cvtsi64_si128(i64::from(bits))) }
+    }
+
+    #[inline(always)]
+    pub(super) fn right(words: Words, bits: u32) -> Words {
+        // SAFETY: the target has SSE2, or this module would not be compiled.
+        unsafe { _mm_srl_epi32(words, _mm_cvtsi64_si128(i64::from(bits))) }
+    }
+}
+
+#[cfg(all(
+    target_arch = "aarch64",
+    target_feature = "neon",
+    target_endian = "little"
+))]
+mod neon {
+    use core::arch::aarch64::{
+        uint32x4_t, vaddq_u32, vdupq_n_u32, veorq_u32, vnegq_s32, vorrq_u32, vreinterpretq_s32_u32,
+        vshlq_u32,
+    };
+    use core::mem::transmute;
+
+    pub(super) type Words = uint32x4_t;
+
+    #[inline(always)]
+    pub(super) fn from_array(words: [u32; 4]) -> Words {
+        // SAFETY: both types are 16 bytes, and every 16 bytes are a value of both.
+        unsafe { transmute(words) }
+    }
+
+    #[inline(always)]
+    pub(super) fn to_array(words: Words) -> [u32; 4] {
+        // SAFETY: both types are 16 bytes, and every 16 bytes are a value of both.
+        unsafe { transmute(words) }
+    }
+
+    #[inline(always)]
+    pub(super) fn add(a: Words, b: Words) -> Words {
+        // SAFETY: the target has NEON, or this module would not be compiled.
+        unsafe { vaddq_u32(a, b) }
+    }
+
+    #[inline(always)]
+    pub(super) fn xor(a: Words, b: Words) -> Words {
+        // SAFETY: the target has NEON, or this module would not be compiled.
+        unsafe { veorq_u32(a, b) }
+    }
+
+    #[inline(always)]
+    pub(super) fn or(a: Words, b: Words) -> Words {
+        // SAFETY: the target has NEON, or this module would not be compiled.
+        unsafe { vorrq_u32(a, b) }
+    }
+
+    #[inline(always)]
+    pub(super) fn left(words: Words, bits: u32) -> Words {
+        // SAFETY: the target has NEON, or this module would not be compiled.
+        unsafe { vshlq_u32(words, vreinterpretq_s32_u32(vdupq_n_u32(bits))) }
+    }
+
+    // NEON shifts to the right by a negative number.
+    #[inline(always)]
+    pub(super) fn right(words: Words, bits: u32) -> Words {
+        // SAFETY: the target has NEON, or this module would not be compiled.
+        unsafe { vshlq_u32(words, vnegq_s32(vreinterpretq_s32_u32(vdupq_n_u32(bits)))) }
+    }
+}
+
+// Compiled in tests too, where the others are compared with it.
+#[cfg(any(
+    test,
+    not(any(
+        all(target_arch = "x86_64", target_feature = "sse2"),
+        all(
+            target_arch = "aarch64",
+            target_feature = "neon",
+            target_endian = "little"
+        )
+    ))
+))]
+mod plain {
+    pub(super) type Words = [u32; 4];
+
+    #[inline(always)]
+    pub(super) fn from_array(words: [u32; 4]) -> Words {
+        words
+    }
+
+    #[inline(always)]
+    pub(super) fn to_array(words: Words) -> [u32; 4] {
+        words
+    }
+
+    #[inline(always)]
+    pub(super) fn add(a: Words, b: Words) -> Words {
+        [
+            a[0].wrapping_add(b[0]),
+            a[1].wrapping_add(b[1]),
+            a[2].wrapping_add(b[2]),
+            a[3].wrapping_add(b[3]),
+        ]
+    }
+
+    #[inline(always)]
+    pub(super) fn xor(a: Words, b: Words) -> Words {
+        [a[0] ^ b[0], a[1] ^ b[1], a[2] ^ b[2], a[3] ^ b[3]]
+    }
+
+    #[inline(always)]
+    pub(super) fn or(a: Words, b: Words) -> Words {
+        [a[0] | b[0], a[1] | b[1], a[2] | b[2], a[3] | b[3]]
+    }
+
+    #[inline(always)]
+    pub(super) fn left(words: Words, bits: u32) -> Words {
+        let [a, b, c, d] = words;
+        [a << bits, b << bits, c << bits, d << bits]
+    }
+
+    #[inline(always)]
+    pub(super) fn right(words: Words, bits: u32) -> Words {
+        let [a, b, c, d] = words;
+        [a >> bits, b >> bits, c >> bits, d >> bits]
+    }
+}
+
+#[cfg(test)]
+mod tests {
+    use super::{lanes, plain, U32x4};
+
+    const CASES: usize = 250_000;
+
+    // Random words for the cases alone: xorshift, which is nothing of this library.
+    struct Words(u64);
+
+    impl Words {
+        fn next(&mut self) -> u32 {
+            self.0 ^= self.0 << 13;
+            self.0 ^= self.0 >> 7;
+            self.0 ^= self.0 << 17;
+            u32::try_from(self.0 >> 32).unwrap()
+        }
+
+        // Some words are those where carries and bits get lost.
+        fn word(&mut self) -> u32 {
+            match self.next() % 8 {
+                0 => 0,
+                1 => u32::MAX,
+                2 => 1 << (self.next() % 32),
+                _ => self.next(),
+            }
+        }
+
+        fn four(&mut self) -> [u32; 4] {
+            [self.word(), self.word(), self.word(), self.word()]
+        }
+    }
+
+    // Calls `check` with the words of each case.
+    fn for_cases(check: impl Fn([u32; 4], [u32; 4])) {
+        let mut words = Words(0x9e37_79b9_7f4a_7c15);
+        for _ in 0..CASES {
+            check(words.four(), words.four());
+        }
+    }
+
+    #[test]
+    fn arrays_come_back() {
+        for_cases(|a, b| {
+            assert_eq!(U32x4::from_array(a).to_array(), a);
+            assert_eq!(U32x4::splat(b[0]).to_array(), [b[0]; 4]);
+        });
+    }
+
+    #[test]
+    fn operations_are_those_of_plain_words() {
+        for_cases(|a, b| {
+            let (x, y) = (U32x4::from_array(a), U32x4::from_array(b));
+            assert_eq!((x + y).to_array(), plain::add(a, b));
+            assert_eq!((x ^ y).to_array(), plain::xor(a, b));
+            assert_eq!((x | y).to_array(), plain::or(a, b));
+            let bits = b[3] % 32;
+            assert_eq!((x << U32x4::splat(bits)).to_array(), plain::left(a, bits));
+            assert_eq!((x >> U32x4::splat(bits)).to_array(), plain::right(a, bits));
+        });
+    }
+
+    #[test]
+    fn plain_words_are_those_of_each_lane() {
+        for_cases(|a, b| {
+            let bits = b[0] % 32;
+            let sums = plain::to_array(plain::add(plain::from_array(a), plain::from_array(b)));
+            for lane in 0..4 {
+                assert_eq!(sums[lane], a[lane].wrapping_add(b[lane]));
+                assert_eq!(plain::xor(a, b)[lane], a[lane] ^ b[lane]);
+                assert_eq!(plain::or(a, b)[lane], a[lane] | b[lane]);
+                assert_eq!(plain::left(a, bits)[lane], a[lane] << bits);
+                assert_eq!(plain::right(a, bits)[lane], a[lane] >> bits);
+            }
+        });
+    }
+
+    #[test]
+    fn every_shift_moves_every_bit() {
+        for bits in 0..32 {
+            for bit in 0..32 {
+                let one = lanes::from_array([1 << bit, 0, 1 << bit, 0]);
+                let [a, b, c, d] = lanes::to_array(lanes::left(one, bits));
+                assert_eq!([a, b, c, d], [(1 << bit) << bits, 0, a, 0]);
+                let [a, b, c, d] = lanes::to_array(lanes::right(one, bits));
+                assert_eq!([a, b, c, d], [(1 << bit) >> bits, 0, a, 0]);
+            }
+        }
+    }
+
+    #[cfg(debug_assertions)]
+    mod refused {
+        use super::U32x4;
+
+        #[test]
+        #[should_panic(expected = "one number of bits")]
+        fn shifts_that_differ() {
+            let _ = U32x4::splat(1) << U32x4::from_array([1, 1, 2, 1]);
+        }
+
+        #[test]
+        #[should_panic(expected = "less than its 32 bits")]
+        fn shifts_by_all_bits() {
+            let _ = U32x4::splat(1) >> U32x4::splat(32);
+        }
+    }
+}

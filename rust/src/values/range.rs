@@ -1,0 +1,98 @@
+// Written by `python3 rust/erase` from:
+// crates/nanorand_core/src/values/range.rt
+
+//! Numbers between two bounds.
+
+mod signed;
+mod unsigned;
+
+use crate::rand::Rng;
+use crate::values::number::Number;
+use crate::values::word::draw_below;
+use crate::values::RandomGen;
+use core::ops::Bound;
+
+/// Why a ranged draw returned no number.
+#[derive(Clone, Copy, Debug, PartialEq, Eq)]
+pub enum RangeError {
+    /// The range has no number. Nothing was drawn.
+    Empty,
+    /// 128 words were drawn, and none named a number of the range. They stay drawn.
+    Exhausted,
+}
+
+impl core::fmt::Display for RangeError {
+    fn fmt(&self, f: &mut core::fmt::Formatter<'_>) -> core::fmt::Result {
+        f.write_str(match self {
+            RangeError::Empty => "the range contains no number",
+            RangeError::Exhausted => "128 words in a row were rejected",
+        })
+    }
+}
+
+#[cfg(feature = "std")]
+impl std::error::Error for RangeError {}
+
+/// A type whose values can be drawn within two bounds: the integer types of 8 to 64 bits, `usize`
+/// and `isize`, but not `u128` and `i128`, since a word has at most 64 bits.
+///
+/// A range of an integer type holds the numbers that both bounds admit. Words of the type's width
+/// are drawn, each by one request, until one names a number, at most 128; each number of the range
+/// is produced by equally many words. A user's type defines what its bounds mean and when a draw
+/// fails.
+pub trait RandomRange<G: Rng<OUTPUT>, const OUTPUT: usize>: RandomGen<G, OUTPUT> + Sized {
+    /// Draws a value between the bounds.
+    ///
+    /// # Errors
+    ///
+    /// It returns an error as the type defines. The integer types return `Empty` if the range has no
+    /// number, and `Exhausted` if 128 words in a row were rejected.
+    fn random_range(rng: &mut G, low: Bound<Self>, high: Bound<Self>) -> Result<Self, RangeError>;
+}
+
+/// Draws a number that both bounds admit; each is produced by equally many words, after Daniel
+/// Lemire ("Fast Random Integer Generation in an Interval", 2019).
+///
+/// It draws at most 128 words of the type's width, each by one request, and the first word that
+/// names a number decides.
+///
+/// # Errors
+///
+/// It returns `Empty` if no number is admitted, and draws nothing then. It returns `Exhausted` if
+/// 128 words in a row were rejected; they stay drawn.
+#[inline(always)]
+pub fn draw_number<T: Number, G: Rng<OUTPUT>, const OUTPUT: usize>(
+    rng: &mut G,
+    low: Bound<T>,
+    high: Bound<T>,
+) -> Result<T, RangeError> {
+    let first = first_place(low);
+    let end = end_place(high);
+    if end <= first {
+        return Err(RangeError::Empty);
+    }
+    match draw_below(rng, end - first, T::BITS) {
+        Some(k) => Ok(T::at_place((first + u128::from(k)) as u64)),
+        None => Err(RangeError::Exhausted),
+    }
+}
+
+// The least rank whose number the low bound admits, or 2^BITS if there is none.
+#[inline(always)]
+fn first_place<T: Number>(low: Bound<T>) -> u128 {
+    match low {
+        Bound::Included(number) => u128::from(number.place()),
+        Bound::Excluded(number) => u128::from(number.place()) + 1,
+        Bound::Unbounded => 0,
+    }
+}
+
+// The rank after the greatest whose number the high bound admits, or 0 if there is none.
+#[inline(always)]
+fn end_place<T: Number>(high: Bound<T>) -> u128 {
+    match high {
+        Bound::Included(number) => u128::from(number.place()) + 1,
+        Bound::Excluded(number) => u128::from(number.place()),
+        Bound::Unbounded => 1 << T::BITS,
+    }
+}

@@ -1,0 +1,129 @@
+// Written by `python3 rust/erase` from:
+// crates/nanorand_core/src/values/word.rt
+
+//! Random words of 8, 16, 32 or 64 bits, and the numbers that they name.
+
+use crate::rand::Rng;
+
+// The most words that are drawn for one number.
+const MAX_WORDS: usize = 128;
+
+/// The number below `size` that a word of `bits` bits names, or `None` if the word is rejected.
+///
+/// The method is that of Daniel Lemire, "Fast Random Integer Generation in an Interval" (2019):
+/// each number has a run of floor(2^bits / size) consecutive words, in the order of the numbers,
+/// and the 2^bits % size words outside all runs are rejected.
+///
+/// # Panics
+///
+/// Unless `bits` is 8, 16, 32 or 64, `size` is from 1 to 2^bits, and `word` is below 2^bits.
+#[inline(always)]
+#[must_use]
+pub fn pick_word(size: u128, bits: u32, word: u64) -> Option<u64> {
+    assert!(
+        matches!(bits, 8 | 16 | 32 | 64),
+        "a word has 8, 16, 32 or 64 bits"
+    );
+    assert!(1 <= size, "the size is at least 1");
+    assert!(size <= 1 << bits, "the size is at most 2^bits");
+    assert!(u128::from(word) < 1 << bits, "the word is below 2^bits");
+
+    if size > u128::from(u64::MAX) {
+        return Some(word);
+    }
+    pick_below(size as u64, bits, word)
+}
+
+// As `pick_word`, for a size that fits in 64 bits. Fewer than `size` words are rejected, so a low
+// part of at least `size` is accepted without computing how many.
+#[inline(always)]
+fn pick_below(size: u64, bits: u32, word: u64) -> Option<u64> {
+    let (number, low) = halves_of(size, bits, word);
+    if low >= size || low >= rejected(size, bits) {
+        Some(number)
+    } else {
+        None
+    }
+}
+
+// As `pick_below`, where the number of rejected words is already computed.
+#[inline(always)]
+fn pick_counted(size: u64, bits: u32, rejects: u64, word: u64) -> Option<u64> {
+    let (number, low) = halves_of(size, bits, word);
+    (low >= rejects).then_some(number)
+}
+
+// The halves of `word * size`: the high one is the number, and the low one accepts or rejects.
+#[inline(always)]
+fn halves_of(size: u64, bits: u32, word: u64) -> (u64, u64) {
+    let product = u128::from(word) * u128::from(size);
+    ((product >> bits) as u64, (product % (1 << bits)) as u64)
+}
+
+// How many words are rejected. If `size` is more than half of all words, this needs no division.
+#[inline(always)]
+fn rejected(size: u64, bits: u32) -> u64 {
+    let others = ((1u128 << bits) - u128::from(size)) as u64;
+    if others < size {
+        others
+    } else {
+        remainder(others, size)
+    }
+}
+
+// Few words need the division, so it is kept out of line, outside the loop that draws.
+#[cold]
+#[inline(never)]
+fn remainder(others: u64, size: u64) -> u64 {
+    others % size
+}
+
+/// Draws a number below `size`; each is named by equally many words of `bits` bits.
+///
+/// Each word is one request, and the first word that names a number, as `pick_word` says, decides.
+/// It returns `None` if 128 words in a row were rejected; they stay drawn. A size that divides
+/// 2^bits, such as a power of two, rejects no word.
+///
+/// # Panics
+///
+/// Unless `bits` is 8, 16, 32 or 64, and `size` is from 1 to 2^bits.
+#[inline(always)]
+pub fn draw_below<G: Rng<OUTPUT>, const OUTPUT: usize>(
+    rng: &mut G,
+    size: u128,
+    bits: u32,
+) -> Option<u64> {
+    assert!(
+        matches!(bits, 8 | 16 | 32 | 64),
+        "a word has 8, 16, 32 or 64 bits"
+    );
+    assert!(1 <= size, "the size is at least 1");
+    assert!(size <= 1 << bits, "the size is at most 2^bits");
+
+    let first = draw_word(rng, bits);
+    if let Some(number) = pick_word(size, bits, first) {
+        return Some(number);
+    }
+    let size = size as u64;
+    let rejects = rejected(size, bits);
+    let mut number = None;
+    let mut drawn = 1;
+    // `&` makes one exit: with two, LLVM vectorizes the search, which takes four times as long.
+    while number.is_none() & (drawn < MAX_WORDS) {
+        let word = draw_word(rng, bits);
+        number = pick_counted(size, bits, rejects, word);
+        drawn += 1;
+    }
+    number
+}
+
+// The next word of `bits` bits, by one request.
+#[inline(always)]
+fn draw_word<G: Rng<OUTPUT>, const OUTPUT: usize>(rng: &mut G, bits: u32) -> u64 {
+    match bits {
+        8 => u64::from(rng.generate::<u8>()),
+        16 => u64::from(rng.generate::<u16>()),
+        32 => u64::from(rng.generate::<u32>()),
+        _ => rng.generate::<u64>(),
+    }
+}

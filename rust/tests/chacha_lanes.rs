@@ -1,0 +1,201 @@
+//! `ChaCha` by vectors beside `ChaCha` by plain words, which is written here from the cipher's description:
+//! single blocks, and four side by side, as fills of 256 bytes and more make them.
+
+use nanorand_proved::crypto::chacha::{chacha_block, chacha_rounds, chacha_unrounds};
+use nanorand_proved::{ChaCha, Rng};
+
+// A million states: 400,000 as single blocks, and 600,000 as blocks of fills.
+const SINGLE: usize = 400_000;
+const FILLED: usize = 600_000;
+
+// The rounds of the three generators, and more seldom others: 0, 2 and the most.
+const COMMON: [u8; 3] = [8, 12, 20];
+
+// Random words for the cases alone: xorshift, which is nothing of this library.
+struct Words(u64);
+
+impl Words {
+    fn new() -> Self {
+        Self(0x2545_f491_4f6c_dd1d)
+    }
+
+    fn next(&mut self) -> u32 {
+        self.0 ^= self.0 << 13;
+        self.0 ^= self.0 >> 7;
+        self.0 ^= self.0 << 17;
+        u32::try_from(self.0 >> 32).unwrap()
+    }
+
+    // Some words are those where carries and bits get lost.
+    fn word(&mut self) -> u32 {
+        match self.next() % 16 {
+            0 => 0,
+            1 => u32::MAX,
+            2 => 1 << (self.next() % 32),
+            _ => self.next(),
+        }
+    }
+
+    fn state(&mut self) -> [u32; 16] {
+        let mut state = [0; 16];
+        for word in &mut state {
+            *word = self.word();
+        }
+        state
+    }
+
+    // Many counters are such that a carry goes into the high half, or that the counter wraps.
+    fn counter(&mut self) -> u64 {
+        let near = u64::from(self.next() % 16).wrapping_sub(8);
+        match self.next() % 4 {
+            0 => near,
+            1 => (u64::from(self.next()) << 32).wrapping_add(near),
+            _ => u64::from(self.next()) << 32 | u64::from(self.next()),
+        }
+    }
+}
+
+#[allow(clippy::many_single_char_names)] // They are the cipher's own.
+fn quarter_round(x: &mut [u32; 16], [a, b, c, d]: [usize; 4]) {
+    x[a] = x[a].wrapping_add(x[b]);
+    x[d] = (x[d] ^ x[a]).rotate_left(16);
+    x[c] = x[c].wrapping_add(x[d]);
+    x[b] = (x[b] ^ x[c]).rotate_left(12);
+    x[a] = x[a].wrapping_add(x[b]);
+    x[d] = (x[d] ^ x[a]).rotate_left(8);
+    x[c] = x[c].wrapping_add(x[d]);
+    x[b] = (x[b] ^ x[c]).rotate_left(7);
+}
+
+fn plain_rounds(rounds: u8, input: [u32; 16]) -> [u32; 16] {
+    let mut x = input;
+    for _ in 0..rounds / 2 {
+        for column in 0..4 {
+            quarter_round(&mut x, [column, 4 + column, 8 + column, 12 + column]);
+        }
+        for first in 0..4 {
+            let diagonal = [
+                first,
+                4 + (first + 1) % 4,
+                8 + (first + 2) % 4,
+                12 + (first + 3) % 4,
+            ];
+            quarter_round(&mut x, diagonal);
+        }
+    }
+    x
+}
+
+fn plain_block(rounds: u8, input: [u32; 16]) -> [u32; 16] {
+    let mut x = plain_rounds(rounds, input);
+    for (word, first) in x.iter_mut().zip(input) {
+        *word = word.wrapping_add(first);
+    }
+    x
+}
+
+fn block(rounds: u8, input: [u32; 16]) -> [u32; 16] {
+    match rounds {
+        0 => chacha_block::<0>(input),
+        2 => chacha_block::<2>(input),
+        8 => chacha_block::<8>(input),
+        12 => chacha_block::<12>(input),
+        20 => chacha_block::<20>(input),
+        254 => chacha_block::<254>(input),
+        _ => unreachable!(),
+    }
+}
+
+fn words_of(bytes: &[u8]) -> Vec<u32> {
+    let word = |four: &[u8]| u32::from_le_bytes(four.try_into().unwrap());
+    bytes.chunks_exact(4).map(word).collect()
+}
+
+// The state of a generator's next block, by what it tells.
+fn state_of<const ROUNDS: u8>(rng: &ChaCha<ROUNDS>, counter: u64) -> [u32; 16] {
+    let mut bytes = b"expand 32-byte k".to_vec();
+    bytes.extend(rng.key());
+    bytes.extend(counter.to_le_bytes());
+    bytes.extend(rng.nonce());
+    words_of(&bytes).try_into().unwrap()
+}
+
+fn generator<const ROUNDS: u8>(words: &mut Words) -> ChaCha<ROUNDS> {
+    let mut key = [0; 32];
+    let mut nonce = [0; 8];
+    for bytes in key.chunks_exact_mut(4).chain(nonce.chunks_exact_mut(4)) {
+        bytes.copy_from_slice(&words.word().to_le_bytes());
+    }
+    ChaCha::at(key, nonce, words.counter())
+}
+
+// Fills of all lengths up to 16 blocks, most of them of whole groups of four: each block of each fill.
+fn check_fills<const ROUNDS: u8>(words: &mut Words, blocks: usize) {
+    let mut checked = 0;
+    while checked < blocks {
+        let mut rng = generator::<ROUNDS>(words);
+        let first = rng.counter();
+        let length = match words.next() % 4 {
+            0 => words.next() as usize % 1024,
+            _ => 256 * (1 + words.next() as usize % 4),
+        };
+        let mut bytes = vec![0; length];
+        rng.fill_bytes(&mut bytes);
+        let mut counter = first;
+        for filled in bytes.chunks(64) {
+            let expected = plain_block(ROUNDS, state_of(&rng, counter));
+            let expected: Vec<u8> = expected.iter().flat_map(|x| x.to_le_bytes()).collect();
+            assert_eq!(filled, &expected[..filled.len()], "from {first} on");
+            counter = counter.wrapping_add(1);
+            checked += 1;
+        }
+        assert_eq!(rng.counter(), counter);
+    }
+}
+
+#[test]
+fn single_blocks() {
+    let mut words = Words::new();
+    for case in 0..SINGLE {
+        let rounds = COMMON[case % 3];
+        let state = words.state();
+        assert_eq!(block(rounds, state), plain_block(rounds, state));
+    }
+}
+
+#[test]
+fn single_blocks_of_other_rounds() {
+    let mut words = Words::new();
+    for _ in 0..2000 {
+        let state = words.state();
+        for rounds in [0, 2, 254] {
+            assert_eq!(block(rounds, state), plain_block(rounds, state));
+        }
+    }
+}
+
+#[test]
+fn rounds_and_back() {
+    let mut words = Words::new();
+    for _ in 0..20_000 {
+        let state = words.state();
+        let mixed = chacha_rounds::<20>(state);
+        assert_eq!(mixed, plain_rounds(20, state));
+        assert_eq!(chacha_unrounds::<20>(mixed), state);
+    }
+}
+
+#[test]
+fn fills_with_8_rounds() {
+    check_fills::<8>(&mut Words::new(), FILLED / 3);
+}
+
+#[test]
+fn fills_with_12_rounds() {
+    check_fills::<12>(&mut Words::new(), FILLED / 3);
+}
+
+#[test]
+fn fills_with_20_rounds() {
+    check_fills::<20>(&mut Words::new(), FILLED / 3);
+}

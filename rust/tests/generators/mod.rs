@@ -1,0 +1,276 @@
+//! Generators whose bytes are known, and a reader that ends early or fails.
+#![allow(dead_code)] // each file of tests uses some of them
+
+use nanorand_proved::rand::fill_by_blocks;
+use nanorand_proved::Rng;
+use std::io::{self, ErrorKind, Read};
+
+/// The bytes 0, 1, 2, .. modulo 256, in blocks of `SIZE` bytes.
+#[derive(Clone, Debug, Default, PartialEq, Eq)]
+pub struct Rising<const SIZE: usize> {
+    drawn: u64,
+}
+
+/// The same in blocks of eight bytes.
+pub type Steps = Rising<8>;
+
+impl<const SIZE: usize> Rising<SIZE> {
+    pub fn new() -> Self {
+        Self::default()
+    }
+
+    /// The number of blocks drawn so far.
+    pub fn drawn(&self) -> u64 {
+        self.drawn
+    }
+}
+
+impl<const SIZE: usize> Rng<SIZE> for Rising<SIZE> {
+    fn rand(&mut self) -> [u8; SIZE] {
+        let size = u64::try_from(SIZE).expect("a small block");
+        let first = self.drawn.wrapping_mul(size).to_le_bytes()[0];
+        self.drawn = self.drawn.wrapping_add(1);
+        let mut next = first;
+        [(); SIZE].map(|()| {
+            let byte = next;
+            next = next.wrapping_add(1);
+            byte
+        })
+    }
+}
+
+/// Bytes that are all equal, in blocks of eight.
+#[derive(Clone, Debug, PartialEq, Eq)]
+pub struct Constant {
+    byte: u8,
+    drawn: u64,
+}
+
+impl Constant {
+    pub fn new(byte: u8) -> Self {
+        Constant { byte, drawn: 0 }
+    }
+
+    /// The number of blocks drawn so far.
+    pub fn drawn(&self) -> u64 {
+        self.drawn
+    }
+}
+
+impl Rng<8> for Constant {
+    fn rand(&mut self) -> [u8; 8] {
+        self.drawn += 1;
+        [self.byte; 8]
+    }
+}
+
+/// A generator of zeros.
+pub fn zeros() -> Constant {
+    Constant::new(0)
+}
+
+/// Block n is byte n of a list, eight times; after the list come zeros.
+#[derive(Clone, Debug, PartialEq, Eq)]
+pub struct Script {
+    bytes: Vec<u8>,
+    drawn: usize,
+}
+
+impl Script {
+    pub fn new(bytes: &[u8]) -> Self {
+        Script {
+            bytes: bytes.to_vec(),
+            drawn: 0,
+        }
+    }
+
+    /// The number of blocks drawn so far.
+    pub fn drawn(&self) -> usize {
+        self.drawn
+    }
+}
+
+impl Rng<8> for Script {
+    fn rand(&mut self) -> [u8; 8] {
+        let byte = self.bytes.get(self.drawn).map_or(0, |byte| *byte);
+        self.drawn += 1;
+        [byte; 8]
+    }
+}
+
+/// Blocks of one byte: zeros, then the bytes of a list, then zeros again.
+#[derive(Clone, Debug, PartialEq, Eq)]
+pub struct ByteScript {
+    zeros: usize,
+    bytes: Vec<u8>,
+    drawn: usize,
+}
+
+impl ByteScript {
+    pub fn new(bytes: &[u8]) -> Self {
+        Self::after_zeros(0, bytes)
+    }
+
+    pub fn after_zeros(zeros: usize, bytes: &[u8]) -> Self {
+        ByteScript {
+            zeros,
+            bytes: bytes.to_vec(),
+            drawn: 0,
+        }
+    }
+
+    /// The number of bytes drawn so far.
+    pub fn drawn(&self) -> usize {
+        self.drawn
+    }
+}
+
+impl Rng<1> for ByteScript {
+    fn rand(&mut self) -> [u8; 1] {
+        let index = self.drawn.checked_sub(self.zeros);
+        let byte = index
+            .and_then(|index| self.bytes.get(index))
+            .map_or(0, |byte| *byte);
+        self.drawn += 1;
+        [byte]
+    }
+}
+
+/// The blocks of `Steps`. A request of any number of bytes but 0 and 8 draws one block more than a
+/// plain generator does, and drops it.
+#[derive(Clone, Debug, Default, PartialEq, Eq)]
+pub struct Waste {
+    steps: Steps,
+}
+
+impl Waste {
+    pub fn new() -> Self {
+        Self::default()
+    }
+
+    /// The number of blocks drawn so far.
+    pub fn drawn(&self) -> u64 {
+        self.steps.drawn()
+    }
+}
+
+impl Rng<8> for Waste {
+    fn rand(&mut self) -> [u8; 8] {
+        self.steps.rand()
+    }
+
+    fn fill_bytes(&mut self, buffer: &mut [u8]) {
+        let wasteful = !matches!(buffer.len(), 0 | 8);
+        fill_by_blocks(&mut self.steps, buffer);
+        if wasteful {
+            let _ = self.steps.rand();
+        }
+    }
+}
+
+/// Blocks that alternate the number of the stream and the number of the block. A clone is not equal
+/// to its original: it is the next stream, at the same block.
+#[derive(Debug, PartialEq, Eq)]
+pub struct Forking {
+    pub stream: u8,
+    pub drawn: u8,
+}
+
+impl Forking {
+    pub fn new(stream: u8) -> Self {
+        Forking { stream, drawn: 0 }
+    }
+}
+
+impl Clone for Forking {
+    fn clone(&self) -> Self {
+        Forking {
+            stream: self.stream.wrapping_add(1),
+            drawn: self.drawn,
+        }
+    }
+}
+
+impl Rng<8> for Forking {
+    fn rand(&mut self) -> [u8; 8] {
+        let (stream, count) = (self.stream, self.drawn);
+        self.drawn = count.wrapping_add(1);
+        [stream, count, stream, count, stream, count, stream, count]
+    }
+}
+
+/// A reader of known bytes, at most `piece` at a read, one of whose reads may fail.
+pub struct Pieces<'a> {
+    bytes: &'a [u8],
+    piece: usize,
+    fault: Option<(usize, ErrorKind)>,
+    reads: usize,
+}
+
+impl<'a> Pieces<'a> {
+    pub fn of(bytes: &'a [u8], piece: usize) -> Self {
+        Pieces {
+            bytes,
+            piece,
+            fault: None,
+            reads: 0,
+        }
+    }
+
+    /// The same, whose read of that number, counted from 0, fails.
+    pub fn failing(bytes: &'a [u8], piece: usize, read: usize, kind: ErrorKind) -> Self {
+        Pieces {
+            fault: Some((read, kind)),
+            ..Pieces::of(bytes, piece)
+        }
+    }
+
+    /// The number of bytes not yet read.
+    pub fn left(&self) -> usize {
+        self.bytes.len()
+    }
+
+    /// The number of reads so far.
+    pub fn reads(&self) -> usize {
+        self.reads
+    }
+}
+
+impl Read for Pieces<'_> {
+    fn read(&mut self, out: &mut [u8]) -> io::Result<usize> {
+        let read = self.reads;
+        self.reads += 1;
+        match self.fault {
+            Some((number, kind)) if number == read => Err(kind.into()),
+            _ => {
+                let count = self.piece.min(self.bytes.len()).min(out.len());
+                let (given, left) = self.bytes.split_at(count);
+                out[..count].copy_from_slice(given);
+                self.bytes = left;
+                Ok(count)
+            }
+        }
+    }
+}
+
+/// The bytes of hexadecimal digits.
+pub fn bytes_of(digits: &str) -> Vec<u8> {
+    let digits: Vec<u32> = digits
+        .chars()
+        .map(|digit| digit.to_digit(16).expect("a hexadecimal digit"))
+        .collect();
+    digits
+        .chunks(2)
+        .map(|pair| u8::try_from(16 * pair[0] + pair[1]).expect("two digits"))
+        .collect()
+}
+
+/// The same, of an array's length.
+pub fn array_of<const SIZE: usize>(digits: &str) -> [u8; SIZE] {
+    bytes_of(digits).try_into().expect("the array's length")
+}
+
+/// The indices 0, 1, 2, ..
+pub fn rising(count: usize) -> Vec<usize> {
+    (0..count).collect()
+}

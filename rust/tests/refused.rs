@@ -1,0 +1,112 @@
+//! Allocations that are refused. `read_to_end` is the only call that allocates: a refusal is an error,
+//! and changes neither the vector nor the buffer.
+#![cfg(feature = "std")]
+
+mod generators;
+
+use generators::{rising, Steps};
+use nanorand_proved::samples::sample;
+use nanorand_proved::shuffles::shuffle_full;
+use nanorand_proved::{BufferedRng, ChaCha20, RangeError, Rng, WyRand};
+use std::alloc::{GlobalAlloc, Layout, System};
+use std::cell::Cell;
+use std::io::Read;
+
+thread_local! {
+    static REFUSES: Cell<bool> = const { Cell::new(false) };
+}
+
+/// The system's allocator, which refuses every request of a thread while it says so.
+struct Refusing;
+
+// SAFETY: each call is passed on to the system's allocator, or answered by null, which is a refusal.
+unsafe impl GlobalAlloc for Refusing {
+    unsafe fn alloc(&self, layout: Layout) -> *mut u8 {
+        if REFUSES.with(Cell::get) {
+            std::ptr::null_mut()
+        } else {
+            System.alloc(layout)
+        }
+    }
+
+    unsafe fn dealloc(&self, bytes: *mut u8, layout: Layout) {
+        System.dealloc(bytes, layout);
+    }
+}
+
+#[global_allocator]
+static HEAP: Refusing = Refusing;
+
+/// The result of a call that gets no memory.
+fn without_memory<T>(call: impl FnOnce() -> T) -> T {
+    REFUSES.with(|refuses| refuses.set(true));
+    let result = call();
+    REFUSES.with(|refuses| refuses.set(false));
+    result
+}
+
+/// After five bytes of a block, the rest of it does not fit in a full vector.
+fn is_refused<G: Rng<OUTPUT> + Clone, const OUTPUT: usize>(fresh: &G, held: usize) {
+    let mut rng = BufferedRng::new(fresh.clone());
+    rng.fill_bytes(&mut [0; 5]);
+    let left = rng.rest().to_vec();
+    let mut out = vec![7; held];
+    out.shrink_to_fit();
+    let room = out.capacity();
+
+    let refused = without_memory(|| rng.read_to_end(&mut out)).is_err();
+    let refused_as_reader = without_memory(|| Read::read_to_end(&mut rng, &mut out)).is_err();
+    assert!(refused && refused_as_reader);
+    assert!(out.iter().all(|byte| *byte == 7));
+    assert_eq!((out.len(), out.capacity()), (held, room));
+    assert_eq!(rng.rest(), left);
+
+    let count = rng.read_to_end(&mut out).expect("memory");
+    assert_eq!(count, left.len());
+    assert_eq!(out[held..], left);
+    assert_eq!(rng.buffered(), 0);
+}
+
+#[test]
+fn read_to_end() {
+    for held in [0, 2, 1000, 70_000] {
+        is_refused(&Steps::new(), held);
+        is_refused(&WyRand::new_seed(42), held);
+        is_refused(&ChaCha20::new_key([1; 32], [2; 8]), held);
+    }
+}
+
+/// With enough spare capacity, or nothing buffered, there is no allocation to refuse.
+#[test]
+fn read_to_end_without_an_allocation() {
+    let mut rng = BufferedRng::new(ChaCha20::new_key([1; 32], [2; 8]));
+    rng.fill_bytes(&mut [0; 5]);
+    let mut out = Vec::with_capacity(100);
+    let count = without_memory(|| rng.read_to_end(&mut out)).expect("room");
+    assert_eq!(count, 59);
+    let mut none = Vec::new();
+    let count = without_memory(|| rng.read_to_end(&mut none)).expect("nothing to append");
+    assert_eq!(count, 0);
+}
+
+/// Every other call needs no memory.
+#[test]
+fn calls_without_memory() -> Result<(), RangeError> {
+    let mut items = rising(100);
+    let mut places = [0; 10];
+    let mut bytes = [0; 1000];
+    without_memory(|| {
+        let mut rng = BufferedRng::new(WyRand::new_seed(42));
+        rng.fill_bytes(&mut bytes);
+        rng.shuffle(&mut items)?;
+        shuffle_full(&mut rng, &mut items)?;
+        sample(&mut rng, 100, &mut places)?;
+        let copy = rng.clone();
+        let number: u64 = rng.generate_range(..1000)?;
+        let _ = (copy == rng, number);
+        Ok::<(), RangeError>(())
+    })?;
+    items.sort_unstable();
+    assert_eq!(items, rising(100));
+    Ok(())
+}
