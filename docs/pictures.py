@@ -103,14 +103,13 @@ def layers():
 
     parts += module(190, programs, 180, 54, "draw, draw_core", "a command line to a text")
     parts += module(390, programs, 200, 54, "nanorand_users", "one program per kind of user")
-    parts += module(610, programs, 170, 54, "nanorand_c", "exports for C and Rust")
-    parts += module(836, programs, 184, 54, "rust/", "a safe Rust crate")
-    parts.append(arrow(f"M836 {programs + 27} H789", (781, programs + 27), "left"))
+    parts += module(610, programs, 170, 54, "nanorand_c", "exports for C")
+    parts += module(800, programs, 220, 54, "rust/", "the same, without contracts")
 
     line = 140
     parts.append(f'<path d="M{MARGIN} {line} H1020" class="frame"/>')
     parts.append(text(MARGIN, line - 8, "public contracts", "quiet"))
-    for x in (280, 490, 695):
+    for x in (280, 490, 695, 910):
         parts.append(arrow(f"M{x} {programs + 54} V{line - 9}", (x, line - 1), "down"))
     parts.append(text(MARGIN, line + 20, "crates/nanorand_core: for every generator", "quiet"))
     parts.append(text(378, line + 20, "crates/nanorand_streams: over any generator", "quiet"))

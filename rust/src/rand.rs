@@ -11,8 +11,8 @@ mod hexadecimal;
 pub mod pcg64;
 pub mod wyrand;
 
-use crate::shuffles::draw_partner;
 use crate::swap::swap;
+use crate::values::word::draw_below;
 use crate::values::{RandomGen, RandomRange, RangeError};
 pub use chacha::{ChaCha, ChaCha12, ChaCha20, ChaCha8};
 use core::ops::RangeBounds;
@@ -111,6 +111,20 @@ pub trait Rng<const OUTPUT: usize>: Sized {
 pub trait SeedableRng<const SEED_SIZE: usize, const OUTPUT: usize>: Rng<OUTPUT> {
     /// Seeds the generator anew from the bytes of `seed`.
     fn reseed(&mut self, seed: [u8; SEED_SIZE]);
+}
+
+// Draws the index that the item at `place` is swapped with: its own or a later one. A number below the
+// items that are left is drawn faster than one between two bounds.
+#[inline]
+pub(crate) fn draw_partner<G: Rng<OUTPUT>, const OUTPUT: usize>(
+    rng: &mut G,
+    place: usize,
+    count: usize,
+) -> Result<usize, RangeError> {
+    match draw_below(rng, (count - place) as u128, 64) {
+        Some(ahead) => Ok(place + ahead as usize),
+        None => Err(RangeError::Exhausted),
+    }
 }
 
 /// Fills the slice block by block through `rand`, and drops the unused bytes of the last block.

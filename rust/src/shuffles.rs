@@ -3,9 +3,8 @@
 
 //! Shuffles as lists of choices, and the shuffle that draws from all indices.
 
-use crate::rand::Rng;
+use crate::rand::{draw_partner, Rng};
 use crate::swap::swap;
-use crate::values::word::draw_below;
 use crate::values::RangeError;
 use core::ops::Bound;
 
@@ -156,20 +155,6 @@ pub fn partial_shuffle<G: Rng<OUTPUT>, T, const OUTPUT: usize>(
         swap(target, place, chosen);
     }
     Ok(())
-}
-
-// Draws the index that the item at `place` is swapped with: its own or a later one. A number below the
-// items that are left is drawn faster than one between two bounds.
-#[inline]
-pub(crate) fn draw_partner<G: Rng<OUTPUT>, const OUTPUT: usize>(
-    rng: &mut G,
-    place: usize,
-    count: usize,
-) -> Result<usize, RangeError> {
-    match draw_below(rng, (count - place) as u128, 64) {
-        Some(ahead) => Ok(place + ahead as usize),
-        None => Err(RangeError::Exhausted),
-    }
 }
 
 /// Shuffles the slice as the Rust crate `nanorand` 0.7.0 does: for each index, from 0 up, swaps

@@ -3,12 +3,12 @@ ghost use Rattle.std.specs.Prelude.{◌≡◌, ℕ, ◌^◌, ◌<◌, List, leng
 ghost use Rattle.std.specs.Fn.{iterate};
 ghost use Rattle.nanorand_core.specs.shuffles.Arrangements.{IsValid};
 ghost use Rattle.nanorand_core.specs.generators.Blocks.{Requests, taken, plain_after};
-ghost use Rattle.nanorand_core.specs.shuffles.Shuffles.{from_itself, shuffled};
+ghost use Rattle.nanorand_core.specs.shuffles.Shuffles.{from_itself, partner_drawn, shuffled};
 ghost use Rattle.nanorand_core.specs.values.Values.{values_from};
 ghost use Rattle.nanorand_core.specs.declared.values.range.RangeError.TheVariants.{Exhausted};
 
-use crate::shuffles::draw_partner;
 use crate::swap::swap;
+use crate::values::word::draw_below;
 use crate::values::{RandomGen, RandomRange, RangeError};
 use std::ops::Bound;
 
@@ -141,6 +141,24 @@ pub trait SeedableRng<const SEED_SIZE: usize, const OUTPUT: usize>: Rng<OUTPUT> 
     /// Seeds the generator anew from the bytes of `seed`.
     fn reseed(&mut self, seed: [u8; SEED_SIZE])
         ensures { self.new ≡ seeded self.old seed.entry };
+}
+
+// Draws the index that the item at `place` is swapped with: its own or a later one. A number below the
+// items that are left is drawn faster than one between two bounds.
+#[inline]
+pub(crate) fn draw_partner<G: Rng<OUTPUT>, const OUTPUT: usize>(
+    rng: &mut G,
+    place: usize,
+    count: usize,
+) -> Result<usize, RangeError>
+    requires { place < count }
+    ensures value { result ≡ (partner_drawn G.requests from_itself count place rng.old).0 }
+    ensures state { rng.new ≡ (partner_drawn G.requests from_itself count place rng.old).1 }
+{
+    match draw_below(rng, (count - place) as u128, 64) {
+        Some(ahead) => Ok(place + ahead as usize),
+        None => Err(RangeError::Exhausted),
+    }
 }
 
 /// Fills the slice block by block through `rand`, and drops the unused bytes of the last block.

@@ -1,14 +1,13 @@
 //! Shuffles as lists of choices, and the shuffle that draws from all indices.
 ghost use Rattle.std.specs.Prelude.{◌≡◌, ◌≢◌, ℕ, ◌*◌, ◌<◌, ◌≤◌, length, min, slice_index, MatchOption, IfErr, OnOk, OnErr, List, IsPermutation};
 ghost use Rattle.nanorand_core.specs.shuffles.Arrangements.{completed, rising, IsValid, IsArrangement};
-ghost use Rattle.nanorand_core.specs.shuffles.Shuffles.{arranged, from_all, from_itself, partly_shuffled, partner_drawn, shuffled};
+ghost use Rattle.nanorand_core.specs.shuffles.Shuffles.{arranged, from_all, from_itself, partly_shuffled, shuffled};
 ghost use Rattle.nanorand_core.specs.values.Draws.{after_words, word_limit};
 ghost use Rattle.nanorand_core.specs.declared.values.range.RangeError.TheVariants.{Exhausted};
 
-use crate::rand::Rng;
+use crate::rand::{Rng, draw_partner};
 use crate::swap::swap;
 use crate::values::RangeError;
-use crate::values::word::draw_below;
 use std::ops::Bound;
 use thiserror::Error;
 
@@ -165,24 +164,6 @@ pub fn partial_shuffle<G: Rng<OUTPUT>, T, const OUTPUT: usize>(
         swap(target, place, chosen);
     }
     Ok(())
-}
-
-// Draws the index that the item at `place` is swapped with: its own or a later one. A number below the
-// items that are left is drawn faster than one between two bounds.
-#[inline]
-pub(crate) fn draw_partner<G: Rng<OUTPUT>, const OUTPUT: usize>(
-    rng: &mut G,
-    place: usize,
-    count: usize,
-) -> Result<usize, RangeError>
-    requires { place < count }
-    ensures value { result ≡ (partner_drawn G.requests from_itself count place rng.old).0 }
-    ensures state { rng.new ≡ (partner_drawn G.requests from_itself count place rng.old).1 }
-{
-    match draw_below(rng, (count - place) as u128, 64) {
-        Some(ahead) => Ok(place + ahead as usize),
-        None => Err(RangeError::Exhausted),
-    }
 }
 
 /// Shuffles the slice as the Rust crate `nanorand` 0.7.0 does: for each index, from 0 up, swaps the

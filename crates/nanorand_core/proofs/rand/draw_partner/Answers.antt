@@ -2,7 +2,7 @@ use Rattle.std.proofs.Common.{arith}
 use Rattle.nanorand_core.specs.shuffles.Shuffles.{partner_drawn}
 use Rattle.nanorand_core.proofs.lemmas.ranges.RangeLemmas.{value-number, value-exhausted, left-drawn}
 use Rattle.nanorand_core.proofs.lemmas.shuffles.PartnerLemmas.{numbers_between}
-use Rattle.nanorand_core.proofs.shuffles.draw_partner.Goals as goal
+use Rattle.nanorand_core.proofs.rand.draw_partner.Goals as goal
 
 pub returns-in-Some-clause-value : goal.returns-in-Some-clause-value
 unfolding partner_drawn
