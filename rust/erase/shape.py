@@ -159,6 +159,7 @@ def rust_of(source, file):
     for attribute in file.attributes:
         if attribute != "tactic(auto)":
             raise source.unknown(f"an inner attribute '{attribute}'", source.tokens[0])
+    source.modules = {item.name for item in file.items if isinstance(item, Module)}
     return File(file.docs, [], converted(source, file.items, owner=None))
 
 
@@ -204,12 +205,12 @@ def path_in_rust(source, use, path):
         return None
     if head in CRATES:
         return f"crate::{rest}"
-    if head in ("std", "thiserror"):
-        if path not in PATHS:
-            raise source.unknown(f"a use of '{path}'", use.place)
-        used.add(path)
-        return PATHS[path]
-    return path
+    if head in ("crate", "super") or head in source.modules:
+        return path
+    if path not in PATHS:
+        raise source.unknown(f"a use of '{path}'", use.place)
+    used.add(path)
+    return PATHS[path]
 
 
 def module_in_rust(_source, module, _):

@@ -52,6 +52,7 @@ class Source:
         self.text = text
         self.tokens = tokens_of(text)
         self.next = 0
+        self.modules = set()
 
     @classmethod
     def read(cls, path, root):

@@ -316,6 +316,7 @@ class Strangers(unittest.TestCase):
             "a bound 'Send'": "fn f<T: Send>(t: T) {}",
             "a use of 'std::thread'": "use std::thread;",
             "a use of 'std::io::Write'": "use std::io::{Read, Write};",
+            "a use of 'hex::encode'": "use hex::encode;",
             "a macro 'panic!'": 'fn f() { panic!("x"); }',
             "a macro 'vec!'": "fn f() { g(vec![1]); }",
             "'unsafe' in a body": "fn f() { unsafe { g(); } }",

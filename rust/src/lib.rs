@@ -155,6 +155,10 @@ pub mod values;
 #[doc = include_str!("../tests/does_not_compile.md")]
 struct DoesNotCompile;
 
+#[cfg(all(doctest, feature = "std"))]
+#[doc = include_str!("../README.md")]
+struct Readme;
+
 pub use buffer::BufferedRng;
 #[cfg(feature = "rand_core")]
 pub use layer::ChaChaSeed;

@@ -429,8 +429,20 @@ fn seeds_from_the_system() {
         assert_ne!(*key, [0; 32]);
         assert!(!keys[..index].contains(key));
     }
-    assert!(WyRand::from_entropy().is_ok());
-    assert!(Pcg64::from_entropy().is_ok());
+    // A byte that never changes would be one that is not the system's.
+    let words: Vec<[u8; 8]> = (0..64)
+        .map(|_| {
+            WyRand::from_entropy()
+                .expect("entropy")
+                .seed()
+                .to_le_bytes()
+        })
+        .collect();
+    let seeds: Vec<[u8; 16]> = (0..64)
+        .map(|_| Pcg64::from_entropy().expect("entropy").seed().to_le_bytes())
+        .collect();
+    assert!((0..8).all(|place| words.iter().any(|word| word[place] != words[0][place])));
+    assert!((0..16).all(|place| seeds.iter().any(|seed| seed[place] != seeds[0][place])));
 }
 
 fn panics<T>(call: impl FnOnce() -> T) -> bool {
