@@ -19,7 +19,10 @@ def text_of(file, header):
 def formatted(text):
     """As rustfmt writes it."""
     command = ["rustfmt", "--edition", "2021", "--quiet"]
-    run = subprocess.run(command, input=text, capture_output=True, text=True, check=False)
+    try:
+        run = subprocess.run(command, input=text, capture_output=True, text=True, check=False)
+    except FileNotFoundError:
+        raise SystemExit("rust/erase needs rustfmt") from None
     if run.returncode != 0:
         raise SystemExit(f"rustfmt refused what was written:\n{run.stderr}\n{text}")
     return run.stdout
