@@ -113,7 +113,7 @@ def without_precondition(text):
         return text, None
     rest = text[match.end() :]
     rest = rest[:1].upper() + rest[1:] if match[2] == ";" else rest
-    return (text[: match.start()] + rest).strip(), f"Unless {match[1]}."
+    return (text[: match.start()] + rest).strip(), f"Panics unless {match[1]}."
 
 
 def without_errors(text):

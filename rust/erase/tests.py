@@ -207,7 +207,7 @@ class Differences(Same):
             " requires { length places.old ≤ count }\n{ g(); }"
         )
         self.assertIn("assert!(places.len() <= count", checked)
-        self.assertIn("/// # Panics\n///\n/// Unless there are at most `count` slots.", checked)
+        self.assertIn("/// # Panics\n///\n/// Panics unless there are at most `count` slots.", checked)
         self.same("fn f(n: usize)\n requires { n < 4 }\n{ g(n); }", "fn f(n: usize) { g(n); }")
 
     def test_results_are_used(self):
@@ -280,7 +280,11 @@ class Documents(unittest.TestCase):
         )
         self.assertEqual(
             self.written("F. Precondition: a is b; both may be empty. G.", panics=True),
-            [" F. Both may be empty. G.", "", " # Panics", "", " Unless a is b."],
+            [" F. Both may be empty. G.", "", " # Panics", "", " Panics unless a is b."],
+        )
+        self.assertEqual(
+            self.written("F. Precondition: a is b. It returns `E` if none.", panics=True, fails=True),
+            [" F.", "", " # Errors", "", " It returns `E` if none.", "", " # Panics", "", " Panics unless a is b."],
         )
 
     def test_a_section_without_a_sentence(self):
@@ -483,6 +487,65 @@ class Whole(unittest.TestCase):
                 for name, _ in self.bodies(text):
                     self.assertIn(name, written, key)
                     written.remove(name)
+
+    # What stands before a function: its attributes and its visibility.
+    HEAD = re.compile(r"(?m)^[ \t]*((?:#\[[^\n]*\]\s*)*)(pub(?:\(\w+\))? )?(?:(?:final|const) )*fn (\w+)")
+
+    def heads(self, text):
+        return [
+            (name, visibility, "inline" in attributes or name in shape.INLINED)
+            for attributes, visibility, name in self.HEAD.findall(text)
+        ]
+
+    def test_functions_are_as_visible_and_inlined_as_the_proved_ones(self):
+        compared = 0
+        for key, texts in self.proved.items():
+            written = self.heads(self.written[key])
+            for head in (found for text in texts for found in self.heads(text)):
+                if head[0] not in self.CHANGED and "fill_bytes" != head[0]:
+                    self.assertIn(head, written, key)
+                    compared += 1
+        self.assertGreater(compared, 170)
+
+    def test_each_file_says_from_what_it_is_written(self):
+        for key, texts in self.proved.items():
+            lines = self.written[key].split("\n")
+            self.assertEqual(lines[0], "// Written by `python3 rust/erase` from:")
+            named = [line for line in lines[1 : lines.index("")] if line.endswith(f"/src/{key}.rt")]
+            self.assertEqual(len(named), len(texts), key)
+
+    def test_a_row_leaves_out_one_paragraph(self):
+        docs = [re.findall(r"((?: *///[^\n]*\n)+)", text) for texts in self.proved.values() for text in texts]
+        paragraphs = [
+            part
+            for found in docs
+            for doc in found
+            for part in documents.paragraphs_of([line.strip()[3:] for line in doc.splitlines()])
+        ]
+        for row in documents.LEFT_OUT:
+            self.assertEqual(sum(part.startswith(row) for part in paragraphs), 1, row)
+
+    def test_unsafe_code_is_in_one_file(self):
+        root = (ROOT / "rust/src/lib.rs").read_text(encoding="utf-8")
+        modules = re.findall(r"(?m)^(.*)\n(?:pub )?mod (\w+);", root)
+        self.assertGreater(len(modules), 9)
+        for before, name in modules:
+            self.assertEqual(before == "#[forbid(unsafe_code)]", name != "simd", name)
+
+    def test_every_processor_has_its_lanes(self):
+        text = "".join((ROOT / "rust/src/simd.rs").read_text(encoding="utf-8").split())
+        sse2 = 'all(target_arch="x86_64",target_feature="sse2")'
+        neon = 'all(target_arch="aarch64",target_feature="neon",target_endian="little")'
+        neither = f"not(any({sse2},{neon}))"
+        for condition, item in [
+            (sse2, "usesse2aslanes;"),
+            (neon, "useneonaslanes;"),
+            (neither, "useplainaslanes;"),
+            (sse2, "modsse2{"),
+            (f'any(all(test,target_arch="x86_64"),{neon})', "modneon{"),
+            (f"any(test,{neither})", "modplain{"),
+        ]:
+            self.assertIn(f"#[cfg({condition})]{item}", text)
 
     def test_no_contract_is_left(self):
         for key, text in self.written.items():

@@ -98,7 +98,7 @@ pub enum Answer {
 ///
 /// # Panics
 ///
-/// Unless `answers` is as long as `calls`.
+/// Panics unless `answers` is as long as `calls`.
 pub fn replay<G: Rng<OUTPUT>, const OUTPUT: usize>(
     rng: &mut G,
     calls: &[Call],

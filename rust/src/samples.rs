@@ -26,7 +26,7 @@ use core::ops::Bound;
 ///
 /// # Panics
 ///
-/// Unless there are at most `count` slots.
+/// Panics unless there are at most `count` slots.
 pub fn sample<G: Rng<OUTPUT>, const OUTPUT: usize>(
     rng: &mut G,
     count: usize,

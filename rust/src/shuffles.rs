@@ -28,7 +28,8 @@ impl std::error::Error for NotArrangement {}
 ///
 /// # Panics
 ///
-/// Unless there is one choice for each item, and the choice of index i is i or a later index.
+/// Panics unless there is one choice for each item, and the choice of index i is i or a later
+/// index.
 pub fn apply_choices<T>(choices: &[usize], items: &mut [T]) {
     assert!(
         choices.len() == items.len(),
@@ -56,7 +57,7 @@ pub fn apply_choices<T>(choices: &[usize], items: &mut [T]) {
 ///
 /// # Panics
 ///
-/// Unless `out` and `scratch` are as long as `order`.
+/// Panics unless `out` and `scratch` are as long as `order`.
 pub fn choices_of(
     order: &[usize],
     out: &mut [usize],
@@ -112,7 +113,7 @@ fn place_from(items: &[usize], from: usize, wanted: usize) -> Option<usize> {
 ///
 /// # Panics
 ///
-/// Unless `choices` is as long as `target`.
+/// Panics unless `choices` is as long as `target`.
 pub fn shuffle_and_record<G: Rng<OUTPUT>, T, const OUTPUT: usize>(
     rng: &mut G,
     target: &mut [T],

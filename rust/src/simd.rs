@@ -166,13 +166,22 @@ mod sse2 {
     }
 }
 
-#[cfg(all(
-    target_arch = "aarch64",
-    target_feature = "neon",
-    target_endian = "little"
+// Compiled in tests on x86-64 too, with plain words in place of the processor's.
+#[cfg(any(
+    all(test, target_arch = "x86_64"),
+    all(
+        target_arch = "aarch64",
+        target_feature = "neon",
+        target_endian = "little"
+    )
 ))]
 mod neon {
-    use core::arch::aarch64::{
+    #[cfg(not(target_arch = "aarch64"))]
+    use super::tests::neon_of_plain_words as aarch64;
+    #[cfg(target_arch = "aarch64")]
+    use core::arch::aarch64;
+
+    use aarch64::{
         uint32x4_t, vaddq_u32, vdupq_n_u32, veorq_u32, vnegq_s32, vorrq_u32, vreinterpretq_s32_u32,
         vshlq_u32,
     };
@@ -369,6 +378,75 @@ mod tests {
                 assert_eq!([a, b, c, d], [(1 << bit) >> bits, 0, a, 0]);
             }
         }
+    }
+
+    /// The functions of NEON that are used, as ARM describes them.
+    #[cfg(target_arch = "x86_64")]
+    #[allow(non_camel_case_types)]
+    pub(super) mod neon_of_plain_words {
+        #[derive(Clone, Copy)]
+        #[repr(transparent)]
+        pub(crate) struct uint32x4_t([u32; 4]);
+
+        #[derive(Clone, Copy)]
+        pub(crate) struct int32x4_t([i32; 4]);
+
+        fn by_lane(lane: impl Fn(usize) -> u32) -> uint32x4_t {
+            uint32x4_t([lane(0), lane(1), lane(2), lane(3)])
+        }
+
+        pub(crate) unsafe fn vaddq_u32(a: uint32x4_t, b: uint32x4_t) -> uint32x4_t {
+            by_lane(|lane| a.0[lane].wrapping_add(b.0[lane]))
+        }
+
+        pub(crate) unsafe fn veorq_u32(a: uint32x4_t, b: uint32x4_t) -> uint32x4_t {
+            by_lane(|lane| a.0[lane] ^ b.0[lane])
+        }
+
+        pub(crate) unsafe fn vorrq_u32(a: uint32x4_t, b: uint32x4_t) -> uint32x4_t {
+            by_lane(|lane| a.0[lane] | b.0[lane])
+        }
+
+        pub(crate) unsafe fn vdupq_n_u32(word: u32) -> uint32x4_t {
+            uint32x4_t([word; 4])
+        }
+
+        pub(crate) unsafe fn vreinterpretq_s32_u32(a: uint32x4_t) -> int32x4_t {
+            int32x4_t(a.0.map(|word| i32::from_ne_bytes(word.to_ne_bytes())))
+        }
+
+        pub(crate) unsafe fn vnegq_s32(a: int32x4_t) -> int32x4_t {
+            int32x4_t(a.0.map(i32::wrapping_neg))
+        }
+
+        // To the left by the low byte of each lane, as a number with a sign.
+        pub(crate) unsafe fn vshlq_u32(a: uint32x4_t, bits: int32x4_t) -> uint32x4_t {
+            by_lane(|lane| {
+                let by = i8::from_ne_bytes([bits.0[lane].to_le_bytes()[0]]);
+                let moved = if by < 0 {
+                    u32::checked_shr
+                } else {
+                    u32::checked_shl
+                };
+                moved(a.0[lane], u32::from(by.unsigned_abs())).unwrap_or(0)
+            })
+        }
+    }
+
+    #[cfg(target_arch = "x86_64")]
+    #[test]
+    fn neon_is_plain_words() {
+        use super::neon::{self, to_array as words};
+        for_cases(|a, b| {
+            let (x, y) = (neon::from_array(a), neon::from_array(b));
+            assert_eq!(words(x), a);
+            assert_eq!(words(neon::add(x, y)), plain::add(a, b));
+            assert_eq!(words(neon::xor(x, y)), plain::xor(a, b));
+            assert_eq!(words(neon::or(x, y)), plain::or(a, b));
+            let bits = b[2] % 32;
+            assert_eq!(words(neon::left(x, bits)), plain::left(a, bits));
+            assert_eq!(words(neon::right(x, bits)), plain::right(a, bits));
+        });
     }
 
     #[cfg(debug_assertions)]

@@ -8,7 +8,7 @@ mod generators;
 use generators::{rising, zeros, Constant, Script, Steps, Waste};
 use nanorand_proved::choices::{below, choose, choose_mut, choose_weighted, ratio};
 use nanorand_proved::rand::fill_by_blocks;
-use nanorand_proved::replay::{replay, Answer, Call, Kind};
+use nanorand_proved::replay::{replay, Answer, Call, Kind, Span};
 use nanorand_proved::samples::sample;
 use nanorand_proved::shuffles::{
     apply_choices, choices_of, partial_shuffle, shuffle_and_record, shuffle_full,
@@ -293,6 +293,15 @@ const SEEDED: (WyRand, Pcg64) = (WyRand::from_seed([1; 8]), Pcg64::from_seed([2;
 const SEEDED_CHACHA: ChaCha8 = ChaCha8::from_seed([3; 40]);
 const STATE: [u32; 16] = nanorand_proved::crypto::chacha::chacha_init([0; 32], [0; 8]);
 
+const SEEDS: (u64, u128) = (WyRand::new_seed(42).seed(), Pcg64::new_seed(43).seed());
+
+/// Lists of calls and their answers are copied and compared, as plain values are.
+#[test]
+fn calls_are_plain_values() {
+    fn check<T: Copy + Eq + Debug>() {}
+    check::<(Call, Kind, Span, Answer)>();
+}
+
 #[test]
 fn constants_and_statics() {
     let number = SHARED.lock().expect("no panic").generate::<u64>();
@@ -302,6 +311,7 @@ fn constants_and_statics() {
     assert_eq!(KEYED, ChaCha20::new_key([1; 32], [2; 8]));
     assert_eq!(SEEDED.0.seed(), u64::from_le_bytes([1; 8]));
     assert_eq!(SEEDED.1.seed(), u128::from_le_bytes([2; 16]));
+    assert_eq!(SEEDS, (42, 43));
     assert_eq!(SEEDED_CHACHA, ChaCha8::new_key([3; 32], [3; 8]));
     assert_eq!(
         STATE[..4],
@@ -349,7 +359,8 @@ fn a_buffer_is_a_reader() -> io::Result<()> {
 fn a_buffer_is_no_text() {
     let mut rng = after_five();
     let mut text = String::from("as it was");
-    assert!(Read::read_to_string(&mut rng, &mut text).is_err());
+    let refused = Read::read_to_string(&mut rng, &mut text).expect_err("no text");
+    assert_eq!(refused.kind(), io::ErrorKind::Other);
     assert_eq!(text, "as it was");
     let reader: &mut dyn Read = &mut rng;
     assert!(reader.read_to_string(&mut text).is_err());

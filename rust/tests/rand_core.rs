@@ -1,9 +1,33 @@
 //! The traits of `rand_core`, which agree with those of this crate.
 #![cfg(feature = "rand_core")]
 
-use nanorand_proved::{BufferedRng, ChaCha, ChaCha12, ChaCha20, ChaCha8, Pcg64, Rng, WyRand};
-use rand_core::{RngCore, SeedableRng};
+use nanorand_proved::{BufferedRng, ChaCha, ChaCha12, ChaCha20, ChaCha8, ChaChaSeed};
+use nanorand_proved::{Pcg64, Rng, WyRand};
+use rand_core::{CryptoRng, RngCore, SeedableRng};
 use std::fmt::Debug;
+
+/// Does not compile if the type has the trait: two implementations of `Without` are its then.
+macro_rules! lacks {
+    ($kind:ty: $name:path) => {{
+        trait Without<Mark> {
+            fn check() {}
+        }
+        struct Mark;
+        impl<T> Without<()> for T {}
+        impl<T: $name> Without<Mark> for T {}
+        <$kind as Without<_>>::check();
+    }};
+}
+
+/// No generator is a `CryptoRng`, and the text of a seed would be its key.
+#[test]
+fn what_is_not_implemented() {
+    lacks!(WyRand: CryptoRng);
+    lacks!(Pcg64: CryptoRng);
+    lacks!(ChaCha20: CryptoRng);
+    lacks!(BufferedRng<ChaCha20, 64>: CryptoRng);
+    lacks!(ChaChaSeed: Debug);
+}
 
 /// The four functions of `RngCore` give what the functions of `Rng` give, and leave the same.
 fn check<G: Rng<OUTPUT> + RngCore + Clone + PartialEq + Debug, const OUTPUT: usize>(fresh: &G) {

@@ -10,7 +10,7 @@ use nanorand_proved::shuffles::shuffle_full;
 use nanorand_proved::{BufferedRng, ChaCha20, RangeError, Rng, WyRand};
 use std::alloc::{GlobalAlloc, Layout, System};
 use std::cell::Cell;
-use std::io::Read;
+use std::io::{ErrorKind, Read};
 
 thread_local! {
     static REFUSES: Cell<bool> = const { Cell::new(false) };
@@ -55,8 +55,10 @@ fn is_refused<G: Rng<OUTPUT> + Clone, const OUTPUT: usize>(fresh: &G, held: usiz
     let room = out.capacity();
 
     let refused = without_memory(|| rng.read_to_end(&mut out)).is_err();
-    let refused_as_reader = without_memory(|| Read::read_to_end(&mut rng, &mut out)).is_err();
-    assert!(refused && refused_as_reader);
+    let refused_as_reader = without_memory(|| Read::read_to_end(&mut rng, &mut out));
+    let kind = refused_as_reader.map_err(|error| error.kind());
+    assert!(refused);
+    assert_eq!(kind, Err(ErrorKind::OutOfMemory));
     assert!(out.iter().all(|byte| *byte == 7));
     assert_eq!((out.len(), out.capacity()), (held, room));
     assert_eq!(rng.rest(), left);

@@ -55,6 +55,9 @@ const SEEDS: [u64; 20] = [
 /// The calls of a run. There are five generators, so 10^7 calls in all.
 const CALLS: usize = 100_000;
 
+/// The calls of all runs.
+const ALL_CALLS: usize = 10_000_000;
+
 /// At least so many ranges of each kind are met.
 const LEAST: usize = 10_000;
 
@@ -117,7 +120,9 @@ fn every_case_was_met(counts: &Counts) -> Result<(), String> {
         counts.calls, counts.ranges, counts.rejections, counts.empty_ranges
     );
     let met = [counts.ranges, counts.rejections, counts.empty_ranges];
-    if met.iter().all(|&count| count >= LEAST) {
+    if counts.calls < ALL_CALLS {
+        Err(format!("fewer than {ALL_CALLS} calls"))
+    } else if met.iter().all(|&count| count >= LEAST) {
         Ok(())
     } else {
         Err(format!("fewer than {LEAST} ranges of a kind"))

@@ -80,12 +80,32 @@ const fn part<const SIZE: usize>(seed: &[u8; 40], first: usize) -> [u8; SIZE] {
     bytes
 }
 
-#[cfg(all(feature = "std", unix))]
+#[cfg(feature = "std")]
 fn system_source() -> Result<std::fs::File, EntropyError> {
-    std::fs::File::open("/dev/urandom").map_err(|_| EntropyError::Unavailable)
+    source_at("/dev/urandom", cfg!(unix))
 }
 
-#[cfg(all(feature = "std", not(unix)))]
-fn system_source() -> Result<std::io::Empty, EntropyError> {
-    Err(EntropyError::Unavailable)
+// Elsewhere than on Unix a file of that name would be anyone's. The whole body is compiled on every
+// system, so that the tests of one see it.
+#[cfg(feature = "std")]
+fn source_at(path: &str, on_unix: bool) -> Result<std::fs::File, EntropyError> {
+    if !on_unix {
+        return Err(EntropyError::Unavailable);
+    }
+    std::fs::File::open(path).map_err(|_| EntropyError::Unavailable)
+}
+
+#[cfg(all(test, feature = "std"))]
+mod tests {
+    use super::source_at;
+    use crate::entropy::EntropyError;
+
+    #[test]
+    fn systems_without_a_source() {
+        assert!(source_at("Cargo.toml", true).is_ok());
+        for (path, on_unix) in [("Cargo.toml", false), ("no/such/file", true)] {
+            let refused = source_at(path, on_unix).err();
+            assert_eq!(refused, Some(EntropyError::Unavailable), "{path}");
+        }
+    }
 }

@@ -16,7 +16,8 @@ const MAX_WORDS: usize = 128;
 ///
 /// # Panics
 ///
-/// Unless `bits` is 8, 16, 32 or 64, `size` is from 1 to 2^bits, and `word` is below 2^bits.
+/// Panics unless `bits` is 8, 16, 32 or 64, `size` is from 1 to 2^bits, and `word` is below
+/// 2^bits.
 #[inline(always)]
 #[must_use]
 pub fn pick_word(size: u128, bits: u32, word: u64) -> Option<u64> {
@@ -86,7 +87,7 @@ fn remainder(others: u64, size: u64) -> u64 {
 ///
 /// # Panics
 ///
-/// Unless `bits` is 8, 16, 32 or 64, and `size` is from 1 to 2^bits.
+/// Panics unless `bits` is 8, 16, 32 or 64, and `size` is from 1 to 2^bits.
 #[inline(always)]
 pub fn draw_below<G: Rng<OUTPUT>, const OUTPUT: usize>(
     rng: &mut G,

@@ -4,7 +4,8 @@ use nanorand_proved::buffer::{RestTooLong, TextRefused};
 use nanorand_proved::choices::weighted::WeightError;
 use nanorand_proved::entropy::EntropyError;
 use nanorand_proved::shuffles::NotArrangement;
-use nanorand_proved::{ChaCha, ChaCha12, ChaCha20, ChaCha8, Pcg64, RangeError, Rng, WyRand};
+use nanorand_proved::{BufferedRng, RangeError, Rng, WyRand};
+use nanorand_proved::{ChaCha, ChaCha12, ChaCha20, ChaCha8, Pcg64};
 use std::error::Error;
 use std::fmt::{Debug, Display};
 
@@ -89,6 +90,16 @@ fn of_chacha() {
         "ChaCha20 { rounds: 12, counter: 18446744073709551615 }",
         "ChaCha (12 rounds)",
     );
+}
+
+/// The inner generator's text, and the number of the bytes that are left.
+#[test]
+fn of_a_buffer() {
+    let mut rng = BufferedRng::new(ChaCha8::new_key([1; 32], [2; 8]));
+    rng.fill_bytes(&mut [0; 3]);
+    let inner = "ChaCha20 { rounds: 8, counter: 1 }";
+    let text = format!("BufferedRng {{ inner: {inner}, buffered: 61 }}");
+    assert_eq!(format!("{rng:?}"), text);
 }
 
 #[test]
