@@ -1,6 +1,6 @@
 -- Whole and partial shuffles of words: which items come first, for each list of words.
-use Rattle.std.specs.Prelude.{◌≡◌, ◌≢◌, ℕ, ◌+◌, ◌-◌, ◌*◌, ◌^◌, ◌<◌, ◌≤◌, ◌==◌, ◌↔◌, List, [], ◌∷◌, length, map, min, take}
-use Rattle.std.specs.List.{All, AllPairs, range_with_len}
+use Rattle.std.specs.Prelude.{◌≡◌, ◌≢◌, ℕ, ◌+◌, ◌-◌, ◌*◌, ◌^◌, ◌<◌, ◌≤◌, ◌==◌, ◌↔◌, true, List, [], ◌∷◌, length, map, min, take}
+use Rattle.std.specs.List.{All, AllPairs, list_any, range_with_len}
 use Rattle.std.specs.Cmp.Lexicographic.{pointwise}
 use Rattle.nanorand_core.specs.generators.Blocks.{Requests}
 use Rattle.nanorand_core.specs.values.Draws.{word_limit, next_word, after_word, words_from}
@@ -65,6 +65,15 @@ abbrev pub NoDealIsPreferred : Type 0
 NoDealIsPreferred =
     (k n : ℕ) (deal other : List ℕ) → k ≤ n → n ≤ 2 ^ 64 → IsDeal k n deal → IsDeal k n other
     → (swap : List ℕ → List ℕ) × ExchangesDeals k n deal other swap
+
+-- Every index has the same share of the deals of k of n: of the lists of m words that draw a whole
+-- deal, rejected words included, k of every n deal the index.
+abbrev pub SharesAreEqual : Type 0
+SharesAreEqual =
+    (k n m index : ℕ) → k ≤ n → n ≤ 2 ^ 64 → index < n
+    → let lists = word_lists_that 64 m (deal_sizes k n) in
+    n * lists (λ numbers. list_any (λ item. item == index) (dealt k n numbers))
+    ≡ k * lists (λ numbers. true)
 
 -- The choices of `shuffle` and `partial_shuffle` are those by the numbers that their words draw in
 -- turn.

@@ -3,7 +3,7 @@
 //! one to use its law.
 ghost use Rattle.nanorand_fairness.specs.Lists.{UndecidedListsAreFew, DrawsTakeFewWords, EventsInListsAreFair, RatiosInListsAreFair, WeightsInListsAreFair};
 ghost use Rattle.nanorand_fairness.specs.InTurn.{NumbersInTurnAreFair, RejectionsPreferNothing, NoListOfNumbersIsPreferred};
-ghost use Rattle.nanorand_fairness.specs.Deals.{DealsAreFair, ShufflesAreFair, NoDealIsPreferred, ShufflesDrawInTurn};
+ghost use Rattle.nanorand_fairness.specs.Deals.{DealsAreFair, ShufflesAreFair, NoDealIsPreferred, SharesAreEqual, ShufflesDrawInTurn};
 ghost use Rattle.nanorand_fairness.specs.Samples.{NoSetIsPreferred, SampledSetsAreFair, SamplesDrawInTurn};
 
 use nanorand_core::Rng;
@@ -61,7 +61,9 @@ pub fn numbers_in_turn_are_fair()
 /// indices is dealt by equally many lists of k words, the product of floor(2^64 / (n - i)) for i from
 /// 0 to k - 1. `orders`: so each order of n items is made by equally many lists of n words. `swaps`:
 /// for any two deals there is a map on lists of words, of any length and with rejected words, that
-/// is an involution, keeps which words are rejected, and exchanges the two deals.
+/// is an involution, keeps which words are rejected, and exchanges the two deals. `shares`: of the
+/// lists of m words that draw a whole deal, rejected words included, exactly k of every n deal a
+/// given index. So any two indices are dealt by equally many.
 ///
 /// It does not say that seeds deal equally often: a seed of b bits gives at most 2^b of the n!
 /// orders.
@@ -69,6 +71,7 @@ pub fn shuffles_are_fair()
     ensures deals { DealsAreFair }
     ensures orders { ShufflesAreFair }
     ensures swaps { NoDealIsPreferred }
+    ensures shares { SharesAreEqual }
 {
     fairness();
     numbers_in_turn_are_fair();

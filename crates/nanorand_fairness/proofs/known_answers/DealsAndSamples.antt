@@ -1,9 +1,10 @@
 -- Deals, samples and taken words of small lists.
-use Rattle.std.specs.Prelude.{◌≡◌, ◌==◌, ℕ, true, List, [], ◌∷◌, refl}
+use Rattle.std.specs.Prelude.{◌≡◌, ◌==◌, true, [], ◌∷◌, map, refl}
+use Rattle.std.specs.List.{list_any}
 use Rattle.std.specs.Cmp.Lexicographic.{pointwise}
 use Rattle.nanorand_core.specs.values.Runs.{named}
-use Rattle.nanorand_fairness.specs.Lists.{words_taken}
-use Rattle.nanorand_fairness.specs.InTurn.{number_lists_that}
+use Rattle.nanorand_fairness.specs.Lists.{sum_over_lists, words_taken}
+use Rattle.nanorand_fairness.specs.InTurn.{number_lists_that, word_lists_that}
 use Rattle.nanorand_fairness.specs.Deals.{choices_by, deal_sizes, dealt}
 use Rattle.nanorand_fairness.specs.Samples.{sample_by, sample_sizes}
 
@@ -33,6 +34,26 @@ one_hand = refl
 
 no_double : number_lists_that (deal_sizes 2 4) (λ numbers. pointwise ◌==◌ (dealt 2 4 numbers) (3 ∷ 3 ∷ [])) ≡ 0
 no_double = refl
+
+-- One of three: each index is dealt by one of three lists of numbers, and no other number is.
+shares_of_one : map (λ index. number_lists_that (deal_sizes 1 3) (λ numbers. list_any (λ item. item == index) (dealt 1 3 numbers))) (0 ∷ 1 ∷ 2 ∷ 3 ∷ []) ≡ 1 ∷ 1 ∷ 1 ∷ 0 ∷ []
+shares_of_one = refl
+
+-- Two of three: by four of six.
+shares_of_two : map (λ index. number_lists_that (deal_sizes 2 3) (λ numbers. list_any (λ item. item == index) (dealt 2 3 numbers))) (0 ∷ 1 ∷ 2 ∷ 3 ∷ []) ≡ 4 ∷ 4 ∷ 4 ∷ 0 ∷ []
+shares_of_two = refl
+
+lists_of_two : number_lists_that (deal_sizes 2 3) (λ numbers. true) ≡ 6
+lists_of_two = refl
+
+-- The same of lists of three words of two bits, of which some are rejected: by 40 of 60.
+shares_of_words : map (λ index. word_lists_that 2 3 (deal_sizes 2 3) (λ numbers. list_any (λ item. item == index) (dealt 2 3 numbers))) (0 ∷ 1 ∷ 2 ∷ 3 ∷ []) ≡ 40 ∷ 40 ∷ 40 ∷ 0 ∷ []
+unfolding named sum_over_lists
+shares_of_words = refl
+
+words_of_two : word_lists_that 2 3 (deal_sizes 2 3) (λ numbers. true) ≡ 60
+unfolding named sum_over_lists
+words_of_two = refl
 
 -- Three of five: 2 joins, then 3 in the place of a second 2, then 0.
 sample_of_three : sample_by 2 (2 ∷ 2 ∷ 0 ∷ []) [] ≡ 2 ∷ 3 ∷ 0 ∷ []

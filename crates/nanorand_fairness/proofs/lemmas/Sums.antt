@@ -1,5 +1,5 @@
 -- Sums over the numbers from `first` on.
-use Rattle.std.proofs.Common.{◌≡◌, ℕ, zero, suc, ◌+◌, ◌*◌, ◌<◌, ◌≤◌, cond, nat_eq, refl, ap, inl, inr, arith}
+use Rattle.std.proofs.Common.{◌≡◌, ◌≢◌, ℕ, zero, suc, ◌+◌, ◌*◌, ◌<◌, ◌≤◌, cond, nat_eq, refl, sym, ◌∙◌, ap, inl, inr, arith}
 use Rattle.std.specs.List.{sum_by, range_with_len}
 use Rattle.std.proofs.lemmas.Bool.{cases_eq, eq-eqb, ne_eqb}
 use Rattle.std.proofs.lemmas.List.Sums.{sum_by-cons}
@@ -66,3 +66,17 @@ sum-only v j first (suc n) from to =
           let rest = sum-only v j (first + 1) n (omega arith) (omega arith) in
           omega (arith, one, head, rest)
     ]
+
+-- all terms but the one at j are equal
+pub sum-apart : (f : ℕ → ℕ) (v c j first n : ℕ) → first ≤ j → j < first + n → f j ≡ v
+    → ((k : ℕ) → first ≤ k → k < first + n → (k ≢ j) → f k ≡ c)
+    → sum_by f (range_with_len first n) + c ≡ v + n * c
+sum-apart f v c j first n from to at_j others =
+    let terms = sum-same (λ k. f k + cond (nat_eq j k) c 0) (λ k. cond (nat_eq j k) v 0 + c) first n
+    (λ k from' to'. elim (cases_eq j k) [
+      | inl same ↦ rw (eq-eqb j k same) (let here : f k ≡ v = ap f (sym same) ∙ at_j in omega (arith, here))
+      | inr other ↦ rw (ne_eqb j k other) (let here = others k from' to' (λ same. other (sym same)) in omega (arith, here))
+    ]) in
+    let one = sum-plus f (λ k. cond (nat_eq j k) c 0) first n in
+    let other = sum-plus (λ k. cond (nat_eq j k) v 0) (λ k. c) first n in
+    omega (arith, terms, one, other, sum-only (λ k. c) j first n from to, sum-only (λ k. v) j first n from to, sum-constant c first n)

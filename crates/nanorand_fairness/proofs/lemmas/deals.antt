@@ -5,3 +5,4 @@ pub mod DealLemmas
 pub mod DealLists
 pub mod ExchangeLemmas
 pub mod ExchangeDeals
+pub mod ShareLemmas

@@ -1,6 +1,6 @@
 //! What the laws of whole draws say of a die, tiles, a hand of cards and winners.
 ghost use Rattle.std.specs.Prelude.{◌≡◌, ℕ, ◌*◌, ◌<◌, ◌^◌, ◌==◌, Bool, List, [], ◌∷◌, length, is_none, option_map, count_by, OnOk};
-ghost use Rattle.std.specs.List.{list_all, range_with_len};
+ghost use Rattle.std.specs.List.{list_all, list_any, range_with_len};
 ghost use Rattle.std.specs.Cmp.Lexicographic.{pointwise};
 ghost use Rattle.nanorand_core.specs.values.Draws.{deciding_place, decided, next_word, after_word, words_from};
 ghost use Rattle.nanorand_core.specs.values.Fairness.{passes};
@@ -44,6 +44,16 @@ pub fn hands_are_alike()
         → let deals = word_lists_that 64 5 (deal_sizes 5 52) in
         deals (λ numbers. pointwise ◌==◌ (dealt 5 52 numbers) hand)
         ≡ deals (λ numbers. pointwise ◌==◌ (dealt 5 52 numbers) other) }
+{
+    shuffles_are_fair();
+}
+
+/// Any two cards are in a hand of five cards of a deck by equally many lists of n words.
+pub fn cards_are_alike()
+    ensures { (n card other : ℕ) → card < 52 → other < 52
+        → let deals = word_lists_that 64 n (deal_sizes 5 52) in
+        deals (λ numbers. list_any (λ item. item == card) (dealt 5 52 numbers))
+        ≡ deals (λ numbers. list_any (λ item. item == other) (dealt 5 52 numbers)) }
 {
     shuffles_are_fair();
 }

@@ -1,4 +1,5 @@
-use Rattle.std.proofs.Common.{ℕ, Bool, List, ◌*◌, length, nat_eq, refl, sym, ap, ◌∙◌, inr, arith}
+use Rattle.std.proofs.Common.{ℕ, Bool, List, ◌*◌, length, true, nat_eq, refl, sym, ap, ◌∙◌, inr, arith}
+use Rattle.std.specs.List.{list_any}
 use Rattle.std.specs.Cmp.Lexicographic.{pointwise}
 use Rattle.nanorand_core.specs.values.Runs.{IsWordWidth}
 use Rattle.nanorand_core.specs.shuffles.Shuffles.{arranged}
@@ -9,6 +10,8 @@ use Rattle.nanorand_fairness.proofs.lemmas.deals.DealLemmas.{one_deal, deal-coun
 use Rattle.nanorand_fairness.proofs.lemmas.deals.DealLists.{test-same}
 use Rattle.nanorand_fairness.proofs.lemmas.NamedSums.{named-below}
 use Rattle.nanorand_fairness.proofs.lemmas.deals.ExchangeDeals.{exchanges-deals}
+use Rattle.nanorand_fairness.proofs.lemmas.deals.ShareLemmas.{index-share}
+use Rattle.nanorand_fairness.proofs.lemmas.turns.EvenLists.{share-lists}
 use Rattle.nanorand_fairness.proofs.laws.shuffles_are_fair.Goals as goal
 
 pub returns-clause-deals : goal.returns-clause-deals
@@ -32,3 +35,9 @@ returns-clause-swaps c = λ k n deal other within fits d o.
     exchanges-deals width c.numbers_in_turn_are_fair.ensures.swaps
     (λ size word number some fits' is. named-below c.fairness.ensures.runs c.fairness.ensures.events 64 size width some fits' word number is)
     k n within fits deal other d o
+
+pub returns-clause-shares : goal.returns-clause-shares
+returns-clause-shares c = λ k n m index within fits low.
+    share-lists c.numbers_in_turn_are_fair.ensures.rejections 64 m n k (deal_sizes k n)
+    (λ numbers. list_any (λ item. nat_eq item index) (dealt k n numbers)) (λ numbers. true)
+    (inr (inr (inr refl))) (deal-sizes k n 64 within fits) (index-share k n index within low)

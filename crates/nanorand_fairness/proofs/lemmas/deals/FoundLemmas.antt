@@ -86,7 +86,7 @@ module _ (items : List ℕ) (i p : ℕ) (low : i < length items) (high : p < len
 
 -- the items after the steps, from index i on, are the item at i and those from i + 1 on
 module _ (k i n t : ℕ) (ts items : List ℕ) (below : AreBelow (t ∷ ts) (sizes_from i (suc k) n)) (size : length items ≡ n) (room : i + suc k ≤ n) where
-  first-dealt : drop i (after_steps i (t ∷ ts) items) ≡ get_or items (i + t) 0 ∷ drop (i + 1) (after_steps i (t ∷ ts) items)
+  pub first-dealt : drop i (after_steps i (t ∷ ts) items) ≡ get_or items (i + t) 0 ∷ drop (i + 1) (after_steps i (t ∷ ts) items)
   first-dealt =
       let kept = steps-keep k (i + 1) n ts (swap items i (i + t)) below.1 (length-swap items i (i + t) ∙ size) (omega (arith, room)) in
       let swapped' = swapped items i (i + t) (omega (arith, size)) (omega (arith, below.0, size)) in

@@ -1,5 +1,5 @@
 -- Tests that equally many lists of numbers pass are passed by equally many lists of words.
-use Rattle.std.proofs.Common.{◌≡◌, ℕ, suc, ◌*◌, ◌≤◌, ◌^◌, Bool, true, List, [], ◌∷◌, sym, ◌∙◌, ap, arith}
+use Rattle.std.proofs.Common.{◌≡◌, ℕ, suc, ◌*◌, ◌≤◌, Bool, true, List, [], ◌∷◌, ap, arith}
 use Rattle.std.proofs.Math.Nat.{eq_of_mul-eq-mul_right, mul-le-mul_left}
 use Rattle.nanorand_core.specs.values.Runs.{IsWordWidth}
 use Rattle.nanorand_fairness.specs.InTurn.{AreSizes, RejectionsPreferNothing, number_lists_that, word_lists_that}
@@ -15,11 +15,20 @@ some-list bits (size ∷ sizes) fits =
     let more = mul-le-mul_left size rest in
     omega (arith, whole, more, here)
 
+-- a times the lists of one test are b times those of the other: of numbers, and so of words
+pub share-lists : RejectionsPreferNothing → (bits n a b : ℕ) (sizes : List ℕ) (test other : List ℕ → Bool) → IsWordWidth bits → AreSizes bits sizes
+    → a * number_lists_that sizes test ≡ b * number_lists_that sizes other
+    → a * word_lists_that bits n sizes test ≡ b * word_lists_that bits n sizes other
+share-lists rejections bits n a b sizes test other width fits same =
+    let all = word_lists_that bits n sizes (λ numbers. true) in
+    let one = ap (λ (m : ℕ). a * m) (rejections bits n sizes test width fits) in
+    let both = ap (λ (m : ℕ). m * all) same in
+    let another = ap (λ (m : ℕ). b * m) (rejections bits n sizes other width fits) in
+    eq_of_mul-eq-mul_right (number_lists_that sizes (λ numbers. true)) (some-list bits sizes fits) _ _ (omega (arith, one, both, another))
+
 pub even-lists : RejectionsPreferNothing → (bits n : ℕ) (sizes : List ℕ) (test other : List ℕ → Bool) → IsWordWidth bits → AreSizes bits sizes
     → number_lists_that sizes test ≡ number_lists_that sizes other
     → word_lists_that bits n sizes test ≡ word_lists_that bits n sizes other
 even-lists rejections bits n sizes test other width fits same =
-    eq_of_mul-eq-mul_right (number_lists_that sizes (λ numbers. true)) (some-list bits sizes fits) _ _
-    (rejections bits n sizes test width fits
-    ∙ ap (λ (m : ℕ). m * word_lists_that bits n sizes (λ numbers. true)) same
-    ∙ sym (rejections bits n sizes other width fits))
+    let once = share-lists rejections bits n 1 1 sizes test other width fits (omega (arith, same)) in
+    omega (arith, once)
