@@ -1,0 +1,68 @@
+-- The text that is written, and when a run ends how.
+use Rattle.std.specs.Prelude.{◌≡◌, ℕ, ◌<◌, ◌≤◌, List, [], ◌∷◌, ◌++◌, length, Option, Result, Ok, Err}
+use Rattle.std.specs.Io.KnownBytes.{Consumes, IsAtEnd}
+use Rattle.std.specs.List.{flat_map}
+use Rattle.lots_core.specs.declared.error.LotsError.{LotsError}
+use Rattle.lots_core.specs.declared.error.LotsError.TheVariants.{Usage, TooFew, EmptyLine, Memory, Read, Write, Exhausted}
+use Rattle.lots_core.specs.Arguments.{Asked, AsksFor, number_asked}
+use Rattle.lots_core.specs.Draws.{drawing, drawn}
+use Rattle.lots_core.specs.Lists.{AreFull, lines_of}
+use Rattle.lots_core.specs.declared.arguments.Count.TheVariants.{Of}
+use Rattle.nanorand_core.specs.declared.values.range.RangeError.TheVariants as ranges
+
+-- The reader's bytes were read to their end, and are this list. Of a reader whose bytes are not
+-- known, it is some list.
+pub record WasRead (before after : Option (List ℕ)) (list : List ℕ) : Type 0 where
+  pub bytes : Consumes before after list
+  pub end : IsAtEnd after
+
+-- How many of the entrants are asked for.
+abbrev pub places_asked : Asked → List (List ℕ) → ℕ
+places_asked asked entrants = number_asked asked.count (length entrants)
+
+-- The entrants have a selection: there are enough, and no draw is refused.
+pub record HasSelection (asked : Asked) (entrants : List (List ℕ)) : Type 0 where
+  pub enough : places_asked asked entrants ≤ length entrants
+  pub answer : (drawing asked.seed (places_asked asked entrants) entrants).answer ≡ Ok tt
+
+-- They have none since there are n of them, and k are asked for.
+pub record AreTooFew (asked : Asked) (entrants : List (List ℕ)) (n k : ℕ) : Type 0 where
+  pub there : n ≡ length entrants
+  pub asked_for : asked.count ≡ Of k
+  pub fewer : n < k
+
+-- They have none since a draw is refused.
+abbrev pub IsRefused : Asked → List (List ℕ) → Type 0
+IsRefused asked entrants =
+    (drawing asked.seed (places_asked asked entrants) entrants).answer ≡ Err ranges.Exhausted
+
+-- The text of lines: each is ended by a line feed.
+abbrev pub text_of : List (List ℕ) → List ℕ
+text_of lines = flat_map (λ line. line ++ 10 ∷ []) lines
+
+-- The text of the entrants drawn, in the order drawn.
+abbrev pub text_drawn : Asked → List (List ℕ) → List ℕ
+text_drawn asked entrants =
+    text_of (drawn asked.seed (places_asked asked entrants) entrants)
+
+-- The arguments ask for a selection, and the reader's list has it, with this text.
+pub record IsDrawn (arguments : List (List ℕ)) (before after : Option (List ℕ)) (text : List ℕ)
+    : Type 0 where
+  pub asked : Asked
+  pub list : List ℕ
+  pub asks : AsksFor arguments asked
+  pub read : WasRead before after list
+  pub full : AreFull (lines_of list)
+  pub selection : HasSelection asked (lines_of list)
+  pub is : text ≡ text_drawn asked (lines_of list)
+
+-- The exit status of the program.
+abbrev pub status_of : Result Unit LotsError → ℕ
+status_of (Ok tt) = 0
+status_of (Err Usage) = 2
+status_of (Err (TooFew entrants count)) = 3
+status_of (Err (EmptyLine k)) = 4
+status_of (Err Memory) = 5
+status_of (Err Read) = 6
+status_of (Err Write) = 7
+status_of (Err Exhausted) = 8

@@ -1,0 +1,56 @@
+//! The entrants of a list: its lines.
+ghost use Rattle.std.specs.Prelude.{◌≡◌, ◌≢◌, ◌⊎◌, ℕ, ◌<◌, ◌≤◌, ◌∷◌, ◌++◌, [], length, map, slice_index, MatchOption, drop, take, IfOk, IfErr, OnOk};
+ghost use Rattle.lots_core.specs.Lists.{AreFull, HasNoLineFeed, IsFirstEmpty, lines_of};
+ghost use Rattle.lots_core.specs.declared.error.LotsError.TheVariants.{EmptyLine, Memory};
+
+use crate::error::LotsError;
+use std::alloc::Allocator;
+
+/// The index of the first line feed, if there is one.
+fn line_end(text: &[u8]) -> Option<usize>
+    ensures { MatchOption result (HasNoLineFeed text.now)
+        (λ end. (end < length text.now) × (slice_index text.now end ≡ 10)
+        × HasNoLineFeed (take end text.now)) }
+{
+    text.iter().position(|byte| *byte == b'\n')
+}
+
+/// The first line of a text, without its line feed, and the text after it.
+fn first_line(text: &[u8]) -> (&[u8], &[u8])
+    requires { 0 < length text.now }
+    ensures lines { lines_of text.now ≡ result.0.now ∷ lines_of result.1.now }
+    ensures shorter { length result.1.now < length text.now }
+{
+    match line_end(text) {
+        Some(end) => (&text[..end], &text[end + 1..]),
+        None => (text, &[]),
+    }
+}
+
+/// The entrants of a list, one a line: the bytes of each line without its line feed, which the last
+/// line may lack. Equal lines are separate entrants.
+///
+/// It returns `EmptyLine` with the number of the first empty line, counted from 1, or `Memory`.
+pub fn entrants_of<'a, A: Allocator>(
+    alloc: A,
+    list: &'a [u8],
+) -> Result<Vec<&'a [u8], A>, LotsError>
+    ensures lines { IfOk result (λ entrants.
+        map (λ entrant. entrant.now) entrants.items ≡ lines_of list.now) }
+    ensures full { OnOk result (AreFull (lines_of list.now)) }
+    ensures empty { (k : ℕ) → result ≡ Err (EmptyLine k) → IsFirstEmpty (lines_of list.now) k }
+    ensures refusal { IfErr result (λ error.
+        (error ≡ Memory) ⊎ ((k : ℕ) × (error ≡ EmptyLine k))) }
+{
+    let mut entrants = Vec::new(alloc);
+    let mut rest = list;
+    'lines: while !rest.is_empty() {
+        let (line, after) = first_line(rest);
+        if line.is_empty() {
+            return Err(LotsError::EmptyLine(entrants.len() + 1));
+        }
+        entrants.push(line)?;
+        rest = after;
+    }
+    Ok(entrants)
+}

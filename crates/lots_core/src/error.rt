@@ -1,0 +1,56 @@
+//! The ways in which a draw fails.
+
+ghost use Rattle.std.specs.Prelude.{◌≡◌};
+ghost use Rattle.lots_core.specs.declared.error.LotsError.TheVariants.{Memory};
+
+use std::alloc::{AllocError, AllocFailed};
+use thiserror::Error;
+
+/// Why nothing was drawn, or why the selection was not written.
+#[derive(Clone, Copy, Debug, PartialEq, Eq, Error)]
+pub enum LotsError {
+    /// The arguments are not a seed and a count. Nothing was read.
+    #[error("usage: lots SEED COUNT|all < entrants")]
+    Usage,
+
+    /// More entrants were asked for than there are.
+    #[error("{entrants} entrants, {count} asked for")]
+    TooFew { entrants: usize, count: usize },
+
+    /// The number, counted from 1, of the first empty line.
+    #[error("line {0} is empty")]
+    EmptyLine(usize),
+
+    /// Out of memory: an allocation was refused.
+    #[error("no memory")]
+    Memory,
+
+    /// The reader returned an error.
+    #[error("read failed")]
+    Read,
+
+    /// The writer returned an error, or took no bytes. How much of the text it took is unspecified.
+    #[error("write failed")]
+    Write,
+
+    /// 128 words in a row were rejected for one place: for a place among n, less than once in 2^128
+    /// draws.
+    #[error("128 words were rejected")]
+    Exhausted,
+}
+
+impl From<AllocError> for LotsError {
+    ghost from_gives = { λ _ e. e ≡ Memory };
+
+    fn from(_error: AllocError) -> LotsError {
+        LotsError::Memory
+    }
+}
+
+impl<T: Drop> From<AllocFailed<T>> for LotsError {
+    ghost from_gives = { λ _ e. e ≡ Memory };
+
+    fn from(_error: AllocFailed<T>) -> LotsError {
+        LotsError::Memory
+    }
+}

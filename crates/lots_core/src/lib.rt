@@ -1,0 +1,19 @@
+//! A public draw that anyone can repeat: from a seed and a list of entrants, a selection in an order.
+//!
+//! The program `lots` calls `run` and `report`, and nothing else. `draw` and `draw_places` are the draw
+//! itself, without text, for other callers.
+//!
+//! `specs/Draws.antt` says what a seed draws, `specs/Lists.antt` what the entrants of a list are, and
+//! `specs/Arguments.antt` and `specs/Text.antt` what the program does with its arguments.
+#![tactic(auto)]
+
+mod arguments;
+mod draws;
+mod entrants;
+mod error;
+pub mod run;
+mod text;
+
+pub use draws::{draw, draw_places};
+pub use entrants::entrants_of;
+pub use error::LotsError;

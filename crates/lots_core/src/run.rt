@@ -1,0 +1,175 @@
+//! The whole run: from the arguments and the list to the text that is written.
+ghost use Rattle.std.specs.Prelude.{◌≡◌, ◌≢◌, ◌⊎◌, ℕ, List, map, IfOk, IfErr, IfSome, OnOk};
+ghost use Rattle.std.specs.Io.KnownBytes.{Appends};
+ghost use Rattle.lots_core.specs.Arguments.{Asked, AsksFor, asked_by, texts};
+ghost use Rattle.lots_core.specs.Lists.{IsFirstEmpty, AreFull, lines_of};
+ghost use Rattle.lots_core.specs.Text.{AreTooFew, HasSelection, IsDrawn, IsRefused, WasRead, status_of, text_drawn};
+ghost use Rattle.lots_core.specs.declared.error.LotsError.TheVariants.{Usage, TooFew, EmptyLine, Memory, Read as Unread, Write as Unwritten, Exhausted};
+
+use crate::arguments::{Request, read};
+use crate::draws::draw;
+use crate::entrants::entrants_of;
+use crate::error::LotsError;
+use crate::text::text_of;
+use std::alloc::Allocator;
+use std::io::{ErrorKind, Read, Write};
+
+/// All bytes of the reader.
+fn read_list<A: Allocator, R: Read>(alloc: A, input: &mut R) -> Result<Vec<u8, A>, LotsError>
+    ensures read { IfOk result (λ list.
+        WasRead (R.remaining input.old) (R.remaining input.new) list.items) }
+    ensures refusal { IfErr result (λ error. (error ≡ Memory) ⊎ (error ≡ Unread)) }
+{
+    let mut list = Vec::new(alloc);
+    match input.read_to_end(&mut list) {
+        Ok(_) => Ok(list),
+        Err(error) if error.kind() == ErrorKind::OutOfMemory => Err(LotsError::Memory),
+        Err(_) => Err(LotsError::Read),
+    }
+}
+
+/// The text of the entrants that the request draws. It leaves the entrants in an unspecified order.
+fn draw_text<'a, A: Allocator>(
+    alloc: &'a A,
+    request: &Request<'_>,
+    entrants: &mut [&[u8]],
+) -> Result<Vec<u8, &'a A>, LotsError>
+    ensures text { IfOk result (λ text. text.items
+        ≡ text_drawn (asked_by request.now) (map (λ entrant. entrant.now) entrants.old)) }
+    ensures selection { OnOk result
+        (HasSelection (asked_by request.now) (map (λ entrant. entrant.now) entrants.old)) }
+    ensures few { (n k : ℕ) → result ≡ Err (TooFew n k) →
+        AreTooFew (asked_by request.now) (map (λ entrant. entrant.now) entrants.old) n k }
+    ensures exhausted { result ≡ Err Exhausted →
+        IsRefused (asked_by request.now) (map (λ entrant. entrant.now) entrants.old) }
+    ensures refusal { IfErr result (λ error. (error ≡ Exhausted) ⊎ (error ≡ Memory)
+        ⊎ ((n : ℕ) × (k : ℕ) × (error ≡ TooFew n k))) }
+{
+    let count = request.count.among(entrants.len());
+    draw(request.seed, entrants, count)?;
+    Ok(text_of(alloc, &entrants[..count])?)
+}
+
+/// The text of the selection that the request makes from the list.
+fn select<'a, A: Allocator>(
+    alloc: &'a A,
+    request: &Request<'_>,
+    list: &[u8],
+) -> Result<Vec<u8, &'a A>, LotsError>
+    ensures text { IfOk result (λ text.
+        text.items ≡ text_drawn (asked_by request.now) (lines_of list.now)) }
+    ensures full { OnOk result (AreFull (lines_of list.now)) }
+    ensures selection { OnOk result (HasSelection (asked_by request.now) (lines_of list.now)) }
+    ensures few { (n k : ℕ) → result ≡ Err (TooFew n k) →
+        AreFull (lines_of list.now) × AreTooFew (asked_by request.now) (lines_of list.now) n k }
+    ensures empty { (k : ℕ) → result ≡ Err (EmptyLine k) → IsFirstEmpty (lines_of list.now) k }
+    ensures exhausted { result ≡ Err Exhausted →
+        AreFull (lines_of list.now) × IsRefused (asked_by request.now) (lines_of list.now) }
+    ensures asked { result ≢ Err Usage }
+    ensures not_write { result ≢ Err Unwritten }
+{
+    let mut entrants = entrants_of(alloc, list)?;
+    draw_text(alloc, request, &mut entrants)
+}
+
+/// The text that the arguments ask for, of the list that the reader has.
+fn text_asked<'a, A: Allocator, R: Read>(
+    alloc: &'a A,
+    arguments: &[String],
+    input: &mut R,
+) -> Result<Vec<u8, &'a A>, LotsError>
+    ensures drawn { IfOk result (λ text. IsDrawn (texts arguments.now) (R.remaining input.old)
+        (R.remaining input.new) text.items) }
+    ensures usage { result ≡ Err Usage →
+        (asked : Asked) → AsksFor (texts arguments.now) asked → ⊥ }
+    ensures unread { result ≡ Err Usage → input.new ≡ input.old }
+    ensures unreadable { ((asked : Asked) → AsksFor (texts arguments.now) asked → ⊥) →
+        result ≡ Err Usage }
+    ensures few { (n k : ℕ) → result ≡ Err (TooFew n k) → (asked : Asked) × (list : List ℕ)
+        × AsksFor (texts arguments.now) asked
+        × WasRead (R.remaining input.old) (R.remaining input.new) list
+        × AreFull (lines_of list) × AreTooFew asked (lines_of list) n k }
+    ensures empty { (k : ℕ) → result ≡ Err (EmptyLine k) → (list : List ℕ)
+        × WasRead (R.remaining input.old) (R.remaining input.new) list
+        × IsFirstEmpty (lines_of list) k }
+    ensures exhausted { result ≡ Err Exhausted → (asked : Asked) × (list : List ℕ)
+        × AsksFor (texts arguments.now) asked
+        × WasRead (R.remaining input.old) (R.remaining input.new) list
+        × AreFull (lines_of list) × IsRefused asked (lines_of list) }
+    ensures not_write { result ≢ Err Unwritten }
+{
+    let request = read(arguments).ok_or(LotsError::Usage)?;
+    let list = read_list(alloc, input)?;
+    select(alloc, &request, &list)
+}
+
+/// Draws what the arguments ask for from the list that `input` has, and writes it to `out`, all at
+/// once, and then flushes. The arguments are those after the name of the program.
+///
+/// Everything is read and drawn before anything is written. With the error `Write`, how much of the
+/// text `out` took is unspecified. With any other error, nothing was written.
+pub fn run<A: Allocator, R: Read, W: Write>(
+    alloc: A,
+    arguments: &[String],
+    input: &mut R,
+    out: &mut W,
+) -> Result<(), LotsError>
+    // On success, the input was read to its end, and `out` has taken the text of the selection.
+    ensures drawn { OnOk result ((text : List ℕ)
+        × IsDrawn (texts arguments.now) (R.remaining input.old) (R.remaining input.new) text
+        × Appends (W.contents out.old) (W.contents out.new) text) }
+
+    // So of a reader whose bytes are known, it is the text of their selection.
+    ensures written { OnOk result ((asked : Asked) → AsksFor (texts arguments.now) asked →
+        IfSome (R.remaining input.old) (λ list. Appends (W.contents out.old) (W.contents out.new)
+        (text_drawn asked (lines_of list)))) }
+
+    // `Usage` is returned exactly if the arguments are no seed and count. Nothing was read then.
+    ensures usage { result ≡ Err Usage →
+        (asked : Asked) → AsksFor (texts arguments.now) asked → ⊥ }
+    ensures unread { result ≡ Err Usage → input.new ≡ input.old }
+    ensures unreadable { ((asked : Asked) → AsksFor (texts arguments.now) asked → ⊥) →
+        result ≡ Err Usage }
+
+    // The other refusals: a line is empty, there are too few entrants, or a draw is refused.
+    ensures empty { (k : ℕ) → result ≡ Err (EmptyLine k) → (list : List ℕ)
+        × WasRead (R.remaining input.old) (R.remaining input.new) list
+        × IsFirstEmpty (lines_of list) k }
+    ensures few { (n k : ℕ) → result ≡ Err (TooFew n k) → (asked : Asked) × (list : List ℕ)
+        × AsksFor (texts arguments.now) asked
+        × WasRead (R.remaining input.old) (R.remaining input.new) list
+        × AreFull (lines_of list) × AreTooFew asked (lines_of list) n k }
+    ensures exhausted { result ≡ Err Exhausted → (asked : Asked) × (list : List ℕ)
+        × AsksFor (texts arguments.now) asked
+        × WasRead (R.remaining input.old) (R.remaining input.new) list
+        × AreFull (lines_of list) × IsRefused asked (lines_of list) }
+
+    // `Write` is returned only if there is a selection. With any other error, nothing was written.
+    ensures write { result ≡ Err Unwritten → (text : List ℕ)
+        × IsDrawn (texts arguments.now) (R.remaining input.old) (R.remaining input.new) text }
+    ensures untouched { IfErr result (λ error. error ≢ Unwritten → out.new ≡ out.old) }
+{
+    let text = text_asked(&alloc, arguments, input)?;
+    out.write_all(&text).map_err(|_| LotsError::Write)?;
+    out.flush().map_err(|_| LotsError::Write)
+}
+
+/// Returns the exit status of an outcome, and writes an error as one line to `err`. A failure to
+/// write that line is ignored.
+pub fn report<W: Write>(outcome: Result<(), LotsError>, err: &mut W) -> u8
+    ensures { result ≡ status_of outcome }
+{
+    let Err(error) = outcome else {
+        return 0;
+    };
+    let _ = writeln!(err, "lots: {error}");
+    match error {
+        LotsError::Usage => 2,
+        LotsError::TooFew { .. } => 3,
+        LotsError::EmptyLine(_) => 4,
+        LotsError::Memory => 5,
+        LotsError::Read => 6,
+        LotsError::Write => 7,
+        LotsError::Exhausted => 8,
+    }
+}
