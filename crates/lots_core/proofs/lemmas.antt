@@ -1,3 +1,4 @@
 pub mod LineLemmas
 pub mod DrawLemmas
 pub mod ErrorLemmas
+pub mod PlaceLemmas

@@ -2,3 +2,4 @@ pub mod Draws
 pub mod Lists
 pub mod Arguments
 pub mod Text
+pub mod Fairness

@@ -11,6 +11,7 @@ mod arguments;
 mod draws;
 mod entrants;
 mod error;
+pub mod laws;
 pub mod run;
 mod text;
 

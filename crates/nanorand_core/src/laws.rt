@@ -1,6 +1,6 @@
 //! Laws of the definitions, over every generator. Each contract states a law. The functions do
 //! nothing; a proof calls one to use its law.
-ghost use Rattle.std.specs.Prelude.{◌≡◌, ◌<◌, ◌≤◌, ◌+◌, ◌++◌, length, sum, ℕ, ℤ, nat_le, nat_lt, int_le, int_lt, ◌^◌, ◌↔◌, List, [], ◌∷◌, take, IsPermutation};
+ghost use Rattle.std.specs.Prelude.{◌≡◌, ◌<◌, ◌≤◌, ◌+◌, ◌++◌, length, sum, ℕ, ℤ, nat_le, nat_lt, int_le, int_lt, ◌^◌, ◌↔◌, List, [], ◌∷◌, take, IsPermutation, All, AllPairs, ◌≢◌};
 ghost use Rattle.std.specs.Fn.{iterate};
 ghost use Rattle.std.specs.declared.ops.Bound.{Bound};
 ghost use Rattle.nanorand_core.specs.choices.Uniform.{IndicesAreFair, RatiosAreFair};
@@ -92,7 +92,8 @@ pub fn samples_are_fair()
 /// A partial shuffle is the beginning of the whole shuffle, over every generator.
 ///
 /// `begins`: its choices are the first choices of the whole shuffle. `whole`: with as many steps as
-/// there are items, or more, it is the whole shuffle.
+/// there are items, or more, it is the whole shuffle. `first`: so many items are then in front as in
+/// front of the whole shuffle. `arrangement`: it leaves a permutation of the items.
 pub fn partial_shuffles<G: Rng<OUTPUT>, T, const OUTPUT: usize>()
     ensures begins { (steps : ℕ) (g : G) (items : List T) →
         (partly_shuffled G.requests from_itself steps g items).choices
@@ -100,6 +101,11 @@ pub fn partial_shuffles<G: Rng<OUTPUT>, T, const OUTPUT: usize>()
     ensures whole { (steps : ℕ) (g : G) (items : List T) → length items ≤ steps
         → partly_shuffled G.requests from_itself steps g items
         ≡ shuffled G.requests from_itself g items }
+    ensures first { (steps : ℕ) (g : G) (items : List T) →
+        take steps (partly_shuffled G.requests from_itself steps g items).items
+        ≡ take steps (shuffled G.requests from_itself g items).items }
+    ensures arrangement { (steps : ℕ) (g : G) (items : List T) →
+        IsPermutation items (partly_shuffled G.requests from_itself steps g items).items }
 {}
 
 /// Permutations are recognized by counting.
@@ -111,6 +117,9 @@ pub fn permutations_by_counting()
     ensures permutations { (xs ys : List ℕ) → IsPermutation xs ys ↔ HoldEquallyOften xs ys }
     ensures arrangements { (order : List ℕ) →
         IsArrangement order ↔ HoldsEachOnce (length order) order }
+    ensures numbers { (order : List ℕ) → IsArrangement order
+        → All (λ number. number < length order) order
+        × AllPairs (λ number other. number ≢ other) order }
 {}
 
 /// A request for as many bytes as a block has is a draw, over every generator.

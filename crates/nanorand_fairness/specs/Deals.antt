@@ -1,5 +1,5 @@
 -- Whole and partial shuffles of words: which items come first, for each list of words.
-use Rattle.std.specs.Prelude.{◌≡◌, ◌≢◌, ℕ, ◌+◌, ◌-◌, ◌*◌, ◌^◌, ◌<◌, ◌≤◌, ◌==◌, ◌↔◌, true, List, [], ◌∷◌, length, map, min, take}
+use Rattle.std.specs.Prelude.{◌≡◌, ◌≢◌, ℕ, zero, suc, ◌+◌, ◌-◌, ◌*◌, ◌^◌, ◌<◌, ◌≤◌, ◌==◌, ◌↔◌, true, List, [], ◌∷◌, length, map, min, take}
 use Rattle.std.specs.List.{All, AllPairs, list_any, range_with_len}
 use Rattle.std.specs.Cmp.Lexicographic.{pointwise}
 use Rattle.nanorand_core.specs.generators.Blocks.{Requests}
@@ -74,6 +74,20 @@ SharesAreEqual =
     → let lists = word_lists_that 64 m (deal_sizes k n) in
     n * lists (λ numbers. list_any (λ item. item == index) (dealt k n numbers))
     ≡ k * lists (λ numbers. true)
+
+-- How many deals of k of n items there are: n (n - 1) .. (n - k + 1).
+abbrev pub deals_of : ℕ → ℕ → ℕ
+deals_of zero n = 1
+deals_of (suc k) n = n * deals_of k (n - 1)
+
+-- Every deal is the same part of them: of the lists of m words that draw a whole deal, rejected
+-- words included, one of every n (n - 1) .. (n - k + 1) deals it.
+abbrev pub PartsAreEqual : Type 0
+PartsAreEqual =
+    (k n m : ℕ) (deal : List ℕ) → k ≤ n → n ≤ 2 ^ 64 → IsDeal k n deal
+    → let lists = word_lists_that 64 m (deal_sizes k n) in
+    deals_of k n * lists (λ numbers. pointwise ◌==◌ (dealt k n numbers) deal)
+    ≡ lists (λ numbers. true)
 
 -- The choices of `shuffle` and `partial_shuffle` are those by the numbers that their words draw in
 -- turn.

@@ -1,5 +1,5 @@
 -- Samples by Floyd's algorithm, made of the numbers that words draw in turn.
-use Rattle.std.specs.Prelude.{◌≡◌, ℕ, ◌+◌, ◌-◌, ◌*◌, ◌^◌, ◌<◌, ◌≤◌, Bool, List, [], ◌∷◌, count_by}
+use Rattle.std.specs.Prelude.{◌≡◌, ℕ, ◌+◌, ◌-◌, ◌*◌, ◌^◌, ◌≤◌, Bool, List, [], ◌∷◌, count_by}
 use Rattle.std.specs.List.{list_all, range_with_len}
 use Rattle.nanorand_core.specs.generators.Blocks.{Requests}
 use Rattle.nanorand_core.specs.values.Draws.{word_limit, next_word, after_word, words_from}

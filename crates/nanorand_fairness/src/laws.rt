@@ -3,7 +3,7 @@
 //! one to use its law.
 ghost use Rattle.nanorand_fairness.specs.Lists.{UndecidedListsAreFew, DrawsTakeFewWords, EventsInListsAreFair, RatiosInListsAreFair, WeightsInListsAreFair};
 ghost use Rattle.nanorand_fairness.specs.InTurn.{NumbersInTurnAreFair, RejectionsPreferNothing, NoListOfNumbersIsPreferred};
-ghost use Rattle.nanorand_fairness.specs.Deals.{DealsAreFair, ShufflesAreFair, NoDealIsPreferred, SharesAreEqual, ShufflesDrawInTurn};
+ghost use Rattle.nanorand_fairness.specs.Deals.{DealsAreFair, ShufflesAreFair, NoDealIsPreferred, PartsAreEqual, SharesAreEqual, ShufflesDrawInTurn};
 ghost use Rattle.nanorand_fairness.specs.Samples.{NoSetIsPreferred, SampledSetsAreFair, SamplesDrawInTurn};
 
 use nanorand_core::Rng;
@@ -63,7 +63,8 @@ pub fn numbers_in_turn_are_fair()
 /// for any two deals there is a map on lists of words, of any length and with rejected words, that
 /// is an involution, keeps which words are rejected, and exchanges the two deals. `shares`: of the
 /// lists of m words that draw a whole deal, rejected words included, exactly k of every n deal a
-/// given index. So any two indices are dealt by equally many.
+/// given index. So any two indices are dealt by equally many. `parts`: of these lists, exactly one of
+/// every n (n - 1) .. (n - k + 1) deals a given deal.
 ///
 /// It does not say that seeds deal equally often: a seed of b bits gives at most 2^b of the n!
 /// orders.
@@ -72,6 +73,7 @@ pub fn shuffles_are_fair()
     ensures orders { ShufflesAreFair }
     ensures swaps { NoDealIsPreferred }
     ensures shares { SharesAreEqual }
+    ensures parts { PartsAreEqual }
 {
     fairness();
     numbers_in_turn_are_fair();

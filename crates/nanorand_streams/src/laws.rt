@@ -5,7 +5,7 @@ ghost use Rattle.nanorand_core.specs.generators.Blocks.{taken};
 ghost use Rattle.nanorand_core.specs.generators.Equality.{DecidesEquality};
 ghost use Rattle.nanorand_streams.specs.generators.Buffered.{Buffered, buffer_of, buffered, buffered_after, buffered_taken};
 ghost use Rattle.nanorand_streams.specs.replay.Replay.{ReplaysJoin};
-ghost use Rattle.nanorand_streams.specs.replay.Unbroken.{IsUnbroken, taken_all};
+ghost use Rattle.nanorand_streams.specs.replay.Unbroken.{IsUnbroken, WordsFollow, taken_all};
 
 use crate::buffer::BufferedRng;
 use nanorand_core::{Blocks, Rng};
@@ -17,7 +17,8 @@ use nanorand_core::{Blocks, Rng};
 /// for the sum of their sizes, and so does any list of requests. A replay leaves the state that one
 /// request for all the bytes of its calls would leave. `stream`: the buffer's own blocks, joined,
 /// are the buffered bytes and then the inner blocks. `below`: if less than a block is buffered, less
-/// than a block is buffered after each request.
+/// than a block is buffered after each request. `words`: n words drawn one after another are the bytes
+/// of one request for n words, a word after the other, least byte first.
 pub fn unbroken_delivery<G: Rng<OUTPUT>, const OUTPUT: usize>()
     ensures unbroken { IsUnbroken ⟦<BufferedRng<G, OUTPUT> as Rng<OUTPUT>>⟧.requests }
     ensures stream { (b : Buffered G) (n : ℕ) →
@@ -25,6 +26,9 @@ pub fn unbroken_delivery<G: Rng<OUTPUT>, const OUTPUT: usize>()
         taken buffer.block buffer.step b n ≡ buffered_taken G.block G.step OUTPUT b n }
     ensures below { (b : Buffered G) (n : ℕ) → length b.rest < OUTPUT
         → length (buffered_after G.block G.step OUTPUT b n).rest < OUTPUT }
+    ensures words { (bits n : ℕ) (b : Buffered G) →
+        let requests = buffered G.block G.step OUTPUT in
+        WordsFollow requests bits n b }
 {}
 
 /// A fresh `BufferedRng`, with nothing buffered, delivers the bytes of its inner generator.

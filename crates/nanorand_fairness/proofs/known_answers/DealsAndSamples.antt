@@ -5,7 +5,7 @@ use Rattle.std.specs.Cmp.Lexicographic.{pointwise}
 use Rattle.nanorand_core.specs.values.Runs.{named}
 use Rattle.nanorand_fairness.specs.Lists.{sum_over_lists, words_taken}
 use Rattle.nanorand_fairness.specs.InTurn.{number_lists_that, word_lists_that}
-use Rattle.nanorand_fairness.specs.Deals.{choices_by, deal_sizes, dealt}
+use Rattle.nanorand_fairness.specs.Deals.{choices_by, deal_sizes, dealt, deals_of}
 use Rattle.nanorand_fairness.specs.Samples.{sample_by, sample_sizes}
 
 -- The numbers 2, 0, 0 choose the indices 2, 1, 2, which turns 0, 1, 2 round.
@@ -45,6 +45,9 @@ shares_of_two = refl
 
 lists_of_two : number_lists_that (deal_sizes 2 3) (λ numbers. true) ≡ 6
 lists_of_two = refl
+
+deals_of_three : deals_of 3 5 ≡ 60
+deals_of_three = refl
 
 -- The same of lists of three words of two bits, of which some are rejected: by 40 of 60.
 shares_of_words : map (λ index. word_lists_that 2 3 (deal_sizes 2 3) (λ numbers. list_any (λ item. item == index) (dealt 2 3 numbers))) (0 ∷ 1 ∷ 2 ∷ 3 ∷ []) ≡ 40 ∷ 40 ∷ 40 ∷ 0 ∷ []

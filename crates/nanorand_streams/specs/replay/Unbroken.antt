@@ -1,7 +1,10 @@
 -- Requests that are delivered without a break: several take and leave what one of their total size
 -- does.
-use Rattle.std.specs.Prelude.{◌≡◌, ℕ, ◌+◌, List, [], ◌∷◌, ◌++◌, sum}
+use Rattle.std.specs.Prelude.{◌≡◌, ℕ, ◌+◌, ◌*◌, ◌/◌, List, [], ◌∷◌, ◌++◌, map, take, drop, sum}
+use Rattle.std.specs.List.{range_with_len}
 use Rattle.nanorand_core.specs.generators.Blocks.{Requests}
+use Rattle.nanorand_core.specs.values.Draws.{after_word, next_word, words_from}
+use Rattle.nanorand_core.specs.values.Values.{number_of}
 use Rattle.nanorand_streams.specs.replay.Asked.{asked}
 use Rattle.nanorand_streams.specs.replay.Replay.{replayed}
 use Rattle.nanorand_streams.specs.declared.replay.Call.{Call}
@@ -28,3 +31,12 @@ module _ {G : Type 0} (requests : Requests G) where
     pub all_takes : (g : G) (sizes : List ℕ) → taken_all g sizes ≡ requests.bytes g (sum sizes)
     pub call_states : (g : G) (items : List ℕ) (calls : List Call)
         → (replayed requests g items calls).state ≡ requests.after g (asked requests g items calls)
+
+  -- n words of `bits` bits drawn one after another: word i is the number of the i-th bits / 8 bytes
+  -- of one request for all of them.
+  abbrev pub WordsFollow : ℕ → ℕ → G → Type 0
+  WordsFollow bits n g =
+      let size = bits / 8 in
+      words_from (next_word requests bits) (after_word requests bits) n g
+      ≡ map (λ i. number_of (take size (drop (i * size) (requests.bytes g (n * size)))))
+      (range_with_len 0 n)

@@ -1,7 +1,7 @@
 -- Choices and the permutations that they make.
 use Rattle.std.proofs.Common.{◌≡◌, ℕ, suc, ◌+◌, ◌<◌, ◌≤◌, List, [], ◌∷◌, ◌++◌, length, get_or, swap, IsPermutation, refl, sym, ◌∙◌, ap, inl, inr, arith, add-zero, take, set, subst}
 use Rattle.std.proofs.lemmas.Bool.{cases_lt}
-use Rattle.std.proofs.lemmas.List.{take_more, take_more_set, take_all, length-take-le, get_or_append_left, get_or_push, length_push}
+use Rattle.std.proofs.lemmas.List.{take_more, take_more_set, take_all, length-take-le, take-set-le, get_or_append_left, get_or_push, length_push}
 use Rattle.std.proofs.lemmas.List.FromFn.{length-range_with_len}
 use Rattle.std.proofs.lemmas.Grind.{same_number_lists}
 use Rattle.std.proofs.lemmas.List.Edits.{length-swap}
@@ -52,6 +52,21 @@ arranged-permutation i (j ∷ cs) items room h =
     IsPermutation-trans items (swap items i j) (arranged_from (i + 1) cs (swap items i j))
     (IsPermutation-swap items (swap items i j) i j (omega arith) head.1 refl)
     (arranged-permutation (i + 1) cs (swap items i j) (omega arith) tail)
+
+-- swaps of later items leave the first ones
+take-swap : {T : Type 0} (k i j : ℕ) (items : List T) → k ≤ i → k ≤ j → take k (swap items i j) ≡ take k items
+take-swap k i j [] before after = refl
+take-swap k i j (x ∷ xs) before after =
+    let items = x ∷ xs in
+    take-set-le k (set items i (get_or items j x)) j (get_or items i x) after ∙ take-set-le k items i (get_or items j x) before
+
+pub take-arranged : {T : Type 0} (k i n : ℕ) (choices : List ℕ) (items : List T) → k ≤ i → Chosen i n choices
+    → take k (arranged_from i choices items) ≡ take k items
+take-arranged k i n [] items before h = refl
+take-arranged k i n (j ∷ cs) items before h =
+    let head = Chosen-head i n j cs h in
+    take-arranged k (i + 1) n cs (swap items i j) (omega arith) (Chosen-tail i n j cs h)
+    ∙ take-swap k i j items before (omega arith)
 
 -- an index before i keeps its item
 untouched : (i : ℕ) (choices items : List ℕ) (k : ℕ) → i + length choices ≤ length items

@@ -1,9 +1,12 @@
 -- Partial shuffles: their choices are valid, and they are the first choices of the whole shuffle.
-use Rattle.std.proofs.Common.{◌≡◌, ℕ, zero, suc, ◌+◌, ◌≤◌, List, length, take, min, Result, Ok, Err, refl, sym, ◌∙◌, ap, arith}
+use Rattle.std.proofs.Common.{◌≡◌, ℕ, zero, suc, ◌+◌, ◌≤◌, List, length, take, drop, min, IsPermutation, inl, inr, Result, Ok, Err, refl, sym, ◌∙◌, ap, arith}
 use Rattle.nanorand_core.specs.generators.Blocks.{Requests}
-use Rattle.nanorand_core.specs.shuffles.Shuffles.{from_itself, choice_before, partner_drawn, choices_from, partial_choices, partly_shuffled, shuffled}
+use Rattle.nanorand_core.specs.shuffles.Shuffles.{arranged, arranged_from, from_itself, choice_before, partner_drawn, choices_from, partial_choices, partly_shuffled, shuffled}
 use Rattle.nanorand_core.specs.shuffles.Arrangements.{completed, IsValid}
 use Rattle.nanorand_core.specs.declared.values.range.RangeError.{RangeError}
+use Rattle.std.proofs.lemmas.Bool.{cases_lt}
+use Rattle.std.proofs.lemmas.List.{take_all, take-append-drop, length-take-le, length-drop, get_or-drop}
+use Rattle.nanorand_core.proofs.lemmas.shuffles.ChoiceLemmas.{Chosen, arranged_from-append, arranged-permutation, take-arranged}
 use Rattle.nanorand_core.proofs.lemmas.shuffles.ShuffleLemmas.{choices-chosen}
 use Rattle.nanorand_core.proofs.lemmas.shuffles.RecordLemmas.{completed-valid}
 
@@ -51,3 +54,45 @@ module _ {G : Type 0} (requests : Requests G) where
 
     pub partial-whole : length items ≤ steps → partly_shuffled requests first steps g items ≡ shuffled requests first g items
     partial-whole all = let count : min steps (length items) ≡ length items = omega arith in rw count refl
+
+-- The choices after the first ones do not move the items in front.
+Chosen-drop : (k n : ℕ) (choices : List ℕ) → k ≤ length choices → Chosen 0 n choices → Chosen k n (drop k choices)
+Chosen-drop k n choices room h = record {
+  each = λ m low.
+      let at = get_or-drop k choices m 0 in
+      let there = h.each (k + m) (omega (arith, length-drop k choices)) in
+      rw at (omega (arith, there.0), there.1);
+}
+
+module _ {T : Type 0} (n k : ℕ) (choices : List ℕ) (items : List T) (h : Chosen 0 n choices) where
+  -- if there are k choices
+  front-after : k ≤ length choices → take k (arranged (take k choices) items) ≡ take k (arranged choices items)
+  front-after room =
+      let size : 0 + length (take k choices) ≡ k = omega (arith, length-take-le k choices room) in
+      let parts = arranged_from-append 0 (take k choices) (drop k choices) items in
+      let later = take-arranged k k n (drop k choices) (arranged (take k choices) items) (omega arith) (Chosen-drop k n choices room h) in
+      sym later
+      ∙ ap (λ i. take k (arranged_from i (drop k choices) (arranged (take k choices) items))) (sym size)
+      ∙ sym (ap (take k) parts)
+      ∙ ap (λ cs. take k (arranged cs items)) (take-append-drop k choices)
+
+  pub front-same : take k (arranged (take k choices) items) ≡ take k (arranged choices items)
+  front-same = elim (cases_lt (length choices) k) [
+    | inl fewer ↦ ap (λ cs. take k (arranged cs items)) (take_all k choices (omega (arith, fewer)))
+    | inr room ↦ front-after room
+  ]
+
+module _ {G T : Type 0} (requests : Requests G) (steps : ℕ) (g : G) (items : List T) where
+  pub partial-first : take steps (partly_shuffled requests from_itself steps g items).items
+      ≡ take steps (shuffled requests from_itself g items).items
+  partial-first =
+      let n = length items in
+      ap (λ cs. take steps (arranged cs items)) (partial-begins requests from_itself steps g items)
+      ∙ front-same n steps (shuffled requests from_itself g items).choices items (choices-chosen requests n n 0 g)
+
+  pub partial-arrangement : IsPermutation items (partly_shuffled requests from_itself steps g items).items
+  partial-arrangement =
+      let n = length items in
+      let done = min steps n in
+      let fits = choices-fit requests from_itself n done 0 g in
+      arranged-permutation 0 (partial_choices requests from_itself n done g) items (omega arith) (choices-chosen requests n done 0 g)

@@ -5,12 +5,12 @@ use Rattle.nanorand_core.specs.values.Runs.{IsWordWidth}
 use Rattle.nanorand_core.specs.shuffles.Shuffles.{arranged}
 use Rattle.nanorand_core.specs.shuffles.Arrangements.{rising}
 use Rattle.nanorand_fairness.specs.InTurn.{quotas, word_lists_that}
-use Rattle.nanorand_fairness.specs.Deals.{choices_by, deal_sizes, dealt}
+use Rattle.nanorand_fairness.specs.Deals.{choices_by, deal_sizes, dealt, deals_of}
 use Rattle.nanorand_fairness.proofs.lemmas.deals.DealLemmas.{one_deal, deal-count, deal-sizes, order-deal, whole-deal}
 use Rattle.nanorand_fairness.proofs.lemmas.deals.DealLists.{test-same}
 use Rattle.nanorand_fairness.proofs.lemmas.NamedSums.{named-below}
 use Rattle.nanorand_fairness.proofs.lemmas.deals.ExchangeDeals.{exchanges-deals}
-use Rattle.nanorand_fairness.proofs.lemmas.deals.ShareLemmas.{index-share}
+use Rattle.nanorand_fairness.proofs.lemmas.deals.ShareLemmas.{index-share, whole-deals}
 use Rattle.nanorand_fairness.proofs.lemmas.turns.EvenLists.{share-lists}
 use Rattle.nanorand_fairness.proofs.laws.shuffles_are_fair.Goals as goal
 
@@ -41,3 +41,14 @@ returns-clause-shares c = λ k n m index within fits low.
     share-lists c.numbers_in_turn_are_fair.ensures.rejections 64 m n k (deal_sizes k n)
     (λ numbers. list_any (λ item. nat_eq item index) (dealt k n numbers)) (λ numbers. true)
     (inr (inr (inr refl))) (deal-sizes k n 64 within fits) (index-share k n index within low)
+
+pub returns-clause-parts : goal.returns-clause-parts
+returns-clause-parts c = λ k n m deal within fits d.
+    let sizes = deal_sizes k n in
+    let deals : List ℕ → Bool = λ numbers. pointwise nat_eq (dealt k n numbers) deal in
+    let all = λ (numbers : List ℕ). true in
+    let one = one_deal k n deal within d in
+    let many = whole-deals k n in
+    let parts = share-lists c.numbers_in_turn_are_fair.ensures.rejections 64 m (deals_of k n) 1 sizes deals all
+    (inr (inr (inr refl))) (deal-sizes k n 64 within fits) (ap (λ (j : ℕ). deals_of k n * j) one ∙ omega (arith, many)) in
+    omega (arith, parts)

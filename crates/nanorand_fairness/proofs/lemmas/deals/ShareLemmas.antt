@@ -6,7 +6,7 @@ use Rattle.std.proofs.lemmas.List.Edits.{length-swap}
 use Rattle.std.proofs.lemmas.List.FromFn.{length-range_with_len, get_or-range_with_len}
 use Rattle.nanorand_core.specs.shuffles.Arrangements.{rising}
 use Rattle.nanorand_fairness.specs.InTurn.{number_lists_that}
-use Rattle.nanorand_fairness.specs.Deals.{deal_sizes, dealt}
+use Rattle.nanorand_fairness.specs.Deals.{deal_sizes, dealt, deals_of}
 use Rattle.nanorand_fairness.proofs.lemmas.Sums.{sum-apart, sum-constant}
 use Rattle.nanorand_fairness.proofs.lemmas.deals.StepLemmas.{AreBelow, sizes_from, after_steps}
 use Rattle.nanorand_fairness.proofs.lemmas.deals.FoundLemmas.{AreDifferent, swap-different, swap-from, first-dealt}
@@ -16,6 +16,17 @@ use Rattle.nanorand_fairness.proofs.lemmas.deals.DealLemmas.{rising-different}
 -- the lists of numbers of k steps from index i on
 abbrev all_from : ℕ → ℕ → ℕ → ℕ
 all_from i k n = number_lists_that (sizes_from i k n) (λ numbers. true)
+
+-- they are as many as there are deals of what is left
+all-deals : (i k n : ℕ) → all_from i k n ≡ deals_of k (n - i)
+all-deals i zero n = refl
+all-deals i (suc k) n =
+    let later = ap (λ (m : ℕ). (n - i) * m) (all-deals (i + 1) k n) in
+    let left : n - (i + 1) ≡ n - i - 1 = omega arith in
+    sum-constant (all_from (i + 1) k n) 0 (n - i) ∙ later ∙ ap (λ (m : ℕ). (n - i) * deals_of k m) left
+
+pub whole-deals : (k n : ℕ) → number_lists_that (deal_sizes k n) (λ numbers. true) ≡ deals_of k n
+whole-deals k n = all-deals 0 k n ∙ ap (deals_of k) (omega arith)
 
 -- those of them that deal one item
 abbrev share_from : ℕ → ℕ → ℕ → ℕ
