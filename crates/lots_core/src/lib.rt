@@ -1,7 +1,7 @@
 //! A public draw that anyone can repeat: from a seed and a list of entrants, a selection in an order.
 //!
 //! The program `lots` calls `run` and `report`, and nothing else. `draw` and `draw_places` are the draw
-//! itself, without text, for other callers.
+//! itself, without text, for other callers. `laws` says that no place is preferred to another.
 //!
 //! `specs/Draws.antt` says what a seed draws, `specs/Lists.antt` what the entrants of a list are, and
 //! `specs/Arguments.antt` and `specs/Text.antt` what the program does with its arguments.
@@ -13,6 +13,8 @@ mod entrants;
 mod error;
 pub mod laws;
 pub mod run;
+#[cfg(test)]
+mod tests;
 mod text;
 
 pub use draws::{draw, draw_places};
