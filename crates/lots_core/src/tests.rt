@@ -1,4 +1,5 @@
-//! Tests of the draw and of the program: known selections, and what a run reads, writes and returns.
+//! Tests of the draw and of the program: known selections, and what a run reads, writes and
+//! returns.
 
 mod arguments;
 mod derives;

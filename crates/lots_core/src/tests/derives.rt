@@ -1,5 +1,5 @@
-//! The derived `Clone` and `Copy` of the crate's types, and `Debug`, `Display` and `PartialEq` of the
-//! error.
+//! The derived `Clone` and `Copy` of the crate's types, and `Debug`, `Display` and `PartialEq` of
+//! the error.
 
 use crate::arguments::Count;
 use crate::error::LotsError;
