@@ -1,4 +1,6 @@
-use Rattle.std.proofs.Common.{◌≡◌, length, arith}
+use Rattle.std.proofs.Common.{◌≡◌, length, subst, OnOk, arith}
+use Rattle.nanorand_core.specs.shuffles.Arrangements.{IsValid}
+use Rattle.nanorand_core.specs.shuffles.Shuffles.{from_itself, shuffle_choices}
 use Rattle.nanorand_users.proofs.lemmas.DeckLemmas.{none-twice}
 use Rattle.nanorand_users.proofs.deals.shuffle_deck.Goals as goal
 
@@ -12,3 +14,8 @@ returns-clause-each_once g c =
 pub returns-clause-none_twice : goal.returns-clause-none_twice
 returns-clause-none_twice g c =
     none-twice (length c.args.deck.now) c.shuffle.new.target (rw c.write_deck.ensures at c.shuffle.ensures.arrangement)
+
+pub returns-clause-valid : goal.returns-clause-valid
+returns-clause-valid g c =
+    let long : length c.write_deck.new.deck ≡ length c.args.deck.now = omega arith in
+    subst (λ n. OnOk c.shuffle.result (IsValid (shuffle_choices g.G.Rng.requests from_itself n c.args.rng.now))) long c.shuffle.ensures.valid
