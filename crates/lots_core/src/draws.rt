@@ -58,14 +58,18 @@ fn number(places: &mut [usize])
 /// Draws `count` of the places 0, 1, .. by the seed, as many places as there are items. The first
 /// `count` items are then the places drawn, in the order drawn; the old items do not matter.
 ///
-/// It fails as `draw` does. `places[i]` is then unspecified.
+/// It fails as `draw` does. The items are then the places in some order, and no selection.
 pub fn draw_places(seed: &str, places: &mut [usize], count: usize) -> Result<(), LotsError>
     ensures drawn { OnOk result
         (take count places.new ≡ places_drawn seed.now count (length places.old)) }
     ensures enough { OnOk result (count ≤ length places.old) }
+    ensures answer { OnOk result
+        ((drawing seed.now count (rising (length places.old))).answer ≡ Ok tt) }
     ensures arrangement { IsArrangement places.new }
     ensures few { length places.old < count →
         result ≡ Err (TooFew (length places.old) count) }
+    ensures exhausted { result ≡ Err Exhausted →
+        (drawing seed.now count (rising (length places.old))).answer ≡ Err ranges.Exhausted }
     ensures refusal { IfErr result (λ error. (error ≡ Exhausted)
         ⊎ ((length places.old < count) × (error ≡ TooFew (length places.old) count))) }
 {

@@ -92,8 +92,9 @@ pub fn samples_are_fair()
 /// A partial shuffle is the beginning of the whole shuffle, over every generator.
 ///
 /// `begins`: its choices are the first choices of the whole shuffle. `whole`: with as many steps as
-/// there are items, or more, it is the whole shuffle. `first`: so many items are then in front as in
-/// front of the whole shuffle. `arrangement`: it leaves a permutation of the items.
+/// there are items, or more, it is the whole shuffle. `first`: the first `steps` items that
+/// it leaves are those that the whole shuffle leaves. `arrangement`: it leaves a permutation of the
+/// items.
 pub fn partial_shuffles<G: Rng<OUTPUT>, T, const OUTPUT: usize>()
     ensures begins { (steps : ℕ) (g : G) (items : List T) →
         (partly_shuffled G.requests from_itself steps g items).choices
@@ -113,6 +114,7 @@ pub fn partial_shuffles<G: Rng<OUTPUT>, T, const OUTPUT: usize>()
 /// `permutations`: one list of numbers is a permutation of another exactly if every number occurs
 /// equally often in both. `arrangements`: a list is a permutation of the numbers below its length
 /// exactly if each of them occurs in it once; nothing has to be said of other numbers.
+/// `numbers`: the numbers of such a list are below its length, and different from one another.
 pub fn permutations_by_counting()
     ensures permutations { (xs ys : List ℕ) → IsPermutation xs ys ↔ HoldEquallyOften xs ys }
     ensures arrangements { (order : List ℕ) →
