@@ -54,3 +54,25 @@ pub fn entrants_of<'a, A: Allocator>(
     }
     Ok(entrants)
 }
+
+/// The number of entrants of a list, those that `entrants_of` returns. It takes no memory.
+///
+/// It returns `EmptyLine` as `entrants_of` does, and no other error.
+pub fn count_entrants(list: &[u8]) -> Result<usize, LotsError>
+    ensures number { IfOk result (λ count. count ≡ length (lines_of list.now)) }
+    ensures full { OnOk result (AreFull (lines_of list.now)) }
+    ensures empty { (k : ℕ) → result ≡ Err (EmptyLine k) → IsFirstEmpty (lines_of list.now) k }
+    ensures refusal { IfErr result (λ error. (k : ℕ) × (error ≡ EmptyLine k)) }
+{
+    let mut count = 0;
+    let mut left = list;
+    'lines: while !left.is_empty() {
+        let (line, after) = first_line(left);
+        count += 1;
+        if line.is_empty() {
+            return Err(LotsError::EmptyLine(count));
+        }
+        left = after;
+    }
+    Ok(count)
+}

@@ -1,6 +1,7 @@
 //! The ways in which a draw fails.
 
-ghost use Rattle.std.specs.Prelude.{◌≡◌};
+ghost use Rattle.std.specs.Prelude.{◌≡◌, Err};
+ghost use Rattle.lots_core.specs.Text.{status_of};
 ghost use Rattle.lots_core.specs.declared.error.LotsError.TheVariants.{Memory};
 
 use std::alloc::{AllocError, AllocFailed};
@@ -37,6 +38,23 @@ pub enum LotsError {
     /// draws.
     #[error("128 words were rejected")]
     Exhausted,
+}
+
+impl LotsError {
+    /// The exit status that tells of the error.
+    pub fn status(self) -> u8
+        ensures { result ≡ status_of (Err self) }
+    {
+        match self {
+            LotsError::Usage => 2,
+            LotsError::TooFew { .. } => 3,
+            LotsError::EmptyLine(_) => 4,
+            LotsError::Memory => 5,
+            LotsError::Read => 6,
+            LotsError::Write => 7,
+            LotsError::Exhausted => 8,
+        }
+    }
 }
 
 impl From<AllocError> for LotsError {

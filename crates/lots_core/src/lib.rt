@@ -18,5 +18,5 @@ mod tests;
 mod text;
 
 pub use draws::{draw, draw_places};
-pub use entrants::entrants_of;
+pub use entrants::{count_entrants, entrants_of};
 pub use error::LotsError;

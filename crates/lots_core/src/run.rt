@@ -163,13 +163,5 @@ pub fn report<W: Write>(outcome: Result<(), LotsError>, err: &mut W) -> u8
         return 0;
     };
     let _ = writeln!(err, "lots: {error}");
-    match error {
-        LotsError::Usage => 2,
-        LotsError::TooFew { .. } => 3,
-        LotsError::EmptyLine(_) => 4,
-        LotsError::Memory => 5,
-        LotsError::Read => 6,
-        LotsError::Write => 7,
-        LotsError::Exhausted => 8,
-    }
+    error.status()
 }

@@ -2,7 +2,7 @@
 
 use super::readers::Feed;
 use super::{check_error, check_text};
-use crate::entrants::entrants_of;
+use crate::entrants::{count_entrants, entrants_of};
 use crate::error::LotsError;
 use std::alloc::Global;
 use std::process::Abort;
@@ -12,6 +12,7 @@ use std::test::Fail;
 fn check_lines(rt: &impl Abort, alloc: Global, list: &[u8], lines: &[&[u8]]) -> Result<(), Fail> {
     let entrants = entrants_of(alloc, list)?;
     assert_eq!(rt; entrants.len(), lines.len(), "{list:?}");
+    assert_eq!(rt; count_entrants(list), Ok(lines.len()), "{list:?}");
     for (entrant, line) in entrants.iter().zip(lines) {
         assert!(rt; *entrant == *line, "{list:?}");
     }
@@ -97,6 +98,7 @@ fn empty_lines(rt: HostRuntime) -> Result<(), Fail> {
         let error = LotsError::EmptyLine(number);
         let outcome = entrants_of(rt.alloc(), list).map(|_| ());
         assert_eq!(rt; outcome, Err(error), "{list:?}");
+        assert_eq!(rt; count_entrants(list), Err(error), "{list:?}");
         for count in ["0", "1", "all"] {
             let mut input = Feed::honest(list, usize::MAX);
             check_error(&rt, rt.alloc(), &["seed", count], &mut input, error)?;
@@ -119,6 +121,7 @@ fn empty_lines_far_back(rt: HostRuntime) -> Result<(), Fail> {
         let error = LotsError::EmptyLine(number);
         for rest in [&b""[..], &b"entrant"[..], &b"\n"[..]] {
             list.extend_from_slice(rest)?;
+            assert_eq!(rt; count_entrants(&list), Err(error), "{number}");
             let mut input = Feed::honest(&list, usize::MAX);
             check_error(&rt, alloc, &["seed", "all"], &mut input, error)?;
         }

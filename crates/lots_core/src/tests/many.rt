@@ -2,6 +2,7 @@
 
 use super::check_text;
 use crate::draws::draw_places;
+use crate::entrants::count_entrants;
 use sha2::{Digest, Sha256};
 use std::alloc::{AllocError, Global};
 use std::test::Fail;
@@ -29,6 +30,7 @@ fn numbers(alloc: Global) -> Result<Vec<usize>, AllocError> {
 fn run_and_places(rt: HostRuntime) -> Result<(), Fail> {
     let alloc = rt.alloc();
     let list = lines(alloc, &numbers(alloc)?)?;
+    assert_eq!(rt; count_entrants(list.as_bytes()), Ok(ENTRANTS));
     for (text, count) in [("0", 0), ("1", 1), ("99999", 99_999), ("all", ENTRANTS)] {
         let mut places = vec![in alloc; 0; ENTRANTS]?;
         assert_eq!(rt; draw_places(SEED, &mut places, count), Ok(()), "{count}");
