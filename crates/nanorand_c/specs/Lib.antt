@@ -1,4 +1,5 @@
 pub mod Status
 pub mod Between
-pub mod ChaChaPlace
+pub mod Sampling
+pub mod ChaChaStates
 pub mod WideNumber

@@ -1,163 +1,68 @@
-//! ChaCha, by key, nonce and counter, which are the caller's memory.
+//! The state of ChaCha, by key, nonce and counter, and what the exports of all rounds share.
 //!
 //! `nanorand::ChaCha` says what it is and is not for.
 ghost use Rattle.std.specs.Prelude.{◌≡◌, ℕ, ◌+◌, ◌%◌, ◌^◌, length};
 ghost use Rattle.std.specs.Fn.{iterate};
 ghost use Rattle.std.specs.Int.{div_ceil};
-ghost use Rattle.nanorand.specs.generators.ChaCha.{chacha_block, next_state, chacha_requests};
-ghost use Rattle.nanorand_c.specs.ChaChaPlace.{state_at};
+ghost use Rattle.nanorand.specs.generators.ChaCha.{chacha_block, chacha_requests, counter, next_state};
+ghost use Rattle.nanorand_c.specs.ChaChaStates.{chacha_at};
 
 use nanorand::laws::chacha_counter;
 use nanorand::{Blocks, ChaCha, Rng};
 
-/// Writes the block at the counter to `out`, with 8 rounds, and adds 1 to the counter. After the
-/// greatest counter, 2^64 - 1, comes 0.
-#[unsafe(no_mangle)]
-pub extern "C" fn nanorand_chacha8_block(
-    key: &[u8; 32],
-    nonce: &[u8; 8],
-    counter: &mut u64,
-    out: &mut [u8; 64],
-)
-    ensures block { out.new ≡ chacha_block 8 (state_at key.now nonce.now counter.old) }
-    ensures counter { counter.new ≡ (counter.old + 1) % 2 ^ 64 }
-    ensures place { let start = state_at key.now nonce.now counter.old in
-        state_at key.now nonce.now counter.new ≡ next_state start }
-{
-    block::<8>(key, nonce, counter, out);
+/// A generator: its key, its nonce, and the number of its next block. Each request begins a new
+/// block. After the block of the greatest counter, 2^64 - 1, comes that of 0.
+#[derive(Clone, Copy)]
+#[repr(C)]
+pub struct ChaChaState {
+    pub key: [u8; 32],
+    pub nonce: [u8; 8],
+    pub counter: u64,
 }
 
-/// Fills the slice with the blocks from the counter on, with 8 rounds, by one request. The counter
-/// advances, modulo 2^64, by the number of blocks that the slice takes, the last one counted whole.
-#[unsafe(no_mangle)]
-pub extern "C" fn nanorand_chacha8_fill_bytes(
-    key: &[u8; 32],
-    nonce: &[u8; 8],
-    counter: &mut u64,
-    buffer: &mut [u8],
-)
-    ensures bytes { let start = state_at key.now nonce.now counter.old in
-        buffer.new ≡ (chacha_requests 8).bytes start (length buffer.old) }
-    ensures counter { counter.new ≡ (counter.old + div_ceil (length buffer.old) 64) % 2 ^ 64 }
-    ensures place { let start = state_at key.now nonce.now counter.old in
-        state_at key.now nonce.now counter.new
-        ≡ (chacha_requests 8).after start (length buffer.old) }
-{
-    fill_bytes::<8>(key, nonce, counter, buffer);
-}
-
-/// Writes the block at the counter to `out`, with 12 rounds, and adds 1 to the counter. After the
-/// greatest counter, 2^64 - 1, comes 0.
-#[unsafe(no_mangle)]
-pub extern "C" fn nanorand_chacha12_block(
-    key: &[u8; 32],
-    nonce: &[u8; 8],
-    counter: &mut u64,
-    out: &mut [u8; 64],
-)
-    ensures block { out.new ≡ chacha_block 12 (state_at key.now nonce.now counter.old) }
-    ensures counter { counter.new ≡ (counter.old + 1) % 2 ^ 64 }
-    ensures place { let start = state_at key.now nonce.now counter.old in
-        state_at key.now nonce.now counter.new ≡ next_state start }
-{
-    block::<12>(key, nonce, counter, out);
-}
-
-/// Fills the slice with the blocks from the counter on, with 12 rounds, by one request. The counter
-/// advances, modulo 2^64, by the number of blocks that the slice takes, the last one counted whole.
-#[unsafe(no_mangle)]
-pub extern "C" fn nanorand_chacha12_fill_bytes(
-    key: &[u8; 32],
-    nonce: &[u8; 8],
-    counter: &mut u64,
-    buffer: &mut [u8],
-)
-    ensures bytes { let start = state_at key.now nonce.now counter.old in
-        buffer.new ≡ (chacha_requests 12).bytes start (length buffer.old) }
-    ensures counter { counter.new ≡ (counter.old + div_ceil (length buffer.old) 64) % 2 ^ 64 }
-    ensures place { let start = state_at key.now nonce.now counter.old in
-        state_at key.now nonce.now counter.new
-        ≡ (chacha_requests 12).after start (length buffer.old) }
-{
-    fill_bytes::<12>(key, nonce, counter, buffer);
-}
-
-/// Writes the block at the counter to `out`, with 20 rounds, and adds 1 to the counter. After the
-/// greatest counter, 2^64 - 1, comes 0.
-#[unsafe(no_mangle)]
-pub extern "C" fn nanorand_chacha20_block(
-    key: &[u8; 32],
-    nonce: &[u8; 8],
-    counter: &mut u64,
-    out: &mut [u8; 64],
-)
-    ensures block { out.new ≡ chacha_block 20 (state_at key.now nonce.now counter.old) }
-    ensures counter { counter.new ≡ (counter.old + 1) % 2 ^ 64 }
-    ensures place { let start = state_at key.now nonce.now counter.old in
-        state_at key.now nonce.now counter.new ≡ next_state start }
-{
-    block::<20>(key, nonce, counter, out);
-}
-
-/// Fills the slice with the blocks from the counter on, with 20 rounds, by one request. The counter
-/// advances, modulo 2^64, by the number of blocks that the slice takes, the last one counted whole.
-#[unsafe(no_mangle)]
-pub extern "C" fn nanorand_chacha20_fill_bytes(
-    key: &[u8; 32],
-    nonce: &[u8; 8],
-    counter: &mut u64,
-    buffer: &mut [u8],
-)
-    ensures bytes { let start = state_at key.now nonce.now counter.old in
-        buffer.new ≡ (chacha_requests 20).bytes start (length buffer.old) }
-    ensures counter { counter.new ≡ (counter.old + div_ceil (length buffer.old) 64) % 2 ^ 64 }
-    ensures place { let start = state_at key.now nonce.now counter.old in
-        state_at key.now nonce.now counter.new
-        ≡ (chacha_requests 20).after start (length buffer.old) }
-{
-    fill_bytes::<20>(key, nonce, counter, buffer);
-}
-
-// The generator at a counter. n draws later, the counter is n more, modulo 2^64.
-fn at<const ROUNDS: u8>(key: &[u8; 32], nonce: &[u8; 8], counter: u64) -> ChaCha<ROUNDS>
+// The generator of this state. n draws later, its counter is n more, modulo 2^64.
+pub(crate) fn loaded<const ROUNDS: u8>(state: &ChaChaState) -> ChaCha<ROUNDS>
     requires { ROUNDS % 2 ≡ 0 }
-    ensures state { result ≡ state_at key.now nonce.now counter }
+    ensures state { result ≡ chacha_at state.now }
     ensures places { (n : ℕ)
-        → state_at key.now nonce.now ((counter + n) % 2 ^ 64) ≡ iterate next_state n result }
+        → counter (iterate next_state n result) ≡ (state.now.counter + n) % 2 ^ 64 }
 {
     chacha_counter();
-    let mut rng = ChaCha::new_key(*key, *nonce);
-    rng.jump(counter);
-    rng
+    ChaCha::at(state.key, state.nonce, state.counter)
 }
 
-fn block<const ROUNDS: u8>(key: &[u8; 32], nonce: &[u8; 8], counter: &mut u64, out: &mut [u8; 64])
-    requires { ROUNDS % 2 ≡ 0 }
-    ensures block { out.new ≡ chacha_block ROUNDS (state_at key.now nonce.now counter.old) }
-    ensures counter { counter.new ≡ (counter.old + 1) % 2 ^ 64 }
-    ensures place { let start = state_at key.now nonce.now counter.old in
-        state_at key.now nonce.now counter.new ≡ next_state start }
+pub(crate) fn store<const ROUNDS: u8>(state: &mut ChaChaState, rng: &ChaCha<ROUNDS>)
+    ensures state { chacha_at state.new ≡ rng.now }
+    ensures counter { state.new.counter ≡ counter rng.now }
 {
-    let mut rng = at::<ROUNDS>(key, nonce, *counter);
+    *state = ChaChaState {
+        key: rng.key(),
+        nonce: rng.nonce(),
+        counter: rng.counter(),
+    };
+}
+
+pub(crate) fn block<const ROUNDS: u8>(state: &mut ChaChaState, out: &mut [u8; 64])
+    requires { ROUNDS % 2 ≡ 0 }
+    ensures block { out.new ≡ chacha_block ROUNDS (chacha_at state.old) }
+    ensures counter { state.new.counter ≡ (state.old.counter + 1) % 2 ^ 64 }
+    ensures state { chacha_at state.new ≡ next_state (chacha_at state.old) }
+{
+    let mut rng = loaded::<ROUNDS>(state);
     *out = rng.rand();
-    *counter = counter.wrapping_add(1);
+    store(state, &rng);
 }
 
-fn fill_bytes<const ROUNDS: u8>(
-    key: &[u8; 32],
-    nonce: &[u8; 8],
-    counter: &mut u64,
-    buffer: &mut [u8],
-)
+pub(crate) fn fill_bytes<const ROUNDS: u8>(state: &mut ChaChaState, buffer: &mut [u8])
     requires { ROUNDS % 2 ≡ 0 }
-    ensures bytes { let start = state_at key.now nonce.now counter.old in
+    ensures bytes { let start = chacha_at state.old in
         buffer.new ≡ (chacha_requests ROUNDS).bytes start (length buffer.old) }
-    ensures counter { counter.new ≡ (counter.old + div_ceil (length buffer.old) 64) % 2 ^ 64 }
-    ensures place { let start = state_at key.now nonce.now counter.old in
-        state_at key.now nonce.now counter.new
-        ≡ (chacha_requests ROUNDS).after start (length buffer.old) }
+    ensures counter { let blocks = div_ceil (length buffer.old) 64 in
+        state.new.counter ≡ (state.old.counter + blocks) % 2 ^ 64 }
+    ensures state { let left = (chacha_requests ROUNDS).after (chacha_at state.old) in
+        chacha_at state.new ≡ left (length buffer.old) }
 {
-    let mut rng = at::<ROUNDS>(key, nonce, *counter);
+    let mut rng = loaded::<ROUNDS>(state);
     rng.fill_bytes(buffer);
-    *counter = counter.wrapping_add(buffer.len().div_ceil(64) as u64);
+    store(state, &rng);
 }

@@ -1,14 +1,22 @@
-//! The generators for programs in other languages, Rust among them, through the C calling
-//! convention.
+//! The generators, ranges, shuffles and samples of `nanorand`, and the draw by lot of `lots_core`,
+//! for callers from C.
 //!
-//! A state is the caller's memory, lent for a call, and nothing here allocates. No function has a
-//! precondition beyond its types. A slice is passed as a pointer and then a length.
+//! The state of a generator is the caller's memory, lent for the call. No export allocates or has a
+//! precondition beyond its types. The names carry the version of this interface, so that two
+//! versions can be linked into one program.
 #![tactic(auto)]
 
+mod calls;
 pub mod chacha;
+pub mod chacha12;
+pub mod chacha20;
+pub mod chacha8;
+pub mod lots;
 pub mod pcg64;
 mod status;
+pub mod stream;
 #[cfg(test)]
 mod tests;
+pub mod version;
 pub mod wide;
 pub mod wyrand;

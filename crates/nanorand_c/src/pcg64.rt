@@ -1,23 +1,22 @@
 //! Pcg64. Its seed is the caller's memory, and each draw advances it. Not cryptographically secure.
-ghost use Rattle.std.specs.Prelude.{◌≡◌, ◌≤◌, length, IsPermutation};
-ghost use Rattle.nanorand.specs.generators.Pcg64.{seed_after, pcg64_requests};
+ghost use Rattle.std.specs.Prelude.{◌≡◌, ◌≢◌, ◌<◌, ◌≤◌, ◌≤ℤ◌, All, IsPermutation, length};
+ghost use Rattle.std.specs.List.{AllPairs};
 ghost use Rattle.nanorand_core.specs.shuffles.Shuffles.{from_all, from_itself, shuffled};
 ghost use Rattle.nanorand_core.specs.values.Values.{number_of};
-ghost use Rattle.nanorand_c.specs.Between.{between};
+ghost use Rattle.nanorand.specs.generators.Pcg64.{pcg64_requests, seed_after};
+ghost use Rattle.nanorand_c.specs.Between.{between, between_signed};
+ghost use Rattle.nanorand_c.specs.Sampling.{sampling};
 ghost use Rattle.nanorand_c.specs.Status.{drawn_or, status};
 ghost use Rattle.nanorand_c.specs.WideNumber.{at_seed, wide_number};
 
-use crate::status::{hand_over, status};
+use crate::calls::{range_i64, range_u32, range_u64, range_usize, sample, shuffle, shuffle_full};
 use crate::wide::{Wide, joined, split};
 use nanorand::laws::pcg64_cycles;
-use nanorand::shuffles::shuffle_full;
-use nanorand::values::range::draw_number;
 use nanorand::{Pcg64, Rng};
-use std::ops::Bound;
 
-/// Draws a 64-bit number, as `generate` does.
+/// Draws a number of 64 bits: the next 8 bytes, least byte first.
 #[unsafe(no_mangle)]
-pub extern "C" fn nanorand_pcg64_u64(seed: &mut Wide) -> u64
+pub extern "C" fn nanorand_v1_pcg64_u64(seed: &mut Wide) -> u64
     ensures value { result ≡ number_of (pcg64_requests.bytes (at_seed seed.old) 8) }
     ensures seed { wide_number seed.new ≡ (pcg64_requests.after (at_seed seed.old) 8).seed }
 {
@@ -29,7 +28,7 @@ pub extern "C" fn nanorand_pcg64_u64(seed: &mut Wide) -> u64
 
 /// Fills the slice with the next bytes, by one request.
 #[unsafe(no_mangle)]
-pub extern "C" fn nanorand_pcg64_fill_bytes(seed: &mut Wide, buffer: &mut [u8])
+pub extern "C" fn nanorand_v1_pcg64_fill_bytes(seed: &mut Wide, buffer: &mut [u8])
     ensures bytes { buffer.new ≡ pcg64_requests.bytes (at_seed seed.old) (length buffer.old) }
     ensures seed { let left = pcg64_requests.after (at_seed seed.old) (length buffer.old) in
         wide_number seed.new ≡ left.seed }
@@ -39,99 +38,169 @@ pub extern "C" fn nanorand_pcg64_fill_bytes(seed: &mut Wide, buffer: &mut [u8])
     *seed = split(rng.seed());
 }
 
-/// Advances the seed by `draws` draws, in at most 128 steps and one draw.
+/// Draws a number from `first..=last`, by words of 32 bits, and returns a status: 0 if `number` was
+/// written, 1 if the range is empty, 2 if 128 words in a row were rejected. After 1 and 2 `number`
+/// is unchanged. After 1 nothing was drawn; after 2 the words stay drawn.
 #[unsafe(no_mangle)]
-pub extern "C" fn nanorand_pcg64_jump(seed: &mut Wide, draws: &Wide)
+pub extern "C" fn nanorand_v1_pcg64_range_u32(
+    seed: &mut Wide,
+    first: u32,
+    last: u32,
+    number: &mut u32,
+) -> u8
+    ensures status { let draw = between pcg64_requests 32 first last (at_seed seed.old) in
+        result ≡ status draw.0 }
+    ensures number { let draw = between pcg64_requests 32 first last (at_seed seed.old) in
+        number.new ≡ drawn_or number.old draw.0 }
+    ensures within { result ≡ 0 → (first ≤ number.new) × (number.new ≤ last) }
+    ensures seed { let draw = between pcg64_requests 32 first last (at_seed seed.old) in
+        wide_number seed.new ≡ draw.1.seed }
+{
+    let mut rng = Pcg64::new_seed(joined(seed));
+    let status = range_u32(&mut rng, first, last, number);
+    *seed = split(rng.seed());
+    status
+}
+
+/// Draws a number from `first..=last`, by words of 64 bits. The status is that of a range of `u32`.
+#[unsafe(no_mangle)]
+pub extern "C" fn nanorand_v1_pcg64_range_u64(
+    seed: &mut Wide,
+    first: u64,
+    last: u64,
+    number: &mut u64,
+) -> u8
+    ensures status { let draw = between pcg64_requests 64 first last (at_seed seed.old) in
+        result ≡ status draw.0 }
+    ensures number { let draw = between pcg64_requests 64 first last (at_seed seed.old) in
+        number.new ≡ drawn_or number.old draw.0 }
+    ensures within { result ≡ 0 → (first ≤ number.new) × (number.new ≤ last) }
+    ensures seed { let draw = between pcg64_requests 64 first last (at_seed seed.old) in
+        wide_number seed.new ≡ draw.1.seed }
+{
+    let mut rng = Pcg64::new_seed(joined(seed));
+    let status = range_u64(&mut rng, first, last, number);
+    *seed = split(rng.seed());
+    status
+}
+
+/// Draws a signed number from `first..=last`, by words of 64 bits. The status is that of a range of
+/// `u32`.
+#[unsafe(no_mangle)]
+pub extern "C" fn nanorand_v1_pcg64_range_i64(
+    seed: &mut Wide,
+    first: i64,
+    last: i64,
+    number: &mut i64,
+) -> u8
+    ensures status { let draw = between_signed pcg64_requests 64 first last (at_seed seed.old) in
+        result ≡ status draw.0 }
+    ensures number { let draw = between_signed pcg64_requests 64 first last (at_seed seed.old) in
+        number.new ≡ drawn_or number.old draw.0 }
+    ensures within { result ≡ 0 → (first ≤ℤ number.new) × (number.new ≤ℤ last) }
+    ensures seed { let draw = between_signed pcg64_requests 64 first last (at_seed seed.old) in
+        wide_number seed.new ≡ draw.1.seed }
+{
+    let mut rng = Pcg64::new_seed(joined(seed));
+    let status = range_i64(&mut rng, first, last, number);
+    *seed = split(rng.seed());
+    status
+}
+
+/// Draws an index or a length from `first..=last`, by words of 64 bits. The status is that of a
+/// range of `u32`.
+#[unsafe(no_mangle)]
+pub extern "C" fn nanorand_v1_pcg64_range_usize(
+    seed: &mut Wide,
+    first: usize,
+    last: usize,
+    number: &mut usize,
+) -> u8
+    ensures status { let draw = between pcg64_requests 64 first last (at_seed seed.old) in
+        result ≡ status draw.0 }
+    ensures number { let draw = between pcg64_requests 64 first last (at_seed seed.old) in
+        number.new ≡ drawn_or number.old draw.0 }
+    ensures within { result ≡ 0 → (first ≤ number.new) × (number.new ≤ last) }
+    ensures seed { let draw = between pcg64_requests 64 first last (at_seed seed.old) in
+        wide_number seed.new ≡ draw.1.seed }
+{
+    let mut rng = Pcg64::new_seed(joined(seed));
+    let status = range_usize(&mut rng, first, last, number);
+    *seed = split(rng.seed());
+    status
+}
+
+/// Shuffles the items: each, from the first on, is exchanged with one drawn from it and those after
+/// it. It returns 0, or 2 if 128 words in a row were rejected for one index; the exchanges before
+/// that stay.
+#[unsafe(no_mangle)]
+pub extern "C" fn nanorand_v1_pcg64_shuffle(seed: &mut Wide, items: &mut [usize]) -> u8
+    ensures status { let start = at_seed seed.old in
+        let shuffle = shuffled pcg64_requests from_itself start items.old in
+        result ≡ status shuffle.answer }
+    ensures items { let start = at_seed seed.old in
+        let shuffle = shuffled pcg64_requests from_itself start items.old in
+        items.new ≡ shuffle.items }
+    ensures seed { let shuffle = shuffled pcg64_requests from_itself (at_seed seed.old) items.old in
+        wide_number seed.new ≡ shuffle.state.seed }
+    ensures arrangement { IsPermutation items.old items.new }
+{
+    let mut rng = Pcg64::new_seed(joined(seed));
+    let status = shuffle(&mut rng, items);
+    *seed = split(rng.seed());
+    status
+}
+
+/// Shuffles the items as the crate nanorand 0.7.0 did: each is exchanged with one drawn from all,
+/// and the orders are not equally frequent. The status is that of `shuffle`.
+#[unsafe(no_mangle)]
+pub extern "C" fn nanorand_v1_pcg64_shuffle_full(seed: &mut Wide, items: &mut [usize]) -> u8
+    ensures status { let shuffle = shuffled pcg64_requests from_all (at_seed seed.old) items.old in
+        result ≡ status shuffle.answer }
+    ensures items { let shuffle = shuffled pcg64_requests from_all (at_seed seed.old) items.old in
+        items.new ≡ shuffle.items }
+    ensures seed { let shuffle = shuffled pcg64_requests from_all (at_seed seed.old) items.old in
+        wide_number seed.new ≡ shuffle.state.seed }
+    ensures arrangement { IsPermutation items.old items.new }
+{
+    let mut rng = Pcg64::new_seed(joined(seed));
+    let status = shuffle_full(&mut rng, items);
+    *seed = split(rng.seed());
+    status
+}
+
+/// Samples different numbers below `count`, one for each place, by Floyd's algorithm; each set of
+/// them is equally likely, their order is not uniform. It returns 0, or 1 if there are more places
+/// than numbers (nothing is drawn or written), or 2 if 128 words in a row were rejected for one
+/// place; the places before it are then written, and the draws stay.
+#[unsafe(no_mangle)]
+pub extern "C" fn nanorand_v1_pcg64_sample(
+    seed: &mut Wide,
+    count: usize,
+    places: &mut [usize],
+) -> u8
+    ensures status { let sampling = sampling pcg64_requests count (at_seed seed.old) places.old in
+        result ≡ sampling.status }
+    ensures places { let sampling = sampling pcg64_requests count (at_seed seed.old) places.old in
+        places.new ≡ sampling.places }
+    ensures seed { let sample = sampling pcg64_requests count (at_seed seed.old) places.old in
+        wide_number seed.new ≡ sample.state.seed }
+    ensures below { result ≡ 0 → All (λ number. number < count) places.new }
+    ensures apart { result ≡ 0 → AllPairs (λ number other. number ≢ other) places.new }
+{
+    let mut rng = Pcg64::new_seed(joined(seed));
+    let status = sample(&mut rng, count, places);
+    *seed = split(rng.seed());
+    status
+}
+
+/// Advances by so many draws, in at most 128 steps and one draw.
+#[unsafe(no_mangle)]
+pub extern "C" fn nanorand_v1_pcg64_jump(seed: &mut Wide, draws: &Wide)
     ensures { wide_number seed.new ≡ seed_after (wide_number draws.now) (wide_number seed.old) }
 {
     pcg64_cycles();
     let mut rng = Pcg64::new_seed(joined(seed));
     rng.jump(joined(draws));
     *seed = split(rng.seed());
-}
-
-/// Draws a number from `first..=last` and returns a status: 0 if `number` was written, 1 if the
-/// range is empty, 2 if 128 words in a row were rejected. After 1 and 2 `number` is unchanged.
-/// After 1 nothing was drawn; after 2 the words stay drawn.
-#[unsafe(no_mangle)]
-pub extern "C" fn nanorand_pcg64_range_u64(
-    seed: &mut Wide,
-    first: u64,
-    last: u64,
-    number: &mut u64,
-) -> u8
-    ensures status { result ≡ status (between pcg64_requests first last (at_seed seed.old)).0 }
-    ensures number { let outcome = (between pcg64_requests first last (at_seed seed.old)).0 in
-        number.new ≡ drawn_or number.old outcome }
-    ensures within { result ≡ 0 → (first ≤ number.new) × (number.new ≤ last) }
-    ensures seed { let left = (between pcg64_requests first last (at_seed seed.old)).1 in
-        wide_number seed.new ≡ left.seed }
-{
-    let mut rng = Pcg64::new_seed(joined(seed));
-    let outcome = draw_number(&mut rng, Bound::Included(first), Bound::Included(last));
-    *seed = split(rng.seed());
-    hand_over(&outcome, number)
-}
-
-/// As `nanorand_pcg64_range_u64`, for `usize`: indices and lengths.
-#[unsafe(no_mangle)]
-pub extern "C" fn nanorand_pcg64_range_usize(
-    seed: &mut Wide,
-    first: usize,
-    last: usize,
-    number: &mut usize,
-) -> u8
-    ensures status { result ≡ status (between pcg64_requests first last (at_seed seed.old)).0 }
-    ensures number { let outcome = (between pcg64_requests first last (at_seed seed.old)).0 in
-        number.new ≡ drawn_or number.old outcome }
-    ensures within { result ≡ 0 → (first ≤ number.new) × (number.new ≤ last) }
-    ensures seed { let left = (between pcg64_requests first last (at_seed seed.old)).1 in
-        wide_number seed.new ≡ left.seed }
-{
-    let mut rng = Pcg64::new_seed(joined(seed));
-    let outcome = draw_number(&mut rng, Bound::Included(first), Bound::Included(last));
-    *seed = split(rng.seed());
-    hand_over(&outcome, number)
-}
-
-/// Shuffles the items as `Rng::shuffle` does, and returns a status: 0 on success, 2 if 128 words in
-/// a row were rejected for one index. After 2 the swaps before that stay.
-#[unsafe(no_mangle)]
-pub extern "C" fn nanorand_pcg64_shuffle(seed: &mut Wide, items: &mut [usize]) -> u8
-    ensures status { let start = at_seed seed.old in
-        let shuffle = shuffled pcg64_requests from_itself start items.old in
-        result ≡ status shuffle.answer }
-    ensures items { let start = at_seed seed.old in
-        let shuffle = shuffled pcg64_requests from_itself start items.old in
-        items.new ≡ shuffle.items }
-    ensures seed { let start = at_seed seed.old in
-        let shuffle = shuffled pcg64_requests from_itself start items.old in
-        wide_number seed.new ≡ shuffle.state.seed }
-    ensures arrangement { IsPermutation items.old items.new }
-{
-    let mut rng = Pcg64::new_seed(joined(seed));
-    let outcome = rng.shuffle(items);
-    *seed = split(rng.seed());
-    status(&outcome)
-}
-
-/// Shuffles the items as `nanorand::shuffles::shuffle_full` does, by indices drawn from the whole
-/// slice, and returns a status as `nanorand_pcg64_shuffle` does.
-#[unsafe(no_mangle)]
-pub extern "C" fn nanorand_pcg64_shuffle_full(seed: &mut Wide, items: &mut [usize]) -> u8
-    ensures status { let start = at_seed seed.old in
-        let shuffle = shuffled pcg64_requests from_all start items.old in
-        result ≡ status shuffle.answer }
-    ensures items { let start = at_seed seed.old in
-        let shuffle = shuffled pcg64_requests from_all start items.old in
-        items.new ≡ shuffle.items }
-    ensures seed { let start = at_seed seed.old in
-        let shuffle = shuffled pcg64_requests from_all start items.old in
-        wide_number seed.new ≡ shuffle.state.seed }
-    ensures arrangement { IsPermutation items.old items.new }
-{
-    let mut rng = Pcg64::new_seed(joined(seed));
-    let outcome = shuffle_full(&mut rng, items);
-    *seed = split(rng.seed());
-    status(&outcome)
 }

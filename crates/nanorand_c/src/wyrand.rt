@@ -1,28 +1,27 @@
 //! WyRand. The generator itself is the caller's memory. Not cryptographically secure.
-ghost use Rattle.std.specs.Prelude.{◌≡◌, ◌≤◌, length, IsPermutation};
+ghost use Rattle.std.specs.Prelude.{◌≡◌, ◌≢◌, ◌<◌, ◌≤◌, ◌≤ℤ◌, All, IsPermutation, length};
+ghost use Rattle.std.specs.List.{AllPairs};
 ghost use Rattle.nanorand_core.specs.shuffles.Shuffles.{from_all, from_itself, shuffled};
 ghost use Rattle.nanorand_core.specs.values.Values.{number_of};
 ghost use Rattle.nanorand.specs.generators.WyRand.{seed_after, wyrand_requests};
+ghost use Rattle.nanorand_c.specs.Between.{between, between_signed};
+ghost use Rattle.nanorand_c.specs.Sampling.{sampling};
 ghost use Rattle.nanorand_c.specs.Status.{drawn_or, status};
-ghost use Rattle.nanorand_c.specs.Between.{between};
 
-use crate::status::{hand_over, status};
-use nanorand::shuffles::shuffle_full;
-use nanorand::values::range::draw_number;
+use crate::calls::{range_i64, range_u32, range_u64, range_usize, sample, shuffle, shuffle_full};
 use nanorand::{Rng, WyRand};
-use std::ops::Bound;
 
 /// The generator with this seed.
 #[unsafe(no_mangle)]
-pub extern "C" fn nanorand_wyrand_new_seed(seed: u64) -> WyRand
+pub extern "C" fn nanorand_v1_wyrand_new_seed(seed: u64) -> WyRand
     ensures { result ≡ seed }
 {
     WyRand::new_seed(seed)
 }
 
-/// Draws a 64-bit number, as `generate` does.
+/// Draws a number of 64 bits: the next 8 bytes, least byte first.
 #[unsafe(no_mangle)]
-pub extern "C" fn nanorand_wyrand_u64(rng: &mut WyRand) -> u64
+pub extern "C" fn nanorand_v1_wyrand_u64(rng: &mut WyRand) -> u64
     ensures value { result ≡ number_of (wyrand_requests.bytes rng.old 8) }
     ensures state { rng.new ≡ wyrand_requests.after rng.old 8 }
 {
@@ -31,82 +30,143 @@ pub extern "C" fn nanorand_wyrand_u64(rng: &mut WyRand) -> u64
 
 /// Fills the slice with the next bytes, by one request.
 #[unsafe(no_mangle)]
-pub extern "C" fn nanorand_wyrand_fill_bytes(rng: &mut WyRand, buffer: &mut [u8])
+pub extern "C" fn nanorand_v1_wyrand_fill_bytes(rng: &mut WyRand, buffer: &mut [u8])
     ensures bytes { buffer.new ≡ wyrand_requests.bytes rng.old (length buffer.old) }
     ensures state { rng.new ≡ wyrand_requests.after rng.old (length buffer.old) }
 {
     rng.fill_bytes(buffer);
 }
 
-/// Advances by n draws.
+/// Draws a number from `first..=last`, by words of 32 bits, and returns a status: 0 if `number` was
+/// written, 1 if the range is empty, 2 if 128 words in a row were rejected. After 1 and 2 `number`
+/// is unchanged. After 1 nothing was drawn; after 2 the words stay drawn.
 #[unsafe(no_mangle)]
-pub extern "C" fn nanorand_wyrand_jump(rng: &mut WyRand, n: u64)
-    ensures { rng.new ≡ seed_after n rng.old }
+pub extern "C" fn nanorand_v1_wyrand_range_u32(
+    rng: &mut WyRand,
+    first: u32,
+    last: u32,
+    number: &mut u32,
+) -> u8
+    ensures status { let draw = between wyrand_requests 32 first last rng.old in
+        result ≡ status draw.0 }
+    ensures number { let draw = between wyrand_requests 32 first last rng.old in
+        number.new ≡ drawn_or number.old draw.0 }
+    ensures within { result ≡ 0 → (first ≤ number.new) × (number.new ≤ last) }
+    ensures state { rng.new ≡ (between wyrand_requests 32 first last rng.old).1 }
 {
-    rng.jump(n);
+    range_u32(rng, first, last, number)
 }
 
-/// Draws a number from `first..=last` and returns a status: 0 if `number` was written, 1 if the
-/// range is empty, 2 if 128 words in a row were rejected. After 1 and 2 `number` is unchanged.
-/// After 1 nothing was drawn; after 2 the words stay drawn.
+/// Draws a number from `first..=last`, by words of 64 bits. The status is that of a range of `u32`.
 #[unsafe(no_mangle)]
-pub extern "C" fn nanorand_wyrand_range_u64(
+pub extern "C" fn nanorand_v1_wyrand_range_u64(
     rng: &mut WyRand,
     first: u64,
     last: u64,
     number: &mut u64,
 ) -> u8
-    ensures status { result ≡ status (between wyrand_requests first last rng.old).0 }
-    ensures number { let outcome = (between wyrand_requests first last rng.old).0 in
-        number.new ≡ drawn_or number.old outcome }
+    ensures status { let draw = between wyrand_requests 64 first last rng.old in
+        result ≡ status draw.0 }
+    ensures number { let draw = between wyrand_requests 64 first last rng.old in
+        number.new ≡ drawn_or number.old draw.0 }
     ensures within { result ≡ 0 → (first ≤ number.new) × (number.new ≤ last) }
-    ensures state { rng.new ≡ (between wyrand_requests first last rng.old).1 }
+    ensures state { rng.new ≡ (between wyrand_requests 64 first last rng.old).1 }
 {
-    let outcome = draw_number(rng, Bound::Included(first), Bound::Included(last));
-    hand_over(&outcome, number)
+    range_u64(rng, first, last, number)
 }
 
-/// As `nanorand_wyrand_range_u64`, for `usize`: indices and lengths.
+/// Draws a signed number from `first..=last`, by words of 64 bits. The status is that of a range of
+/// `u32`.
 #[unsafe(no_mangle)]
-pub extern "C" fn nanorand_wyrand_range_usize(
+pub extern "C" fn nanorand_v1_wyrand_range_i64(
+    rng: &mut WyRand,
+    first: i64,
+    last: i64,
+    number: &mut i64,
+) -> u8
+    ensures status { let draw = between_signed wyrand_requests 64 first last rng.old in
+        result ≡ status draw.0 }
+    ensures number { let draw = between_signed wyrand_requests 64 first last rng.old in
+        number.new ≡ drawn_or number.old draw.0 }
+    ensures within { result ≡ 0 → (first ≤ℤ number.new) × (number.new ≤ℤ last) }
+    ensures state { rng.new ≡ (between_signed wyrand_requests 64 first last rng.old).1 }
+{
+    range_i64(rng, first, last, number)
+}
+
+/// Draws an index or a length from `first..=last`, by words of 64 bits. The status is that of a
+/// range of `u32`.
+#[unsafe(no_mangle)]
+pub extern "C" fn nanorand_v1_wyrand_range_usize(
     rng: &mut WyRand,
     first: usize,
     last: usize,
     number: &mut usize,
 ) -> u8
-    ensures status { result ≡ status (between wyrand_requests first last rng.old).0 }
-    ensures number { let outcome = (between wyrand_requests first last rng.old).0 in
-        number.new ≡ drawn_or number.old outcome }
+    ensures status { let draw = between wyrand_requests 64 first last rng.old in
+        result ≡ status draw.0 }
+    ensures number { let draw = between wyrand_requests 64 first last rng.old in
+        number.new ≡ drawn_or number.old draw.0 }
     ensures within { result ≡ 0 → (first ≤ number.new) × (number.new ≤ last) }
-    ensures state { rng.new ≡ (between wyrand_requests first last rng.old).1 }
+    ensures state { rng.new ≡ (between wyrand_requests 64 first last rng.old).1 }
 {
-    let outcome = draw_number(rng, Bound::Included(first), Bound::Included(last));
-    hand_over(&outcome, number)
+    range_usize(rng, first, last, number)
 }
 
-/// Shuffles the items as `Rng::shuffle` does, and returns a status: 0 on success, 2 if 128 words in
-/// a row were rejected for one index. After 2 the swaps before that stay.
+/// Shuffles the items: each, from the first on, is exchanged with one drawn from it and those after
+/// it. It returns 0, or 2 if 128 words in a row were rejected for one index; the exchanges before
+/// that stay.
 #[unsafe(no_mangle)]
-pub extern "C" fn nanorand_wyrand_shuffle(rng: &mut WyRand, items: &mut [usize]) -> u8
+pub extern "C" fn nanorand_v1_wyrand_shuffle(rng: &mut WyRand, items: &mut [usize]) -> u8
     ensures status { let shuffle = shuffled wyrand_requests from_itself rng.old items.old in
         result ≡ status shuffle.answer }
-    ensures items { items.new ≡ (shuffled wyrand_requests from_itself rng.old items.old).items }
+    ensures items { let shuffle = shuffled wyrand_requests from_itself rng.old items.old in
+        items.new ≡ shuffle.items }
     ensures state { rng.new ≡ (shuffled wyrand_requests from_itself rng.old items.old).state }
     ensures arrangement { IsPermutation items.old items.new }
 {
-    let outcome = rng.shuffle(items);
-    status(&outcome)
+    shuffle(rng, items)
 }
 
-/// Shuffles the items as `nanorand::shuffles::shuffle_full` does, by indices drawn from the whole
-/// slice, and returns a status as `nanorand_wyrand_shuffle` does.
+/// Shuffles the items as the crate nanorand 0.7.0 did: each is exchanged with one drawn from all,
+/// and the orders are not equally frequent. The status is that of `shuffle`.
 #[unsafe(no_mangle)]
-pub extern "C" fn nanorand_wyrand_shuffle_full(rng: &mut WyRand, items: &mut [usize]) -> u8
-    ensures status { result ≡ status (shuffled wyrand_requests from_all rng.old items.old).answer }
-    ensures items { items.new ≡ (shuffled wyrand_requests from_all rng.old items.old).items }
+pub extern "C" fn nanorand_v1_wyrand_shuffle_full(rng: &mut WyRand, items: &mut [usize]) -> u8
+    ensures status { let shuffle = shuffled wyrand_requests from_all rng.old items.old in
+        result ≡ status shuffle.answer }
+    ensures items { let shuffle = shuffled wyrand_requests from_all rng.old items.old in
+        items.new ≡ shuffle.items }
     ensures state { rng.new ≡ (shuffled wyrand_requests from_all rng.old items.old).state }
     ensures arrangement { IsPermutation items.old items.new }
 {
-    let outcome = shuffle_full(rng, items);
-    status(&outcome)
+    shuffle_full(rng, items)
+}
+
+/// Samples different numbers below `count`, one for each place, by Floyd's algorithm; each set of
+/// them is equally likely, their order is not uniform. It returns 0, or 1 if there are more places
+/// than numbers (nothing is drawn or written), or 2 if 128 words in a row were rejected for one
+/// place; the places before it are then written, and the draws stay.
+#[unsafe(no_mangle)]
+pub extern "C" fn nanorand_v1_wyrand_sample(
+    rng: &mut WyRand,
+    count: usize,
+    places: &mut [usize],
+) -> u8
+    ensures status { let sampling = sampling wyrand_requests count rng.old places.old in
+        result ≡ sampling.status }
+    ensures places { let sampling = sampling wyrand_requests count rng.old places.old in
+        places.new ≡ sampling.places }
+    ensures state { rng.new ≡ (sampling wyrand_requests count rng.old places.old).state }
+    ensures below { result ≡ 0 → All (λ number. number < count) places.new }
+    ensures apart { result ≡ 0 → AllPairs (λ number other. number ≢ other) places.new }
+{
+    sample(rng, count, places)
+}
+
+/// Advances by so many draws, in one step.
+#[unsafe(no_mangle)]
+pub extern "C" fn nanorand_v1_wyrand_jump(rng: &mut WyRand, draws: u64)
+    ensures { rng.new ≡ seed_after draws rng.old }
+{
+    rng.jump(draws);
 }

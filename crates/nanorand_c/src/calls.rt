@@ -1,0 +1,119 @@
+//! What the exports of every generator share: a call, its result as a status, and what it writes.
+ghost use Rattle.std.specs.Prelude.{◌≡◌, ◌≢◌, ◌<◌, ◌≤◌, ◌≤ℤ◌, All, IsPermutation};
+ghost use Rattle.std.specs.List.{AllPairs};
+ghost use Rattle.nanorand_core.specs.shuffles.Shuffles.{from_all, from_itself, shuffled};
+ghost use Rattle.nanorand_c.specs.Between.{between, between_signed};
+ghost use Rattle.nanorand_c.specs.Sampling.{sampling};
+ghost use Rattle.nanorand_c.specs.Status.{drawn_or, status};
+
+use crate::status::{hand_over, status};
+use nanorand::values::range::draw_number;
+use nanorand::{Rng, samples, shuffles};
+use std::ops::Bound;
+
+pub(crate) fn range_u32<G: Rng<OUTPUT>, const OUTPUT: usize>(
+    rng: &mut G,
+    first: u32,
+    last: u32,
+    number: &mut u32,
+) -> u8
+    ensures status { result ≡ status (between G.requests 32 first last rng.old).0 }
+    ensures number { let draw = between G.requests 32 first last rng.old in
+        number.new ≡ drawn_or number.old draw.0 }
+    ensures within { result ≡ 0 → (first ≤ number.new) × (number.new ≤ last) }
+    ensures state { rng.new ≡ (between G.requests 32 first last rng.old).1 }
+{
+    let outcome = draw_number(rng, Bound::Included(first), Bound::Included(last));
+    hand_over(&outcome, number)
+}
+
+pub(crate) fn range_u64<G: Rng<OUTPUT>, const OUTPUT: usize>(
+    rng: &mut G,
+    first: u64,
+    last: u64,
+    number: &mut u64,
+) -> u8
+    ensures status { result ≡ status (between G.requests 64 first last rng.old).0 }
+    ensures number { let draw = between G.requests 64 first last rng.old in
+        number.new ≡ drawn_or number.old draw.0 }
+    ensures within { result ≡ 0 → (first ≤ number.new) × (number.new ≤ last) }
+    ensures state { rng.new ≡ (between G.requests 64 first last rng.old).1 }
+{
+    let outcome = draw_number(rng, Bound::Included(first), Bound::Included(last));
+    hand_over(&outcome, number)
+}
+
+pub(crate) fn range_i64<G: Rng<OUTPUT>, const OUTPUT: usize>(
+    rng: &mut G,
+    first: i64,
+    last: i64,
+    number: &mut i64,
+) -> u8
+    ensures status { result ≡ status (between_signed G.requests 64 first last rng.old).0 }
+    ensures number { let draw = between_signed G.requests 64 first last rng.old in
+        number.new ≡ drawn_or number.old draw.0 }
+    ensures within { result ≡ 0 → (first ≤ℤ number.new) × (number.new ≤ℤ last) }
+    ensures state { rng.new ≡ (between_signed G.requests 64 first last rng.old).1 }
+{
+    let outcome = draw_number(rng, Bound::Included(first), Bound::Included(last));
+    hand_over(&outcome, number)
+}
+
+pub(crate) fn range_usize<G: Rng<OUTPUT>, const OUTPUT: usize>(
+    rng: &mut G,
+    first: usize,
+    last: usize,
+    number: &mut usize,
+) -> u8
+    ensures status { result ≡ status (between G.requests 64 first last rng.old).0 }
+    ensures number { let draw = between G.requests 64 first last rng.old in
+        number.new ≡ drawn_or number.old draw.0 }
+    ensures within { result ≡ 0 → (first ≤ number.new) × (number.new ≤ last) }
+    ensures state { rng.new ≡ (between G.requests 64 first last rng.old).1 }
+{
+    let outcome = draw_number(rng, Bound::Included(first), Bound::Included(last));
+    hand_over(&outcome, number)
+}
+
+pub(crate) fn shuffle<G: Rng<OUTPUT>, const OUTPUT: usize>(rng: &mut G, items: &mut [usize]) -> u8
+    ensures status { let shuffle = shuffled G.requests from_itself rng.old items.old in
+        result ≡ status shuffle.answer }
+    ensures items { items.new ≡ (shuffled G.requests from_itself rng.old items.old).items }
+    ensures state { rng.new ≡ (shuffled G.requests from_itself rng.old items.old).state }
+    ensures arrangement { IsPermutation items.old items.new }
+{
+    let outcome = rng.shuffle(items);
+    status(&outcome)
+}
+
+pub(crate) fn shuffle_full<G: Rng<OUTPUT>, const OUTPUT: usize>(
+    rng: &mut G,
+    items: &mut [usize],
+) -> u8
+    ensures status { let shuffle = shuffled G.requests from_all rng.old items.old in
+        result ≡ status shuffle.answer }
+    ensures items { items.new ≡ (shuffled G.requests from_all rng.old items.old).items }
+    ensures state { rng.new ≡ (shuffled G.requests from_all rng.old items.old).state }
+    ensures arrangement { IsPermutation items.old items.new }
+{
+    let outcome = shuffles::shuffle_full(rng, items);
+    status(&outcome)
+}
+
+pub(crate) fn sample<G: Rng<OUTPUT>, const OUTPUT: usize>(
+    rng: &mut G,
+    count: usize,
+    places: &mut [usize],
+) -> u8
+    ensures status { result ≡ (sampling G.requests count rng.old places.old).status }
+    ensures places { places.new ≡ (sampling G.requests count rng.old places.old).places }
+    ensures state { rng.new ≡ (sampling G.requests count rng.old places.old).state }
+    ensures below { result ≡ 0 → All (λ number. number < count) places.new }
+    ensures apart { result ≡ 0 → AllPairs (λ number other. number ≢ other) places.new }
+{
+    if count < places.len() {
+        return 1;
+    }
+    let outcome = samples::sample(rng, count, places);
+    status(&outcome)
+}

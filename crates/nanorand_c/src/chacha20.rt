@@ -1,0 +1,220 @@
+//! ChaCha with 20 rounds, as in the standard. Each request begins a new block.
+ghost use Rattle.std.specs.Prelude.{◌≡◌, ◌≢◌, ◌<◌, ◌≤◌, ◌≤ℤ◌, All, IsPermutation, length, ◌+◌, ◌%◌, ◌^◌};
+ghost use Rattle.std.specs.List.{AllPairs};
+ghost use Rattle.nanorand_core.specs.shuffles.Shuffles.{from_all, from_itself, shuffled};
+ghost use Rattle.nanorand_core.specs.values.Values.{number_of};
+ghost use Rattle.std.specs.Int.{div_ceil};
+ghost use Rattle.nanorand.specs.generators.ChaCha.{chacha_block, chacha_requests, next_state};
+ghost use Rattle.nanorand_c.specs.Between.{between, between_signed};
+ghost use Rattle.nanorand_c.specs.ChaChaStates.{chacha_at};
+ghost use Rattle.nanorand_c.specs.Sampling.{sampling};
+ghost use Rattle.nanorand_c.specs.Status.{drawn_or, status};
+
+use crate::calls::{range_i64, range_u32, range_u64, range_usize, sample, shuffle, shuffle_full};
+use crate::chacha::{ChaChaState, block, fill_bytes, loaded, store};
+use nanorand::Rng;
+
+/// Writes the block at the counter, and adds 1 to the counter.
+#[unsafe(no_mangle)]
+pub extern "C" fn nanorand_v1_chacha20_block(state: &mut ChaChaState, out: &mut [u8; 64])
+    ensures block { out.new ≡ chacha_block 20 (chacha_at state.old) }
+    ensures counter { state.new.counter ≡ (state.old.counter + 1) % 2 ^ 64 }
+    ensures state { chacha_at state.new ≡ next_state (chacha_at state.old) }
+{
+    block::<20>(state, out);
+}
+
+/// Draws a number of 64 bits: the next 8 bytes, least byte first.
+#[unsafe(no_mangle)]
+pub extern "C" fn nanorand_v1_chacha20_u64(state: &mut ChaChaState) -> u64
+    ensures value { result ≡ number_of ((chacha_requests 20).bytes (chacha_at state.old) 8) }
+    ensures state { chacha_at state.new ≡ (chacha_requests 20).after (chacha_at state.old) 8 }
+{
+    let mut rng = loaded::<20>(state);
+    let value = rng.generate();
+    store(state, &rng);
+    value
+}
+
+/// Fills the slice with the blocks from the counter on, by one request. The counter advances by the
+/// number of blocks that the slice takes, the last one counted whole.
+#[unsafe(no_mangle)]
+pub extern "C" fn nanorand_v1_chacha20_fill_bytes(state: &mut ChaChaState, buffer: &mut [u8])
+    ensures bytes { let start = chacha_at state.old in
+        buffer.new ≡ (chacha_requests 20).bytes start (length buffer.old) }
+    ensures counter { let blocks = div_ceil (length buffer.old) 64 in
+        state.new.counter ≡ (state.old.counter + blocks) % 2 ^ 64 }
+    ensures state { let left = (chacha_requests 20).after (chacha_at state.old) in
+        chacha_at state.new ≡ left (length buffer.old) }
+{
+    fill_bytes::<20>(state, buffer);
+}
+
+/// Draws a number from `first..=last`, by words of 32 bits, and returns a status: 0 if `number` was
+/// written, 1 if the range is empty, 2 if 128 words in a row were rejected. After 1 and 2 `number`
+/// is unchanged. After 1 nothing was drawn; after 2 the words stay drawn.
+#[unsafe(no_mangle)]
+pub extern "C" fn nanorand_v1_chacha20_range_u32(
+    state: &mut ChaChaState,
+    first: u32,
+    last: u32,
+    number: &mut u32,
+) -> u8
+    ensures status { let draw = between (chacha_requests 20) 32 first last (chacha_at state.old) in
+        result ≡ status draw.0 }
+    ensures number { let draw = between (chacha_requests 20) 32 first last (chacha_at state.old) in
+        number.new ≡ drawn_or number.old draw.0 }
+    ensures within { result ≡ 0 → (first ≤ number.new) × (number.new ≤ last) }
+    ensures state { let draw = between (chacha_requests 20) 32 first last (chacha_at state.old) in
+        chacha_at state.new ≡ draw.1 }
+{
+    let mut rng = loaded::<20>(state);
+    let status = range_u32(&mut rng, first, last, number);
+    store(state, &rng);
+    status
+}
+
+/// Draws a number from `first..=last`, by words of 64 bits. The status is that of a range of `u32`.
+#[unsafe(no_mangle)]
+pub extern "C" fn nanorand_v1_chacha20_range_u64(
+    state: &mut ChaChaState,
+    first: u64,
+    last: u64,
+    number: &mut u64,
+) -> u8
+    ensures status { let draw = between (chacha_requests 20) 64 first last (chacha_at state.old) in
+        result ≡ status draw.0 }
+    ensures number { let draw = between (chacha_requests 20) 64 first last (chacha_at state.old) in
+        number.new ≡ drawn_or number.old draw.0 }
+    ensures within { result ≡ 0 → (first ≤ number.new) × (number.new ≤ last) }
+    ensures state { let draw = between (chacha_requests 20) 64 first last (chacha_at state.old) in
+        chacha_at state.new ≡ draw.1 }
+{
+    let mut rng = loaded::<20>(state);
+    let status = range_u64(&mut rng, first, last, number);
+    store(state, &rng);
+    status
+}
+
+/// Draws a signed number from `first..=last`, by words of 64 bits. The status is that of a range of
+/// `u32`.
+#[unsafe(no_mangle)]
+pub extern "C" fn nanorand_v1_chacha20_range_i64(
+    state: &mut ChaChaState,
+    first: i64,
+    last: i64,
+    number: &mut i64,
+) -> u8
+    ensures status { let start = chacha_at state.old in
+        let draw = between_signed (chacha_requests 20) 64 first last start in
+        result ≡ status draw.0 }
+    ensures number { let start = chacha_at state.old in
+        let draw = between_signed (chacha_requests 20) 64 first last start in
+        number.new ≡ drawn_or number.old draw.0 }
+    ensures within { result ≡ 0 → (first ≤ℤ number.new) × (number.new ≤ℤ last) }
+    ensures state { let start = chacha_at state.old in
+        let draw = between_signed (chacha_requests 20) 64 first last start in
+        chacha_at state.new ≡ draw.1 }
+{
+    let mut rng = loaded::<20>(state);
+    let status = range_i64(&mut rng, first, last, number);
+    store(state, &rng);
+    status
+}
+
+/// Draws an index or a length from `first..=last`, by words of 64 bits. The status is that of a
+/// range of `u32`.
+#[unsafe(no_mangle)]
+pub extern "C" fn nanorand_v1_chacha20_range_usize(
+    state: &mut ChaChaState,
+    first: usize,
+    last: usize,
+    number: &mut usize,
+) -> u8
+    ensures status { let draw = between (chacha_requests 20) 64 first last (chacha_at state.old) in
+        result ≡ status draw.0 }
+    ensures number { let draw = between (chacha_requests 20) 64 first last (chacha_at state.old) in
+        number.new ≡ drawn_or number.old draw.0 }
+    ensures within { result ≡ 0 → (first ≤ number.new) × (number.new ≤ last) }
+    ensures state { let draw = between (chacha_requests 20) 64 first last (chacha_at state.old) in
+        chacha_at state.new ≡ draw.1 }
+{
+    let mut rng = loaded::<20>(state);
+    let status = range_usize(&mut rng, first, last, number);
+    store(state, &rng);
+    status
+}
+
+/// Shuffles the items: each, from the first on, is exchanged with one drawn from it and those after
+/// it. It returns 0, or 2 if 128 words in a row were rejected for one index; the exchanges before
+/// that stay.
+#[unsafe(no_mangle)]
+pub extern "C" fn nanorand_v1_chacha20_shuffle(state: &mut ChaChaState, items: &mut [usize]) -> u8
+    ensures status { let start = chacha_at state.old in
+        let shuffle = shuffled (chacha_requests 20) from_itself start items.old in
+        result ≡ status shuffle.answer }
+    ensures items { let start = chacha_at state.old in
+        let shuffle = shuffled (chacha_requests 20) from_itself start items.old in
+        items.new ≡ shuffle.items }
+    ensures state { let start = chacha_at state.old in
+        let shuffle = shuffled (chacha_requests 20) from_itself start items.old in
+        chacha_at state.new ≡ shuffle.state }
+    ensures arrangement { IsPermutation items.old items.new }
+{
+    let mut rng = loaded::<20>(state);
+    let status = shuffle(&mut rng, items);
+    store(state, &rng);
+    status
+}
+
+/// Shuffles the items as the crate nanorand 0.7.0 did: each is exchanged with one drawn from all,
+/// and the orders are not equally frequent. The status is that of `shuffle`.
+#[unsafe(no_mangle)]
+pub extern "C" fn nanorand_v1_chacha20_shuffle_full(
+    state: &mut ChaChaState,
+    items: &mut [usize],
+) -> u8
+    ensures status { let start = chacha_at state.old in
+        let shuffle = shuffled (chacha_requests 20) from_all start items.old in
+        result ≡ status shuffle.answer }
+    ensures items { let start = chacha_at state.old in
+        let shuffle = shuffled (chacha_requests 20) from_all start items.old in
+        items.new ≡ shuffle.items }
+    ensures state { let start = chacha_at state.old in
+        let shuffle = shuffled (chacha_requests 20) from_all start items.old in
+        chacha_at state.new ≡ shuffle.state }
+    ensures arrangement { IsPermutation items.old items.new }
+{
+    let mut rng = loaded::<20>(state);
+    let status = shuffle_full(&mut rng, items);
+    store(state, &rng);
+    status
+}
+
+/// Samples different numbers below `count`, one for each place, by Floyd's algorithm; each set of
+/// them is equally likely, their order is not uniform. It returns 0, or 1 if there are more places
+/// than numbers (nothing is drawn or written), or 2 if 128 words in a row were rejected for one
+/// place; the places before it are then written, and the draws stay.
+#[unsafe(no_mangle)]
+pub extern "C" fn nanorand_v1_chacha20_sample(
+    state: &mut ChaChaState,
+    count: usize,
+    places: &mut [usize],
+) -> u8
+    ensures status { let start = chacha_at state.old in
+        let sampling = sampling (chacha_requests 20) count start places.old in
+        result ≡ sampling.status }
+    ensures places { let start = chacha_at state.old in
+        let sampling = sampling (chacha_requests 20) count start places.old in
+        places.new ≡ sampling.places }
+    ensures state { let start = chacha_at state.old in
+        let sample = sampling (chacha_requests 20) count start places.old in
+        chacha_at state.new ≡ sample.state }
+    ensures below { result ≡ 0 → All (λ number. number < count) places.new }
+    ensures apart { result ≡ 0 → AllPairs (λ number other. number ≢ other) places.new }
+{
+    let mut rng = loaded::<20>(state);
+    let status = sample(&mut rng, count, places);
+    store(state, &rng);
+    status
+}
