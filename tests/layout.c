@@ -1,47 +1,33 @@
-// Checks how the structs of crates/nanorand_c lie in memory, by the functions that take or give them.
-//
-// The structs are declared here again. Each function has known answers in which the two words of a
-// number differ. A guard on either side of a struct shows a write beside it.
-
+/*
+ * Checks how the structs of crates/nanorand_c lie in memory, by the functions that take or give
+ * them.
+ *
+ * Each function has known answers in which the two words of a number differ, and the bytes of a key,
+ * a nonce and a block. A guard on either side of a struct shows a write beside it.
+ */
 #include <stdbool.h>
-#include <stddef.h>
-#include <stdint.h>
 #include <stdio.h>
 #include <string.h>
 
-// A number of 128 bits: the low word first.
-struct wide {
-    uint64_t low;
-    uint64_t high;
-};
+#include "nanorand.h"
 
-struct wyrand {
-    uint64_t seed;
-};
+/* An array of length -1, which no compiler takes, where the condition does not hold. */
+#define HOLDS(name, condition) typedef char holds_##name[(condition) ? 1 : -1]
 
-_Static_assert(sizeof(struct wide) == 16, "two words");
-_Static_assert(offsetof(struct wide, low) == 0, "the low word first");
-_Static_assert(offsetof(struct wide, high) == 8, "then the high word");
-_Static_assert(sizeof(struct wyrand) == 8, "one word");
-_Static_assert(offsetof(struct wyrand, seed) == 0, "which is the seed");
-_Static_assert(sizeof(size_t) == 8, "indices have 64 bits");
-
-uint64_t nanorand_pcg64_u64(struct wide *seed);
-void nanorand_pcg64_fill_bytes(struct wide *seed, uint8_t *buffer, size_t length);
-void nanorand_pcg64_jump(struct wide *seed, const struct wide *draws);
-uint8_t nanorand_pcg64_range_u64(struct wide *seed, uint64_t first, uint64_t last, uint64_t *number);
-uint8_t nanorand_pcg64_range_usize(struct wide *seed, size_t first, size_t last, size_t *number);
-uint8_t nanorand_pcg64_shuffle(struct wide *seed, size_t *items, size_t length);
-uint8_t nanorand_pcg64_shuffle_full(struct wide *seed, size_t *items, size_t length);
-
-struct wyrand nanorand_wyrand_new_seed(uint64_t seed);
-uint64_t nanorand_wyrand_u64(struct wyrand *rng);
-void nanorand_wyrand_fill_bytes(struct wyrand *rng, uint8_t *buffer, size_t length);
-void nanorand_wyrand_jump(struct wyrand *rng, uint64_t draws);
-uint8_t nanorand_wyrand_range_u64(struct wyrand *rng, uint64_t first, uint64_t last, uint64_t *number);
-uint8_t nanorand_wyrand_range_usize(struct wyrand *rng, size_t first, size_t last, size_t *number);
-uint8_t nanorand_wyrand_shuffle(struct wyrand *rng, size_t *items, size_t length);
-uint8_t nanorand_wyrand_shuffle_full(struct wyrand *rng, size_t *items, size_t length);
+HOLDS(pcg64_size, sizeof(nanorand_pcg64) == 16);
+HOLDS(pcg64_low, offsetof(nanorand_pcg64, low) == 0);
+HOLDS(pcg64_high, offsetof(nanorand_pcg64, high) == 8);
+HOLDS(wyrand_size, sizeof(nanorand_wyrand) == 8);
+HOLDS(wyrand_seed, offsetof(nanorand_wyrand, seed) == 0);
+HOLDS(chacha_size, sizeof(nanorand_chacha) == 48);
+HOLDS(chacha_key, offsetof(nanorand_chacha, key) == 0);
+HOLDS(chacha_nonce, offsetof(nanorand_chacha, nonce) == 32);
+HOLDS(chacha_counter, offsetof(nanorand_chacha, counter) == 40);
+HOLDS(stream_size, sizeof(nanorand_stream) == 120);
+HOLDS(stream_chacha, offsetof(nanorand_stream, chacha) == 0);
+HOLDS(stream_block, offsetof(nanorand_stream, block) == 48);
+HOLDS(stream_buffered, offsetof(nanorand_stream, buffered) == 112);
+HOLDS(size_t_size, sizeof(size_t) == 8);
 
 static const uint64_t GUARD = 0x5a5a5a5a5a5a5a5a;
 
@@ -58,7 +44,7 @@ static void check(const char *name, bool holds)
     }
 }
 
-// Four words of memory: the seed in the middle, low word first, between two guards.
+/* Four words of memory: the seed in the middle, low word first, between two guards. */
 struct guarded_wide {
     uint64_t words[4];
 };
@@ -69,9 +55,9 @@ static struct guarded_wide wide_of(uint64_t low, uint64_t high)
     return memory;
 }
 
-static struct wide *seed_in(struct guarded_wide *memory)
+static nanorand_pcg64 *seed_in(struct guarded_wide *memory)
 {
-    return (struct wide *)(void *)&memory->words[1];
+    return (nanorand_pcg64 *)(void *)&memory->words[1];
 }
 
 static bool wide_is(const struct guarded_wide *memory, uint64_t low, uint64_t high)
@@ -80,7 +66,7 @@ static bool wide_is(const struct guarded_wide *memory, uint64_t low, uint64_t hi
         && memory->words[3] == GUARD;
 }
 
-// The same of a seed of one word.
+/* The same of a seed of one word. */
 struct guarded_word {
     uint64_t words[3];
 };
@@ -91,9 +77,9 @@ static struct guarded_word word_of(uint64_t seed)
     return memory;
 }
 
-static struct wyrand *rng_in(struct guarded_word *memory)
+static nanorand_wyrand *rng_in(struct guarded_word *memory)
 {
-    return (struct wyrand *)(void *)&memory->words[1];
+    return (nanorand_wyrand *)(void *)&memory->words[1];
 }
 
 static bool word_is(const struct guarded_word *memory, uint64_t seed)
@@ -101,7 +87,7 @@ static bool word_is(const struct guarded_word *memory, uint64_t seed)
     return memory->words[0] == GUARD && memory->words[1] == seed && memory->words[2] == GUARD;
 }
 
-// The items 0, 1, .., 9 are in this order.
+/* The items 0, 1, .., 9 are in this order. */
 static bool is_order(const size_t *items, const char *digits)
 {
     for (size_t place = 0; place < 10; place++) {
@@ -197,7 +183,7 @@ static void check_pcg64_shuffles(void)
 static void check_wyrand_words(void)
 {
     const uint8_t bytes[8] = {0xda, 0x28, 0xb4, 0xa0, 0xd1, 0x7e, 0x03, 0xe7};
-    struct wyrand made = nanorand_wyrand_new_seed(0x5f89e29b87429bd2);
+    nanorand_wyrand made = nanorand_wyrand_new_seed(0x5f89e29b87429bd2);
     check("wyrand_new_seed: the seed", made.seed == 0x5f89e29b87429bd2);
 
     struct guarded_word memory = word_of(0x5f89e29b87429bd2);
@@ -248,6 +234,99 @@ static void check_wyrand_shuffles(void)
     check("wyrand_shuffle_full: the seed", word_is(&memory, 0x449d25ecb765ea00));
 }
 
+/* Fifteen words between two guards: a stream, or the chacha at its beginning. */
+struct guarded_stream {
+    uint64_t before;
+    nanorand_stream stream;
+    uint64_t after;
+};
+
+/* The key is 1, 2, .., the nonce 101, 102, .., and every byte of the block 0xbb. */
+static struct guarded_stream stream_of(uint64_t counter, uint64_t buffered)
+{
+    struct guarded_stream memory;
+    memory.before = memory.after = GUARD;
+    for (uint8_t place = 0; place < 32; place++) {
+        memory.stream.chacha.key[place] = (uint8_t)(place + 1);
+    }
+    for (uint8_t place = 0; place < 8; place++) {
+        memory.stream.chacha.nonce[place] = (uint8_t)(place + 101);
+    }
+    memory.stream.chacha.counter = counter;
+    memset(memory.stream.block, 0xbb, 64);
+    memory.stream.buffered = buffered;
+    return memory;
+}
+
+/* Key and nonce are as before, the counter and the number of buffered bytes as given. */
+static bool stream_is(const struct guarded_stream *memory, uint64_t counter, uint64_t buffered)
+{
+    const struct guarded_stream other = stream_of(counter, buffered);
+    const nanorand_chacha *chacha = &memory->stream.chacha;
+    return memory->before == GUARD && memory->after == GUARD && chacha->counter == counter
+        && memory->stream.buffered == buffered
+        && memcmp(chacha->key, other.stream.chacha.key, 32) == 0
+        && memcmp(chacha->nonce, other.stream.chacha.nonce, 8) == 0;
+}
+
+static bool block_is(const struct guarded_stream *memory, uint8_t byte)
+{
+    for (int place = 0; place < 64; place++) {
+        if (memory->stream.block[place] != byte) {
+            return false;
+        }
+    }
+    return true;
+}
+
+static void check_chacha(void)
+{
+    const uint8_t bytes[8] = {0x39, 0xec, 0xee, 0x38, 0xf2, 0x9b, 0xa6, 0x68};
+    const uint64_t counter = 0x0102030405060708;
+    struct guarded_stream memory = stream_of(counter, 0xdddd);
+    uint8_t out[66];
+    memset(out, 0xee, sizeof out);
+    nanorand_chacha20_block(&memory.stream.chacha, out + 1);
+    check("chacha20_block: the bytes", memcmp(out + 1, bytes, 8) == 0);
+    check("chacha20_block: no byte more", out[0] == 0xee && out[65] == 0xee);
+    check("chacha20_block: the state", stream_is(&memory, counter + 1, 0xdddd) && block_is(&memory, 0xbb));
+
+    memory = stream_of(counter, 0xdddd);
+    uint64_t word = nanorand_chacha20_u64(&memory.stream.chacha);
+    check("chacha20_u64: the word", memcmp(&word, bytes, 8) == 0);
+    check("chacha20_u64: the state", stream_is(&memory, counter + 1, 0xdddd) && block_is(&memory, 0xbb));
+
+    size_t items[10] = {0, 1, 2, 3, 4, 5, 6, 7, 8, 9};
+    memory = stream_of(UINT64_MAX, 0xdddd);
+    check("chacha20_shuffle", nanorand_chacha20_shuffle(&memory.stream.chacha, items, 10) == 0);
+    check("chacha20_shuffle: the order", is_order(items, "3964215708"));
+    check("chacha20_shuffle: the state", stream_is(&memory, 9, 0xdddd) && block_is(&memory, 0xbb));
+}
+
+static void check_stream(void)
+{
+    const uint8_t bytes[8] = {0x39, 0xec, 0xee, 0x38, 0xf2, 0x9b, 0xa6, 0x68};
+    const uint64_t counter = 0x0102030405060708;
+    struct guarded_stream memory = stream_of(counter, 0);
+    uint64_t word = nanorand_stream_u64(&memory.stream);
+    check("stream_u64: the word", memcmp(&word, bytes, 8) == 0);
+    check("stream_u64: the state", stream_is(&memory, counter + 1, 56));
+
+    uint8_t next[59];
+    memset(next, 0xee, sizeof next);
+    nanorand_stream_fill_bytes(&memory.stream, next + 1, 57);
+    check("stream_fill_bytes: no byte more", next[0] == 0xee && next[58] == 0xee);
+    check("stream_fill_bytes: the state", stream_is(&memory, counter + 2, 63));
+
+    memory = stream_of(counter, 8);
+    check("stream_u64: the buffered word", nanorand_stream_u64(&memory.stream) == 0xbbbbbbbbbbbbbbbb);
+    check("stream_u64: nothing is buffered", stream_is(&memory, counter, 0));
+
+    memory = stream_of(counter, UINT64_MAX);
+    check("stream_u64: 63 bytes at most", nanorand_stream_u64(&memory.stream) == 0xbbbbbbbbbbbbbbbb);
+    check("stream_u64: 55 are left", stream_is(&memory, counter, 55));
+}
+
 int main(void)
 {
     check_pcg64_words();
@@ -258,6 +337,8 @@ int main(void)
     check_wyrand_words();
     check_wyrand_ranges();
     check_wyrand_shuffles();
+    check_chacha();
+    check_stream();
     printf("%u passed, %u failed\n", passed, failed);
     return failed == 0 ? 0 : 1;
 }

@@ -1,0 +1,257 @@
+/*
+ * The edges of the interface, of every generator: null pointers with length 0, empty and whole
+ * ranges, samples that are too large, odd addresses, large lengths, each status that can be reached,
+ * and what a refusal leaves.
+ *
+ * Not reached: NANORAND_EXHAUSTED and NANORAND_LOTS_EXHAUSTED. No state is known that gives them.
+ */
+#include <stdio.h>
+#include <stdlib.h>
+#include <string.h>
+
+#include "nanorand.h"
+
+/* An array of length -1, which no compiler takes, where the condition does not hold. */
+#define HOLDS(name, condition) typedef char holds_##name[(condition) ? 1 : -1]
+
+HOLDS(version, NANORAND_VERSION == 10000);
+HOLDS(ok, NANORAND_OK == 0);
+HOLDS(empty, NANORAND_EMPTY == 1);
+HOLDS(exhausted, NANORAND_EXHAUSTED == 2);
+HOLDS(lots_bad_seed, NANORAND_LOTS_BAD_SEED == 2);
+HOLDS(lots_too_few, NANORAND_LOTS_TOO_FEW == 3);
+HOLDS(lots_empty_line, NANORAND_LOTS_EMPTY_LINE == 4);
+HOLDS(lots_exhausted, NANORAND_LOTS_EXHAUSTED == 8);
+
+enum { LARGE = (1 << 20) + 1, ITEMS = 100000, OFFSETS = 16, SHORT = 200 };
+
+static unsigned passed = 0;
+static unsigned failed = 0;
+
+static void check(const char *generator, const char *name, int holds)
+{
+    if (holds) {
+        passed++;
+    } else {
+        failed++;
+        printf("FAILED %s: %s\n", generator, name);
+    }
+}
+
+/* Each number below `count` is there once. */
+static int is_permutation(const size_t *items, size_t count)
+{
+    unsigned char *seen = (unsigned char *)calloc(count + 1, 1);
+    int holds = seen != NULL;
+    for (size_t place = 0; holds && place < count; place++) {
+        holds = items[place] < count && !seen[items[place]];
+        if (holds) {
+            seen[items[place]] = 1;
+        }
+    }
+    free(seen);
+    return holds;
+}
+
+static int all_are(const size_t *items, size_t length, size_t wanted)
+{
+    for (size_t place = 0; place < length; place++) {
+        if (items[place] != wanted) {
+            return 0;
+        }
+    }
+    return 1;
+}
+
+/* The tests of one generator. S is the type of its state, */
+#define TESTS(G, S)                                                                                \
+    static void null_pointers_##G(S start)                                                         \
+    {                                                                                              \
+        S state = start;                                                                           \
+        nanorand_##G##_fill_bytes(&state, NULL, 0);                                                \
+        check(#G, "no bytes", memcmp(&state, &start, sizeof state) == 0);                          \
+        check(#G, "no items", nanorand_##G##_shuffle(&state, NULL, 0) == NANORAND_OK);             \
+        check(#G, "no items of all", nanorand_##G##_shuffle_full(&state, NULL, 0) == NANORAND_OK); \
+        check(#G, "no places", nanorand_##G##_sample(&state, 5, NULL, 0) == NANORAND_OK);          \
+        check(#G, "none of none", nanorand_##G##_sample(&state, 0, NULL, 0) == NANORAND_OK);       \
+        check(#G, "nothing is drawn", memcmp(&state, &start, sizeof state) == 0);                  \
+    }                                                                                              \
+                                                                                                   \
+    static void empty_ranges_##G(S start)                                                          \
+    {                                                                                              \
+        S state = start;                                                                           \
+        uint32_t narrow = 7;                                                                       \
+        uint64_t wide = 7;                                                                         \
+        int64_t sign = 7;                                                                          \
+        size_t place = 7;                                                                          \
+        size_t places[3] = {7, 7, 7};                                                              \
+        check(#G, "u32", nanorand_##G##_range_u32(&state, 5, 4, &narrow) == NANORAND_EMPTY);       \
+        check(#G, "u64", nanorand_##G##_range_u64(&state, UINT64_MAX, 0, &wide) == NANORAND_EMPTY);\
+        check(#G, "i64", nanorand_##G##_range_i64(&state, 1, -1, &sign) == NANORAND_EMPTY);        \
+        check(#G, "usize", nanorand_##G##_range_usize(&state, 1, 0, &place) == NANORAND_EMPTY);    \
+        check(#G, "sample", nanorand_##G##_sample(&state, 2, places, 3) == NANORAND_EMPTY);        \
+        check(#G, "numbers stay", narrow == 7 && wide == 7 && sign == 7 && place == 7);            \
+        check(#G, "places stay", all_are(places, 3, 7));                                           \
+        check(#G, "state stays", memcmp(&state, &start, sizeof state) == 0);                       \
+    }                                                                                              \
+                                                                                                   \
+    static void ranges_##G(S start)                                                                \
+    {                                                                                              \
+        S state = start;                                                                           \
+        S other = start;                                                                           \
+        uint32_t narrow = 7;                                                                       \
+        uint64_t wide = 7;                                                                         \
+        int64_t sign = 7;                                                                          \
+        uint8_t drawn;                                                                             \
+        uint64_t word = nanorand_##G##_u64(&other);                                                \
+        check(#G, "all of u64", nanorand_##G##_range_u64(&state, 0, UINT64_MAX, &wide) == 0);      \
+        check(#G, "it is the word", wide == word);                                                 \
+        state = start;                                                                             \
+        drawn = nanorand_##G##_range_i64(&state, INT64_MIN, INT64_MAX, &sign);                     \
+        check(#G, "all of i64", drawn == NANORAND_OK);                                             \
+        check(#G, "from the least on", (uint64_t)sign == word - ((uint64_t)1 << 63));              \
+        check(#G, "one word is drawn", memcmp(&state, &other, sizeof state) == 0);                 \
+        check(#G, "one of u32", nanorand_##G##_range_u32(&state, 9, 9, &narrow) == 0);             \
+        check(#G, "it is the one", narrow == 9);                                                   \
+        check(#G, "a word is drawn", memcmp(&state, &other, sizeof state) != 0);                   \
+        for (int count = 0; count < 1000; count++) {                                               \
+            uint8_t status = nanorand_##G##_range_i64(&state, -3, 3, &sign);                       \
+            if (status != NANORAND_OK || sign < -3 || sign > 3) {                                  \
+                check(#G, "within -3..3", 0);                                                      \
+            }                                                                                      \
+        }                                                                                          \
+    }                                                                                              \
+                                                                                                   \
+    static void addresses_##G(S start)                                                             \
+    {                                                                                              \
+        static uint8_t wanted[SHORT], bytes[SHORT + OFFSETS + 1];                                  \
+        for (size_t length = 0; length <= SHORT; length += length < 70 ? 1 : 13) {                 \
+            S state = start;                                                                       \
+            nanorand_##G##_fill_bytes(&state, wanted, length);                                     \
+            for (size_t offset = 1; offset < OFFSETS; offset++) {                                  \
+                S other = start;                                                                   \
+                memset(bytes, 0xee, sizeof bytes);                                                 \
+                nanorand_##G##_fill_bytes(&other, bytes + offset, length);                         \
+                if (memcmp(bytes + offset, wanted, length) != 0 || bytes[offset - 1] != 0xee       \
+                    || bytes[offset + length] != 0xee || memcmp(&state, &other, sizeof state)) {   \
+                    check(#G, "any address", 0);                                                   \
+                }                                                                                  \
+            }                                                                                      \
+        }                                                                                          \
+        check(#G, "every address", 1);                                                             \
+    }                                                                                              \
+                                                                                                   \
+    /* One fill, and the same bytes in pieces of 64. */                                            \
+    static void lengths_##G(S start)                                                               \
+    {                                                                                              \
+        static uint8_t whole[LARGE + 1], pieces[LARGE];                                            \
+        const size_t rest = LARGE % 64;                                                            \
+        S state = start;                                                                           \
+        S other = start;                                                                           \
+        whole[LARGE] = 0xee;                                                                       \
+        nanorand_##G##_fill_bytes(&state, whole, LARGE);                                           \
+        for (size_t place = 0; place < LARGE - rest; place += 64) {                                \
+            nanorand_##G##_fill_bytes(&other, pieces + place, 64);                                 \
+        }                                                                                          \
+        nanorand_##G##_fill_bytes(&other, pieces + LARGE - rest, rest);                            \
+        check(#G, "a large fill", memcmp(whole, pieces, LARGE) == 0 && whole[LARGE] == 0xee);      \
+    }                                                                                              \
+                                                                                                   \
+    static void shuffles_##G(S start)                                                              \
+    {                                                                                              \
+        static size_t items[ITEMS];                                                                \
+        S state = start;                                                                           \
+        for (size_t place = 0; place < ITEMS; place++) {                                           \
+            items[place] = place;                                                                  \
+        }                                                                                          \
+        check(#G, "a large shuffle", nanorand_##G##_shuffle(&state, items, ITEMS) == 0);           \
+        check(#G, "its items", is_permutation(items, ITEMS));                                      \
+        check(#G, "a full one", nanorand_##G##_shuffle_full(&state, items, ITEMS) == 0);           \
+        check(#G, "the same items", is_permutation(items, ITEMS));                                 \
+        check(#G, "a sample of all", nanorand_##G##_sample(&state, 1000, items, 1000) == 0);       \
+        check(#G, "each once", is_permutation(items, 1000));                                       \
+    }                                                                                              \
+                                                                                                   \
+    static void all_##G(S start)                                                                   \
+    {                                                                                              \
+        null_pointers_##G(start);                                                                  \
+        empty_ranges_##G(start);                                                                   \
+        ranges_##G(start);                                                                         \
+        addresses_##G(start);                                                                      \
+        lengths_##G(start);                                                                        \
+        shuffles_##G(start);                                                                       \
+    }
+
+TESTS(wyrand, nanorand_wyrand)
+TESTS(pcg64, nanorand_pcg64)
+TESTS(chacha8, nanorand_chacha)
+TESTS(chacha12, nanorand_chacha)
+TESTS(chacha20, nanorand_chacha)
+TESTS(stream, nanorand_stream)
+
+static const uint8_t *text_of(const char *text)
+{
+    return (const uint8_t *)text;
+}
+
+static void digests(void)
+{
+    const uint8_t none[4] = {0xe3, 0xb0, 0xc4, 0x42};
+    const uint8_t abc[4] = {0xba, 0x78, 0x16, 0xbf};
+    uint8_t out[34];
+    memset(out, 0xee, sizeof out);
+    nanorand_lots_digest(NULL, 0, out + 1);
+    check("lots", "the sum of nothing", memcmp(out + 1, none, 4) == 0);
+    nanorand_lots_digest(text_of("abc"), 3, out + 1);
+    check("lots", "the sum of abc", memcmp(out + 1, abc, 4) == 0);
+    check("lots", "32 bytes", out[0] == 0xee && out[33] == 0xee && out[32] == 0xad);
+}
+
+static void lists(void)
+{
+    size_t number = 7;
+    check("lots", "no list", nanorand_lots_count(NULL, 0, &number) == NANORAND_OK && number == 0);
+    number = 7;
+    check("lots", "two lines", nanorand_lots_count(text_of("a\nb"), 3, &number) == NANORAND_OK);
+    check("lots", "are two", number == 2);
+    check("lots", "an empty line",
+          nanorand_lots_count(text_of("a\n\nb\n"), 5, &number) == NANORAND_LOTS_EMPTY_LINE);
+    check("lots", "is the second", number == 2);
+}
+
+static void draws(void)
+{
+    const uint8_t *seed = text_of("s");
+    const uint8_t *no_text = text_of("\xff");
+    size_t places[3] = {7, 7, 7};
+    check("lots", "no seed", nanorand_lots_draw(NULL, 0, places, 3, 1) == NANORAND_LOTS_BAD_SEED);
+    check("lots", "no text", nanorand_lots_draw(no_text, 1, places, 3, 1) == NANORAND_LOTS_BAD_SEED);
+    check("lots", "seed first", nanorand_lots_draw(NULL, 0, places, 3, 9) == NANORAND_LOTS_BAD_SEED);
+    check("lots", "the places stay", all_are(places, 3, 7));
+    check("lots", "too few", nanorand_lots_draw(seed, 1, places, 3, 4) == NANORAND_LOTS_TOO_FEW);
+    check("lots", "none of none", nanorand_lots_draw(seed, 1, NULL, 0, 0) == NANORAND_OK);
+    check("lots", "one of none", nanorand_lots_draw(seed, 1, NULL, 0, 1) == NANORAND_LOTS_TOO_FEW);
+    check("lots", "all of three", nanorand_lots_draw(seed, 1, places, 3, 3) == NANORAND_OK);
+    check("lots", "each once", is_permutation(places, 3));
+}
+
+int main(void)
+{
+    nanorand_pcg64 pcg64 = {5, 1};
+    nanorand_stream stream;
+    memset(&stream, 0x5a, sizeof stream);
+    stream.chacha.counter = 3;
+    stream.buffered = 0;
+    check("the library", "version", nanorand_version() == NANORAND_VERSION);
+    all_wyrand(nanorand_wyrand_new_seed(42));
+    all_pcg64(pcg64);
+    all_chacha8(stream.chacha);
+    all_chacha12(stream.chacha);
+    all_chacha20(stream.chacha);
+    all_stream(stream);
+    digests();
+    lists();
+    draws();
+    printf("%u passed, %u failed\n", passed, failed);
+    return failed == 0 ? 0 : 1;
+}
