@@ -1,27 +1,25 @@
 //! `ChaCha` with 8, 12 and 20 rounds beside the library's.
 
-use crate::border;
-use crate::chooser::{Chooser, Range, Seeding, SEEDINGS};
-use crate::fills::{buffered, parts, same_items, Buffers, Part, LONGEST, OFFSETS, PARTS};
-use crate::values::{named_rank, range, same, value, Kind, Span, KINDS, SPANS};
+use crate::border::{self, ChaChaState, Words};
+use crate::chooser::{narrow, Chooser, Seeding, SEEDINGS};
+use crate::draws::{chosen_draw, first_draws, Draw, Memory};
+use crate::fills::{same_items, LONGEST};
+use crate::values::same;
 use crate::{Counts, Pair};
 use nanorand_proved::crypto::chacha::{chacha_block, chacha_increment_counter, chacha_init};
 use nanorand_proved::{ChaCha, Rng, SeedableRng};
 
+/// The most items of a shuffle: each takes a block.
+const ITEMS: usize = 60;
+
 #[derive(Clone, Copy, Debug)]
 pub enum Call {
+    Draw(Draw),
     Block,
     /// By `chacha_block` of a state that is made by `chacha_init`, at one of the first counters.
     BlockOfState {
         counter: u64,
     },
-    Value(Kind),
-    Range(Span, Range),
-    Fill {
-        offset: usize,
-        length: usize,
-    },
-    Buffered([Part; PARTS]),
     Jump {
         draws: u64,
     },
@@ -46,14 +44,35 @@ fn at(counter: u64) -> Call {
     Call::At { counter }
 }
 
-/// The two generators, and what they fill.
+pub fn near_a_carry(chooser: &mut Chooser) -> u64 {
+    let before = chooser.number() % NEAR;
+    chooser.one_of(&CARRIES).wrapping_sub(before)
+}
+
+/// The states of the crate's generator and of the library's are the same.
+pub fn same_chacha<const ROUNDS: u8>(
+    erased: &ChaCha<ROUNDS>,
+    library: &ChaChaState,
+) -> Result<(), String> {
+    let counter = same(&erased.counter(), &library.counter);
+    counter.map_err(|text| format!("the counter afterwards: {text}"))?;
+    let key = same(&erased.key(), &library.key);
+    key.map_err(|text| format!("the key afterwards: {text}"))?;
+    let nonce = same(&erased.nonce(), &library.nonce);
+    nonce.map_err(|text| format!("the nonce afterwards: {text}"))
+}
+
+/// The two generators, and what they write.
 pub struct BlockPair<const ROUNDS: u8> {
     library: border::ChaCha<ROUNDS>,
     erased: ChaCha<ROUNDS>,
-    buffers: Buffers,
+    memory: Memory,
 }
 
-impl<const ROUNDS: u8> Pair for BlockPair<ROUNDS> {
+impl<const ROUNDS: u8> Pair for BlockPair<ROUNDS>
+where
+    border::ChaCha<ROUNDS>: Words,
+{
     type Call = Call;
 
     fn name() -> String {
@@ -63,36 +82,23 @@ impl<const ROUNDS: u8> Pair for BlockPair<ROUNDS> {
     fn new(chooser: &mut Chooser) -> Self {
         let (key, nonce) = (chooser.bytes(), chooser.bytes());
         Self {
-            library: border::ChaCha {
-                key,
-                nonce,
-                counter: 0,
-            },
+            library: border::ChaCha::at(key, nonce, 0),
             erased: ChaCha::new_key(key, nonce),
-            buffers: Buffers::new(),
+            memory: Memory::new(),
         }
     }
 
     fn first_calls() -> Vec<Call> {
-        let mut calls = Vec::new();
-        for length in 0..=LONGEST {
-            let offset = length % OFFSETS;
-            calls.push(Call::Fill { offset, length });
-        }
+        let draws = first_draws(ITEMS).into_iter().map(Call::Draw);
+        let mut calls: Vec<Call> = draws.collect();
         for carry in CARRIES {
             for before in 0..NEAR {
                 let counter = carry.wrapping_sub(before);
+                let (offset, length) = (1, LONGEST);
                 calls.extend([at(counter), Call::Block]);
-                calls.extend([
-                    at(counter),
-                    Call::Fill {
-                        offset: 1,
-                        length: LONGEST,
-                    },
-                ]);
+                calls.extend([at(counter), Call::Draw(Draw::Fill { offset, length })]);
             }
         }
-        calls.extend(KINDS.map(Call::Value));
         let powers = (0..64).map(|bit| 1 << bit);
         let jumps = powers.chain([0, 1, u64::MAX - 1, u64::MAX]);
         calls.extend(jumps.map(|draws| Call::Jump { draws }));
@@ -101,26 +107,15 @@ impl<const ROUNDS: u8> Pair for BlockPair<ROUNDS> {
 
     fn call(chooser: &mut Chooser) -> Call {
         match chooser.below(32) {
-            0..=6 => Call::Block,
-            7..=8 => Call::BlockOfState {
+            0..=3 => Call::Block,
+            4 => Call::BlockOfState {
                 counter: chooser.number() % 20,
             },
-            9..=14 => Call::Value(chooser.one_of(&KINDS)),
-            15..=18 => {
-                let span = chooser.one_of(&SPANS);
-                Call::Range(span, chooser.range(span.bits()))
-            }
-            19..=24 => Call::Fill {
-                offset: chooser.below(OFFSETS),
-                length: chooser.below(LONGEST + 1),
+            5..=26 => Call::Draw(chosen_draw(chooser, ITEMS)),
+            27..=28 => Call::Jump {
+                draws: narrow(chooser.end(64)),
             },
-            25 => Call::Buffered(parts(chooser)),
-            26..=27 => Call::Jump {
-                draws: u64::try_from(chooser.end(64)).expect("a number of 64 bits"),
-            },
-            28..=30 => at(chooser
-                .one_of(&CARRIES)
-                .wrapping_sub(chooser.number() % NEAR)),
+            29..=30 => at(near_a_carry(chooser)),
             _ => Call::Seed {
                 key: chooser.bytes(),
                 nonce: chooser.bytes(),
@@ -132,29 +127,17 @@ impl<const ROUNDS: u8> Pair for BlockPair<ROUNDS> {
     fn compare(&mut self, call: &Call, counts: &mut Counts) -> Result<(), String> {
         let (rng, library) = (&mut self.erased, &mut self.library);
         match *call {
+            Call::Draw(draw) => self.memory.compare(&draw, rng, library, counts),
             Call::Block => same_items(&rng.rand(), &library.block()),
             Call::BlockOfState { counter } => self.block_of_state(counter),
-            Call::Value(kind) => value(kind, rng, |bytes| library.fill_bytes(bytes)),
-            Call::Range(span, wanted) => {
-                let before = library.counter;
-                let rank = named_rank(&wanted, span.bits(), |bytes| library.fill_bytes(bytes));
-                let words = library.counter.wrapping_sub(before);
-                counts.range(rank.is_ok(), words > 1);
-                range(span, &wanted, rng, rank)
-            }
-            Call::Fill { offset, length } => {
-                let fill = |bytes: &mut [u8]| library.fill_bytes(bytes);
-                self.buffers.fill(offset, length, rng, fill)
-            }
-            Call::Buffered(parts) => buffered(&parts, rng, |bytes| library.fill_bytes(bytes)),
             Call::Jump { draws } => {
                 rng.jump(draws);
-                library.counter = library.counter.wrapping_add(draws);
+                library.state.counter = library.state.counter.wrapping_add(draws);
                 Ok(())
             }
             Call::At { counter } => {
-                *rng = ChaCha::at(library.key, library.nonce, counter);
-                library.counter = counter;
+                *rng = ChaCha::at(library.state.key, library.state.nonce, counter);
+                library.state.counter = counter;
                 Ok(())
             }
             Call::Seed { key, nonce, way } => {
@@ -165,28 +148,21 @@ impl<const ROUNDS: u8> Pair for BlockPair<ROUNDS> {
     }
 
     fn same_states(&self) -> Result<(), String> {
-        let (erased, library) = (&self.erased, &self.library);
-        let counter = same(&erased.counter(), &library.counter);
-        counter.map_err(|text| format!("the counter afterwards: {text}"))?;
-        let key = same(&erased.key(), &library.key);
-        key.map_err(|text| format!("the key afterwards: {text}"))?;
-        let nonce = same(&erased.nonce(), &library.nonce);
-        nonce.map_err(|text| format!("the nonce afterwards: {text}"))
+        same_chacha(&self.erased, &self.library.state)?;
+        self.memory.same()
     }
 }
 
 impl<const ROUNDS: u8> BlockPair<ROUNDS> {
     // Neither generator moves.
     fn block_of_state(&self, counter: u64) -> Result<(), String> {
-        let mut state = chacha_init(self.library.key, self.library.nonce);
+        let ChaChaState { key, nonce, .. } = self.library.state;
+        let mut state = chacha_init(key, nonce);
         for _ in 0..counter {
             same(&chacha_increment_counter(&mut state), &true)?;
         }
         let ours = chacha_block::<ROUNDS>(state).map(u32::to_le_bytes);
-        let mut library = border::ChaCha::<ROUNDS> {
-            counter,
-            ..self.library.clone()
-        };
+        let mut library = border::ChaCha::<ROUNDS>::at(key, nonce, counter);
         same_items(&ours.concat(), &library.block())
     }
 
@@ -199,10 +175,6 @@ impl<const ROUNDS: u8> BlockPair<ROUNDS> {
             Seeding::Bytes => self.erased = ChaCha::from_seed(seed),
             Seeding::Again => self.erased.reseed(seed),
         }
-        self.library = border::ChaCha {
-            key,
-            nonce,
-            counter: 0,
-        };
+        self.library = border::ChaCha::at(key, nonce, 0);
     }
 }

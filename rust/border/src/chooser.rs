@@ -1,7 +1,8 @@
 //! The choices of a run: a generator that has nothing in common with those that are compared, and
 //! numbers at the ends of their types.
 
-/// `SplitMix64`, after Steele, Lea and Flood, "Fast Splittable Pseudorandom Number Generators" (2014).
+/// `SplitMix64`, after Steele, Lea and Flood, "Fast Splittable Pseudorandom Number Generators"
+/// (2014).
 pub struct Chooser {
     count: u64,
 }
@@ -27,8 +28,8 @@ pub enum Edge {
     Unbounded,
 }
 
-/// The first and the last number of a range, as ranks in their type, and how each is written. If the
-/// last is below the first, the range is empty.
+/// The first and the last number of a range, as ranks in their type, and how each is written. If
+/// the last is below the first, the range is empty.
 #[derive(Clone, Copy, Debug)]
 pub struct Range {
     pub first: u64,
@@ -41,7 +42,7 @@ pub fn index(number: u64) -> usize {
     usize::try_from(number).expect("an index has 64 bits")
 }
 
-fn narrow(number: u128) -> u64 {
+pub fn narrow(number: u128) -> u64 {
     u64::try_from(number).expect("a number of 64 bits")
 }
 
@@ -78,8 +79,8 @@ impl Chooser {
         u128::from(self.number()) << 64 | u128::from(self.number())
     }
 
-    /// A number of this many bits, most often an end: 0, 1, the greatest or the one before it, a small
-    /// number, a power of two or a number beside one.
+    /// A number of this many bits, most often an end: 0, 1, the greatest or the one before it, a
+    /// small number, a power of two or a number beside one.
     pub fn end(&mut self, bits: u32) -> u128 {
         let greatest = u128::MAX >> (128 - bits);
         let power = 1 << self.below(bits as usize);
@@ -96,8 +97,8 @@ impl Chooser {
         }
     }
 
-    /// How many numbers a range of a type of this many bits has. Sizes beside a power of two, and those
-    /// that are a little more than half of all words, reject nearly half of the words.
+    /// How many numbers a range of a type of this many bits has. Sizes beside a power of two, and
+    /// those that are a little more than half of all words, reject nearly half of the words.
     fn size(&mut self, bits: u32) -> u128 {
         let all = 1 << bits;
         let power = 1 << self.below(bits as usize + 1);

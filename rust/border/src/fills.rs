@@ -31,8 +31,9 @@ pub fn same_items<T: PartialEq + Debug>(erased: &[T], library: &[T]) -> Result<(
     })
 }
 
-/// A buffer of the crate's and one of the library's, with room on either side of a fill. Each keeps the
-/// bytes of earlier fills, so that a byte shows which is not written, or written beside the fill.
+/// A buffer of the crate's and one of the library's, with room on either side of a fill. Each keeps
+/// the bytes of earlier fills, so that a byte shows which is not written, or written beside the
+/// fill.
 pub struct Buffers {
     erased: Vec<u8>,
     library: Vec<u8>,
@@ -102,8 +103,8 @@ impl<F: FnMut(&mut [u8]), const OUTPUT: usize> Stream<F, OUTPUT> {
     }
 }
 
-/// That requests to a buffer over the generator take the library's blocks without a break, and that the
-/// rest of the last block stays.
+/// That requests to a buffer over the generator take the library's blocks without a break, and that
+/// the rest of the last block stays.
 pub fn buffered<R: Rng<OUTPUT>, const OUTPUT: usize>(
     parts: &[Part],
     rng: &mut R,

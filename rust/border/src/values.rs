@@ -1,5 +1,6 @@
 //! Values and ranges of all types, drawn by the crate, beside the library's bytes.
 
+use crate::border::Words;
 use crate::chooser::{Edge, Range};
 use nanorand_proved::{RandomRange, RangeError, Rng};
 use std::fmt::Debug;
@@ -147,6 +148,7 @@ pub fn value<R: Rng<OUTPUT>, const OUTPUT: usize>(
 /// An integer type that has ranges. The rank of a number is 0 for the least of its type.
 pub trait Whole: Copy + PartialEq + Debug {
     fn of_rank(rank: u64) -> Self;
+    fn rank(self) -> u64;
 }
 
 macro_rules! whole {
@@ -156,6 +158,11 @@ macro_rules! whole {
             #[allow(clippy::cast_lossless)]
             fn of_rank(rank: u64) -> Self {
                 Self::try_from(i128::from(rank) + Self::MIN as i128).expect("a rank of the type")
+            }
+
+            #[allow(clippy::cast_lossless)]
+            fn rank(self) -> u64 {
+                u64::try_from(self as i128 - Self::MIN as i128).expect("a rank of 64 bits")
             }
         }
     )+};
@@ -250,8 +257,55 @@ fn range_of<T: Whole + RandomRange<R, OUTPUT>, R: Rng<OUTPUT>, const OUTPUT: usi
     same(&rng.generate_range(bounds), &library.map(T::of_rank))
 }
 
-/// The rank that the library's bytes name, by the definition: of a type of fewer than 64 bits, and of
-/// `ChaCha`, the library exports no ranges.
+/// Draws a number of the range with the library, if it exports such ranges. The result is a rank.
+fn exported_rank<L: Words>(
+    span: Span,
+    range: &Range,
+    library: &mut L,
+) -> Option<Result<u64, RangeError>> {
+    let &Range { first, last, .. } = range;
+    Some(match span {
+        Span::U32 | Span::I32 => library
+            .range_u32(u32::of_rank(first), u32::of_rank(last))
+            .map(Whole::rank),
+        Span::U64 => library.range_u64(first, last),
+        Span::I64 => library
+            .range_i64(i64::of_rank(first), i64::of_rank(last))
+            .map(Whole::rank),
+        Span::Usize | Span::Isize => library
+            .range_usize(usize::of_rank(first), usize::of_rank(last))
+            .map(Whole::rank),
+        Span::U8 | Span::U16 | Span::I8 | Span::I16 => return None,
+    })
+}
+
+/// Draws a number of the range with the library, and says whether it took several words.
+///
+/// What the library exports is compared with the definition; of types below 32 bits it exports no
+/// ranges, and the number is that of the definition.
+pub fn library_rank<L: Words>(
+    span: Span,
+    range: &Range,
+    library: &mut L,
+) -> Result<(Result<u64, RangeError>, bool), String> {
+    let mut defined = library.clone();
+    let mut words = 0;
+    let rank = named_rank(range, span.bits(), |bytes| {
+        words += 1;
+        defined.fill_bytes(bytes);
+    });
+    match exported_rank(span, range, library) {
+        Some(exported) => {
+            let by_definition = "of the definition and of the export";
+            same(&rank, &exported).map_err(|text| format!("{by_definition}: {text}"))?;
+            same(&defined, library).map_err(|text| format!("{by_definition}: {text}"))?;
+        }
+        None => *library = defined,
+    }
+    Ok((rank, words > 1))
+}
+
+/// The rank that the library's bytes name, by the definition.
 ///
 /// Word w of N bits names number w * size / 2^N, rounded down, unless the remainder is below
 /// 2^N mod size. At most 128 words are drawn.
