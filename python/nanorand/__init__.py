@@ -1,0 +1,35 @@
+"""Seeded random generators over a proved library: the same numbers in every language.
+
+`WyRand` and `Pcg64` are not cryptographically secure: draw no key, token or password from them.
+`nanorand.randoms` has the generators as `random.Random`, `nanorand.lots` the public draw by lot,
+and `nanorand.errors` every error.
+
+>>> from nanorand import WyRand
+>>> rng = WyRand(42)
+>>> rng.range(1, 100)
+69
+"""
+
+from nanorand import errors, lots, randoms
+from nanorand.errors import EmptyRange, Exhausted, NanorandError, OutOfBounds, WrongLength
+from nanorand.generators import ChaCha8, ChaCha12, ChaCha20, Generator, Pcg64, Stream, WyRand
+
+__version__ = "1.0.0"
+
+__all__ = [
+    "ChaCha8",
+    "ChaCha12",
+    "ChaCha20",
+    "EmptyRange",
+    "Exhausted",
+    "Generator",
+    "NanorandError",
+    "OutOfBounds",
+    "Pcg64",
+    "Stream",
+    "WrongLength",
+    "WyRand",
+    "errors",
+    "lots",
+    "randoms",
+]

@@ -1,0 +1,153 @@
+"""The errors of this package.
+
+After each of them the generator's state is as before, but for `Exhausted`. A value of a wrong
+type, a float for one, is a `TypeError`.
+
+>>> from nanorand import EmptyRange, WyRand
+>>> try:
+...     WyRand(42).range(6, 1)
+... except EmptyRange as error:
+...     print(error)
+the range contains no number
+"""
+
+__all__ = [
+    "EmptyLine",
+    "EmptyRange",
+    "EmptySeed",
+    "Exhausted",
+    "ForeignState",
+    "LibraryRefused",
+    "NanorandError",
+    "OutOfBounds",
+    "SeedNotText",
+    "TooFew",
+    "WrongLength",
+]
+
+
+class NanorandError(Exception):
+    """Every error of this package is one of these.
+
+    >>> issubclass(EmptyRange, NanorandError)
+    True
+    """
+
+
+class EmptyRange(NanorandError, ValueError):
+    """There is no number or item to draw; or a sample asks for more numbers than there are.
+
+    >>> str(EmptyRange())
+    'the range contains no number'
+    """
+
+    def __str__(self) -> str:
+        return "the range contains no number"
+
+
+class Exhausted(NanorandError, RuntimeError):
+    """128 words in a row were rejected: fewer than one draw in 2^128. They stay drawn.
+
+    >>> str(Exhausted())
+    '128 words in a row were rejected'
+    """
+
+    def __str__(self) -> str:
+        return "128 words in a row were rejected"
+
+
+class OutOfBounds(NanorandError, OverflowError, ValueError):
+    """A number does not fit its bits: a seed, a bound, a length or a count.
+
+    >>> from nanorand import WyRand
+    >>> WyRand(2**64)
+    Traceback (most recent call last):
+    nanorand.errors.OutOfBounds: seed is not in 0..=18446744073709551615
+    """
+
+
+class WrongLength(NanorandError, ValueError):
+    """A key, a nonce, a state or buffered bytes of another length.
+
+    >>> from nanorand import Stream
+    >>> Stream(b"short")
+    Traceback (most recent call last):
+    nanorand.errors.WrongLength: key has 5 bytes, not 32
+    """
+
+
+class ForeignState(NanorandError, ValueError):
+    """A state for `setstate` is not one that `getstate` of the same class gave.
+
+    >>> str(ForeignState("WyRand"))
+    'the state is not one of WyRand'
+    """
+
+    def __init__(self, generator: str) -> None:
+        super().__init__(generator)
+        self.generator = generator
+
+    def __str__(self) -> str:
+        return f"the state is not one of {self.generator}"
+
+
+class LibraryRefused(NanorandError, ImportError):
+    """The shared library is missing, or has another version than this package.
+
+    >>> issubclass(LibraryRefused, ImportError)
+    True
+    """
+
+
+class EmptySeed(NanorandError, ValueError):
+    """The seed of a draw by lot has no byte.
+
+    >>> str(EmptySeed())
+    'the seed is empty'
+    """
+
+    def __str__(self) -> str:
+        return "the seed is empty"
+
+
+class SeedNotText(NanorandError, ValueError):
+    """The seed of a draw by lot is not UTF-8.
+
+    >>> str(SeedNotText())
+    'the seed is not UTF-8'
+    """
+
+    def __str__(self) -> str:
+        return "the seed is not UTF-8"
+
+
+class EmptyLine(NanorandError, ValueError):
+    """A line of a list is empty. `line` is the number of the first one, from 1.
+
+    >>> EmptyLine(3).line
+    3
+    """
+
+    def __init__(self, line: int) -> None:
+        super().__init__(line)
+        self.line = line
+
+    def __str__(self) -> str:
+        return f"line {self.line} is empty"
+
+
+class TooFew(NanorandError, ValueError):
+    """A draw by lot asks for `count` of fewer `entrants`.
+
+    >>> error = TooFew(10, 11)
+    >>> error.entrants, error.count
+    (10, 11)
+    """
+
+    def __init__(self, entrants: int, count: int) -> None:
+        super().__init__(entrants, count)
+        self.entrants = entrants
+        self.count = count
+
+    def __str__(self) -> str:
+        return f"{self.entrants} entrants, {self.count} asked for"

@@ -1,0 +1,202 @@
+"""The generators as `random.Random`, with every call of Python's module: `gauss` and `choices` too.
+
+`random`, `getrandbits` and `randbytes` take the generator's bytes. What Python makes of them
+(`gauss`, `shuffle`, `sample` and the others) is Python's, and not the same as in other languages.
+
+A seed is a whole number of at most 64 bits for `WyRandRandom`, 128 for `Pcg64Random`, and 256 for
+the others, whose key it is, least byte first; or a text or bytes, whose SHA-256 is cut to that
+length; or None for a seed from the operating system.
+
+>>> from nanorand.randoms import WyRandRandom
+>>> rng = WyRandRandom(42)
+>>> rng.getrandbits(64), rng.randint(1, 6)
+(12558987674375533620, 2)
+"""
+
+import hashlib
+import random
+import sys
+from typing import Any, ClassVar, SupportsIndex, Union
+
+from nanorand._checks import number, octets
+from nanorand.errors import ForeignState
+from nanorand.generators import ChaCha8, ChaCha12, ChaCha20, Generator, Pcg64, Stream, WyRand
+
+__all__ = [
+    "ChaCha8Random",
+    "ChaCha12Random",
+    "ChaCha20Random",
+    "GeneratorRandom",
+    "Pcg64Random",
+    "StreamRandom",
+    "WyRandRandom",
+]
+
+Seed = Union[None, SupportsIndex, str, bytes, bytearray]
+
+
+class GeneratorRandom(random.Random):
+    """What the classes of this module have in common. They draw from `generator`.
+
+    >>> WyRandRandom(42).generator
+    WyRand(0x2a)
+    """
+
+    _kind: ClassVar[type[Generator]]
+    _seed_length: ClassVar[int]
+    _rest_of_state: ClassVar[bytes] = b""
+    generator: Generator
+
+    def __new__(cls, seed: Seed = None) -> "GeneratorRandom":
+        if not hasattr(cls, "_kind"):
+            raise TypeError("GeneratorRandom has no generator: take one of its subclasses")
+        return super().__new__(cls)
+
+    def __init__(self, seed: Seed = None) -> None:
+        super().__init__(seed)
+
+    def seed(self, a: Seed = None, version: int = 2) -> None:  # type: ignore[override]
+        """Starts anew from a seed. `version` changes nothing.
+
+        >>> rng = Pcg64Random(7)
+        >>> first = rng.random()
+        >>> rng.seed(7)
+        >>> rng.random() == first
+        True
+        """
+        if a is None:
+            self.generator = self._kind.from_entropy()
+        else:
+            self.generator = self._kind.from_state(self._seed_bytes(a) + self._rest_of_state)
+        self.gauss_next = None
+
+    def _seed_bytes(self, seed: Union[SupportsIndex, str, bytes, bytearray]) -> bytes:
+        if isinstance(seed, str):
+            seed = seed.encode()
+        if isinstance(seed, (bytes, bytearray)):
+            return hashlib.sha256(octets("seed", seed)).digest()[: self._seed_length]
+        last = 2 ** (8 * self._seed_length) - 1
+        return number("seed", seed, 0, last).to_bytes(self._seed_length, "little")
+
+    def random(self) -> float:
+        """A number from 0.0 to below 1.0: the upper 53 bits of the next `u64`, times 2^-53.
+
+        >>> WyRandRandom(42).random()
+        0.6808240860388313
+        """
+        return float((self.generator.u64() >> 11) * 2.0**-53)
+
+    def getrandbits(self, k: SupportsIndex) -> int:
+        """A number of k bits: the upper ones of the next k / 8 bytes, rounded up, least byte first.
+
+        >>> WyRandRandom(42).getrandbits(8) == WyRand(42).bytes(1)[0]
+        True
+        """
+        bits = number("k", k, 0, 8 * sys.maxsize)
+        length = (bits + 7) // 8
+        return int.from_bytes(self.generator.bytes(length), "little") >> 8 * length - bits
+
+    def randbytes(self, n: SupportsIndex) -> bytes:
+        """The generator's next bytes.
+
+        >>> WyRandRandom(42).randbytes(9) == WyRand(42).bytes(9)
+        True
+        """
+        return self.generator.bytes(n)
+
+    def getstate(self) -> "tuple[Any, ...]":
+        """What `setstate` takes: the generator's name, its state, and what `gauss` has kept.
+
+        >>> rng = StreamRandom("a seed")
+        >>> saved = rng.getstate()
+        >>> first = rng.gauss(0, 1)
+        >>> rng.setstate(saved)
+        >>> rng.gauss(0, 1) == first
+        True
+        """
+        return self._kind.__name__, self.generator.state, self.gauss_next
+
+    def setstate(self, state: "tuple[Any, ...]") -> None:
+        """Goes back to a state that `getstate` gave. One of another generator is `ForeignState`.
+
+        >>> WyRandRandom(1).setstate(Pcg64Random(1).getstate())
+        Traceback (most recent call last):
+        nanorand.errors.ForeignState: the state is not one of WyRand
+        """
+        whole = isinstance(state, tuple) and len(state) == 3
+        if not whole or state[0] != self._kind.__name__:
+            raise ForeignState(self._kind.__name__)
+        if type(state[2]) not in (float, type(None)):
+            raise ForeignState(self._kind.__name__)
+        self.generator = self._kind.from_state(state[1])
+        self.gauss_next = state[2]
+
+
+class WyRandRandom(GeneratorRandom):
+    """`WyRand` as `random.Random`. It is not cryptographically secure.
+
+    >>> WyRandRandom(42).randbytes(4).hex()
+    '34b4a9dd'
+    """
+
+    _kind = WyRand
+    _seed_length = 8
+
+
+class Pcg64Random(GeneratorRandom):
+    """`Pcg64` as `random.Random`. It is not cryptographically secure.
+
+    >>> Pcg64Random(0).randbytes(4).hex()
+    '3f75823f'
+    """
+
+    _kind = Pcg64
+    _seed_length = 16
+
+
+class ChaCha8Random(GeneratorRandom):
+    """`ChaCha8` as `random.Random`: each number takes a block.
+
+    >>> ChaCha8Random(0).randbytes(4).hex()
+    '3e00ef2f'
+    """
+
+    _kind = ChaCha8
+    _seed_length = 32
+    _rest_of_state = bytes(16)
+
+
+class ChaCha12Random(GeneratorRandom):
+    """`ChaCha12` as `random.Random`: each number takes a block.
+
+    >>> ChaCha12Random(0).randbytes(4).hex()
+    '9bf49a6a'
+    """
+
+    _kind = ChaCha12
+    _seed_length = 32
+    _rest_of_state = bytes(16)
+
+
+class ChaCha20Random(GeneratorRandom):
+    """`ChaCha20` as `random.Random`: each number takes a block.
+
+    >>> ChaCha20Random(0).randbytes(4).hex()
+    '76b8e0ad'
+    """
+
+    _kind = ChaCha20
+    _seed_length = 32
+    _rest_of_state = bytes(16)
+
+
+class StreamRandom(GeneratorRandom):
+    """`Stream`, the unbroken key stream of ChaCha20, as `random.Random`.
+
+    >>> StreamRandom(0).randbytes(4).hex()
+    '76b8e0ad'
+    """
+
+    _kind = Stream
+    _seed_length = 32
+    _rest_of_state = bytes(16)

@@ -1,0 +1,165 @@
+"""The whole table of answers, by the public calls, and by the functions that no public call takes."""
+
+import ctypes
+import unittest
+from ctypes import POINTER, byref, c_size_t, c_uint8, c_uint64
+from pathlib import Path
+
+from makers import CLASSES
+
+from nanorand import EmptyRange, WyRand, _library, lots
+from nanorand.errors import EmptyLine, EmptySeed, SeedNotText, TooFew
+
+TABLE = Path(__file__).resolve().parents[2] / "answers/answers.tsv"
+
+
+def rows():
+    for line in TABLE.read_text(encoding="ascii").splitlines():
+        if not line.startswith("#"):
+            yield line.split("\t")
+
+
+def octets(text):
+    return b"" if text == "-" else bytes.fromhex(text)
+
+
+def numbers(text):
+    return [] if text == "-" else [int(number) for number in text.split(",")]
+
+
+def listed(items):
+    return ",".join(map(str, items)) or "-"
+
+
+def shuffled(shuffle, length):
+    items = list(range(length))
+    shuffle(items)
+    return listed(items)
+
+
+def jump(rng, low, high=0):
+    rng.jump(low + 2**64 * high)
+    return "-"
+
+
+CALLS = {
+    "u64": lambda rng: str(rng.u64()),
+    "fill_bytes": lambda rng, length: rng.bytes(length).hex() or "-",
+    "range_u32": lambda rng, first, last: str(rng.range32(first, last)),
+    "range_u64": lambda rng, first, last: str(rng.range(first, last)),
+    "range_i64": lambda rng, first, last: str(rng.range(first, last)),
+    "range_usize": lambda rng, first, last: str(rng.range(first, last)),
+    "shuffle": lambda rng, length: shuffled(rng.shuffle, length),
+    "shuffle_full": lambda rng, length: shuffled(rng.shuffle_full, length),
+    "sample": lambda rng, count, length: listed(rng.sample_below(count, length)),
+    "jump": jump,
+    "block": lambda rng: rng.block().hex(),
+}
+
+
+def given(generator, before, call, arguments):
+    """The status, the result and the state after a public call."""
+    if call == "new_seed":
+        return 0, "-", WyRand(int(arguments)).state.hex()
+    rng = CLASSES[generator].from_state(bytes.fromhex(before))
+    try:
+        result = CALLS[call](rng, *numbers(arguments))
+    except EmptyRange:
+        return 1, "-", rng.state.hex()
+    return 0, result, rng.state.hex()
+
+
+def given_digest(text):
+    return 0, lots.digest(octets(text)).hex()
+
+
+def given_count(text):
+    try:
+        return 0, str(lots.count(octets(text)))
+    except EmptyLine as error:
+        return 4, str(error.line)
+
+
+def given_draw(arguments):
+    """The table has all places, and the call the drawn ones alone: both halves are compared."""
+    seed, length, count = arguments.split(",")
+    try:
+        drawn = lots.draw(octets(seed), range(int(length)), int(count))
+    except (EmptySeed, SeedNotText):
+        return 2, "-"
+    except TooFew:
+        return 3, "-"
+    return 0, listed(drawn)
+
+
+class Answers(unittest.TestCase):
+    def test_every_row(self):
+        tried = set()
+        for generator, before, call, arguments, status, result, after in rows():
+            if generator == "lots":
+                continue
+            with self.subTest(generator=generator, call=call, arguments=arguments, before=before):
+                answer = given(generator, before, call, arguments)
+                self.assertEqual(answer, (int(status), result, after))
+                tried.add((generator, call))
+        # Nine calls of six generators, three blocks, two jumps and a new seed.
+        self.assertEqual(len(tried), 9 * 6 + 6)
+
+    def test_every_row_of_lots(self):
+        calls = {"digest": given_digest, "count": given_count, "draw": given_draw}
+        tried = set()
+        for generator, _, call, arguments, status, result, _ in rows():
+            if generator != "lots":
+                continue
+            if call == "draw" and status == "0":
+                result = listed(numbers(result)[: int(arguments.split(",")[2])])
+            with self.subTest(call=call, arguments=arguments):
+                self.assertEqual(calls[call](arguments), (int(status), result))
+                tried.add((call, status))
+        self.assertEqual(len(tried), 6)
+
+    def test_ranges_of_usize(self):
+        """No public call takes them, as they are ranges of u64 where usize has 64 bits."""
+        tried = 0
+        for generator, before, call, arguments, status, result, after in rows():
+            if call != "range_usize":
+                continue
+            rng = CLASSES[generator].from_state(bytes.fromhex(before))
+            draw = _library.function(
+                *(f"{generator}_range_usize", c_uint8, POINTER(rng._structure)),
+                *(c_size_t, c_size_t, POINTER(c_size_t)),
+            )
+            number = c_size_t(7)
+            self.assertEqual(draw(rng._c, *numbers(arguments), byref(number)), int(status))
+            self.assertEqual(str(number.value), "7" if status == "1" else result)
+            self.assertEqual(rng.state.hex(), after)
+            tried += 1
+        self.assertGreater(tried, 50)
+
+    def test_new_seed(self):
+        """The package makes the structure itself."""
+        new_seed = _library.function("wyrand_new_seed", _library.WyRandState, c_uint64)
+        for seed in (0, 42, 2**64 - 1):
+            self.assertEqual(new_seed(seed).seed, seed)
+
+    def test_statuses_of_lots(self):
+        """The library refuses what the package refuses before it calls."""
+        for generator, _, call, arguments, status, result, _ in rows():
+            if generator != "lots" or call != "draw":
+                continue
+            seed, length, count = arguments.split(",")
+            places = (c_size_t * int(length))()
+            text = octets(seed)
+            drawn = _library.lots_draw(text, len(text), places, int(length), int(count))
+            self.assertEqual(drawn, int(status), arguments)
+            if drawn == 0:
+                self.assertEqual(listed(places), result)
+
+    def test_the_table_is_whole(self):
+        self.assertGreater(len(list(rows())), 1000)
+        self.assertEqual({len(row) for row in rows()}, {7})
+        self.assertEqual(ctypes.sizeof(_library.StreamState), 120)
+
+
+if __name__ == "__main__":
+    unittest.main()

@@ -1,0 +1,486 @@
+"""Generators: states, copies, texts, sequences of every kind, and what they refuse."""
+
+import array
+import collections
+import copy
+import fractions
+import pickle
+import threading
+import unittest
+from unittest import mock
+
+from makers import CHACHAS, CLASSES, KEY, NONCE, generators, refuses
+
+from nanorand import (
+    ChaCha8,
+    ChaCha20,
+    EmptyRange,
+    Exhausted,
+    Generator,
+    NanorandError,
+    OutOfBounds,
+    Pcg64,
+    Stream,
+    WrongLength,
+    WyRand,
+    _library,
+)
+
+LAST = 2**64 - 1
+LENGTHS_OF_SEEDS = {"wyrand": 8, "pcg64": 16, "chacha8": 40, "chacha12": 40, "chacha20": 40, "stream": 40}
+
+
+class Index:
+    """A whole number by its `__index__` alone."""
+
+    def __init__(self, number):
+        self.number = number
+
+    def __index__(self):
+        return self.number
+
+
+class OwnList(collections.abc.MutableSequence):
+    """A mutable sequence that takes no slices, and refuses an item after some."""
+
+    def __init__(self, items, room=None):
+        self.items = list(items)
+        self.room = room
+
+    def __len__(self):
+        return len(self.items)
+
+    def __getitem__(self, place):
+        return self.items[int(place)]
+
+    def __setitem__(self, place, item):
+        if self.room is not None and place >= self.room:
+            raise KeyError(place)
+        self.items[int(place)] = item
+
+    def __delitem__(self, place):
+        raise NotImplementedError
+
+    def insert(self, place, item):
+        raise NotImplementedError
+
+
+class States(unittest.TestCase):
+    def test_saved_and_restored(self):
+        for rng in generators():
+            for length in (0, 1, 8, 63, 64, 65):
+                rng.bytes(length)
+                saved = rng.state
+                made = type(rng).from_state(saved)
+                self.assertIs(type(made), type(rng))
+                self.assertEqual(made.state, saved)
+                wanted = [rng.u64() for _ in range(20)]
+                self.assertEqual([made.u64() for _ in range(20)], wanted)
+                rng.state = bytearray(saved)
+                self.assertEqual([rng.u64() for _ in range(20)], wanted)
+
+    def test_copies_are_apart(self):
+        ways = [copy.copy, copy.deepcopy, lambda rng: rng.copy()]
+        ways += [
+            lambda rng, protocol=protocol: pickle.loads(pickle.dumps(rng, protocol))
+            for protocol in range(pickle.HIGHEST_PROTOCOL + 1)
+        ]
+        for way in ways:
+            for rng in generators():
+                rng.bytes(5)
+                before = rng.state
+                made = way(rng)
+                self.assertIs(type(made), type(rng))
+                self.assertEqual(made, rng)
+                made.u64()
+                self.assertEqual(rng.state, before)
+                self.assertNotEqual(made, rng)
+                rng.u64()
+                self.assertEqual(made, rng)
+
+    def test_wrong_lengths(self):
+        lengths = {"wyrand": {8}, "pcg64": {16}, "stream": set(range(48, 112))}
+        for name, kind in CLASSES.items():
+            good = lengths.get(name, {48})
+            for length in range(130):
+                if length in good:
+                    self.assertEqual(kind.from_state(bytes(length)).state, bytes(length))
+                else:
+                    with self.assertRaises(WrongLength):
+                        kind.from_state(bytes(length))
+        for rng in generators():
+            for state in (b"", bytes(7), bytes(112)):
+                refuses(self, rng, WrongLength, lambda rng, state=state: setattr(rng, "state", state))
+            for state in (None, 42, "x" * 8, [0] * 8, 1.5):
+                refuses(self, rng, TypeError, lambda rng, state=state: setattr(rng, "state", state))
+
+    def test_equality(self):
+        self.assertEqual(WyRand(42), WyRand(42))
+        self.assertNotEqual(WyRand(42), Pcg64(42))
+        self.assertNotEqual(ChaCha8(KEY), ChaCha20(KEY))
+        self.assertNotEqual(ChaCha20(KEY), ChaCha20(KEY, counter=1))
+        self.assertNotEqual(ChaCha20(KEY), ChaCha20(KEY, b"12345678"))
+        self.assertNotEqual(Stream(KEY), Stream(KEY, rest=b"\0"))
+        self.assertNotEqual(WyRand(42), 42)
+        self.assertNotEqual(WyRand(42), None)
+        self.assertEqual(WyRand(42), mock.ANY)
+        for rng in generators():
+            with self.assertRaises(TypeError):
+                hash(rng)
+
+    def test_delivered_bytes_do_not_count(self):
+        rng = Stream(KEY)
+        rng.bytes(64)
+        self.assertEqual(rng, Stream(KEY, counter=1))
+
+    def test_parts(self):
+        self.assertEqual(WyRand(LAST).seed, LAST)
+        self.assertEqual(Pcg64(2**128 - 5).seed, 2**128 - 5)
+        self.assertEqual(Pcg64(2**64 + 5).state, (2**64 + 5).to_bytes(16, "little"))
+        for kind in CHACHAS:
+            rng = kind(KEY, NONCE, 2**63 + 1)
+            self.assertEqual((rng.key, rng.nonce, rng.counter), (KEY, NONCE, 2**63 + 1))
+        rng = Stream(KEY, NONCE, LAST, b"rest")
+        self.assertEqual((rng.key, rng.nonce, rng.counter, rng.rest), (KEY, NONCE, LAST, b"rest"))
+        self.assertEqual(rng.bytes(4), b"rest")
+        self.assertEqual(rng.rest, b"")
+        rng.bytes(1)
+        self.assertEqual((rng.counter, len(rng.rest)), (0, 63))
+
+    def test_entropy(self):
+        for kind in CLASSES.values():
+            made = [kind.from_entropy() for _ in range(8)]
+            self.assertEqual(len({rng.state for rng in made}), 8)
+            self.assertTrue(all(type(rng) is kind for rng in made))
+        for kind in [*CHACHAS, Stream]:
+            rng = kind.from_entropy()
+            self.assertEqual((rng.counter, len(rng.state)), (0, 48))
+            self.assertNotEqual(rng.nonce, bytes(8))
+
+    def test_entropy_fills_every_byte_of_a_seed(self):
+        for name, length in LENGTHS_OF_SEEDS.items():
+            with mock.patch("os.urandom", side_effect=lambda count: bytes(range(1, count + 1))):
+                state = CLASSES[name].from_entropy().state
+            self.assertEqual(state[:length], bytes(range(1, length + 1)))
+            self.assertEqual(set(state[length:]), {0} if state[length:] else set())
+
+    def test_texts(self):
+        self.assertEqual(repr(WyRand(42)), "WyRand(0x2a)")
+        self.assertEqual(repr(Pcg64(2**64)), "Pcg64(0x10000000000000000)")
+        self.assertEqual(repr(ChaCha8(KEY, counter=7)), "<ChaCha8 counter=7>")
+        self.assertEqual(repr(Stream(KEY, counter=7, rest=b"abc")), "<Stream counter=7 buffered=3>")
+        self.assertEqual(eval(repr(Pcg64(99))), Pcg64(99))
+
+    def test_a_stream_with_too_many_buffered_bytes(self):
+        """No state that can be set has them; the library reads more than 63 as 63."""
+        rng = Stream(KEY, rest=bytes(range(63)))
+        rng._c.buffered = LAST
+        self.assertEqual(rng._calls.u64(rng._c), int.from_bytes(bytes(range(8)), "little"))
+        self.assertEqual(rng._c.buffered, 55)
+
+    def test_subclasses(self):
+        class Own(WyRand):
+            pass
+
+        rng = Own(42)
+        self.assertEqual(repr(rng), "Own(0x2a)")
+        self.assertIs(type(rng.copy()), Own)
+        self.assertNotEqual(rng, WyRand(42))
+
+    def test_generator_alone_is_none(self):
+        with self.assertRaises(TypeError):
+            Generator()
+        with self.assertRaises((NotImplementedError, AttributeError)):
+            Generator.from_entropy()
+
+    def test_threads_take_turns(self):
+        """Every number is drawn exactly once."""
+        rng, drawn = WyRand(0), []
+
+        def draw():
+            drawn.extend([rng.u64() for _ in range(2000)])
+
+        threads = [threading.Thread(target=draw) for _ in range(4)]
+        for thread in threads:
+            thread.start()
+        for thread in threads:
+            thread.join()
+        again = WyRand(0)
+        self.assertEqual(sorted(drawn), sorted(again.u64() for _ in range(8000)))
+
+
+class Numbers(unittest.TestCase):
+    def test_below(self):
+        for rng in generators():
+            for end in (1, 2, 3, 100, 2**32, 2**63, 2**63 + 1, LAST, 2**64):
+                same = rng.copy()
+                self.assertEqual(rng.below(end), same.range(0, end - 1))
+                self.assertEqual(rng, same)
+            refuses(self, rng, EmptyRange, lambda rng: rng.below(0))
+            refuses(self, rng, EmptyRange, lambda rng: rng.below(-1))
+            refuses(self, rng, EmptyRange, lambda rng: rng.below(-(2**63)))
+            refuses(self, rng, OutOfBounds, lambda rng: rng.below(2**64 + 1))
+            refuses(self, rng, OutOfBounds, lambda rng: rng.below(-(2**63) - 1))
+
+    def test_ranges_between_types(self):
+        """A range within both i64 and u64 is the same of both."""
+        for rng in generators():
+            same = rng.copy()
+            self.assertEqual(rng.range(0, 99), same.range(-50, 49) + 50)
+            self.assertEqual(rng, same)
+            for first, last in ((-1, 1), (-(2**63), 2**63 - 1), (2**63, LAST), (0, LAST), (-5, -5), (LAST, LAST)):
+                self.assertTrue(first <= rng.range(first, last) <= last)
+
+    def test_ends_are_drawn(self):
+        for rng in generators():
+            self.assertEqual({rng.range(-1, 1) for _ in range(200)}, {-1, 0, 1})
+            self.assertEqual({rng.range(5, 7) for _ in range(200)}, {5, 6, 7})
+            self.assertEqual({rng.range32(5, 7) for _ in range(200)}, {5, 6, 7})
+            self.assertEqual({rng.below(3) for _ in range(200)}, {0, 1, 2})
+            self.assertEqual({rng.choice("abc") for _ in range(200)}, {"a", "b", "c"})
+
+    def test_refused_ranges(self):
+        empty = [(1, 0), (0, -1), (5, -5), (-1, -2), (LAST, 0), (LAST, -(2**63)), (2**63, -1)]
+        wide = [(-(2**63) - 1, 0), (0, 2**64), (-1, 2**63), (-(2**63), LAST), (2**64, 0), (0, 2**200)]
+        for rng in generators():
+            for bounds in empty:
+                refuses(self, rng, EmptyRange, lambda rng, bounds=bounds: rng.range(*bounds))
+            for bounds in wide:
+                refuses(self, rng, OutOfBounds, lambda rng, bounds=bounds: rng.range(*bounds))
+            for bounds in ((1, 0), (2**32 - 1, 0)):
+                refuses(self, rng, EmptyRange, lambda rng, bounds=bounds: rng.range32(*bounds))
+            for bounds in ((-1, 0), (0, 2**32), (2**32, 0), (0, 2**64 + 5), (-(2**64), 5)):
+                refuses(self, rng, OutOfBounds, lambda rng, bounds=bounds: rng.range32(*bounds))
+
+    def test_refused_bytes(self):
+        for rng in generators():
+            self.assertEqual(rng.bytes(0), b"")
+            for length in (-1, 2**63, LAST, 2**64 + 1, -(2**64) + 1):
+                refuses(self, rng, OutOfBounds, lambda rng, length=length: rng.bytes(length))
+            refuses(self, rng, MemoryError, lambda rng: rng.bytes(2**63 - 1))
+            refuses(self, rng, MemoryError, lambda rng: rng.bytes(2**62))
+
+    def test_long_fills(self):
+        for kind in CLASSES.values():
+            state = kind.from_entropy().state
+            whole = kind.from_state(state).bytes(1_000_001)
+            parts = kind.from_state(state)
+            size = 64 if kind is not Stream else 77
+            self.assertEqual(b"".join(parts.bytes(size) for _ in range(200)), whole[: 200 * size])
+            self.assertEqual(len(whole), 1_000_001)
+            self.assertGreater(len(set(whole)), 255)
+
+    def test_whole_numbers_of_every_kind(self):
+        for rng in generators():
+            same = rng.copy()
+            self.assertEqual(rng.range(Index(-5), Index(5)), same.range(-5, 5))
+            self.assertEqual(rng.bytes(Index(9)), same.bytes(9))
+            self.assertEqual(rng.range32(False, True), same.range32(0, 1))
+
+    def test_other_types(self):
+        others = [1.0, 5.5, "5", b"5", None, [5], float("nan"), 5j, fractions.Fraction(5), object()]
+        for rng in generators():
+            for other in others:
+                for call in (
+                    lambda rng, other=other: rng.below(other),
+                    lambda rng, other=other: rng.range(other, 9),
+                    lambda rng, other=other: rng.range(0, other),
+                    lambda rng, other=other: rng.range32(other, 9),
+                    lambda rng, other=other: rng.range32(0, other),
+                    lambda rng, other=other: rng.bytes(other),
+                    lambda rng, other=other: rng.sample([1, 2, 3], other),
+                    lambda rng, other=other: rng.sample_below(other, 0),
+                    lambda rng, other=other: rng.sample_below(9, other),
+                ):
+                    error = refuses(self, rng, TypeError, call)
+                    self.assertIn(f" is a {type(other).__name__}, not a whole number", str(error))
+                if hasattr(rng, "jump"):
+                    refuses(self, rng, TypeError, lambda rng, other=other: rng.jump(other))
+
+    def test_refused_makers(self):
+        for kind, last in ((WyRand, LAST), (Pcg64, 2**128 - 1)):
+            for seed in (-1, last + 1, 2**200):
+                with self.assertRaises(OutOfBounds):
+                    kind(seed)
+            for seed in (1.0, "1", None, b"12345678"):
+                with self.assertRaises(TypeError):
+                    kind(seed)
+        for kind in [*CHACHAS, Stream]:
+            for key in (b"", bytes(31), bytes(33), bytes(64)):
+                with self.assertRaises(WrongLength):
+                    kind(key)
+            for nonce in (b"", bytes(7), bytes(9), bytes(12)):
+                with self.assertRaises(WrongLength):
+                    kind(KEY, nonce)
+            for counter in (-1, LAST + 1):
+                with self.assertRaises(OutOfBounds):
+                    kind(KEY, NONCE, counter)
+            for wrong in (42, "x" * 32, None, 1.5, [0] * 32, 32):
+                with self.assertRaises(TypeError):
+                    kind(wrong)
+                with self.assertRaises(TypeError):
+                    kind(KEY, wrong)
+            self.assertEqual(kind(bytearray(KEY), memoryview(NONCE)), kind(KEY, NONCE, 0))
+        with self.assertRaises(WrongLength):
+            Stream(KEY, rest=bytes(64))
+        with self.assertRaises(TypeError):
+            Stream(KEY, rest=5)
+
+    def test_jumps(self):
+        for rng in (WyRand(42), Pcg64(42), *[kind(KEY, NONCE, LAST - 10) for kind in CHACHAS]):
+            for draws in (0, 1, 2, 20):
+                drawn, jumped = rng.copy(), rng.copy()
+                for _ in range(draws):
+                    drawn.u64()
+                jumped.jump(draws)
+                self.assertEqual(jumped, drawn)
+            last = 2**128 - 1 if type(rng) is Pcg64 else LAST
+            for draws in (-1, last + 1):
+                refuses(self, rng, OutOfBounds, lambda rng, draws=draws: rng.jump(draws))
+            once, twice = rng.copy(), rng.copy()
+            once.jump(last)
+            twice.jump(last - 1)
+            twice.jump(1)
+            self.assertEqual(once, twice)
+        self.assertFalse(hasattr(Stream, "jump"))
+
+    def test_blocks(self):
+        for kind in CHACHAS:
+            rng, same = kind(KEY, NONCE, LAST), kind(KEY, NONCE, LAST)
+            self.assertEqual(rng.block() + rng.block(), same.bytes(128))
+            self.assertEqual((rng, rng.counter), (same, 1))
+        for kind in (WyRand, Pcg64, Stream):
+            self.assertFalse(hasattr(kind, "block"))
+
+
+class Lists(unittest.TestCase):
+    def test_mutable_sequences_of_every_kind(self):
+        makers = [
+            *[list, bytearray, collections.deque, OwnList, lambda items: array.array("q", items)],
+            *[collections.UserList, lambda items: memoryview(bytearray(items))],
+        ]
+        for rng in generators():
+            for length in (0, 1, 2, 10, 65):
+                for name in ("shuffle", "shuffle_full"):
+                    wanted = list(range(length))
+                    state = rng.state
+                    getattr(rng, name)(wanted)
+                    after = rng.state
+                    self.assertEqual(sorted(wanted), list(range(length)))
+                    for maker in makers:
+                        rng.state = state
+                        items = maker(range(length))
+                        self.assertIsNone(getattr(rng, name)(items))
+                        self.assertEqual(list(items), wanted)
+                        self.assertEqual(rng.state, after)
+
+    def test_items_are_moved_and_not_copied(self):
+        items = [[place] for place in range(20)]
+        before = {id(item) for item in items}
+        rng, same = WyRand(42), WyRand(42)
+        rng.shuffle(items)
+        self.assertEqual({id(item) for item in items}, before)
+        places = list(range(20))
+        same.shuffle(places)
+        self.assertEqual(items, [[place] for place in places])
+
+    def test_what_cannot_be_shuffled(self):
+        refused = [
+            *[(1, 2, 3), "abc", b"abc", range(3), None, 5, {1, 2, 3}, frozenset({1}), {0: 1, 1: 2}],
+            *[(place for place in range(3)), iter([1, 2]), object()],
+        ]
+        for rng in generators():
+            for items in refused:
+                refuses(self, rng, TypeError, lambda rng, items=items: rng.shuffle(items))
+                refuses(self, rng, TypeError, lambda rng, items=items: rng.shuffle_full(items))
+            refuses(self, rng, TypeError, lambda rng: rng.shuffle(memoryview(b"abc")))
+
+    def test_a_sequence_that_refuses_an_item(self):
+        for rng in generators():
+            for room in (0, 5):
+                refuses(self, rng, KeyError, lambda rng, room=room: rng.shuffle(OwnList(range(9), room)))
+
+    def test_choices(self):
+        for rng in generators():
+            for items in ("abc", [1, 2, 3], (1, 2, 3), range(3), b"abc", array.array("q", [1, 2, 3])):
+                same = rng.copy()
+                self.assertEqual(rng.choice(items), items[same.below(3)])
+            for items in ("", [], (), range(0)):
+                refuses(self, rng, EmptyRange, lambda rng, items=items: rng.choice(items))
+            for items in (None, 5, {1, 2}, {0: 1}, iter("abc")):
+                refuses(self, rng, TypeError, lambda rng, items=items: rng.choice(items))
+
+    def test_samples(self):
+        for rng in generators():
+            for population in ("abcdefghij", list("abcdefghij"), tuple("abcdefghij"), OwnList("abcdefghij")):
+                for length in (0, 1, 3, 10):
+                    same = rng.copy()
+                    drawn = rng.sample(population, length)
+                    self.assertEqual(drawn, ["abcdefghij"[place] for place in same.sample_below(10, length)])
+                    self.assertEqual(len(set(drawn)), length)
+                    self.assertIs(type(drawn), list)
+            for length in (11, 2**63, LAST):
+                refuses(self, rng, EmptyRange, lambda rng, length=length: rng.sample("abcdefghij", length))
+            refuses(self, rng, EmptyRange, lambda rng: rng.sample_below(0, 1))
+            for length in (-1, 2**64, 2**64 + 1):
+                refuses(self, rng, OutOfBounds, lambda rng, length=length: rng.sample("abc", length))
+            for count in (-1, 2**64, 2**64 + 5):
+                refuses(self, rng, OutOfBounds, lambda rng, count=count: rng.sample_below(count, 1))
+            for length in (2**60, 2**63, LAST):
+                refuses(self, rng, MemoryError, lambda rng, length=length: rng.sample_below(LAST, length))
+            for population in (None, 5, {1, 2, 3}, {0: 1, 1: 2}, iter("abc")):
+                refuses(self, rng, TypeError, lambda rng, population=population: rng.sample(population, 1))
+            self.assertTrue(all(0 <= number < 10**18 for number in rng.sample(range(10**18), 5)))
+
+
+class Refusals(unittest.TestCase):
+    """Status 2 is never seen: a function that returns it stands in for the library's."""
+
+    def stubbed(self, name, status, write=lambda *arguments: None):
+        def call(*arguments):
+            write(*arguments)
+            return status
+
+        return mock.patch.object(_library.WYRAND, name, call)
+
+    def test_exhausted(self):
+        calls = [
+            ("range_u64", lambda rng: rng.range(0, 9)),
+            ("range_u64", lambda rng: rng.below(9)),
+            ("range_u64", lambda rng: rng.choice("abc")),
+            ("range_i64", lambda rng: rng.range(-9, 9)),
+            ("range_u32", lambda rng: rng.range32(0, 9)),
+            ("sample", lambda rng: rng.sample("abc", 2)),
+            ("sample", lambda rng: rng.sample_below(9, 2)),
+            ("shuffle", lambda rng: rng.shuffle([1, 2, 3])),
+            ("shuffle_full", lambda rng: rng.shuffle_full([1, 2, 3])),
+        ]
+        for name, call in calls:
+            with self.stubbed(name, 2), self.assertRaises(Exhausted):
+                call(WyRand(42))
+            with self.stubbed(name, 1), self.assertRaises(EmptyRange):
+                call(WyRand(42))
+            with self.stubbed(name, 7), self.assertRaises(Exhausted):
+                call(WyRand(42))
+
+    def test_an_exhausted_shuffle_stays_as_far_as_it_came(self):
+        def swap(state, places, length):
+            places[0], places[2] = places[2], places[0]
+            state.seed = 99
+
+        items, rng = list("abc"), WyRand(42)
+        with self.stubbed("shuffle", 2, swap), self.assertRaises(Exhausted):
+            rng.shuffle(items)
+        self.assertEqual((items, rng.seed), (list("cba"), 99))
+
+    def test_errors_are_of_one_family(self):
+        for error in (EmptyRange, Exhausted, OutOfBounds, WrongLength):
+            self.assertTrue(issubclass(error, NanorandError))
+        for error in (EmptyRange, OutOfBounds, WrongLength):
+            self.assertTrue(issubclass(error, ValueError))
+        self.assertTrue(issubclass(OutOfBounds, OverflowError))
+        self.assertTrue(issubclass(Exhausted, RuntimeError))
+
+
+if __name__ == "__main__":
+    unittest.main()

@@ -1,0 +1,133 @@
+"""The draw by lot: the page's example, lists of every kind, and each refusal."""
+
+import hashlib
+import random
+import unittest
+from unittest import mock
+
+from nanorand import Exhausted, NanorandError, OutOfBounds, _library, lots
+from nanorand.errors import EmptyLine, EmptySeed, SeedNotText, TooFew
+
+NAMES = ["Ada", "Barbara", "Chidi", "Dmitri", "Elif", "Farid"]
+NAMES += ["Grace", "Hedy", "Ines", "Jun", "Katherine", "Lise"]
+TEXT = "".join(name + "\n" for name in NAMES).encode()
+SEED = "4 1 6 3 3 2 5 6 1 4 2 6 5 3 1 1 6 2 4 5"
+
+
+class Lots(unittest.TestCase):
+    def test_the_example(self):
+        self.assertEqual(
+            lots.digest(TEXT).hex(), "32230fec7f4d73fc1dc4888e4bd9becc094a248cb2098b991ab26c2ef227e860"
+        )
+        self.assertEqual(lots.count(TEXT), 12)
+        self.assertEqual(lots.draw(SEED, TEXT, 3), [b"Katherine", b"Jun", b"Chidi"])
+        self.assertEqual(lots.draw(SEED, NAMES, 4)[-1], "Farid")
+
+    def test_all_begins_with_the_first(self):
+        whole = lots.draw(SEED, NAMES)
+        self.assertEqual(sorted(whole), NAMES)
+        for count in range(13):
+            self.assertEqual(lots.draw(SEED, NAMES, count), whole[:count])
+        self.assertEqual(lots.draw(SEED, [], 0), [])
+        self.assertEqual(lots.draw(SEED, b""), [])
+
+    def test_digests(self):
+        rng = random.Random(1)
+        for length in [*range(200), 1000, 100_000]:
+            text = rng.randbytes(length)
+            self.assertEqual(lots.digest(text), hashlib.sha256(text).digest())
+            self.assertEqual(lots.digest(bytearray(text)), lots.digest(memoryview(text)))
+
+    def test_lines(self):
+        for text, lines in (
+            (b"", []),
+            (b"a", [b"a"]),
+            (b"a\nb\r\n \n\0", [b"a", b"b\r", b" ", b"\0"]),
+            (b"\xff\xfe\n\xff\xfe\n", [b"\xff\xfe"] * 2),
+        ):
+            self.assertEqual(lots.count(text), len(lines))
+            self.assertEqual(sorted(lots.draw("seed", text)), sorted(lines))
+            self.assertEqual(lots.draw("seed", text), lots.draw("seed", lines))
+            self.assertEqual(lots.draw("seed", bytearray(text)), lots.draw("seed", memoryview(text)))
+
+    def test_entrants_of_every_kind(self):
+        for entrants in (NAMES, tuple(NAMES), range(12), [None] * 12, [[place] for place in range(12)]):
+            drawn = lots.draw(SEED, entrants, 3)
+            self.assertEqual(drawn, [entrants[10], entrants[9], entrants[2]])
+        self.assertEqual(NAMES[0], "Ada")
+
+    def test_seeds_of_every_kind(self):
+        for seed in ("seed", "Zürich, 1. März", "\0", " ", "\U0010ffff"):
+            text = seed.encode()
+            wanted = lots.draw(seed, NAMES)
+            for same in (text, bytearray(text), memoryview(text)):
+                self.assertEqual(lots.draw(same, NAMES), wanted)
+
+    def test_refusals(self):
+        refused = [
+            (EmptySeed, "", NAMES, 1),
+            (EmptySeed, b"", b"\n", 99),
+            (SeedNotText, b"\xff", NAMES, 1),
+            (SeedNotText, b"seed\xc3", b"\n", 99),
+            (SeedNotText, b"\xed\xa0\x80", NAMES, 1),
+            (SeedNotText, "\ud800", NAMES, 1),
+            (EmptyLine, "seed", b"a\n\n", 99),
+            (EmptyLine, "seed", b"\n", 0),
+            (TooFew, "seed", b"a\n", 2),
+            (TooFew, "seed", NAMES, 2**64 - 1),
+            (TooFew, "seed", [], 1),
+            (OutOfBounds, "seed", NAMES, -1),
+            (OutOfBounds, "seed", NAMES, 2**64),
+            (TypeError, "seed", NAMES, 1.0),
+            (TypeError, "seed", NAMES, "1"),
+            (TypeError, "seed", NAMES, "all"),
+            (TypeError, "seed", "abc", 1),
+            (TypeError, "seed", {1, 2, 3}, 1),
+            (TypeError, "seed", {0: 1}, 1),
+            (TypeError, "seed", iter(NAMES), 1),
+            (TypeError, "seed", None, 1),
+            (TypeError, "seed", 5, 1),
+            (TypeError, 42, NAMES, 1),
+            (TypeError, None, NAMES, 1),
+            (TypeError, ["seed"], NAMES, 1),
+        ]
+        for error, seed, entrants, count in refused:
+            with self.subTest(seed=seed, entrants=entrants, count=count):
+                with self.assertRaises(error) as caught:
+                    lots.draw(seed, entrants, count)
+                self.assertIs(type(caught.exception), error)
+
+    def test_errors_say_what_was_wrong(self):
+        with self.assertRaises(EmptyLine) as caught:
+            lots.count(b"a\n" * 99 + b"\n\n")
+        self.assertEqual(caught.exception.line, 100)
+        self.assertEqual(str(caught.exception), "line 100 is empty")
+        with self.assertRaises(TooFew) as caught:
+            lots.draw("seed", NAMES, 13)
+        self.assertEqual((caught.exception.entrants, caught.exception.count), (12, 13))
+        self.assertEqual(str(caught.exception), "12 entrants, 13 asked for")
+        for error in (EmptySeed, SeedNotText, EmptyLine, TooFew):
+            self.assertTrue(issubclass(error, NanorandError) and issubclass(error, ValueError))
+
+    def test_texts_of_other_types(self):
+        for text in ("abc", 5, None, [1, 2], 1.5):
+            for call in (lots.digest, lots.count):
+                with self.assertRaises(TypeError):
+                    call(text)
+
+    def test_statuses(self):
+        """The package looks first, so the library's own refusals are put in its place."""
+        for status, error in ((2, SeedNotText), (3, TooFew), (8, Exhausted)):
+            with mock.patch.object(_library, "lots_draw", lambda *arguments, status=status: status):
+                with self.assertRaises(error):
+                    lots.draw("seed", NAMES, 1)
+
+    def test_a_long_list(self):
+        text = b"".join(b"%d\n" % number for number in range(100_000))
+        drawn = lots.draw("a long list", text)
+        self.assertEqual(len(drawn), 100_000)
+        self.assertEqual(set(drawn), {b"%d" % number for number in range(100_000)})
+
+
+if __name__ == "__main__":
+    unittest.main()

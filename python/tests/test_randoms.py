@@ -1,0 +1,268 @@
+"""The generators as `random.Random`: every public call of it, seeds, states and refusals."""
+
+import copy
+import hashlib
+import pickle
+import random
+import statistics
+import sys
+import unittest
+
+from makers import RANDOMS, refuses
+
+from nanorand import OutOfBounds
+from nanorand.errors import ForeignState
+from nanorand.randoms import GeneratorRandom, Pcg64Random, StreamRandom, WyRandRandom
+
+SEED_LENGTHS = {"WyRandRandom": 8, "Pcg64Random": 16}
+
+CALLS = {
+    "betavariate": lambda rng: rng.betavariate(2, 3),
+    "binomialvariate": lambda rng: rng.binomialvariate(10, 0.3),
+    "choice": lambda rng: rng.choice("abc"),
+    "choices": lambda rng: rng.choices("abc", weights=[5, 0, 1], k=5),
+    "expovariate": lambda rng: rng.expovariate(2),
+    "gammavariate": lambda rng: rng.gammavariate(2, 3),
+    "gauss": lambda rng: rng.gauss(0, 1),
+    "getrandbits": lambda rng: rng.getrandbits(100),
+    "lognormvariate": lambda rng: rng.lognormvariate(0, 1),
+    "normalvariate": lambda rng: rng.normalvariate(0, 1),
+    "paretovariate": lambda rng: rng.paretovariate(2),
+    "randbytes": lambda rng: rng.randbytes(9),
+    "randint": lambda rng: rng.randint(1, 6),
+    "random": lambda rng: rng.random(),
+    "randrange": lambda rng: rng.randrange(5, 50, 5),
+    "sample": lambda rng: rng.sample(range(100), 5),
+    "shuffle": lambda rng: rng.shuffle(list(range(10))),
+    "triangular": lambda rng: rng.triangular(0, 10, 3),
+    "uniform": lambda rng: rng.uniform(-1, 1),
+    "vonmisesvariate": lambda rng: rng.vonmisesvariate(1, 2),
+    "weibullvariate": lambda rng: rng.weibullvariate(1, 2),
+}
+NO_DRAWS = {"seed", "getstate", "setstate"}
+
+
+def public_calls():
+    """The calls of this Python's random.Random."""
+    names = {name for name in dir(random.Random) if not name.startswith("_")}
+    return {name for name in names if callable(getattr(random.Random, name))}
+
+
+class Twin(random.Random):
+    """Python's own class over `random` and `getrandbits` of another one, by a generator alone."""
+
+    def __new__(cls, generator):
+        return super().__new__(cls)
+
+    def __init__(self, generator):
+        self.generator = generator
+        super().__init__()
+
+    def seed(self, *arguments):
+        self.gauss_next = None
+
+    def random(self):
+        return (self.generator.u64() >> 11) / 2**53
+
+    def getrandbits(self, k):
+        octets = self.generator.bytes(-(-k // 8))
+        return int.from_bytes(octets, "little") // 2 ** (8 * len(octets) - k)
+
+
+class Randoms(unittest.TestCase):
+    def test_every_call(self):
+        self.assertLessEqual(public_calls() - NO_DRAWS, set(CALLS))
+        for kind in RANDOMS:
+            for name in public_calls() - NO_DRAWS:
+                with self.subTest(kind=kind.__name__, name=name):
+                    rng, same = kind(42), kind(42)
+                    before = rng.generator.state
+                    results = [CALLS[name](rng) for _ in range(5)]
+                    self.assertNotEqual(rng.generator.state, before)
+                    self.assertEqual([CALLS[name](same) for _ in range(5)], results)
+                    twin = Twin(kind(42).generator)
+                    self.assertEqual([CALLS[name](twin) for _ in range(5)], results)
+
+    def test_no_call_takes_python_s_own_generator(self):
+        for kind in RANDOMS:
+            for name in public_calls() - NO_DRAWS:
+                random.seed(1)
+                before = random.getstate()
+                CALLS[name](kind(42))
+                self.assertEqual(random.getstate(), before)
+
+    def test_randoms(self):
+        for kind in RANDOMS:
+            rng = kind("randoms")
+            same = rng.generator.copy()
+            numbers = [rng.random() for _ in range(2000)]
+            self.assertEqual(numbers, [(same.u64() >> 11) * 2**-53 for _ in range(2000)])
+            self.assertTrue(all(0.0 <= number < 1.0 for number in numbers))
+            self.assertAlmostEqual(statistics.fmean(numbers), 0.5, delta=0.05)
+            self.assertIs(type(numbers[0]), float)
+
+    def test_ends_of_random(self):
+        class Ends:
+            def u64(self):
+                return self.number
+
+        rng = WyRandRandom(1)
+        rng.generator = Ends()
+        for number, wanted in ((0, 0.0), (2**11, 2**-53), (2**11 - 1, 0.0), (2**64 - 1, 1 - 2**-53)):
+            rng.generator.number = number
+            self.assertEqual(rng.random(), wanted)
+
+    def test_bits(self):
+        for kind in RANDOMS:
+            for bits in (0, 1, 2, 7, 8, 9, 31, 32, 33, 63, 64, 65, 511, 512, 513, 10_000):
+                rng = kind("bits")
+                same = rng.generator.copy()
+                drawn = [rng.getrandbits(bits) for _ in range(50)]
+                length = -(-bits // 8)
+                wanted = [int.from_bytes(same.bytes(length), "little") >> 8 * length - bits for _ in range(50)]
+                self.assertEqual(drawn, wanted)
+                self.assertTrue(all(0 <= number < 2**bits for number in drawn))
+                self.assertEqual(max(number.bit_length() for number in drawn), bits)
+
+    def test_bytes(self):
+        for kind in RANDOMS:
+            for length in (0, 1, 8, 63, 64, 65, 1000):
+                rng, same = kind(5), kind(5)
+                self.assertEqual(rng.randbytes(length), same.generator.bytes(length))
+                self.assertEqual(rng.randbytes(length), same.getrandbits(8 * length).to_bytes(length, "little"))
+
+    def test_whole_numbers_are_seeds(self):
+        for kind, generator in RANDOMS.items():
+            length = SEED_LENGTHS.get(kind.__name__, 32)
+            for seed in (0, 1, 42, 2 ** (8 * length) - 1):
+                made = kind(seed).generator
+                self.assertIs(type(made), generator)
+                self.assertEqual(made.state[:length], seed.to_bytes(length, "little"))
+                self.assertEqual(set(made.state[length:]), {0} if made.state[length:] else set())
+            for seed in (-1, 2 ** (8 * length)):
+                with self.assertRaises(OutOfBounds):
+                    kind(seed)
+            for seed in (1.0, 1.5, [1], (1,), object()):
+                with self.assertRaises(TypeError):
+                    kind(seed)
+
+    def test_texts_are_seeds(self):
+        for kind in RANDOMS:
+            length = SEED_LENGTHS.get(kind.__name__, 32)
+            for text in ("", "a seed", "Zürich"):
+                digest = hashlib.sha256(text.encode()).digest()
+                for seed in (text, text.encode(), bytearray(text.encode())):
+                    self.assertEqual(kind(seed).generator.state[:length], digest[:length])
+
+    def test_no_seed_is_one_of_the_system(self):
+        for kind in RANDOMS:
+            self.assertEqual(len({kind().generator.state for _ in range(8)}), 8)
+            rng = kind(42)
+            rng.seed()
+            self.assertNotEqual(rng.generator, kind(42).generator)
+
+    def test_seed(self):
+        for kind in RANDOMS:
+            rng, same = kind(1), kind(2)
+            rng.gauss(0, 1)
+            rng.seed(2)
+            self.assertEqual([rng.gauss(0, 1) for _ in range(5)], [same.gauss(0, 1) for _ in range(5)])
+            rng.seed(a=2, version=1)
+            self.assertEqual(rng.generator, kind(2).generator)
+
+    def test_a_refused_seed_changes_nothing(self):
+        for kind in RANDOMS:
+            rng = kind(1)
+            rng.gauss(0, 1)
+            before = rng.getstate()
+            for seed in (1.5, -1, 2**256, [1], "\ud800"):
+                with self.assertRaises((TypeError, OutOfBounds, UnicodeError)):
+                    rng.seed(seed)
+                self.assertEqual(rng.getstate(), before)
+
+    def test_states(self):
+        for kind in RANDOMS:
+            rng = kind("states")
+            for draws in range(4):
+                rng.gauss(0, 1)
+                rng.getrandbits(8 * draws)
+                saved = rng.getstate()
+                wanted = [rng.gauss(0, 1) for _ in range(5)]
+                rng.setstate(saved)
+                self.assertEqual([rng.gauss(0, 1) for _ in range(5)], wanted)
+                other = kind()
+                other.setstate(saved)
+                self.assertEqual([other.gauss(0, 1) for _ in range(5)], wanted)
+
+    def test_foreign_states(self):
+        for kind in RANDOMS:
+            rng = kind(1)
+            good = rng.getstate()
+            foreign = [other(1).getstate() for other in RANDOMS if other is not kind]
+            foreign += [random.Random(1).getstate(), (), None, 5, good[:2], (*good, None), list(good)]
+            foreign += [(good[0], good[1], "x")]
+            for state in foreign:
+                with self.assertRaises(ForeignState):
+                    rng.setstate(state)
+                self.assertEqual(rng.getstate(), good)
+            for state in ((good[0], b"short", None), (good[0], None, None)):
+                with self.assertRaises((ValueError, TypeError)):
+                    rng.setstate(state)
+                self.assertEqual(rng.getstate(), good)
+
+    def test_copies(self):
+        ways = [copy.copy, copy.deepcopy]
+        ways += [
+            lambda rng, protocol=protocol: pickle.loads(pickle.dumps(rng, protocol))
+            for protocol in range(2, pickle.HIGHEST_PROTOCOL + 1)
+        ]
+        for kind in RANDOMS:
+            for way in ways:
+                rng = kind(7)
+                rng.gauss(0, 1)
+                made = way(rng)
+                self.assertIs(type(made), kind)
+                self.assertIsNot(made.generator, rng.generator)
+                self.assertEqual(made.getstate(), rng.getstate())
+                made.gauss(0, 1)
+                made.random()
+                self.assertNotEqual(made.getstate(), rng.getstate())
+
+    def test_refused_bits(self):
+        for kind in RANDOMS:
+            rng = kind(1)
+            for bits in (-1, 8 * sys.maxsize + 1, 2**80):
+                refuses(self, rng.generator, OutOfBounds, lambda _, bits=bits: rng.getrandbits(bits))
+            for bits in (1.0, "1", None):
+                refuses(self, rng.generator, TypeError, lambda _, bits=bits: rng.getrandbits(bits))
+                refuses(self, rng.generator, TypeError, lambda _, bits=bits: rng.randbytes(bits))
+            refuses(self, rng.generator, OutOfBounds, lambda _: rng.randbytes(-1))
+            refuses(self, rng.generator, MemoryError, lambda _: rng.getrandbits(2**62))
+
+    def test_python_s_own_refusals(self):
+        for kind in RANDOMS:
+            rng = kind(1)
+            refuses(self, rng.generator, IndexError, lambda _: rng.choice([]))
+            refuses(self, rng.generator, ValueError, lambda _: rng.randint(2, 1))
+            refuses(self, rng.generator, ValueError, lambda _: rng.sample([1], 2))
+
+    def test_fair_calls(self):
+        """Each face comes about as often."""
+        for kind in RANDOMS:
+            rng = kind("a die")
+            faces = [rng.randint(1, 6) for _ in range(6000)]
+            for face in range(1, 7):
+                self.assertTrue(850 < faces.count(face) < 1150, (kind, face))
+
+    def test_the_base_is_no_generator(self):
+        with self.assertRaises(TypeError):
+            GeneratorRandom()
+
+    def test_seeds_by_their_name(self):
+        self.assertEqual(WyRandRandom(seed=42).generator, WyRandRandom(42).generator)
+        self.assertEqual(Pcg64Random(seed=2**127).generator.seed, 2**127)
+        self.assertEqual(StreamRandom(seed=0).generator.key, bytes(32))
+
+
+if __name__ == "__main__":
+    unittest.main()
