@@ -1,0 +1,40 @@
+// Bytes and text: UTF-8, hexadecimal, base64.
+
+/** Whether a text has half a surrogate pair, which UTF-8 cannot say. @param {string} text */
+export function hasHalfCharacter(text) {
+  return /[\uD800-\uDBFF](?![\uDC00-\uDFFF])|(?<![\uD800-\uDBFF])[\uDC00-\uDFFF]/.test(text);
+}
+
+/** @param {string} text @returns {Uint8Array} */
+export function utf8(text) {
+  return new TextEncoder().encode(text);
+}
+
+/** @param {Uint8Array} bytes @returns {?string} their text, or null if they are not UTF-8 */
+export function textOf(bytes) {
+  try {
+    return new TextDecoder("utf-8", { fatal: true, ignoreBOM: true }).decode(bytes);
+  } catch {
+    return null;
+  }
+}
+
+/** @param {number} byte @returns {string} two digits, lower case */
+export function hexOfByte(byte) {
+  return byte.toString(16).padStart(2, "0");
+}
+
+/** @param {Uint8Array} bytes @returns {string} */
+export function hex(bytes) {
+  return Array.from(bytes, hexOfByte).join("");
+}
+
+/** @param {string} text @returns {Uint8Array} */
+export function fromBase64(text) {
+  return Uint8Array.from(atob(text), (letter) => letter.charCodeAt(0));
+}
+
+/** @param {Uint8Array} left @param {Uint8Array} right @returns {boolean} */
+export function equalBytes(left, right) {
+  return left.length === right.length && left.every((byte, index) => byte === right[index]);
+}

@@ -1,0 +1,88 @@
+// The check of a record: the draw is repeated with a list, and compared.
+
+import { equalBytes, hex } from "./bytes.js";
+import { draw, resultOf } from "./draw.js";
+import { printed } from "./entrant.js";
+import { readRecord, RecordError } from "./record.js";
+import { Refusal } from "./refusal.js";
+
+/**
+ * @typedef {Object} Check
+ * @property {"agrees"|"other module"|"differs"|"no record"|"no list"} outcome
+ * @property {string} title the outcome in a sentence
+ * @property {string[]} findings what differs, in plain words
+ */
+
+const TITLES = {
+  "agrees": "The record agrees: the same list, and the draw repeated here gives the same result.",
+  "other module": "The result agrees, but the record names another version or another module.",
+  "differs": "The record differs from the draw repeated here.",
+  "no record": "This is no record of a draw.",
+  "no list": "The record can be read. Open or paste its list above, and check again.",
+};
+
+/** @param {Check["outcome"]} outcome @param {string[]} findings @returns {Check} */
+function checked(outcome, findings) {
+  return { outcome, title: TITLES[outcome], findings };
+}
+
+/**
+ * @param {import("./module.js").Module} module @param {string} moduleDigest
+ * @param {Uint8Array} list @param {string} text @returns {Check}
+ */
+export function check(module, moduleDigest, list, text) {
+  let record;
+  try {
+    record = readRecord(text);
+  } catch (error) {
+    if (error instanceof RecordError) return checked("no record", [error.message]);
+    throw error;
+  }
+  if (list.length === 0 && record.entrants > 0) return checked("no list", []);
+  const others = otherMakers(record, module.version(), moduleDigest);
+  const differences = differencesOf(module, list, record);
+  if (differences.length > 0) return checked("differs", [...differences, ...others]);
+  return checked(others.length > 0 ? "other module" : "agrees", others);
+}
+
+/** @param {import("./record.js").Record} record @returns {string[]} */
+function otherMakers(record, version, moduleDigest) {
+  return [
+    record.version !== version &&
+      `Another version: the record names ${record.version}, this page has ${version}.`,
+    record.module !== moduleDigest &&
+      `Another module: the record names ${record.module}, this page has ${moduleDigest}.`,
+  ].filter(Boolean);
+}
+
+/** @param {import("./record.js").Record} record @returns {string[]} */
+function differencesOf(module, list, record) {
+  const digest = hex(module.digest(list));
+  if (digest !== record.list) {
+    return [`Another list: the record names the SHA-256 ${record.list}, this list has ${digest}.`];
+  }
+  try {
+    const repeated = draw(module, list, record.seed, String(record.drawn));
+    return [
+      repeated.entrants !== record.entrants &&
+        `Entrants: the record says ${record.entrants}, this list has ${repeated.entrants}.`,
+      differentLine(record.named, repeated.drawn),
+      hex(module.digest(resultOf(repeated.drawn))) !== record.result &&
+        "The SHA-256 of the result differs.",
+    ].filter(Boolean);
+  } catch (error) {
+    const refusal = Refusal.of(error);
+    return [refusal.words];
+  }
+}
+
+/**
+ * The first line of the result that differs, in words, or no text.
+ * @param {Uint8Array[]} named @param {Uint8Array[]} drawn @returns {string}
+ */
+function differentLine(named, drawn) {
+  const index = named.findIndex((entrant, place) => !equalBytes(entrant, drawn[place]));
+  if (index < 0) return "";
+  return `Line ${index + 1} of the result: the record says ${printed(named[index])}, ` +
+    `the draw gives ${printed(drawn[index])}.`;
+}

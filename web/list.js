@@ -1,0 +1,85 @@
+// A list of entrants: its lines as bytes, and what its owner should look at.
+
+import { hasHalfCharacter, textOf, utf8 } from "./bytes.js";
+import { Refusal } from "./refusal.js";
+
+const LINE_FEED = 10;
+const CARRIAGE_RETURN = 13;
+const SPACE = 32;
+const TAB = 9;
+
+/** The bytes of a pasted list. @param {string} text @returns {Uint8Array} */
+export function listOfText(text) {
+  if (hasHalfCharacter(text)) {
+    const line = text.split("\n").findIndex(hasHalfCharacter) + 1;
+    throw new Refusal("list has half a character", { line });
+  }
+  return utf8(text);
+}
+
+/**
+ * Where each line begins, and at last where a further one would begin. A last line that lacks its
+ * line feed counts as if it had one.
+ * @param {Uint8Array} list @param {number} entrants how many lines it has @returns {Float64Array}
+ */
+export function startsOfLines(list, entrants) {
+  const starts = new Float64Array(entrants + 1);
+  for (let line = 0; line < entrants; line += 1) {
+    const end = list.indexOf(LINE_FEED, starts[line]);
+    starts[line + 1] = (end < 0 ? list.length : end) + 1;
+  }
+  return starts;
+}
+
+/** The bytes of the line at a place. @param {Uint8Array} list @param {Float64Array} starts */
+export function lineAt(list, starts, place) {
+  return list.subarray(starts[place], starts[place + 1] - 1);
+}
+
+/**
+ * What is worth a second look in a list, in plain words. None of it is an error.
+ * @param {Uint8Array} list @param {number} entrants @returns {string[]}
+ */
+export function warningsOf(list, entrants) {
+  const starts = startsOfLines(list, entrants);
+  const found = { returns: 0, spaces: 0, equal: 0 };
+  const seen = new Set();
+  const letters = new TextDecoder("latin1");
+  for (let place = 0; place < entrants; place += 1) {
+    const line = lineAt(list, starts, place);
+    const last = line[line.length - 1];
+    if (last === CARRIAGE_RETURN) found.returns += 1;
+    else if ([SPACE, TAB].includes(last) || [SPACE, TAB].includes(line[0])) found.spaces += 1;
+    const name = letters.decode(line);
+    if (seen.has(name)) found.equal += 1;
+    seen.add(name);
+  }
+  return [
+    ...marks(list),
+    found.returns && `${lines(found.returns)} with a carriage return, as files of Windows do. It ` +
+      "belongs to the entrant, as all bytes do: the same list without it is another list.",
+    found.spaces && `${lines(found.spaces, "begin or end", "begins or ends")} with a space or a ` +
+      "tab, which belongs to the entrant.",
+    found.equal && `${found.equal} of the lines ${found.equal === 1 ? "equals" : "equal"} an ` +
+      "earlier line. Equal lines are separate entrants, each with its own chance.",
+  ].filter(Boolean);
+}
+
+/** What is worth a look in the bytes as a whole. @param {Uint8Array} list @returns {string[]} */
+function marks(list) {
+  const marked = list[0] === 0xef && list[1] === 0xbb && list[2] === 0xbf;
+  const open = list.length > 0 && list[list.length - 1] !== LINE_FEED;
+  return [
+    marked && "The list begins with a byte order mark, which belongs to the first entrant.",
+    list.includes(0) && "The list has bytes of value 0. It may be UTF-16, which the draw does " +
+      "not read.",
+    textOf(list) === null && "The list is not UTF-8. The draw takes its bytes as they are; other " +
+      "bytes than letters are shown as \\x and two digits.",
+    open && "The last line has no line feed. The same list with one has another SHA-256.",
+  ];
+}
+
+/** @param {number} count */
+function lines(count, many = "end", one = "ends") {
+  return count === 1 ? `1 line ${one}` : `${count} lines ${many}`;
+}

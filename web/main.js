@@ -1,0 +1,212 @@
+// The page: what its fields and buttons do.
+
+import { Client } from "./client.js";
+import { listOfText } from "./list.js";
+import { runsModules } from "./module.js";
+import { writtenSeed } from "./record.js";
+import { Refusal } from "./refusal.js";
+import {
+  clearRefusals, copy, grouped, part, save, say, showCheck, showList, showRefusal, showResult,
+} from "./view.js";
+
+const PAUSE = 300;
+
+/**
+ * `file` is what was opened, null where the pasted text counts; `bytes` the list itself; `sent`
+ * says whether the worker has it, `pending` is the timer before it gets a changed one. `turn`
+ * counts the changes of all fields and `listTurn` those of the list: an answer to an earlier turn
+ * is not shown.
+ */
+const state = {
+  file: null, bytes: new Uint8Array(0), sent: Promise.resolve(false), pending: 0,
+  turn: 0, listTurn: 0, result: null,
+};
+
+const client = new Client(part("worker").textContent, (progress) => {
+  say("progress-text", progress);
+  part("progress").hidden = progress === "";
+});
+
+/** Shows any error of a task beside its field. @param {unknown} error */
+function refuse(error) {
+  showRefusal(Refusal.of(error));
+}
+
+/** Shows a refusal, and goes to the field that it is about. @param {unknown} error */
+function refuseHere(error) {
+  refuse(error);
+  document.querySelector("[aria-invalid]")?.focus();
+}
+
+/** Something has changed: takes away the result, which no longer belongs to what the fields say. */
+function changed() {
+  state.turn += 1;
+  state.result = null;
+  part("result").hidden = true;
+  part("outcome").hidden = true;
+}
+
+/**
+ * Gives the list to the worker, and shows what it says.
+ * @returns {Promise<boolean>} whether the worker has it and it is good
+ */
+async function sendList() {
+  const { listTurn } = state;
+  state.pending = 0;
+  try {
+    state.bytes = state.file ?? listOfText(part("list-text").value);
+    const facts = await client.ask("list", { list: state.bytes });
+    if (listTurn === state.listTurn && state.bytes.length > 0) showList(facts);
+    return true;
+  } catch (error) {
+    if (listTurn === state.listTurn) refuse(error);
+    return false;
+  }
+}
+
+/** The list has changed, and is given to the worker after a pause, as typing goes on. */
+function listChanged(pause) {
+  changed();
+  state.listTurn += 1;
+  clearTimeout(state.pending);
+  clearRefusals("list", "page");
+  part("list-facts").hidden = true;
+  state.pending = setTimeout(() => { state.sent = sendList(); }, pause);
+}
+
+/** @returns {Promise<boolean>} whether the worker has the list that the page shows */
+function listSent() {
+  if (state.pending !== 0) {
+    clearTimeout(state.pending);
+    state.sent = sendList();
+  }
+  return state.sent;
+}
+
+/** @param {File} file @returns {Promise<boolean>} as sendList */
+async function readFile(file) {
+  try {
+    state.file = new Uint8Array(await file.arrayBuffer());
+  } catch {
+    refuse(new Refusal("list cannot be read"));
+    return false;
+  }
+  return sendList();
+}
+
+function openFile() {
+  const [file] = part("list-file").files;
+  if (!file) return;
+  listChanged(PAUSE);
+  clearTimeout(state.pending);
+  state.pending = 0;
+  say("file-name", `${file.name}, ${grouped(file.size)} bytes`);
+  part("opened").hidden = false;
+  part("pasted").hidden = true;
+  state.sent = readFile(file);
+}
+
+function closeFile() {
+  state.file = null;
+  part("list-file").value = "";
+  part("opened").hidden = true;
+  part("pasted").hidden = false;
+  part("list-text").focus();
+  listChanged(0);
+}
+
+function seedChanged() {
+  changed();
+  clearRefusals("seed");
+  const seed = part("seed").value;
+  const odd = /^\s|\s$|[^\x20-\x7e]/.test(seed);
+  say("seed-read", odd ? `The seed is read as ${writtenSeed(seed)}. Each space, line and accent ` +
+    "counts: others must type exactly the same." : "");
+}
+
+function countChanged() {
+  changed();
+  clearRefusals("count");
+}
+
+async function drawNow() {
+  clearRefusals("seed", "count", "page");
+  changed();
+  const { turn } = state;
+  part("draw").disabled = true;
+  try {
+    if (await listSent()) {
+      const fields = { seed: part("seed").value, count: part("count").value };
+      const drawing = await client.ask("draw", fields);
+      if (turn === state.turn) showDrawing(drawing);
+    } else {
+      part("list-text").focus();
+    }
+  } catch (error) {
+    if (turn === state.turn) refuseHere(error);
+  } finally {
+    part("draw").disabled = false;
+  }
+}
+
+function showDrawing(drawing) {
+  state.result = drawing.result;
+  showResult(drawing);
+  part("result-title").focus();
+}
+
+async function checkNow() {
+  clearRefusals("page");
+  part("outcome").hidden = true;
+  part("check").disabled = true;
+  const { turn } = state;
+  try {
+    if (await listSent()) {
+      const answer = await client.ask("check", { text: part("check-text").value });
+      if (turn === state.turn) showCheck(answer);
+    } else {
+      part("list-text").focus();
+    }
+  } catch (error) {
+    if (turn === state.turn) refuseHere(error);
+  } finally {
+    part("check").disabled = false;
+  }
+}
+
+/** Says which module runs, or why none does. */
+async function start() {
+  try {
+    if (!runsModules()) throw new Refusal("no 64-bit memory");
+    const code = part("module").textContent;
+    const { version, module } = await client.ask("start", { code });
+    say("maker", `Version ${version}, module SHA-256 ${module}`);
+    part("draw").disabled = false;
+    part("check").disabled = false;
+    listChanged(0);
+    seedChanged();
+  } catch (error) {
+    refuse(error);
+  }
+}
+
+/** @param {string} id @param {string} event @param {() => void} action */
+function on(id, event, action) {
+  part(id).addEventListener(event, action);
+}
+
+on("list-text", "input", () => listChanged(PAUSE));
+on("list-file", "change", openFile);
+on("close-file", "click", closeFile);
+on("seed", "input", seedChanged);
+on("count", "input", countChanged);
+on("check-text", "input", () => { part("outcome").hidden = true; });
+on("draw", "click", drawNow);
+on("check", "click", checkNow);
+on("copy-digest", "click", () =>
+  copy(part("copy-digest"), part("list-digest").textContent));
+on("copy-record", "click", () => copy(part("copy-record"), part("record").value));
+on("save-list", "click", () => save(state.bytes, "entrants"));
+on("save-record", "click", () => save(part("record").value, "draw.txt"));
+on("save-result", "click", () => save(state.result, "result"));
+start();

@@ -1,0 +1,87 @@
+// What the page refuses, and how it says so.
+
+/** @typedef {"seed"|"count"|"list"|"page"} Field  where the refusal is shown */
+
+/** @type {Record<string, {field: Field, words: (values: Object) => string}>} */
+const REFUSALS = {
+  "seed is empty": {
+    field: "seed",
+    words: () => "The seed is empty. Type at least one character.",
+  },
+  "seed has half a character": {
+    field: "seed",
+    words: () => "The seed has half of a character (a lone surrogate), which has no UTF-8.",
+  },
+  "count is no number": {
+    field: "count",
+    words: () => "The count must be the word all, or digits alone: no sign, no space, no comma.",
+  },
+  "count is too large": {
+    field: "count",
+    words: () => "The count is too large: at most 18446744073709551615.",
+  },
+  "too few entrants": {
+    field: "count",
+    words: ({ entrants, count }) =>
+      `The list has ${entrants} entrants, and ${count} are asked for.`,
+  },
+  "line is empty": {
+    field: "list",
+    words: ({ line }) => `Line ${line} is empty. Each line of the list must have an entrant.`,
+  },
+  "list has half a character": {
+    field: "list",
+    words: ({ line }) =>
+      `Line ${line} has half of a character (a lone surrogate), which has no UTF-8.`,
+  },
+  "list cannot be read": {
+    field: "list",
+    words: () => "The file cannot be read.",
+  },
+  "words were rejected": {
+    field: "page",
+    words: () => "128 words in a row were rejected. Nothing is drawn. This was never seen.",
+  },
+  "no memory": {
+    field: "page",
+    words: () => "The browser gives no memory for a list of this size.",
+  },
+  "no 64-bit memory": {
+    field: "page",
+    words: () =>
+      "This browser cannot run the page: it has no WebAssembly with 64-bit memory. " +
+      "Chromium and Chrome have it from version 133 on, Firefox from version 134 on. " +
+      "The program lots and the Python code below draw the same.",
+  },
+  "the module failed": {
+    field: "page",
+    words: ({ reason }) => `The module failed, and nothing is drawn: ${reason}`,
+  },
+};
+
+/** A draw, a list or a page that is refused, with its reason. */
+export class Refusal extends Error {
+  /** @param {string} reason a name of REFUSALS @param {Object} [values] what its words need */
+  constructor(reason, values = {}) {
+    super(reason);
+    this.reason = reason;
+    this.values = values;
+  }
+
+  /** @param {unknown} error @returns {Refusal} */
+  static of(error) {
+    if (error instanceof Refusal) return error;
+    if (error instanceof RangeError) return new Refusal("no memory");
+    return new Refusal("the module failed", { reason: String(error) });
+  }
+
+  /** @returns {Field} */
+  get field() {
+    return REFUSALS[this.reason].field;
+  }
+
+  /** @returns {string} */
+  get words() {
+    return REFUSALS[this.reason].words(this.values);
+  }
+}

@@ -1,0 +1,144 @@
+// Runs answers/answers.tsv through the exports of the module, in a page. The arguments are the
+// module in base64 and the table. Returns how many rows were run, and those that are wrong.
+
+const [code, table] = arguments;
+const bytes = Uint8Array.from(atob(code), (letter) => letter.charCodeAt(0));
+const module = new WebAssembly.Module(bytes);
+const MASK = 2n ** 64n - 1n;
+const STATE = 120;
+const ROOM = 1 << 20;
+
+/** A new instance for each row, with room for a state, for what is written, for what is read. */
+function start() {
+  const { exports } = new WebAssembly.Instance(module, {});
+  const state = exports.memory.buffer.byteLength;
+  exports.memory.grow(33n);
+  const memory = new Uint8Array(exports.memory.buffer);
+  const numbers = (address, count) => Array.from(new BigUint64Array(memory.buffer, address, count));
+  return { exports, memory, numbers, state, out: state + 65536, into: state + 65536 + ROOM };
+}
+
+const fromHex = (text) =>
+  text === "-" ? [] : text.match(/../g).map((byte) => Number.parseInt(byte, 16));
+const toHex = (part) =>
+  Array.from(part, (byte) => byte.toString(16).padStart(2, "0")).join("") || "-";
+const listed = (numbers) => numbers.join(",") || "-";
+
+/** Lays a state down as the C structure has it. */
+function layState(world, generator, before) {
+  const state = fromHex(before);
+  if (generator !== "stream") {
+    world.memory.set(state, world.state);
+    return state.length;
+  }
+  const buffered = state.slice(48);
+  world.memory.set(state.slice(0, 48), world.state);
+  world.memory.set(buffered, world.state + STATE - 8 - buffered.length);
+  world.memory[world.state + STATE - 8] = buffered.length;
+  return STATE;
+}
+
+/** The state after a call, as the table has it. */
+function stateOf(world, generator, length) {
+  const all = world.memory.slice(world.state, world.state + length);
+  if (generator !== "stream") return toHex(all);
+  const buffered = all[STATE - 8];
+  const rest = toHex(all.slice(STATE - 8 - buffered, STATE - 8));
+  return toHex(all.slice(0, 48)) + rest.replace("-", "");
+}
+
+/** The calls of the generators: what they return, and their result read from memory. */
+const CALLS = {
+  u64: (call) => ({ result: String(call() & MASK) }),
+  fill_bytes: (call, [length], { memory, out }) => {
+    call(BigInt(out), length);
+    return { result: toHex(memory.slice(out, out + Number(length))) };
+  },
+  block: (call, _, { memory, out }) => {
+    call(BigInt(out));
+    return { result: toHex(memory.slice(out, out + 64)) };
+  },
+  range_u32: (call, [first, last], { memory, out }) => {
+    const status = call(Number(first) | 0, Number(last) | 0, BigInt(out));
+    return { status, result: String(new Uint32Array(memory.buffer, out, 1)[0]) };
+  },
+  range_u64: (call, [first, last], { numbers, out }) => {
+    const status = call(first, last, BigInt(out));
+    return { status, result: String(numbers(out, 1)[0]) };
+  },
+  range_i64: (call, [first, last], { numbers, out }) => {
+    const status = call(first, last, BigInt(out));
+    return { status, result: String(BigInt.asIntN(64, numbers(out, 1)[0])) };
+  },
+  shuffle: (call, [length], { memory, numbers, out }) => {
+    new BigUint64Array(memory.buffer, out, Number(length)).set(
+      Array.from({ length: Number(length) }, (_, index) => BigInt(index)));
+    return { status: call(BigInt(out), length), result: listed(numbers(out, Number(length))) };
+  },
+  sample: (call, [count, length], { numbers, out }) => {
+    const status = call(count, BigInt(out), length);
+    return { status, result: status === 0 ? listed(numbers(out, Number(length))) : "-" };
+  },
+  jump: (call, draws, { memory, into }) => {
+    if (draws.length === 1) call(draws[0]);
+    else {
+      new BigUint64Array(memory.buffer, into, 2).set(draws);
+      call(BigInt(into));
+    }
+    return { result: "-" };
+  },
+};
+CALLS.range_usize = CALLS.range_u64;
+CALLS.shuffle_full = CALLS.shuffle;
+
+/** The calls of the draw by lot. */
+const LOTS = {
+  digest: (call, [text], { memory, out, into }) => {
+    memory.set(text, into);
+    call(BigInt(into), BigInt(text.length), BigInt(out));
+    return { result: toHex(memory.slice(out, out + 32)) };
+  },
+  count: (call, [list], { memory, numbers, out, into }) => {
+    memory.set(list, into);
+    const status = call(BigInt(into), BigInt(list.length), BigInt(out));
+    return { status, result: String(numbers(out, 1)[0]), always: true };
+  },
+  draw: (call, [seed, entrants, count], { memory, numbers, out, into }) => {
+    memory.set(seed, into);
+    const status = call(BigInt(into), BigInt(seed.length), BigInt(out), entrants, count);
+    return { status, result: listed(numbers(out, Number(entrants))) };
+  },
+};
+
+function runRow([generator, before, call, given, status, result, after]) {
+  const world = start();
+  const length = layState(world, generator, before);
+  const name = world.exports[`nanorand_v1_${generator}_${call}`];
+  const words = given === "-" && generator !== "lots" ? [] : given.split(",");
+  let found;
+  if (generator === "lots") {
+    found = LOTS[call](name, [fromHex(words[0]), ...words.slice(1).map(BigInt)], world);
+  } else if (call === "new_seed") {
+    const [seed] = new BigUint64Array([name(BigInt(words[0]))]);
+    const state = new Uint8Array(new BigUint64Array([seed]).buffer);
+    return status === "0" && result === "-" && toHex(state) === after;
+  } else {
+    const state = BigInt(world.state);
+    found = CALLS[call]((...rest) => name(state, ...rest), words.map(BigInt), world);
+  }
+  const said = status === "0" || found.always ? found.result : "-";
+  const left = before === "-" ? "-" : stateOf(world, generator, length);
+  return String(found.status ?? 0) === status && said === result && left === after;
+}
+
+const rows = table.split("\n").filter((line) => line && !line.startsWith("#"))
+  .map((line) => line.split("\t"));
+const wrong = rows.filter((row) => {
+  try {
+    return !runRow(row);
+  } catch (error) {
+    row.push(String(error));
+    return true;
+  }
+});
+return [rows.length, wrong.map((row) => row.join(" ").slice(0, 200))];

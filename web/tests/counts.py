@@ -1,0 +1,55 @@
+"""Counts of cases, and the program `lots` that the page is compared with."""
+
+import hashlib
+import re
+import subprocess
+from typing import Any, List, NamedTuple
+
+
+class Counts:
+    """Counts cases and prints those that failed."""
+
+    def __init__(self) -> None:
+        self.passed = 0
+        self.failed = 0
+        self.place = ""
+
+    def case(self, name: str, wrong: str = "") -> None:
+        if wrong:
+            self.failed += 1
+            print(f"FAILED ({self.place}) {name}: {wrong[:600]}", flush=True)
+        else:
+            self.passed += 1
+
+    def same(self, name: str, found: Any, wanted: Any) -> None:
+        self.case(name, "" if found == wanted else f"{found!r} and not {wanted!r}")
+
+
+class Ran(NamedTuple):
+    """What the program did."""
+
+    status: int
+    output: bytes
+    error: str
+
+
+def lots(program: str, seed: str, count: str, data: bytes) -> Ran:
+    done = subprocess.run([program, seed.encode("utf-8", "surrogatepass"), count], input=data,
+                          capture_output=True, timeout=120)
+    return Ran(done.returncode, done.stdout, done.stderr.decode())
+
+
+def sha256(data: bytes) -> str:
+    return hashlib.sha256(data).hexdigest()
+
+
+def bytes_of(printed: str) -> bytes:
+    """The bytes of an entrant as the page prints it."""
+    parts = re.findall(r"\\x([0-9a-f]{2})|\\(\\)|([^\\]+)", printed, re.S)
+    return b"".join(bytes.fromhex(byte) if byte else (slash or text).encode() for byte, slash, text in parts)
+
+
+def lines_of(data: bytes) -> List[bytes]:
+    """Lines without their line feeds."""
+    lines = data.split(b"\n")
+    return lines[:-1] if lines[-1] == b"" else lines

@@ -1,0 +1,196 @@
+"""Draws of the page beside those of the program `lots`."""
+
+import json
+import random
+import time
+from pathlib import Path
+from typing import Any, Dict, List
+
+from counts import Counts, bytes_of, lines_of, lots, sha256
+from page import Page
+
+ALPHABETS = [(0x30, 0x3A), (0x20, 0x7F), (0xA0, 0x800), (0x800, 0xD800), (0x10000, 0x110000), (0x01, 0x0D)]
+LENGTHS = [1, 2, 5, 20, 31, 32, 33, 55, 56, 57, 63, 64, 65, 119, 120, 200]
+NAMED = 1000
+ROOM = 65536
+
+
+def a_seed(rng: random.Random) -> str:
+    """A text of one or several alphabets. A field has no carriage return, an argument no byte 0."""
+    one, mixed = rng.choice(ALPHABETS), rng.random() < 0.3
+    return "".join(chr(rng.randrange(*(rng.choice(ALPHABETS) if mixed else one)))
+                   for _ in range(rng.choice(LENGTHS)))
+
+
+def some_lines(rng: random.Random, size: int, is_text: bool) -> List[bytes]:
+    """Lines that are not empty: text that can be pasted, or any bytes but line feeds."""
+    longest = rng.choice([1, 2, 8, 40])
+    if is_text:
+        letters = rng.choice(["ab", "abcdefgh ", "äöü漢字🎲\\ \t\u200b\u00a0e\u0301"])
+        return ["".join(rng.choices(letters, k=rng.randint(1, longest))).encode() for _ in range(size)]
+    signs = bytes(set(range(256)) - {10}) if rng.random() < 0.7 else b"ab\r\0"
+    return [bytes(rng.choices(signs, k=rng.randint(1, longest))) for _ in range(size)]
+
+
+def a_count(rng: random.Random, size: int) -> str:
+    if rng.random() < 0.4:
+        return "all"
+    number = min(size, rng.choice([0, 1, 2, size, rng.randint(0, size), rng.randint(0, size)]))
+    return "0" * rng.choice([0, 0, 0, 1, 30]) + str(number)
+
+
+def record_of(seed: str, data: bytes, result: bytes, module: str) -> Dict[str, Any]:
+    """What a record must say."""
+    drawn = lines_of(result)
+    return {
+        "title": "nanorand public draw 1", "seed": seed, "list SHA-256": sha256(data),
+        "entrants": str(len(lines_of(data))), "drawn": str(len(drawn)), "version": "1.0.0",
+        "module SHA-256": module, "result SHA-256": sha256(result), "named": drawn[:NAMED],
+        "more": f"and {len(drawn) - NAMED} more" if len(drawn) > NAMED else "",
+    }
+
+
+def record_read(text: str) -> Dict[str, Any]:
+    """What a record says, read by other code than the page's."""
+    lines = text.split("\n")
+    said: Dict[str, Any] = {"title": lines[0], "more": ""}
+    for line in lines[1:8]:
+        name, value = line.split(": ", 1)
+        said[name] = json.loads(value) if name == "seed" else value
+    rest = lines[8:-1]
+    if rest and rest[-1].startswith("and "):
+        said["more"] = rest.pop()
+    numbers = [line.split(": ", 1) for line in rest]
+    said["named"] = [bytes_of(value) for _, value in numbers]
+    if lines[-1] != "" or [number for number, _ in numbers] != [str(k + 1) for k in range(len(numbers))]:
+        said["named"] = ["the numbers are wrong"]
+    return said
+
+
+def compare(counts: Counts, page: Page, program: str, module: str, name: str,
+            seed: str, count: str, data: bytes) -> Dict[str, Any]:
+    """Draws in the page, where list, seed and count stand already, and by the program."""
+    ran = lots(program, seed, count, data)
+    shown = page.draw()
+    errors = [shown[field] for field in ("page", "list", "seed", "count") if shown[field]]
+    if ran.status != 0 or errors or not shown["record"]:
+        counts.case(name, f"status {ran.status}, the page says {errors}")
+        return shown
+    wanted, found = record_of(seed, data, ran.output, module), record_read(shown["record"])
+    wrong = [f"{key}: {found.get(key)!r} and not {value!r}" for key, value in wanted.items()
+             if found.get(key) != value]
+    if [bytes_of(line) for line in shown["drawn"]] != wanted["named"]:
+        wrong.append("the result shown is another")
+    counts.case(name, "; ".join(wrong))
+    return shown
+
+
+def random_draws(counts: Counts, page: Page, program: str, module: str, number: int) -> None:
+    """Half of the lists are pasted, half are files; each record is then checked by the page."""
+    rng = random.Random(31)
+    for index in range(number):
+        is_text = index % 2 == 0
+        size = rng.randint(301, 3000) if index % 25 == 0 else rng.randint(0, 12 if index % 4 == 3 else 300)
+        lines = some_lines(rng, size, is_text)
+        data = b"".join(line + b"\n" for line in lines)
+        if lines and rng.random() < 0.5:
+            data = data[:-1]
+        seed, count = a_seed(rng), a_count(rng, size)
+        if is_text:
+            page.paste(data.decode())
+        else:
+            page.open_file(data)
+        page.fill(seed, count)
+        name = f"draw {index}: {count} of {size} by {seed!r}"
+        shown = compare(counts, page, program, module, name, seed, count, data)
+        if index % 4 < 2:
+            counts.same(f"check of draw {index}", page.check(shown["record"])["outcome"], "agrees")
+
+
+def sizes(counts: Counts, page: Page, program: str, module: str) -> None:
+    """Lists whose bytes, or whose places, just fill pages of memory, or just do not."""
+    page.load()
+    for length in [*range(ROOM - 34, ROOM + 2), 2 * ROOM - 33, 2 * ROOM - 32, 2 * ROOM - 31, 5 * ROOM - 8]:
+        data = b"a" * (length - 4) + b"\nbc\n"
+        page.load() if length % 3 == 0 else None
+        page.open_file(data)
+        page.fill("seed", "all")
+        compare(counts, page, program, module, f"a list of {length} bytes", "seed", "all", data)
+    for entrants in (8190, 8191, 8192, 8193, 16384):
+        data = b"x\n" * (entrants - 1) + b"y\n"
+        page.load()
+        page.open_file(data)
+        for seed in ("s", "a seed of 20 letters", "seed" * 2000):
+            page.fill(seed, "all")
+            compare(counts, page, program, module, f"{entrants} entrants, a seed of {len(seed)}", seed, "all", data)
+
+
+def long_lists(counts: Counts, page: Page, program: str, module: str) -> None:
+    page.load()
+    watch_progress(page)
+    for size, count in ((100_000, "all"), (100_000, "1000"), (100_000, "1001"), (1_000_000, "all")):
+        data = b"".join(b"entrant %d\n" % number for number in range(size))
+        page.open_file(data)
+        page.fill(f"a list of {size}", count)
+        shown = compare(counts, page, program, module, f"{count} of {size}", f"a list of {size}", count, data)
+        counts.same(f"the facts of {size}", shown["digest"], sha256(data))
+        counts.same(f"check of {count} of {size}", page.check(shown["record"])["outcome"], "agrees")
+        last = shown["record"].replace("result SHA-256: ", "result SHA-256: 0")[:-1]
+        counts.same(f"check of a cut record of {size}", page.check(last)["outcome"], "no record")
+    told = page.browser.run("return Array.from(new Set(window.told));")
+    wanted = ["Computing the SHA-256 of the list", "Counting the entrants", "Drawing", "Writing the result"]
+    counts.same("progress is told", [text for text in wanted if text not in told], [])
+
+
+def watch_progress(page: Page) -> None:
+    """Keeps each text of the progress line."""
+    page.browser.run("""
+        window.told = [];
+        new MutationObserver(() => window.told.push(document.getElementById("progress-text").textContent))
+          .observe(document.getElementById("progress-text"), {childList: true});""")
+
+
+def saved(page: Page, folder: Path, name: str) -> bytes:
+    """What a button gives as a file."""
+    path = folder / name
+    end = time.monotonic() + 20
+    while time.monotonic() < end:
+        if path.exists() and not list(folder.glob("*.part")) and not list(folder.glob("*.crdownload")):
+            data = path.read_bytes()
+            path.unlink()
+            return data
+        time.sleep(0.05)
+    return b"nothing was saved"
+
+
+def files(counts: Counts, page: Page, program: str, folder: Path) -> None:
+    """The three files that the page gives: the list, the record, the result."""
+    page.load()
+    for index, data in enumerate((b"a\nb\r\n\xff\xfe\nd", b"Ada\nBarbara\n", b"\xef\xbb\xbfx\n\0\n")):
+        page.open_file(data)
+        page.fill("a seed", "all")
+        shown = page.draw()
+        wanted = {"save-list": ("entrants", data), "save-record": ("draw.txt", shown["record"].encode()),
+                  "save-result": ("result", lots(program, "a seed", "all", data).output)}
+        for button, (name, content) in wanted.items():
+            page.browser.click(f"#{button}")
+            counts.same(f"{button} {index}", saved(page, folder, name), content)
+
+
+def copies(counts: Counts, page: Page) -> None:
+    """What the two buttons copy, inserted in the field that checks a record."""
+    page.load()
+    page.paste("Ada\nBarbara\n")
+    page.fill(" é ", "all")
+    page.facts()
+    shown = page.draw()
+    for button, wanted in (("copy-digest", shown["digest"]), ("copy-record", shown["record"])):
+        label = page.browser.label(f"#{button}")
+        page.browser.click(f"#{button}")
+        page.browser.wait("return document.getElementById(arguments[0]).textContent !== arguments[1];", button, label)
+        counts.same(f"{button} says so", page.browser.label(f"#{button}"), "Copied")
+        page.browser.run("""const field = document.getElementById("check-text");
+            field.value = "";
+            field.focus();""")
+        page.browser.insert_copied()
+        counts.same(f"{button}", page.browser.run('return document.getElementById("check-text").value;'), wanted)

@@ -1,0 +1,301 @@
+"""Chromium, by its driver's HTTP protocol, and Firefox, by Marionette's socket, with one face.
+
+Both take the commands of the W3C's WebDriver. Only Python's standard library is needed.
+"""
+
+import base64
+import json
+import os
+import re
+import shutil
+import signal
+import socket
+import subprocess
+import tempfile
+import time
+import urllib.error
+import urllib.request
+from pathlib import Path
+from typing import Any, Dict, List, Optional
+
+ELEMENT = "element-6066-11e4-a52e-4f735466cecf"
+BACKSPACE, TAB, ENTER, CONTROL, SPACE = "\ue003", "\ue004", "\ue007", "\ue009", " "
+
+
+class DriverError(Exception):
+    """The browser or its driver refused a command."""
+
+
+class Browser:
+    """A browser with one window. `command` sends a command and returns its value."""
+
+    name = ""
+
+    def command(self, name: str, **values: Any) -> Any:
+        raise NotImplementedError
+
+    def open(self, address: str) -> None:
+        self.command("Navigate", url=address)
+
+    def run(self, script: str, *values: Any) -> Any:
+        """The value that a script returns in the page."""
+        return self.command("ExecuteScript", script=script, args=list(values))
+
+    def wait(self, script: str, *values: Any, seconds: float = 60) -> Any:
+        """The first value of a script that is not false."""
+        end = time.monotonic() + seconds
+        while time.monotonic() < end:
+            value = self.run(script, *values)
+            if value:
+                return value
+            time.sleep(0.01)
+        raise DriverError(f"waited in vain for: {script}")
+
+    def element(self, selector: str) -> str:
+        return self.command("FindElement", using="css selector", value=selector)[ELEMENT]
+
+    def type(self, selector: str, text: str) -> None:
+        self.command("ElementSendKeys", id=self.element(selector), text=text)
+
+    def click(self, selector: str) -> None:
+        self.command("ElementClick", id=self.element(selector))
+
+    def label(self, selector: str) -> str:
+        """What a screen reader says that the element is."""
+        return self.command("GetComputedLabel", id=self.element(selector))
+
+    def press(self, keys: str) -> None:
+        """Presses keys one after another, wherever the focus is."""
+        actions = [{"type": kind, "value": key} for key in keys for kind in ("keyDown", "keyUp")]
+        self.command("PerformActions", actions=[{"type": "key", "id": "keys", "actions": actions}])
+
+    def insert_copied(self) -> None:
+        """Presses Control and V."""
+        actions = [{"type": kind, "value": key} for kind, key in
+                   (("keyDown", CONTROL), ("keyDown", "v"), ("keyUp", "v"), ("keyUp", CONTROL))]
+        self.command("PerformActions", actions=[{"type": "key", "id": "keys", "actions": actions}])
+
+    def picture(self, path: Path) -> None:
+        """Saves what the window shows."""
+        path.write_bytes(base64.b64decode(self.command("TakeScreenshot")))
+
+    def size(self, width: int, height: int) -> None:
+        """Gives the page a width and a height, in pixels of CSS."""
+        raise NotImplementedError
+
+    def dark(self, is_dark: bool) -> None:
+        raise NotImplementedError
+
+    def lose(self, feature: str) -> None:
+        """Pages opened from now on lack WebAssembly, or its memory64."""
+        raise NotImplementedError
+
+    def errors(self) -> List[str]:
+        """The errors of the console since the last call."""
+        raise NotImplementedError
+
+    def close(self) -> None:
+        raise NotImplementedError
+
+
+def stop(process: subprocess.Popen) -> None:
+    """Ends a process and those that it started, all of one group."""
+    for number in (signal.SIGTERM, signal.SIGKILL):
+        try:
+            os.killpg(process.pid, number)
+            process.wait(timeout=5)
+        except (ProcessLookupError, subprocess.TimeoutExpired):
+            continue
+
+
+class Chromium(Browser):
+    name = "Chromium"
+
+    PATHS = {
+        "Navigate": "url", "ExecuteScript": "execute/sync", "FindElement": "element",
+        "ElementSendKeys": "element/{id}/value", "ElementClick": "element/{id}/click",
+        "PerformActions": "actions", "Log": "se/log", "Protocol": "goog/cdp/execute",
+    }
+    QUESTIONS = {"TakeScreenshot": "screenshot", "GetComputedLabel": "element/{id}/computedlabel"}
+
+    def __init__(self, downloads: Path) -> None:
+        self.process = subprocess.Popen(
+            ["chromedriver", "--port=0"], stdout=subprocess.PIPE, stderr=subprocess.DEVNULL,
+            stdin=subprocess.DEVNULL, text=True, start_new_session=True)
+        self.address = self._address()
+        arguments = ["--headless=new", "--no-sandbox", "--disable-gpu", "--disable-dev-shm-usage"]
+        options = {"args": arguments, "prefs": {"download.default_directory": str(downloads)}}
+        wanted = {"goog:chromeOptions": options, "goog:loggingPrefs": {"browser": "ALL"}}
+        answer = self._send("POST", "session", {"capabilities": {"alwaysMatch": wanted}})
+        self.address += f"session/{answer['sessionId']}/"
+        self.version = answer["capabilities"]["browserVersion"]
+
+    def _address(self) -> str:
+        for line in self.process.stdout:
+            found = re.search(r"successfully on port (\d+)", line)
+            if found:
+                return f"http://127.0.0.1:{found[1]}/"
+        raise DriverError("chromedriver does not start")
+
+    def _send(self, method: str, path: str, values: Optional[Dict[str, Any]]) -> Any:
+        data = None if values is None else json.dumps(values).encode()
+        request = urllib.request.Request(self.address + path, data, method=method)
+        request.add_header("Content-Type", "application/json")
+        try:
+            with urllib.request.urlopen(request, timeout=120) as answer:
+                return json.load(answer)["value"]
+        except urllib.error.HTTPError as error:
+            raise DriverError(json.load(error)["value"]["message"].split("\n")[0]) from None
+
+    def command(self, name: str, **values: Any) -> Any:
+        if name in self.QUESTIONS:
+            return self._send("GET", self.QUESTIONS[name].format(**values), None)
+        return self._send("POST", self.PATHS[name].format(**values), values)
+
+    def _protocol(self, name: str, **values: Any) -> Any:
+        return self.command("Protocol", cmd=name, params=values)
+
+    def size(self, width: int, height: int) -> None:
+        self._protocol("Emulation.setDeviceMetricsOverride", width=width, height=height,
+                       deviceScaleFactor=1, mobile=False)
+
+    def dark(self, is_dark: bool) -> None:
+        feature = {"name": "prefers-color-scheme", "value": "dark" if is_dark else "light"}
+        self._protocol("Emulation.setEmulatedMedia", features=[feature])
+
+    def lose(self, feature: str) -> None:
+        """A script before those of the page does it; no flag would."""
+        source = {"WebAssembly": "delete self.WebAssembly;",
+                  "memory64": "WebAssembly.validate = () => false;"}[feature]
+        self._protocol("Page.addScriptToEvaluateOnNewDocument", source=source)
+
+    def errors(self) -> List[str]:
+        return [entry["message"] for entry in self.command("Log", type="browser")
+                if entry["level"] in ("WARNING", "SEVERE")]
+
+    def close(self) -> None:
+        try:
+            self._send("DELETE", "", None)
+        except (DriverError, OSError):
+            pass
+        stop(self.process)
+
+
+class Firefox(Browser):
+    name = "Firefox"
+
+    def __init__(self, downloads: Path) -> None:
+        self.profile = Path(tempfile.mkdtemp())
+        self._write_preferences(downloads)
+        self.process = subprocess.Popen(
+            ["firefox-esr", "-headless", "-marionette", "-no-remote", "-remote-allow-system-access",
+             "-profile", str(self.profile)],
+            stdout=subprocess.DEVNULL, stderr=subprocess.DEVNULL, stdin=subprocess.DEVNULL,
+            env={**os.environ, "HOME": str(self.profile)}, start_new_session=True)
+        self.socket = self._connect()
+        self.rest = b""
+        self.number = 0
+        self._read()
+        capabilities = self.command("NewSession")["capabilities"]
+        self.version = capabilities["browserVersion"]
+        self.command("SetTimeouts", script=120000, pageLoad=120000)
+
+    def _write_preferences(self, downloads: Path) -> None:
+        values = {
+            "marionette.port": 0, "browser.download.dir": str(downloads), "browser.download.folderList": 2,
+            "browser.download.useDownloadDir": True, "browser.download.alwaysOpenPanel": False,
+            "browser.shell.checkDefaultBrowser": False, "app.update.enabled": False,
+            "datareporting.policy.dataSubmissionEnabled": False, "network.captive-portal-service.enabled": False,
+            "network.connectivity-service.enabled": False, "browser.aboutwelcome.enabled": False,
+        }
+        lines = [f"user_pref({json.dumps(name)}, {json.dumps(value)});" for name, value in values.items()]
+        (self.profile / "user.js").write_text("\n".join(lines) + "\n")
+
+    def _connect(self) -> socket.socket:
+        """The port stands in a file of the profile once Firefox listens."""
+        port = self.profile / "MarionetteActivePort"
+        end = time.monotonic() + 60
+        while time.monotonic() < end:
+            try:
+                return socket.create_connection(("127.0.0.1", int(port.read_text())), timeout=120)
+            except (OSError, ValueError):
+                time.sleep(0.1)
+        raise DriverError("Firefox does not start")
+
+    def _more(self) -> bytes:
+        data = self.socket.recv(1 << 16)
+        if not data:
+            raise DriverError("Firefox ended")
+        return data
+
+    def _read(self) -> Any:
+        """A message: its length in digits, a colon, and so many bytes of JSON."""
+        while b":" not in self.rest:
+            self.rest += self._more()
+        length, _, self.rest = self.rest.partition(b":")
+        parts = [self.rest]
+        there = len(self.rest)
+        while there < int(length):
+            parts.append(self._more())
+            there += len(parts[-1])
+        whole = b"".join(parts)
+        self.rest = whole[int(length):]
+        return json.loads(whole[:int(length)])
+
+    def command(self, name: str, **values: Any) -> Any:
+        self.number += 1
+        place = "" if ":" in name else "WebDriver:"
+        message = json.dumps([0, self.number, place + name, values]).encode()
+        self.socket.sendall(b"%d:%s" % (len(message), message))
+        _, _, error, answer = self._read()
+        if error:
+            raise DriverError(error["message"])
+        return answer["value"] if isinstance(answer, dict) and set(answer) == {"value"} else answer
+
+    def _in_firefox(self, script: str, *values: Any) -> Any:
+        """Runs a script in Firefox itself and not in the page."""
+        self.command("Marionette:SetContext", value="chrome")
+        try:
+            return self.run(script, *values)
+        finally:
+            self.command("Marionette:SetContext", value="content")
+
+    def size(self, width: int, height: int) -> None:
+        """A window cannot be narrow: the page is magnified in one of twice the width."""
+        zoom = 2 if width < 600 else 1
+        self._in_firefox("gBrowser.selectedBrowser.fullZoom = arguments[0];", zoom)
+        self.command("SetWindowRect", width=width * zoom, height=height * zoom)
+        inner = self.wait("return [innerWidth, innerHeight];")
+        self.command("SetWindowRect", width=width * zoom + (width - inner[0]) * zoom,
+                     height=height * zoom + (height - inner[1]) * zoom)
+
+    def dark(self, is_dark: bool) -> None:
+        self._in_firefox(
+            "Services.prefs.setIntPref('layout.css.prefers-color-scheme.content-override', arguments[0]);",
+            0 if is_dark else 1)
+
+    def lose(self, feature: str) -> None:
+        """As for Chromium; a preference would no longer do it."""
+        change = {"WebAssembly": "delete page.WebAssembly;",
+                  "memory64": "page.WebAssembly.validate = Cu.exportFunction(() => false, page);"}[feature]
+        script = f"""addEventListener("DOMWindowCreated", ({{target}}) => {{
+            const page = target.defaultView.wrappedJSObject;
+            {change}
+        }});"""
+        self._in_firefox("Services.mm.loadFrameScript('data:,' + encodeURIComponent(arguments[0]), true);", script)
+
+    def errors(self) -> List[str]:
+        return self._in_firefox("""
+            const found = Services.console.getMessageArray().filter((message) =>
+                message instanceof Ci.nsIScriptError && /^(file|blob):/.test(message.sourceName));
+            Services.console.reset();
+            return found.map((message) => message.errorMessage);""")
+
+    def close(self) -> None:
+        try:
+            self.command("Marionette:Quit", flags=["eForceQuit"])
+        except (DriverError, OSError):
+            pass
+        self.socket.close()
+        stop(self.process)
+        shutil.rmtree(self.profile, ignore_errors=True)

@@ -1,0 +1,206 @@
+"""Widths, colours, names for screen readers, the keyboard, what the page says of a list, and no request."""
+
+import http.server
+import threading
+from pathlib import Path
+from typing import List
+
+from counts import Counts
+from drivers import BACKSPACE, ENTER, SPACE, TAB
+from page import Page
+
+LABELS = {
+    "list-file": "Open a file", "list-text": "or paste the list", "seed": "Seed", "count": "How many are drawn",
+    "record": "The record: what another needs to repeat the draw, beside the list", "check-text": "Record",
+    "draw": "Draw", "check": "Check", "copy-digest": "Copy the SHA-256", "save-list": "Save the list",
+    "copy-record": "Copy the record", "save-record": "Save the record", "save-result": "Save the result",
+}
+ORDER = ["list-file", "list-text", "copy-digest", "save-list", "seed", "count", "draw", "record",
+         "copy-record", "save-record", "save-result", "check-text", "check"]
+CONTRAST = """
+const number = (colour) => colour.match(/[\\d.]+/g).map(Number);
+const light = (colour) => {
+  const [red, green, blue] = number(colour).slice(0, 3).map((part) => part / 255)
+    .map((part) => part <= 0.04045 ? part / 12.92 : ((part + 0.055) / 1.055) ** 2.4);
+  return 0.2126 * red + 0.7152 * green + 0.0722 * blue;
+};
+const behind = (element) => {
+  for (let at = element; at; at = at.parentElement) {
+    const colour = getComputedStyle(at).backgroundColor;
+    if (number(colour)[3] !== 0) return colour;
+  }
+  return "rgb(255, 255, 255)";
+};
+return Array.from(document.querySelectorAll("p, li, label, h1, h2, h3, code, textarea, input, button, strong"))
+  .filter((element) => element.checkVisibility() && !element.disabled).map((element) => {
+    const two = [light(getComputedStyle(element).color), light(behind(element))];
+    return [element.id || element.tagName, (Math.max(...two) + 0.05) / (Math.min(...two) + 0.05)];
+  }).filter(([, contrast]) => contrast < 4.5);
+"""
+WIDE = """
+return Array.from(document.querySelectorAll("body *")).filter((element) => element.checkVisibility() &&
+  !element.closest("pre, textarea, ol") && element.getBoundingClientRect().right > innerWidth + 0.5)
+  .map((element) => element.id || element.tagName);
+"""
+LONG = "W" * 300 + "\nAda\nBarbara\r\n Chidi\nAda\n\\\n"
+
+
+def finished_draw(page: Page, text: str = LONG) -> None:
+    page.open_file(text.encode())
+    page.fill("4 1 6 3 3 2 5 6 é" + "w" * 100, "all")
+    record = page.draw()["record"]
+    page.check(record.replace("drawn: 6", "drawn: 7"))
+
+
+def widths_and_colours(counts: Counts, page: Page, pictures: Path) -> None:
+    page.load()
+    finished_draw(page)
+    for dark in (False, True):
+        page.browser.dark(dark)
+        for width in (360, 1440):
+            page.browser.size(width, 900)
+            name = f"{width} {'dark' if dark else 'light'}"
+            found = page.browser.run("return [innerWidth, document.documentElement.scrollWidth];")
+            counts.case(f"the width {name}", "" if found[0] == width and found[1] <= width else str(found))
+            counts.same(f"nothing is cut off, {name}", page.browser.run(WIDE), [])
+            counts.same(f"contrast, {name}", page.browser.run(CONTRAST), [])
+            colour = page.browser.run("return getComputedStyle(document.body).backgroundColor;")
+            counts.same(f"background, {name}", colour, "rgb(15, 19, 24)" if dark else "rgb(246, 247, 249)")
+            page.browser.picture(pictures / f"{page.browser.name.lower()}-{name.replace(' ', '-')}.png")
+    page.browser.dark(False)
+    page.browser.size(1000, 900)
+
+
+def names(counts: Counts, page: Page) -> None:
+    """What a screen reader says, and that errors and progress are announced."""
+    page.load()
+    page.paste("a\nb\n")
+    page.fill("seed", "all")
+    page.facts()
+    page.draw()
+    for element, label in LABELS.items():
+        found = page.browser.label(f"#{element}")
+        # Firefox adds the file field's own text.
+        counts.case(f"the name of {element}", "" if found.startswith(label) else found)
+    roles = page.browser.run("""return Object.fromEntries(Array.from(document.querySelectorAll("[id][role]"),
+        (element) => [element.id, element.getAttribute("role")]));""")
+    wanted = {f"{field}-error": "alert" for field in ("page", "list", "seed", "count")}
+    wanted.update({"list-facts": "status", "progress": "status", "outcome": "status"})
+    counts.same("roles", roles, wanted)
+    counts.same("each reference has its element", page.browser.run("""
+        return Array.from(document.querySelectorAll("[aria-describedby], [aria-labelledby], label[for]"))
+          .flatMap((element) => [element.getAttribute("aria-describedby"), element.getAttribute("aria-labelledby"),
+            element.getAttribute("for")]).filter(Boolean).flatMap((ids) => ids.split(" "))
+          .filter((id) => !document.getElementById(id));"""), [])
+    counts.same("each field has a label", page.browser.run("""
+        return Array.from(document.querySelectorAll("input, textarea")).filter((field) => field.labels.length === 0)
+          .map((field) => field.id);"""), [])
+
+
+def reached(page: Page, most: int = 30) -> List[str]:
+    """Where the key Tab leads, from the first field on. Tab goes round."""
+    places = []
+    for _ in range(most):
+        page.browser.press(TAB)
+        places.append(page.browser.run("return document.activeElement.id || document.activeElement.tagName;"))
+    first = places.index(ORDER[0])
+    return places[first:] + places[:first]
+
+
+def keyboard(counts: Counts, page: Page) -> None:
+    """A draw and its check with no mouse: Tab reaches all in the order of the page, Space presses."""
+    page.load()
+
+    def go(element: str) -> None:
+        for _ in range(40):
+            page.browser.press(TAB)
+            if page.browser.run("return document.activeElement.id;") == element:
+                return
+        raise AssertionError(f"Tab does not reach {element}")
+
+    page.browser.run("document.activeElement.blur();")
+    go("list-text")
+    page.browser.press(f"a{ENTER}b{ENTER}c")
+    go("seed")
+    page.browser.press("seed")
+    go("count")
+    page.browser.press(3 * BACKSPACE + "2")
+    go("draw")
+    page.browser.press(SPACE)
+    page.browser.wait('return document.getElementById("record").value;')
+    counts.same("after a draw the keyboard is at the result",
+                page.browser.run("return document.activeElement.id;"), "result-title")
+    shown = page.shown()
+    counts.same("a draw by keyboard", (shown["entrants"], len(shown["drawn"])), ("3 entrants", 2))
+    places = [place for place in reached(page) if place in ORDER]
+    counts.same("the order of Tab", places[:len(ORDER)], ORDER)
+    ring = page.browser.run("""document.getElementById("draw").focus({focusVisible: true});
+        return getComputedStyle(document.getElementById("draw")).outlineWidth;""")
+    counts.same("the focus is seen", ring, "3px")
+
+
+def said_of_lists(counts: Counts, page: Page) -> None:
+    page.load()
+    cases = {
+        b"a\r\nb\r\n": ["2 lines end with a carriage return"], b"a\r\nb\n": ["1 line ends with a carriage return"],
+        b" a\nb \n\tc\n": ["3 lines begin or end with a space"], b"a\nb\na\na\n": ["2 of the lines equal an earlier"],
+        b"a\na\n": ["1 of the lines equals an earlier"], b"a\nb": ["The last line has no line feed"],
+        b"\xef\xbb\xbfa\n": ["The list begins with a byte order mark"], b"a\0\nb\n": ["The list has bytes of value 0"],
+        b"\xff\n": ["The list is not UTF-8"], b"a\nb\n": [], b"\xc3\xa9\n\xe2\x82\xac\n": [],
+        b"\xff\na\r\na\r": ["The list is not UTF-8", "The last line", "2 lines end", "1 of the lines"],
+    }
+    for data, begins in cases.items():
+        page.open_file(data)
+        shown = page.facts()
+        found = shown["warnings"]
+        right = len(found) == len(begins) and all(one.startswith(begin) for one, begin in zip(found, begins))
+        counts.case(f"warnings of {data!r}", "" if right else str(found))
+    for seed, read in (("plain seed", ""), (" x", 'The seed is read as " x".'), ("x\n", 'The seed is read as "x\\n".'),
+                       ("é", 'The seed is read as "é".'), ("\u200b", 'The seed is read as "\\u200b".')):
+        page.fill(seed)
+        counts.case(f"the seed {seed!r} is shown", "" if page.shown()["read"].startswith(read) and
+                    bool(read) == bool(page.shown()["read"]) else page.shown()["read"])
+
+
+def no_request(counts: Counts, page: Page) -> None:
+    """Nothing leaves the page, even if a script in it tried."""
+    asked: List[str] = []
+
+    class Server(http.server.BaseHTTPRequestHandler):
+        def do_GET(self) -> None:
+            asked.append(self.path)
+            self.send_response(200)
+            self.end_headers()
+
+        def log_message(self, *_: object) -> None:
+            pass
+
+    # A browser may connect and ask nothing: each connection has a thread, so that none waits for it.
+    server = http.server.ThreadingHTTPServer(("127.0.0.1", 0), Server)
+    threading.Thread(target=server.serve_forever, daemon=True).start()
+    page.browser.run("""
+        const address = arguments[0];
+        window.refused = [];
+        document.addEventListener("securitypolicyviolation", (event) => refused.push(event.effectiveDirective));
+        fetch(address + "fetch").catch(() => {});
+        new Image().src = address + "image";
+        const add = (tag, values) => document.body.append(Object.assign(document.createElement(tag), values));
+        add("script", {src: address + "script"});
+        add("link", {rel: "stylesheet", href: address + "style"});
+        add("iframe", {src: address + "frame"});
+        add("script", {textContent: "window.inline = true;"});
+        """, f"http://127.0.0.1:{server.server_port}/")
+    page.browser.wait("return window.refused.length >= 6;", seconds=20)
+    counts.same("no request", asked, [])
+    counts.same("no other script", page.browser.run("return window.inline ?? null;"), None)
+    server.shutdown()
+    page.load()
+    page.browser.errors()
+
+
+def run(counts: Counts, page: Page, pictures: Path) -> None:
+    widths_and_colours(counts, page, pictures)
+    names(counts, page)
+    keyboard(counts, page)
+    said_of_lists(counts, page)
+    no_request(counts, page)

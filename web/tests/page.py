@@ -1,0 +1,80 @@
+"""The page as its user sees it: fields, buttons, texts."""
+
+from pathlib import Path
+from typing import Any, Dict, Optional
+
+from drivers import Browser
+
+SET = """
+const field = document.getElementById(arguments[0]);
+field.value = arguments[1];
+field.dispatchEvent(new Event("input"));
+"""
+
+SHOWN = """
+const shown = (id) => {
+  const element = document.getElementById(id);
+  return element && element.checkVisibility() ? element.value ?? element.textContent : "";
+};
+const items = (id) => shown(id) === "" ? [] :
+  Array.from(document.getElementById(id).children, (item) => item.textContent);
+return {
+  page: shown("page-error"), list: shown("list-error"), seed: shown("seed-error"),
+  count: shown("count-error"), entrants: shown("entrants"), digest: shown("list-digest"),
+  warnings: items("list-warnings"), title: shown("result-title"), drawn: items("drawn"),
+  more: shown("more"), escapes: shown("escapes"), record: shown("record"), read: shown("seed-read"),
+  outcome: shown("outcome") && document.getElementById("outcome").dataset.outcome,
+  outcomeTitle: shown("outcome-title"), findings: items("findings"),
+};
+"""
+
+
+class Page:
+    def __init__(self, browser: Browser, address: str, folder: Path) -> None:
+        self.browser = browser
+        self.address = address
+        self.folder = folder
+        self.files = 0
+
+    def load(self) -> None:
+        self.browser.open(self.address)
+        self.browser.wait("""return !document.getElementById("draw").disabled ||
+            !document.getElementById("page-error").hidden;""")
+
+    def shown(self) -> Dict[str, Any]:
+        """All that the page says, hidden parts as empty texts."""
+        return self.browser.run(SHOWN)
+
+    def paste(self, text: str) -> None:
+        if not self.browser.run('return document.getElementById("opened").hidden;'):
+            self.browser.click("#close-file")
+        self.browser.run(SET, "list-text", text)
+
+    def open_file(self, data: bytes) -> None:
+        self.files += 1
+        path = self.folder / f"list{self.files}"
+        path.write_bytes(data)
+        self.browser.type("#list-file", str(path))
+
+    def fill(self, seed: Optional[str] = None, count: Optional[str] = None) -> None:
+        if seed is not None:
+            self.browser.run(SET, "seed", seed)
+        if count is not None:
+            self.browser.run(SET, "count", count)
+
+    def facts(self) -> Dict[str, Any]:
+        """What the page says once it has looked at the list."""
+        self.browser.wait("""return ["list-facts", "list-error", "page-error"].some((id) =>
+            !document.getElementById(id).hidden);""")
+        return self.shown()
+
+    def draw(self) -> Dict[str, Any]:
+        self.browser.run('document.getElementById("draw").click();')
+        self.browser.wait('return !document.getElementById("draw").disabled;')
+        return self.shown()
+
+    def check(self, record: str) -> Dict[str, Any]:
+        self.browser.run(SET, "check-text", record)
+        self.browser.run('document.getElementById("check").click();')
+        self.browser.wait('return !document.getElementById("check").disabled;')
+        return self.shown()

@@ -1,0 +1,137 @@
+"""Each refusal of the page, beside the status of the program `lots` where it has one."""
+
+from pathlib import Path
+from typing import Callable, Type
+
+from counts import Counts, lots
+from drivers import Browser
+from page import Page
+
+LETTERS = "a\nb\nc\nd\ne\nf\ng\nh\ni\nj\n"
+NO_NUMBER = "The count must be the word all, or digits alone: no sign, no space, no comma."
+TOO_LARGE = "The count is too large: at most 18446744073709551615."
+OLD = ("This browser cannot run the page: it has no WebAssembly with 64-bit memory. Chromium and Chrome have it "
+       "from version 133 on, Firefox from version 134 on. The program lots and the Python code below draw the same.")
+
+
+def too_few(entrants: int, count: str) -> str:
+    return f"The list has {entrants} entrants, and {count} are asked for."
+
+
+def empty(line: int) -> str:
+    return f"Line {line} is empty. Each line of the list must have an entrant."
+
+
+def half(line: int) -> str:
+    return f"Line {line} has half of a character (a lone surrogate), which has no UTF-8."
+
+
+def refused(counts: Counts, page: Page, name: str, field: str, words: str) -> None:
+    """Draws: the words stand at the field alone, there is no result, and the keyboard is at the field."""
+    shown = page.draw()
+    said = {key: shown[key] for key in ("page", "list", "seed", "count", "record", "title") if shown[key]}
+    counts.same(name, said, {field: words})
+    focus = {"list": "list-text"}.get(field, field)
+    counts.same(f"{name}: focus", page.browser.run("return document.activeElement.id;"), focus)
+    counts.same(f"{name}: aria", page.browser.run(
+        "return document.getElementById(arguments[0]).getAttribute('aria-invalid');", focus), "true")
+
+
+def counts_refused(counts: Counts, page: Page, program: str) -> None:
+    page.paste(LETTERS)
+    for count in ("", "-", "+", "-0", "-1", "+1", "1.5", "1e0", "0x1", "1_0", "1,0", " 1", "1 ", "ALL", "All", "al",
+                  "alll", " all", "-all", "a", "*", "٣", "１"):
+        page.fill("seed", count)
+        refused(counts, page, f"the count {count!r}", "count", NO_NUMBER)
+        counts.same(f"the count {count!r} of lots", lots(program, "seed", count, LETTERS.encode()).status, 2)
+    for count in (str(2**64), "0" + str(2**64), "9" * 41):
+        page.fill("seed", count)
+        refused(counts, page, f"the count {count}", "count", TOO_LARGE)
+        counts.same(f"the count {count} of lots", lots(program, "seed", count, LETTERS.encode()).status, 2)
+    for text, count, said in ((LETTERS, "11", "11"), ("only", "2", "2"), (LETTERS, str(2**64 - 1), str(2**64 - 1)),
+                              ("a\n", "00002", "2"), ("", "1", "1"), (LETTERS, str(2**32), str(2**32))):
+        page.paste(text)
+        page.fill("seed", count)
+        entrants = len(text.split())
+        refused(counts, page, f"{count} of {entrants}", "count", too_few(entrants, said))
+        ran = lots(program, "seed", count, text.encode())
+        counts.same(f"{count} of {entrants} by lots", (ran.status, ran.error),
+                    (3, f"lots: {entrants} entrants, {said} asked for\n"))
+
+
+def seeds_refused(counts: Counts, page: Page) -> None:
+    page.paste(LETTERS)
+    page.fill("", "all")
+    refused(counts, page, "an empty seed", "seed", "The seed is empty. Type at least one character.")
+    words = "The seed has half of a character (a lone surrogate), which has no UTF-8."
+    for number, seed in enumerate(('"\\ud83d"', '"a\\ude00b"', '"\\ude00\\ud83d"')):
+        page.browser.run("""document.getElementById("seed").value = JSON.parse(arguments[0]);
+            document.getElementById("seed").dispatchEvent(new Event("input"));""", seed)
+        refused(counts, page, f"half a character in seed {number}", "seed", words)
+
+
+def lists_refused(counts: Counts, page: Page, program: str) -> None:
+    for text, line in (("\na\nb\n", 1), ("a\n\nb\n", 2), ("a\nb\n\n", 3), ("\n", 1), ("a\n\n\nb", 2),
+                       (LETTERS + "\n", 11), ("a\n" * 70000 + "\n", 70001)):
+        ran = lots(program, "seed", "all", text.encode())
+        counts.same(f"line {line} by lots", (ran.status, ran.error), (4, f"lots: line {line} is empty\n"))
+        for way in ("pasted", "a file"):
+            page.paste(text) if way == "pasted" else page.open_file(text.encode())
+            counts.same(f"line {line} is seen at once, {way}", page.facts()["list"], empty(line))
+            page.fill("seed", "all")
+            shown = page.draw()
+            counts.same(f"line {line}, {way}", (shown["list"], shown["record"], shown["digest"]), (empty(line), "", ""))
+        page.paste("")
+    page.browser.run("""document.getElementById("list-text").value = "a\\nb\\ud83d\\n";
+        document.getElementById("list-text").dispatchEvent(new Event("input"));""")
+    counts.same("half a character", page.facts()["list"], half(2))
+    refused(counts, page, "half a character in the list", "list", half(2))
+    page.paste("a\n")
+    counts.same("an error goes with its cause", page.facts()["list"], "")
+
+
+def stale_results(counts: Counts, page: Page) -> None:
+    """A result goes once a field is changed, and an answer that comes late is not shown."""
+    for field, value in (("list-text", "a\nb\nc\n"), ("seed", "other"), ("count", "1")):
+        page.paste("a\nb\n")
+        page.fill("seed", "all")
+        counts.case(f"{field}: a result", "" if page.draw()["record"] else "is missing")
+        page.browser.run("""document.getElementById(arguments[0]).value = arguments[1];
+            document.getElementById(arguments[0]).dispatchEvent(new Event("input"));""", field, value)
+        shown = page.shown()
+        counts.same(f"{field}: no result of before", (shown["record"], shown["title"]), ("", ""))
+    page.paste("a\n" * 50000)
+    page.fill("seed", "all")
+    page.browser.run("""document.getElementById("draw").click();
+        document.getElementById("seed").value = "later";
+        document.getElementById("seed").dispatchEvent(new Event("input"));""")
+    page.browser.wait('return !document.getElementById("draw").disabled;')
+    counts.same("a late answer", page.shown()["record"], "")
+
+
+def old_browsers(counts: Counts, kind: Type[Browser], address: str, folder: Path) -> None:
+    """A browser with no WebAssembly, or one whose memory has 32 bits alone: the page says so, and does nothing."""
+    for feature in ("WebAssembly", "memory64"):
+        old = kind(folder)
+        try:
+            old.lose(feature)
+            old.open(address)
+            said = old.wait('return document.getElementById("page-error").textContent;', seconds=20)
+            counts.same(f"without {feature}", said, OLD)
+            for button in ("draw", "check"):
+                disabled = old.run("return document.getElementById(arguments[0]).disabled;", button)
+                counts.same(f"no {button} without {feature}", disabled, True)
+            shown = Page(old, address, folder).shown()
+            said = [shown[field] for field in ("list", "seed", "count")]
+            counts.same(f"nothing else is said without {feature}", said, ["", "", ""])
+        finally:
+            old.close()
+
+
+def run(counts: Counts, page: Page, program: str) -> None:
+    page.load()
+    parts: "list[Callable[[], None]]" = [
+        lambda: counts_refused(counts, page, program), lambda: seeds_refused(counts, page),
+        lambda: lists_refused(counts, page, program), lambda: stale_results(counts, page)]
+    for part in parts:
+        part()

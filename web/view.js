@@ -1,0 +1,101 @@
+// What the page shows. Nothing here computes.
+
+/** @param {string} id @returns {HTMLElement} */
+export function part(id) {
+  return document.getElementById(id);
+}
+
+/** Shows a text, or hides its element if there is none. @param {string} id @param {string} text */
+export function say(id, text) {
+  part(id).textContent = text;
+  part(id).hidden = text === "";
+}
+
+/**
+ * Shows one item for each text, and hides a list of none.
+ * @param {string} id @param {string[]} texts
+ */
+export function itemize(id, texts) {
+  part(id).replaceChildren(...texts.map((text) => {
+    const item = document.createElement("li");
+    item.textContent = text;
+    return item;
+  }));
+  part(id).hidden = texts.length === 0;
+}
+
+/** The field that each kind of refusal belongs to. */
+const FIELDS = { seed: "seed", count: "count", list: "list-text" };
+
+/** Shows a refusal beside its field. @param {import("./refusal.js").Refusal} refusal */
+export function showRefusal(refusal) {
+  say(`${refusal.field}-error`, refusal.words);
+  if (refusal.field in FIELDS) part(FIELDS[refusal.field]).setAttribute("aria-invalid", "true");
+}
+
+/** Takes the refusals of some fields away. @param {...string} fields */
+export function clearRefusals(...fields) {
+  for (const field of fields) {
+    say(`${field}-error`, "");
+    if (field in FIELDS) part(FIELDS[field]).removeAttribute("aria-invalid");
+  }
+}
+
+/** @param {number} number with thin groups, such as 1 000 000 */
+export function grouped(number) {
+  return String(number).replace(/\B(?=(\d{3})+$)/g, "\u202f");
+}
+
+/** @param {string} digest @param {number} entrants @param {string[]} warnings */
+export function showList({ digest, entrants, warnings }) {
+  say("entrants", entrants === 1 ? "1 entrant" : `${grouped(entrants)} entrants`);
+  say("list-digest", digest);
+  itemize("list-warnings", warnings);
+  part("list-facts").hidden = false;
+}
+
+/** @param {{entrants: number, drawn: number, named: string[], record: string}} drawing */
+export function showResult({ entrants, drawn, named, record }) {
+  part("result").hidden = false;
+  say("result-title", drawn === 0
+    ? "Nobody was drawn."
+    : `${grouped(drawn)} of ${grouped(entrants)} drawn, in this order:`);
+  itemize("drawn", named);
+  const left = drawn - named.length;
+  say("more", left > 0 ? `and ${grouped(left)} more, in the result that you can save` : "");
+  say("escapes", named.some((name) => name.includes("\\"))
+    ? "\\x and two digits are a byte that is no visible letter, \\\\ is one backslash." : "");
+  part("record").value = record;
+}
+
+/** @param {import("./check.js").Check} check */
+export function showCheck({ outcome, title, findings }) {
+  part("outcome").hidden = false;
+  part("outcome").dataset.outcome = outcome;
+  say("outcome-title", title);
+  itemize("findings", findings);
+}
+
+/** Gives bytes to the user as a file. @param {BlobPart} bytes @param {string} name */
+export function save(bytes, name) {
+  const link = document.createElement("a");
+  link.href = URL.createObjectURL(new Blob([bytes], { type: "application/octet-stream" }));
+  link.download = name;
+  link.click();
+  setTimeout(() => URL.revokeObjectURL(link.href), 60000);
+}
+
+/**
+ * Copies a text, and says on the button that it did.
+ * @param {HTMLElement} button @param {string} text
+ */
+export async function copy(button, text) {
+  const label = button.textContent;
+  try {
+    await navigator.clipboard.writeText(text);
+    button.textContent = "Copied";
+  } catch {
+    button.textContent = "Not copied: select the text";
+  }
+  setTimeout(() => { button.textContent = label; }, 2000);
+}
