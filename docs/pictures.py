@@ -101,15 +101,17 @@ def layers():
     programs, modules, traits, specs = 44, 178, 322, 462
     parts = [text(MARGIN, 28, "An arrow goes from a module to what it uses.", "quiet")]
 
-    parts += module(190, programs, 180, 54, "draw, draw_core", "a command line to a text")
-    parts += module(390, programs, 200, 54, "nanorand_users", "one program per kind of user")
-    parts += module(610, programs, 170, 54, "nanorand_c", "exports for C")
-    parts += module(800, programs, 220, 54, "rust/", "the same, without contracts")
+    parts += module(MARGIN, programs, 170, 54, "draw, draw_core", "a command line to a text")
+    parts += module(206, programs, 194, 54, "nanorand_users", "one program per kind of user")
+    parts += module(416, programs, 174, 54, "lots, lots_core", "a public draw by lot")
+    parts += module(626, programs, 190, 54, "nanorand_c", "exports: C, Python, a page")
+    parts += module(832, programs, 188, 54, "rust/", "the same, without contracts")
+    parts.append(arrow(f"M626 {programs + 27} H598", (591, programs + 27), "left"))
 
     line = 140
     parts.append(f'<path d="M{MARGIN} {line} H1020" class="frame"/>')
     parts.append(text(MARGIN, line - 8, "public contracts", "quiet"))
-    for x in (280, 490, 695, 910):
+    for x in (140, 303, 503, 721, 926):
         parts.append(arrow(f"M{x} {programs + 54} V{line - 9}", (x, line - 1), "down"))
     parts.append(text(MARGIN, line + 20, "crates/nanorand_core: for every generator", "quiet"))
     parts.append(text(378, line + 20, "crates/nanorand_streams: over any generator", "quiet"))
