@@ -9,7 +9,7 @@ ghost use Rattle.nanorand_core.specs.values.Runs.{words_that};
 ghost use Rattle.nanorand_core.specs.values.Values.{number_of};
 ghost use Rattle.nanorand.specs.generators.Frequencies.{SomeWordNeverComes, pcg64_word_count, pcg64_words_that, wyrand_seeds_with, wyrand_word_count};
 ghost use Rattle.nanorand.specs.generators.Halves.{folded};
-ghost use Rattle.nanorand.specs.generators.ChaCha.{counter, advanced, next_state, chacha_after, chacha_block, chacha_requests};
+ghost use Rattle.nanorand.specs.generators.ChaCha.{counter, key_of, nonce_of, advanced, next_state, chacha_after, chacha_block, chacha_requests};
 ghost use Rattle.nanorand.specs.generators.ChaChaRounds.{IsMatrix, RoundsAreInjective};
 ghost use Rattle.nanorand.specs.generators.Pcg64.{pcg64_requests};
 ghost use Rattle.nanorand.specs.generators.Pcg64 as pcg64;
@@ -128,10 +128,11 @@ pub fn pcg64_cycles()
 /// `steps`, `more`, `adds`: `chacha_after n` is the state after n single draws, from every list.
 /// `closed`, `matrices`: from a matrix, sixteen 32-bit words, it is the state with n added to the
 /// counter, modulo 2^64, and a matrix again. `counts`, `keeps`: n draws add n to the counter,
-/// modulo 2^64, and change no word but 12 and 13, which hold it. `blocks`: block n, counted from 0,
-/// is the block of the state with n added to the counter. `agree`: i draws and j draws leave the
-/// same state exactly if i and j agree modulo 2^64. `periods`: every multiple of 2^64 is a period
-/// of the blocks; that no other number is one is not claimed.
+/// modulo 2^64, and change no word but 12 and 13, which hold it. `key`, `nonce`: so draws keep the
+/// key and the nonce. `blocks`: block n, counted from 0, is the block of the state with n added to
+/// the counter. `agree`: i draws and j draws leave the same state exactly if i and j agree modulo
+/// 2^64. `periods`: every multiple of 2^64 is a period of the blocks; that no other number is one
+/// is not claimed.
 pub fn chacha_counter()
     ensures steps { DrawsLeave next_state chacha_after }
     ensures more { OneMoreDraw next_state chacha_after }
@@ -142,6 +143,8 @@ pub fn chacha_counter()
         → counter (chacha_after n x) ≡ (counter x + n) % 2 ^ 64 }
     ensures keeps { (n k : ℕ) (x : List ℕ) → k ≢ 12 → k ≢ 13
         → slice_index (chacha_after n x) k ≡ slice_index x k }
+    ensures key { (n : ℕ) (x : List ℕ) → key_of (chacha_after n x) ≡ key_of x }
+    ensures nonce { (n : ℕ) (x : List ℕ) → nonce_of (chacha_after n x) ≡ nonce_of x }
     ensures blocks { (R n : ℕ) (x : List ℕ) → IsMatrix x
         → chacha_block R (iterate next_state n x) ≡ chacha_block R (advanced n x) }
     ensures agree { (i j : ℕ) (x : List ℕ) → IsMatrix x

@@ -11,14 +11,15 @@ ghost use Rattle.nanorand_c.specs.Sampling.{sampling};
 ghost use Rattle.nanorand_c.specs.Status.{drawn_or, status};
 
 use crate::calls::{range_i64, range_u32, range_u64, range_usize, sample, shuffle, shuffle_full};
-use crate::chacha::{ChaChaState, block, fill_bytes, loaded, store};
-use nanorand::Rng;
+use crate::chacha::{ChaChaState, block, fill_bytes, loaded, number, store};
 
 /// Writes the block at the counter, and adds 1 to the counter.
 #[unsafe(no_mangle)]
 pub extern "C" fn nanorand_v1_chacha8_block(state: &mut ChaChaState, out: &mut [u8; 64])
     ensures block { out.new ≡ chacha_block 8 (chacha_at state.old) }
     ensures counter { state.new.counter ≡ (state.old.counter + 1) % 2 ^ 64 }
+    ensures key { state.new.key ≡ state.old.key }
+    ensures nonce { state.new.nonce ≡ state.old.nonce }
     ensures state { chacha_at state.new ≡ next_state (chacha_at state.old) }
 {
     block::<8>(state, out);
@@ -28,12 +29,11 @@ pub extern "C" fn nanorand_v1_chacha8_block(state: &mut ChaChaState, out: &mut [
 #[unsafe(no_mangle)]
 pub extern "C" fn nanorand_v1_chacha8_u64(state: &mut ChaChaState) -> u64
     ensures value { result ≡ number_of ((chacha_requests 8).bytes (chacha_at state.old) 8) }
+    ensures key { state.new.key ≡ state.old.key }
+    ensures nonce { state.new.nonce ≡ state.old.nonce }
     ensures state { chacha_at state.new ≡ (chacha_requests 8).after (chacha_at state.old) 8 }
 {
-    let mut rng = loaded::<8>(state);
-    let value = rng.generate();
-    store(state, &rng);
-    value
+    number::<8>(state)
 }
 
 /// Fills the slice with the blocks from the counter on, by one request. The counter advances by the
@@ -44,6 +44,8 @@ pub extern "C" fn nanorand_v1_chacha8_fill_bytes(state: &mut ChaChaState, buffer
         buffer.new ≡ (chacha_requests 8).bytes start (length buffer.old) }
     ensures counter { let blocks = div_ceil (length buffer.old) 64 in
         state.new.counter ≡ (state.old.counter + blocks) % 2 ^ 64 }
+    ensures key { state.new.key ≡ state.old.key }
+    ensures nonce { state.new.nonce ≡ state.old.nonce }
     ensures state { let left = (chacha_requests 8).after (chacha_at state.old) in
         chacha_at state.new ≡ left (length buffer.old) }
 {

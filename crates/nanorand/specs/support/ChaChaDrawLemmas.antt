@@ -1,15 +1,15 @@
 -- Lemmas about ChaCha's blocks and many draws. Nobody has to believe this file: it is in specs/
 -- only because laws of impls cite its lemmas.
-use Rattle.std.proofs.Common.{◌≡◌, ◌≢◌, ℕ, zero, suc, ◌+◌, ◌/◌, ◌%◌, ◌^◌, ◌<◌, ◌≤◌, ◌↔◌, List, [], ◌∷◌, length, slice_index, set, refl, sym, ap, ◌∙◌, arith, add-one, ⊎_elim, length-set, get_or-set_other}
+use Rattle.std.proofs.Common.{◌≡◌, ◌≢◌, ℕ, zero, suc, ◌+◌, ◌/◌, ◌%◌, ◌^◌, ◌<◌, ◌≤◌, ◌↔◌, List, [], ◌∷◌, length, take, drop, slice_index, slice_range, set, refl, sym, ap, ◌∙◌, arith, add-one, ⊎_elim, length-set, get_or-set_other}
 use Rattle.std.proofs.lemmas.Bool.{cases_lt}
-use Rattle.std.proofs.lemmas.List.{get_or-set_same, get_or_past, set-set, set_comm, set_past, set-get_or}
+use Rattle.std.proofs.lemmas.List.{drop-set-add, drop-set-lt, get_or-set_same, get_or_past, set-set, set_comm, set_past, set-get_or, take-set-le}
 use Rattle.std.proofs.lemmas.Nat.Gcd.{mod-eq-zero_of_dvd}
 use Rattle.std.specs.Fn.{iterate}
 use Rattle.std.specs.Int.{◌∣◌}
 use Rattle.nanorand_core.specs.generators.Cycles.{IsPeriod, DrawsLeave, OneMoreDraw, DrawsAdd}
 use Rattle.nanorand_core.specs.support.IterateLemmas.{draws_leave, draws_add}
 use Rattle.nanorand.specs.generators.ChaChaRounds.{block, IsMatrix}
-use Rattle.nanorand.specs.generators.ChaCha.{counter, with_counter, advanced, next_state, chacha_block, chacha_after}
+use Rattle.nanorand.specs.generators.ChaCha.{bytes, counter, with_counter, key_of, nonce_of, advanced, next_state, chacha_block, chacha_after}
 
 -- a block has 64 bytes, whatever list the state is
 pub length-chacha_block : (R : ℕ) (x : List ℕ) → length (chacha_block R x) ≡ 64
@@ -117,6 +117,28 @@ chacha_counts n x matrix =
 pub chacha_keeps : (n k : ℕ) (x : List ℕ) → k ≢ 12 → k ≢ 13 → slice_index (chacha_after n x) k ≡ slice_index x k
 chacha_keeps zero k x low high = refl
 chacha_keeps (suc n) k x low high = rw (get_or-set_other, get_or-set_other) refl
+
+-- setting the words 12 and 13 changes neither the words before them nor those after them
+key-set : (x : List ℕ) (low high : ℕ) → slice_range (set (set x 12 low) 13 high) 4 12 ≡ slice_range x 4 12
+key-set x low high =
+    ap (take 8) (drop-set-add 4 (set x 12 low) 9 high)
+    ∙ take-set-le 8 (drop 4 (set x 12 low)) 9 high (omega arith)
+    ∙ ap (take 8) (drop-set-add 4 x 8 low) ∙ take-set-le 8 (drop 4 x) 8 low (omega arith)
+
+nonce-set : (x : List ℕ) (low high : ℕ) → slice_range (set (set x 12 low) 13 high) 14 16 ≡ slice_range x 14 16
+nonce-set x low high =
+    ap (take 2) (drop-set-lt 14 (set x 12 low) 13 high (omega arith) ∙ drop-set-lt 14 x 12 low (omega arith))
+
+-- draws keep the key and the nonce
+pub chacha_key : (n : ℕ) (x : List ℕ) → key_of (chacha_after n x) ≡ key_of x
+unfolding key_of
+chacha_key zero x = refl
+chacha_key (suc n) x = ap bytes (key-set x _ _)
+
+pub chacha_nonce : (n : ℕ) (x : List ℕ) → nonce_of (chacha_after n x) ≡ nonce_of x
+unfolding nonce_of
+chacha_nonce zero x = refl
+chacha_nonce (suc n) x = ap bytes (nonce-set x _ _)
 
 -- setting one word to a word keeps all words below 2^32
 words-set : (x : List ℕ) (i word : ℕ) → ((k : ℕ) → slice_index x k < 2 ^ 32) → word < 2 ^ 32
