@@ -2,8 +2,9 @@
 
 use super::writers::{Pieces, check_flushed};
 use super::{DRAWN, NAMES, THROWS, check_error, strings};
-use crate::error::LotsError;
-use crate::run::{report, run};
+use crate::comparing::{equal, equal_at, holds};
+use lots_core::LotsError;
+use lots_core::run::{report, run};
 use std::alloc::Global;
 use std::cell::Cell;
 use std::io;
@@ -79,8 +80,8 @@ impl Read for Feed<'_> {
 fn check_drawn(rt: &impl Abort, alloc: Global, input: &mut Feed<'_>) -> Result<u64, Fail> {
     let strings = strings(alloc, &[THROWS, "all"])?;
     let mut out = Pieces::honest(alloc, usize::MAX);
-    assert_eq!(rt; run(alloc, &strings, input, &mut out), Ok(()));
-    assert_eq!(rt; input.ends, 1);
+    equal(rt, run(alloc, &strings, input, &mut out), Ok(()));
+    equal(rt, input.ends, 1);
     check_flushed(rt, &out, DRAWN.as_bytes(), "a list in pieces");
     Ok(input.reads)
 }
@@ -93,7 +94,7 @@ fn pieces(rt: HostRuntime) -> Result<(), Fail> {
     for piece in PIECES {
         let mut input = Feed::honest(NAMES.as_bytes(), piece);
         let reads = check_drawn(&rt, rt.alloc(), &mut input)?;
-        assert!(&rt; reads as usize > NAMES.len() / piece, "{piece}: {reads}");
+        holds(&rt, reads as usize > NAMES.len() / piece, &(piece, reads));
     }
     Ok(())
 }
@@ -105,7 +106,7 @@ fn interrupted_reads(rt: HostRuntime) -> Result<(), Fail> {
         let reads = check_drawn(&rt, rt.alloc(), &mut honest)?;
         let mut input = Feed::interrupted(NAMES.as_bytes(), piece);
         let all = check_drawn(&rt, rt.alloc(), &mut input)?;
-        assert_eq!(&rt; all, reads.wrapping_mul(2), "{piece}");
+        equal_at(&rt, all, reads.wrapping_mul(2), &piece);
     }
     Ok(())
 }
@@ -122,8 +123,8 @@ fn check_failing(
     for failing in 0..reads {
         let mut input = Feed::failing(NAMES.as_bytes(), piece, failing, kind);
         check_error(rt, alloc, &[THROWS, "all"], &mut input, error)?;
-        assert_eq!(rt; input.reads, failing.wrapping_add(1), "{piece}");
-        assert_eq!(rt; input.ends, 0, "{piece}");
+        equal_at(rt, input.reads, failing.wrapping_add(1), &piece);
+        equal_at(rt, input.ends, 0, &piece);
     }
     Ok(())
 }
@@ -140,7 +141,11 @@ fn failed_reads(rt: HostRuntime) -> Result<(), Fail> {
             check_failing(&rt, rt.alloc(), piece, kind, LotsError::Read)?;
         }
     }
-    assert_eq!(rt; report(Err(LotsError::Read), &mut Vec::new(rt.alloc())), 6);
+    equal(
+        &rt,
+        report(Err(LotsError::Read), &mut Vec::new(rt.alloc())),
+        6,
+    );
     Ok(())
 }
 
@@ -214,9 +219,9 @@ fn all_is_read_before_a_write(rt: HostRuntime) -> Result<(), Fail> {
             late: 0,
         };
         let outcome = run(rt.alloc(), &strings, &mut input, &mut out);
-        assert_eq!(rt; outcome, Ok(()), "{piece}");
-        assert_eq!(rt; out.early, 0, "{piece}");
-        assert_eq!(rt; out.late, DRAWN.len() as u64 + 1, "{piece}");
+        equal_at(&rt, outcome, Ok(()), &piece);
+        equal_at(&rt, out.early, 0, &piece);
+        equal_at(&rt, out.late, DRAWN.len() as u64 + 1, &piece);
     }
     Ok(())
 }

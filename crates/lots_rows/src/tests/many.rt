@@ -1,8 +1,8 @@
 //! A list of 100,000 entrants.
 
 use super::check_text;
-use crate::draws::draw_places;
-use crate::entrants::count_entrants;
+use crate::comparing::{equal, equal_at, holds};
+use lots_core::{count_entrants, draw_places};
 use sha2::{Digest, Sha256};
 use std::alloc::{AllocError, Global};
 use std::test::Fail;
@@ -30,10 +30,10 @@ fn numbers(alloc: Global) -> Result<Vec<usize>, AllocError> {
 fn run_and_places(rt: HostRuntime) -> Result<(), Fail> {
     let alloc = rt.alloc();
     let list = lines(alloc, &numbers(alloc)?)?;
-    assert_eq!(rt; count_entrants(list.as_bytes()), Ok(ENTRANTS));
+    equal(&rt, count_entrants(list.as_bytes()), Ok(ENTRANTS));
     for (text, count) in [("0", 0), ("1", 1), ("99999", 99_999), ("all", ENTRANTS)] {
         let mut places = vec![in alloc; 0; ENTRANTS]?;
-        assert_eq!(rt; draw_places(SEED, &mut places, count), Ok(()), "{count}");
+        equal_at(&rt, draw_places(SEED, &mut places, count), Ok(()), &count);
         places.truncate(count);
         let drawn = lines(alloc, &places)?;
         check_text(&rt, alloc, &[SEED, text], list.as_bytes(), drawn.as_bytes())?;
@@ -46,11 +46,11 @@ fn run_and_places(rt: HostRuntime) -> Result<(), Fail> {
 fn permutation(rt: HostRuntime) -> Result<(), Fail> {
     let alloc = rt.alloc();
     let mut places = vec![in alloc; 0; ENTRANTS]?;
-    assert_eq!(rt; draw_places(SEED, &mut places, ENTRANTS), Ok(()));
+    equal(&rt, draw_places(SEED, &mut places, ENTRANTS), Ok(()));
     let order = numbers(alloc)?;
-    assert!(rt; places.as_slice() != order.as_slice());
+    holds(&rt, places.as_slice() != order.as_slice(), &"moved");
     places.sort_unstable();
-    assert!(rt; places.as_slice() == order.as_slice());
+    holds(&rt, places.as_slice() == order.as_slice(), &"sorted");
     Ok(())
 }
 
@@ -69,14 +69,14 @@ fn sum_of_the_text(rt: HostRuntime) -> Result<(), Fail> {
         ),
     ] {
         let mut places = vec![in alloc; 0; ENTRANTS]?;
-        assert_eq!(rt; draw_places(SEED, &mut places, count), Ok(()), "{count}");
+        equal_at(&rt, draw_places(SEED, &mut places, count), Ok(()), &count);
         places.truncate(count);
         let drawn = lines(alloc, &places)?;
         let mut shown = String::new(alloc);
         for byte in Sha256::digest(drawn.as_str()) {
             write!(shown, "{byte:02x}")?;
         }
-        assert_eq!(rt; shown.as_str(), sum, "{count}");
+        equal_at(&rt, shown.as_str(), sum, &count);
     }
     Ok(())
 }

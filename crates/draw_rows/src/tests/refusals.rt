@@ -2,8 +2,9 @@
 
 use super::writers::{Pieces, check_flushed, check_untouched};
 use super::{arguments, drawn};
-use crate::error::DrawError;
-use crate::run::run;
+use crate::comparing::{equal, equal_at, holds};
+use draw_core::DrawError;
+use draw_core::run::run;
 use refusing::Refusing;
 use std::alloc::{AllocError, Global};
 use std::process::Abort;
@@ -27,11 +28,11 @@ pub fn two_hundred_requests(alloc: Global) -> Result<String, AllocError> {
 // A run on this heap is out of memory, and does not call the writer.
 fn check_no_memory(rt: &impl Abort, alloc: Global, heap: &Refusing<Global>, arguments: &[String]) {
     let mut out = Pieces::honest(alloc, usize::MAX);
-    assert_eq!(rt;
+    equal_at(
+        rt,
         run(heap, arguments, &mut out),
         Err(DrawError::Memory),
-        "{}",
-        heap.requests()
+        &heap.requests(),
     );
     check_untouched(rt, &out, "a run without memory");
 }
@@ -50,11 +51,11 @@ fn each_request_refused(
         let heap = Refusing::nth(alloc, number);
         let outcome = run(&heap, &arguments, &mut out);
         if heap.requests() < number {
-            assert_eq!(rt; outcome, Ok(()), "{number}");
+            equal_at(rt, outcome, Ok(()), &number);
             check_flushed(rt, &out, text, line);
             return Ok(number - 1);
         }
-        assert_eq!(rt; outcome, Err(DrawError::Memory), "{number}");
+        equal_at(rt, outcome, Err(DrawError::Memory), &number);
         check_untouched(rt, &out, line);
         check_no_memory(rt, alloc, &Refusing::from_nth(alloc, number), &arguments);
     }
@@ -65,14 +66,14 @@ fn each_request_refused(
 fn memory(rt: HostRuntime) -> Result<(), Fail> {
     let alloc = rt.alloc();
     let requests = each_request_refused(&rt, alloc, LONGEST, LONGEST_TEXT.as_bytes())?;
-    assert!(rt; requests > 2, "{requests}");
+    holds(&rt, requests > 2, &requests);
 
     let line = two_hundred_requests(alloc)?;
     let (outcome, text) = drawn(alloc, line.as_str())?;
-    assert_eq!(rt; outcome, Ok(()));
-    assert!(rt; text.as_slice().starts_with(b"218\n"));
+    equal(&rt, outcome, Ok(()));
+    holds(&rt, text.as_slice().starts_with(b"218\n"), &"text");
     let requests = each_request_refused(&rt, alloc, line.as_str(), text.as_slice())?;
-    assert!(rt; requests > 15, "{requests}");
+    holds(&rt, requests > 15, &requests);
     Ok(())
 }
 
@@ -93,11 +94,11 @@ fn memory_before_a_bad_argument(rt: HostRuntime) -> Result<(), Fail> {
         } else {
             DrawError::BadWord(6)
         };
-        assert_eq!(rt; outcome, Err(error), "{number}");
+        equal_at(&rt, outcome, Err(error), &number);
         check_untouched(&rt, &out, "a bad argument");
         met[usize::from(refused)] = true;
     }
-    assert_eq!(rt; met, [true, true]);
+    equal(&rt, met, [true, true]);
     Ok(())
 }
 
@@ -115,12 +116,13 @@ fn first_arguments_without_memory(rt: HostRuntime) -> Result<(), Fail> {
         let arguments = arguments(alloc, line)?;
         let heap = Refusing::from_nth(alloc, 1);
         let mut out = Pieces::honest(alloc, usize::MAX);
-        assert_eq!(rt;
+        equal_at(
+            &rt,
             run(&heap, &arguments, &mut out),
             Err(DrawError::BadWord(number)),
-            "{line}"
+            &line,
         );
-        assert_eq!(rt; heap.requests(), 0, "{line}");
+        equal_at(&rt, heap.requests(), 0, &line);
         check_untouched(&rt, &out, line);
     }
     Ok(())

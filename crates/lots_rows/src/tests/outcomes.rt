@@ -3,8 +3,9 @@
 use super::readers::Feed;
 use super::writers::Pieces;
 use super::{NAMES, THROWS, check_error};
-use crate::error::LotsError;
-use crate::run::report;
+use crate::comparing::{equal, equal_at};
+use lots_core::LotsError;
+use lots_core::run::report;
 use std::io;
 use std::io::{ErrorKind, Write};
 use std::test::Fail;
@@ -28,7 +29,7 @@ fn too_few(rt: HostRuntime) -> Result<(), Fail> {
             let mut input = Feed::honest(list.as_bytes(), usize::MAX);
             let error = LotsError::TooFew { entrants, count };
             check_error(&rt, rt.alloc(), &[THROWS, text], &mut input, error)?;
-            assert_eq!(rt; input.ends, 1, "{list}");
+            equal_at(&rt, input.ends, 1, &list);
         }
     }
     Ok(())
@@ -55,11 +56,11 @@ fn order_of_refusals(rt: HostRuntime) -> Result<(), Fail> {
 
     let mut input = Feed::failing(list, usize::MAX, 0, ErrorKind::Other);
     check_error(&rt, alloc, &["", "9"], &mut input, LotsError::Usage)?;
-    assert_eq!(rt; input.reads, 0);
+    equal(&rt, input.reads, 0);
 
     let mut input = Feed::failing(list, usize::MAX, 1, ErrorKind::Other);
     check_error(&rt, alloc, &["seed", "9"], &mut input, LotsError::Read)?;
-    assert_eq!(rt; input.reads, 2);
+    equal(&rt, input.reads, 2);
 
     let mut input = Feed::honest(list, usize::MAX);
     let empty = LotsError::EmptyLine(2);
@@ -132,8 +133,8 @@ fn reports(rt: HostRuntime) {
     for (outcome, status, line) in REPORTS {
         for piece in [1, usize::MAX] {
             let mut err = Pieces::honest(rt.alloc(), piece);
-            assert_eq!(rt; report(outcome, &mut err), status, "{line}");
-            assert_eq!(rt; err.kept.as_slice(), line.as_bytes());
+            equal_at(&rt, report(outcome, &mut err), status, &line);
+            equal(&rt, err.kept.as_slice(), line.as_bytes());
         }
     }
 }
@@ -156,11 +157,11 @@ impl Write for Stuck {
 #[test]
 fn unwritten_reports(rt: HostRuntime) {
     for (outcome, status, line) in REPORTS {
-        assert_eq!(rt; report(outcome, &mut Stuck), status, "{line}");
+        equal_at(&rt, report(outcome, &mut Stuck), status, &line);
         for failing in 0..line.len() as u64 {
             let mut err = Pieces::failing(rt.alloc(), 1, failing, ErrorKind::BrokenPipe);
-            assert_eq!(rt; report(outcome, &mut err), status, "{line}");
-            assert_eq!(rt; err.kept.len() as u64, failing, "{line}");
+            equal_at(&rt, report(outcome, &mut err), status, &line);
+            equal_at(&rt, err.kept.len() as u64, failing, &line);
         }
     }
 }

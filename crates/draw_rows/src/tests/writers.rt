@@ -3,8 +3,9 @@
 
 use super::refusals::{LONGEST, LONGEST_TEXT, two_hundred_requests};
 use super::{arguments, drawn};
-use crate::error::DrawError;
-use crate::run::run;
+use crate::comparing::{equal, equal_at, holds};
+use draw_core::DrawError;
+use draw_core::run::run;
 use std::alloc::Global;
 use std::io;
 use std::io::{ErrorKind, Write};
@@ -71,30 +72,31 @@ impl Write for Pieces {
 
 /// The writer took the text, and then was flushed once.
 pub fn check_flushed(rt: &impl Abort, out: &Pieces, text: &[u8], name: &str) {
-    assert_eq!(rt; out.kept.len(), text.len(), "bytes of {name}");
-    assert!(rt; out.kept.as_slice() == text, "text of {name}");
-    assert_eq!(rt;
+    equal_at(rt, out.kept.len(), text.len(), &("bytes", name));
+    holds(rt, out.kept.as_slice() == text, &("text", name));
+    equal_at(
+        rt,
         out.writes_since_flush,
         0,
-        "writes after the last flush of {name}"
+        &("writes after the last flush", name),
     );
-    assert_eq!(rt; out.flushes, 1, "flushes of {name}");
+    equal_at(rt, out.flushes, 1, &("flushes", name));
 }
 
 /// The writer was not called.
 pub fn check_untouched(rt: &impl Abort, out: &Pieces, name: &str) {
-    assert_eq!(rt; out.writes, 0, "writes of {name}");
-    assert_eq!(rt; out.flushes, 0, "flushes of {name}");
-    assert!(rt; out.kept.is_empty(), "text of {name}");
+    equal_at(rt, out.writes, 0, &("writes", name));
+    equal_at(rt, out.flushes, 0, &("flushes", name));
+    holds(rt, out.kept.is_empty(), &("text", name));
 }
 
 #[test]
 fn one_byte_at_a_time(rt: HostRuntime) -> Result<(), Fail> {
     let arguments = arguments(rt.alloc(), LONGEST)?;
     let mut out = Pieces::honest(rt.alloc(), 1);
-    assert_eq!(rt; run(rt.alloc(), &arguments, &mut out), Ok(()));
-    assert_eq!(rt; out.kept.as_slice(), LONGEST_TEXT.as_bytes());
-    assert_eq!(rt; out.writes, LONGEST_TEXT.len() as u64);
+    equal(&rt, run(rt.alloc(), &arguments, &mut out), Ok(()));
+    equal(&rt, out.kept.as_slice(), LONGEST_TEXT.as_bytes());
+    equal(&rt, out.writes, LONGEST_TEXT.len() as u64);
     Ok(())
 }
 
@@ -112,10 +114,10 @@ fn one_flush_at_the_end(rt: HostRuntime) -> Result<(), Fail> {
     ] {
         let arguments = arguments(alloc, line)?;
         let (outcome, text) = drawn(alloc, line)?;
-        assert_eq!(rt; outcome, Ok(()), "{line}");
+        equal_at(&rt, outcome, Ok(()), &line);
         for piece in [1, 2, 7, 4096, usize::MAX] {
             let mut out = Pieces::honest(alloc, piece);
-            assert_eq!(rt; run(alloc, &arguments, &mut out), Ok(()), "{line}");
+            equal_at(&rt, run(alloc, &arguments, &mut out), Ok(()), &line);
             check_flushed(&rt, &out, text.as_slice(), line);
         }
     }
@@ -129,11 +131,11 @@ fn failed_flush(rt: HostRuntime) -> Result<(), Fail> {
     for line in ["wyrand d29b42879be2895f plain 0", LONGEST] {
         let arguments = arguments(alloc, line)?;
         let (outcome, text) = drawn(alloc, line)?;
-        assert_eq!(rt; outcome, Ok(()), "{line}");
+        equal_at(&rt, outcome, Ok(()), &line);
         for piece in [1, 7, 4096] {
             let mut out = Pieces::failing(alloc, piece, NEVER, false);
             let outcome = run(alloc, &arguments, &mut out);
-            assert_eq!(rt; outcome, Err(DrawError::Write), "{line}");
+            equal_at(&rt, outcome, Err(DrawError::Write), &line);
             check_flushed(&rt, &out, text.as_slice(), line);
         }
     }
@@ -148,11 +150,15 @@ fn failed_writes(rt: HostRuntime) -> Result<(), Fail> {
     for failing in 0..LONGEST_TEXT.len() as u64 {
         let mut out = Pieces::failing(alloc, 1, failing, true);
         let outcome = run(alloc, &arguments, &mut out);
-        assert_eq!(rt; outcome, Err(DrawError::Write), "{failing}");
-        assert_eq!(rt; out.writes, failing + 1);
-        assert_eq!(rt; out.flushes, 0, "{failing}");
-        assert_eq!(rt; out.kept.len() as u64, failing);
-        assert!(rt; LONGEST_TEXT.as_bytes().starts_with(out.kept.as_slice()));
+        equal_at(&rt, outcome, Err(DrawError::Write), &failing);
+        equal(&rt, out.writes, failing + 1);
+        equal_at(&rt, out.flushes, 0, &failing);
+        equal(&rt, out.kept.len() as u64, failing);
+        holds(
+            &rt,
+            LONGEST_TEXT.as_bytes().starts_with(out.kept.as_slice()),
+            &"text",
+        );
     }
     Ok(())
 }
@@ -165,7 +171,7 @@ fn nothing_taken(rt: HostRuntime) -> Result<(), Fail> {
     for can_flush in [true, false] {
         let mut out = Pieces::failing(alloc, 0, NEVER, can_flush);
         let outcome = run(alloc, &arguments, &mut out);
-        assert_eq!(rt; outcome, Err(DrawError::Write));
+        equal(&rt, outcome, Err(DrawError::Write));
     }
     Ok(())
 }

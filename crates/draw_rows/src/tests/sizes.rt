@@ -5,8 +5,9 @@ ghost use Rattle.std.specs.Prelude.{◌≡◌, ◌%◌};
 
 use super::arguments;
 use super::writers::{Pieces, check_flushed, check_untouched};
-use crate::error::DrawError;
-use crate::run::run;
+use crate::comparing::{equal, equal_at, holds};
+use draw_core::DrawError;
+use draw_core::run::run;
 use nanorand::{BufferedRng, ChaCha, Pcg64, Rng, WyRand};
 use std::alloc::{AllocError, Global};
 use std::ops::Bound;
@@ -161,7 +162,7 @@ fn check_size(
     let name = format!(in alloc; "{generator} {mode} {} {}", size.byte, size.count)?;
     for piece in pieces {
         let mut out = Pieces::honest(alloc, *piece);
-        assert_eq!(rt; run(alloc, &arguments, &mut out), Ok(()), "{name}");
+        equal_at(rt, run(alloc, &arguments, &mut out), Ok(()), &name);
         check_flushed(rt, &out, text.as_bytes(), name.as_str());
     }
     Ok(text.len())
@@ -242,7 +243,7 @@ fn more_than_a_megabyte(rt: HostRuntime) -> Result<(), Fail> {
             rounds: 12_500,
         };
         let length = check_size(&rt, rt.alloc(), generator, size, &PIECES)?;
-        assert!(rt; length > 1_000_000, "{length}");
+        holds(&rt, length > 1_000_000, &length);
     }
     Ok(())
 }
@@ -262,7 +263,7 @@ fn bad_arguments_far_back(rt: HostRuntime) -> Result<(), Fail> {
             let arguments = arguments(alloc, line.as_str())?;
             let mut out = Pieces::honest(alloc, 7);
             let outcome = run(alloc, &arguments, &mut out);
-            assert_eq!(rt; outcome, Err(DrawError::BadWord(number as usize)));
+            equal(&rt, outcome, Err(DrawError::BadWord(number as usize)));
             check_untouched(&rt, &out, "a bad argument far back");
         }
     }

@@ -2,8 +2,8 @@
 
 use super::readers::Feed;
 use super::{check_error, check_text};
-use crate::entrants::{count_entrants, entrants_of};
-use crate::error::LotsError;
+use crate::comparing::{equal_at, holds};
+use lots_core::{LotsError, count_entrants, entrants_of};
 use std::alloc::Global;
 use std::process::Abort;
 use std::test::Fail;
@@ -11,10 +11,10 @@ use std::test::Fail;
 // The entrants of the list are these.
 fn check_lines(rt: &impl Abort, alloc: Global, list: &[u8], lines: &[&[u8]]) -> Result<(), Fail> {
     let entrants = entrants_of(alloc, list)?;
-    assert_eq!(rt; entrants.len(), lines.len(), "{list:?}");
-    assert_eq!(rt; count_entrants(list), Ok(lines.len()), "{list:?}");
+    equal_at(rt, entrants.len(), lines.len(), &list);
+    equal_at(rt, count_entrants(list), Ok(lines.len()), &list);
     for (entrant, line) in entrants.iter().zip(lines) {
-        assert!(rt; *entrant == *line, "{list:?}");
+        holds(rt, *entrant == *line, &list);
     }
     Ok(())
 }
@@ -97,12 +97,12 @@ fn empty_lines(rt: HostRuntime) -> Result<(), Fail> {
     for (list, number) in EMPTY_LINES {
         let error = LotsError::EmptyLine(number);
         let outcome = entrants_of(rt.alloc(), list).map(|_| ());
-        assert_eq!(rt; outcome, Err(error), "{list:?}");
-        assert_eq!(rt; count_entrants(list), Err(error), "{list:?}");
+        equal_at(&rt, outcome, Err(error), &list);
+        equal_at(&rt, count_entrants(list), Err(error), &list);
         for count in ["0", "1", "all"] {
             let mut input = Feed::honest(list, usize::MAX);
             check_error(&rt, rt.alloc(), &["seed", count], &mut input, error)?;
-            assert_eq!(rt; input.ends, 1, "{list:?}");
+            equal_at(&rt, input.ends, 1, &list);
         }
     }
     Ok(())
@@ -121,7 +121,7 @@ fn empty_lines_far_back(rt: HostRuntime) -> Result<(), Fail> {
         let error = LotsError::EmptyLine(number);
         for rest in [&b""[..], &b"entrant"[..], &b"\n"[..]] {
             list.extend_from_slice(rest)?;
-            assert_eq!(rt; count_entrants(&list), Err(error), "{number}");
+            equal_at(&rt, count_entrants(&list), Err(error), &number);
             let mut input = Feed::honest(&list, usize::MAX);
             check_error(&rt, alloc, &["seed", "all"], &mut input, error)?;
         }

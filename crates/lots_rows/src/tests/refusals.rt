@@ -3,9 +3,9 @@
 use super::readers::Feed;
 use super::writers::{Pieces, check_flushed, check_untouched};
 use super::{DRAWN, NAMES, THROWS, strings};
-use crate::entrants::entrants_of;
-use crate::error::LotsError;
-use crate::run::run;
+use crate::comparing::{equal, equal_at, holds};
+use lots_core::run::run;
+use lots_core::{LotsError, entrants_of};
 use refusing::Refusing;
 use std::alloc::{AllocError, Global};
 use std::process::Abort;
@@ -23,7 +23,7 @@ fn check_no_memory(
     let mut out = Pieces::honest(alloc, usize::MAX);
     let outcome = run(heap, arguments, &mut input, &mut out);
     let name = heap.requests();
-    assert_eq!(rt; outcome, Err(LotsError::Memory), "{name}");
+    equal_at(rt, outcome, Err(LotsError::Memory), &name);
     check_untouched(rt, &out, "a run without memory");
 }
 
@@ -36,7 +36,7 @@ fn check_outcome(
     out: &Pieces,
     wanted: Outcome<'_>,
 ) {
-    assert_eq!(rt; outcome, wanted.map(|_| ()));
+    equal(rt, outcome, wanted.map(|_| ()));
     match wanted {
         Ok(text) => check_flushed(rt, out, text.as_bytes(), "a run with memory"),
         Err(_) => check_untouched(rt, out, "a run with memory"),
@@ -62,7 +62,7 @@ fn each_request_refused(
             check_outcome(rt, outcome, &out, wanted);
             return Ok(number - 1);
         }
-        assert_eq!(rt; outcome, Err(LotsError::Memory), "{number}");
+        equal_at(rt, outcome, Err(LotsError::Memory), &number);
         check_untouched(rt, &out, "a run without memory");
         check_no_memory(
             rt,
@@ -89,12 +89,12 @@ fn memory(rt: HostRuntime) -> Result<(), Fail> {
     let alloc = rt.alloc();
     let list = NAMES.as_bytes();
     let requests = each_request_refused(&rt, alloc, &[THROWS, "all"], list, Ok(DRAWN))?;
-    assert!(rt; requests > 2, "{requests}");
+    holds(&rt, requests > 2, &requests);
 
     let list = copies(alloc, 10_000)?;
     let text = list.as_str();
     let requests = each_request_refused(&rt, alloc, &["seed", "all"], list.as_bytes(), Ok(text))?;
-    assert!(rt; requests > 20, "{requests}");
+    holds(&rt, requests > 20, &requests);
     Ok(())
 }
 
@@ -105,7 +105,7 @@ fn memory_before_an_error(rt: HostRuntime) -> Result<(), Fail> {
     let empty = Err(LotsError::EmptyLine(3));
     let list = b"Ada\nLise\n\n";
     let requests = each_request_refused(&rt, alloc, &["seed", "9"], list, empty)?;
-    assert!(rt; requests > 1, "{requests}");
+    holds(&rt, requests > 1, &requests);
 
     let few = Err(LotsError::TooFew {
         entrants: 12,
@@ -113,7 +113,7 @@ fn memory_before_an_error(rt: HostRuntime) -> Result<(), Fail> {
     });
     let list = NAMES.as_bytes();
     let requests = each_request_refused(&rt, alloc, &["seed", "13"], list, few)?;
-    assert!(rt; requests > 1, "{requests}");
+    holds(&rt, requests > 1, &requests);
     Ok(())
 }
 
@@ -130,7 +130,7 @@ fn arguments_without_memory(rt: HostRuntime) -> Result<(), Fail> {
         &["seed", "all", "3"][..],
     ] {
         let requests = each_request_refused(&rt, alloc, arguments, b"Ada", usage)?;
-        assert_eq!(rt; requests, 0, "{arguments:?}");
+        equal_at(&rt, requests, 0, &arguments);
     }
     Ok(())
 }
@@ -151,13 +151,13 @@ fn each_request_of_entrants_refused(
         let heap = Refusing::nth(alloc, number);
         let outcome = count_on(&heap, list);
         if heap.requests() < number {
-            assert_eq!(rt; outcome, wanted);
+            equal(rt, outcome, wanted);
             return Ok(number - 1);
         }
-        assert_eq!(rt; outcome, Err(LotsError::Memory), "{number}");
+        equal_at(rt, outcome, Err(LotsError::Memory), &number);
         let heap = Refusing::from_nth(alloc, number);
         let outcome = count_on(&heap, list);
-        assert_eq!(rt; outcome, Err(LotsError::Memory), "{number}");
+        equal_at(rt, outcome, Err(LotsError::Memory), &number);
     }
     Err(Fail::from("each call met a refusal"))
 }
@@ -166,15 +166,15 @@ fn each_request_of_entrants_refused(
 fn memory_of_entrants(rt: HostRuntime) -> Result<(), Fail> {
     let alloc = rt.alloc();
     let none = each_request_of_entrants_refused(&rt, alloc, b"", Ok(0))?;
-    assert_eq!(rt; none, 0);
+    equal(&rt, none, 0);
     let empty = Err(LotsError::EmptyLine(1));
     let none = each_request_of_entrants_refused(&rt, alloc, b"\nAda", empty)?;
-    assert_eq!(rt; none, 0);
+    equal(&rt, none, 0);
 
     let some = each_request_of_entrants_refused(&rt, alloc, NAMES.as_bytes(), Ok(12))?;
-    assert!(rt; some > 0, "{some}");
+    holds(&rt, some > 0, &some);
     let list = copies(alloc, 10_000)?;
     let more = each_request_of_entrants_refused(&rt, alloc, list.as_bytes(), Ok(10_000))?;
-    assert!(rt; more > some, "{more}");
+    holds(&rt, more > some, &more);
     Ok(())
 }

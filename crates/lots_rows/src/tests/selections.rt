@@ -1,8 +1,8 @@
 //! Known selections: those of the example of docs/LOTS.md, and others that its Python code gave.
 
 use super::{DRAWN, NAMES, THROWS, check_text};
-use crate::draws::{draw, draw_places};
-use crate::error::LotsError;
+use crate::comparing::{equal, equal_at, holds};
+use lots_core::{LotsError, draw, draw_places};
 use std::alloc::Global;
 use std::process::Abort;
 use std::test::Fail;
@@ -45,8 +45,8 @@ fn places_of_twelve(rt: HostRuntime) {
             for old in [0, 5, usize::MAX] {
                 let mut places = [old; 12];
                 let outcome = draw_places(seed, &mut places, count);
-                assert_eq!(&rt; outcome, Ok(()), "{seed}");
-                assert_eq!(&rt; &places[..count], &order[..count], "{seed}");
+                equal_at(&rt, outcome, Ok(()), &seed);
+                equal_at(&rt, &places[..count], &order[..count], &seed);
             }
         }
     }
@@ -64,10 +64,10 @@ fn letters(rt: HostRuntime) {
         let wanted = order.map(letter);
         for count in 0..=12 {
             let mut letters = *b"abcdefghijkl";
-            assert_eq!(rt; draw(seed, &mut letters, count), Ok(()), "{seed}");
-            assert_eq!(rt; &letters[..count], &wanted[..count], "{seed}");
+            equal_at(&rt, draw(seed, &mut letters, count), Ok(()), &seed);
+            equal_at(&rt, &letters[..count], &wanted[..count], &seed);
             letters.sort_unstable();
-            assert_eq!(rt; &letters, b"abcdefghijkl", "{seed}");
+            equal_at(&rt, &letters, b"abcdefghijkl", &seed);
         }
     }
 }
@@ -76,34 +76,34 @@ fn letters(rt: HostRuntime) {
 #[test]
 fn texts(rt: HostRuntime) {
     let mut winners = ["Ada", "Ada", "Lise"];
-    assert_eq!(rt; draw("seed", &mut winners, 3), Ok(()));
-    assert_eq!(rt; winners, ["Ada", "Lise", "Ada"]);
+    equal(&rt, draw("seed", &mut winners, 3), Ok(()));
+    equal(&rt, winners, ["Ada", "Lise", "Ada"]);
     let mut winners = ["Ada", "Barbara", "Lise"];
-    assert_eq!(rt; draw("seed", &mut winners, 3), Ok(()));
-    assert_eq!(rt; winners, ["Barbara", "Lise", "Ada"]);
+    equal(&rt, draw("seed", &mut winners, 3), Ok(()));
+    equal(&rt, winners, ["Barbara", "Lise", "Ada"]);
 }
 
 // Drawing no places, of none or of some.
 #[test]
 fn no_places(rt: HostRuntime) {
     let mut none: [usize; 0] = [];
-    assert_eq!(rt; draw_places("seed", &mut none, 0), Ok(()));
+    equal(&rt, draw_places("seed", &mut none, 0), Ok(()));
     let mut items = [3u8, 1, 2];
-    assert_eq!(rt; draw("seed", &mut items, 0), Ok(()));
-    assert_eq!(rt; items, [3, 1, 2]);
+    equal(&rt, draw("seed", &mut items, 0), Ok(()));
+    equal(&rt, items, [3, 1, 2]);
 }
 
 #[test]
 fn one_place_and_two(rt: HostRuntime) {
     for seed in [THROWS, "seed", "a", "", BLOCK_AND_ONE] {
         let mut place = [7];
-        assert_eq!(rt; draw_places(seed, &mut place, 1), Ok(()), "{seed}");
-        assert_eq!(rt; place, [0], "{seed}");
+        equal_at(&rt, draw_places(seed, &mut place, 1), Ok(()), &seed);
+        equal_at(&rt, place, [0], &seed);
     }
     for (seed, order) in [("seed", [1, 0]), ("a", [0, 1]), ("", [0, 1])] {
         let mut places = [7; 2];
-        assert_eq!(rt; draw_places(seed, &mut places, 2), Ok(()), "{seed}");
-        assert_eq!(rt; places, order, "{seed}");
+        equal_at(&rt, draw_places(seed, &mut places, 2), Ok(()), &seed);
+        equal_at(&rt, places, order, &seed);
     }
 }
 
@@ -119,13 +119,13 @@ const STARTS: [(&str, [usize; 10]); 3] = [
 fn starts_of_three_hundred(rt: HostRuntime) -> Result<(), Fail> {
     for (seed, start) in STARTS {
         let mut order = [0; 300];
-        assert_eq!(rt; draw_places(seed, &mut order, 300), Ok(()), "{seed}");
-        assert_eq!(rt; &order[..10], start.as_slice(), "{seed}");
+        equal_at(&rt, draw_places(seed, &mut order, 300), Ok(()), &seed);
+        equal_at(&rt, &order[..10], start.as_slice(), &seed);
         for count in [0, 1, 2, 9, 10, 11, 64, 128, 256, 299] {
             let mut places = [0; 300];
             let outcome = draw_places(seed, &mut places, count);
-            assert_eq!(rt; outcome, Ok(()), "{seed} {count}");
-            assert!(rt; places[..count] == order[..count], "{seed} {count}");
+            equal_at(&rt, outcome, Ok(()), &(seed, count));
+            holds(&rt, places[..count] == order[..count], &(seed, count));
         }
     }
     Ok(())
@@ -135,11 +135,11 @@ fn starts_of_three_hundred(rt: HostRuntime) -> Result<(), Fail> {
 fn check_few(rt: &impl Abort, count: usize) {
     let mut items = [3u8, 1, 2];
     let refused = Err(LotsError::TooFew { entrants: 3, count });
-    assert_eq!(rt; draw("seed", &mut items, count), refused, "{count}");
-    assert_eq!(rt; items, [3, 1, 2], "{count}");
+    equal_at(rt, draw("seed", &mut items, count), refused, &count);
+    equal_at(rt, items, [3, 1, 2], &count);
     let mut places = [3, 1, 2];
     let outcome = draw_places("seed", &mut places, count);
-    assert_eq!(rt; outcome, refused, "{count}");
+    equal_at(rt, outcome, refused, &count);
 }
 
 #[test]

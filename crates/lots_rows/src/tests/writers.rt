@@ -3,8 +3,9 @@
 
 use super::readers::Feed;
 use super::{DRAWN, NAMES, THROWS, strings};
-use crate::error::LotsError;
-use crate::run::{report, run};
+use crate::comparing::{equal, equal_at, holds};
+use lots_core::LotsError;
+use lots_core::run::{report, run};
 use std::alloc::Global;
 use std::io;
 use std::io::{ErrorKind, Write};
@@ -82,21 +83,22 @@ impl Write for Pieces {
 
 /// The writer took the text, and then was flushed once.
 pub fn check_flushed(rt: &impl Abort, out: &Pieces, text: &[u8], name: &str) {
-    assert_eq!(rt; out.kept.len(), text.len(), "bytes of {name}");
-    assert!(rt; out.kept.as_slice() == text, "text of {name}");
-    assert_eq!(rt;
+    equal_at(rt, out.kept.len(), text.len(), &("bytes", name));
+    holds(rt, out.kept.as_slice() == text, &("text", name));
+    equal_at(
+        rt,
         out.writes_since_flush,
         0,
-        "writes after the last flush of {name}"
+        &("writes after the last flush", name),
     );
-    assert_eq!(rt; out.flushes, 1, "flushes of {name}");
+    equal_at(rt, out.flushes, 1, &("flushes", name));
 }
 
 /// The writer was not called.
 pub fn check_untouched(rt: &impl Abort, out: &Pieces, name: &str) {
-    assert_eq!(rt; out.writes, 0, "writes of {name}");
-    assert_eq!(rt; out.flushes, 0, "flushes of {name}");
-    assert!(rt; out.kept.is_empty(), "text of {name}");
+    equal_at(rt, out.writes, 0, &("writes", name));
+    equal_at(rt, out.flushes, 0, &("flushes", name));
+    holds(rt, out.kept.is_empty(), &("text", name));
 }
 
 // The outcome of a run that draws `count` of the names of the example.
@@ -116,9 +118,9 @@ fn one_flush_at_the_end(rt: HostRuntime) -> Result<(), Fail> {
     for (count, text) in ROWS {
         for piece in [1, 2, 7, 4096, usize::MAX] {
             let mut out = Pieces::honest(alloc, piece);
-            assert_eq!(rt; run_on(alloc, count, &mut out)?, Ok(()), "{count}");
+            equal_at(&rt, run_on(alloc, count, &mut out)?, Ok(()), &count);
             check_flushed(&rt, &out, text.as_bytes(), count);
-            assert_eq!(rt; out.writes as usize, text.len().div_ceil(piece), "{count}");
+            equal_at(&rt, out.writes as usize, text.len().div_ceil(piece), &count);
         }
     }
     Ok(())
@@ -132,13 +134,13 @@ fn failed_writes(rt: HostRuntime) -> Result<(), Fail> {
     for failing in 0..text.len() as u64 {
         let mut out = Pieces::failing(alloc, 1, failing, ErrorKind::BrokenPipe);
         let outcome = run_on(alloc, "all", &mut out)?;
-        assert_eq!(rt; outcome, Err(LotsError::Write), "{failing}");
-        assert_eq!(rt; out.writes, failing + 1);
-        assert_eq!(rt; out.flushes, 0, "{failing}");
-        assert_eq!(rt; out.kept.len() as u64, failing);
-        assert!(rt; text.starts_with(out.kept.as_slice()), "{failing}");
+        equal_at(&rt, outcome, Err(LotsError::Write), &failing);
+        equal(&rt, out.writes, failing + 1);
+        equal_at(&rt, out.flushes, 0, &failing);
+        equal(&rt, out.kept.len() as u64, failing);
+        holds(&rt, text.starts_with(out.kept.as_slice()), &failing);
     }
-    assert_eq!(rt; report(Err(LotsError::Write), &mut Vec::new(alloc)), 7);
+    equal(&rt, report(Err(LotsError::Write), &mut Vec::new(alloc)), 7);
     Ok(())
 }
 
@@ -148,9 +150,9 @@ fn interrupted_writes(rt: HostRuntime) -> Result<(), Fail> {
     let alloc = rt.alloc();
     for failing in 0..DRAWN.len() as u64 {
         let mut out = Pieces::failing(alloc, 1, failing, ErrorKind::Interrupted);
-        assert_eq!(rt; run_on(alloc, "all", &mut out)?, Ok(()), "{failing}");
+        equal_at(&rt, run_on(alloc, "all", &mut out)?, Ok(()), &failing);
         check_flushed(&rt, &out, DRAWN.as_bytes(), "interrupted writes");
-        assert_eq!(rt; out.writes, DRAWN.len() as u64 + 1, "{failing}");
+        equal_at(&rt, out.writes, DRAWN.len() as u64 + 1, &failing);
     }
     Ok(())
 }
@@ -165,7 +167,7 @@ fn failed_flush(rt: HostRuntime) -> Result<(), Fail> {
             for piece in [1, 7, 4096] {
                 let mut out = Pieces::unflushed(alloc, piece, error);
                 let outcome = run_on(alloc, count, &mut out)?;
-                assert_eq!(rt; outcome, Err(LotsError::Write), "{count}");
+                equal_at(&rt, outcome, Err(LotsError::Write), &count);
                 check_flushed(&rt, &out, text.as_bytes(), count);
             }
         }
@@ -180,12 +182,12 @@ fn nothing_taken(rt: HostRuntime) -> Result<(), Fail> {
     for count in ["1", "all"] {
         let mut out = Pieces::honest(alloc, 0);
         let outcome = run_on(alloc, count, &mut out)?;
-        assert_eq!(rt; outcome, Err(LotsError::Write), "{count}");
-        assert_eq!(rt; out.writes, 1, "{count}");
-        assert_eq!(rt; out.flushes, 0, "{count}");
+        equal_at(&rt, outcome, Err(LotsError::Write), &count);
+        equal_at(&rt, out.writes, 1, &count);
+        equal_at(&rt, out.flushes, 0, &count);
     }
     let mut out = Pieces::honest(alloc, 0);
-    assert_eq!(rt; run_on(alloc, "0", &mut out)?, Ok(()));
+    equal(&rt, run_on(alloc, "0", &mut out)?, Ok(()));
     check_flushed(&rt, &out, b"", "nothing to take");
     Ok(())
 }
