@@ -105,8 +105,9 @@
 //!
 //! Features: `std` (on by default) has readers, vectors, `std::error::Error` and seeds from the system;
 //! without it the crate is `no_std` and allocates nothing. `rand_core` implements the traits of the crate
-//! of that name: a program that imports both `Rng` and `RngCore` says which it means at `next_u32`,
-//! `next_u64` and `fill_bytes`, as `Rng::next_u64(&mut rng)`; both give the same.
+//! of that name, version 0.6, which is that of `rand` 0.8. A program that imports both `Rng` and `RngCore`
+//! says which it means at `next_u32`, `next_u64` and `fill_bytes`, as `Rng::next_u64(&mut rng)`; both give
+//! the same.
 #![no_std]
 #![deny(missing_docs)]
 // The proved source has the form of Rattle, and its proofs say that no cast loses a bit that counts.

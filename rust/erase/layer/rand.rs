@@ -3,9 +3,31 @@ use core::ops::RangeBounds;
 
 /// A generator of random values, by blocks of `OUTPUT` bytes.
 ///
-/// A generator of your own writes `rand` alone. Its requests then start each on a new block, and drop what
-/// is left of the last; [`BufferedRng`](crate::BufferedRng) over it joins them without a break. A
-/// `fill_bytes` of its own fills with the same bytes as the blocks.
+/// A generator of your own writes `rand` alone, which returns a block as bytes. Its requests then start
+/// each on a new block, and drop what is left of the last; [`BufferedRng`](crate::BufferedRng) over it
+/// joins them without a break. A `fill_bytes` of its own fills with the same bytes as the blocks.
+///
+/// ```
+/// use nanorand_proved::{RangeError, Rng};
+///
+/// struct XorShift(u64); // not 0
+///
+/// impl Rng<8> for XorShift {
+///     fn rand(&mut self) -> [u8; 8] {
+///         self.0 ^= self.0 << 13;
+///         self.0 ^= self.0 >> 7;
+///         self.0 ^= self.0 << 17;
+///         self.0.to_le_bytes()
+///     }
+/// }
+///
+/// let pips: u8 = XorShift(1).generate_range(1..=6)?;
+/// # let _ = pips;
+/// # Ok::<(), RangeError>(())
+/// ```
+///
+/// Choices and samples are functions that take a generator: see [`choices`](crate::choices) and
+/// [`samples`](crate::samples).
 ///
 /// Functions over generators are generic: `fn f<R: Rng<OUTPUT>, const OUTPUT: usize>(rng: &mut R)`. A
 /// `&mut R` is a generator too, so it can be lent where a generator is taken. There is no `dyn Rng`,
