@@ -14,7 +14,8 @@ import { Refusal } from "./refusal.js";
  */
 
 const TITLES = {
-  "agrees": "The record agrees: the same list, and the draw repeated here gives the same result.",
+  "agrees": "The record agrees: the same list, and the draw repeated here gives the same result. " +
+    "Whether its list and its seed are those that were announced, only you can compare.",
   "other module": "The result agrees, but the record names another version or another module.",
   "differs": "The record differs from the draw repeated here.",
   "no record": "This is no record of a draw.",

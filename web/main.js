@@ -83,14 +83,20 @@ function listSent() {
   return state.sent;
 }
 
-/** @param {File} file @returns {Promise<boolean>} as sendList */
+/**
+ * Reads a file, and gives it to the worker unless the list has changed meanwhile.
+ * @param {File} file @returns {Promise<boolean>} as sendList
+ */
 async function readFile(file) {
+  const { listTurn } = state;
+  let bytes = null;
   try {
-    state.file = new Uint8Array(await file.arrayBuffer());
+    bytes = new Uint8Array(await file.arrayBuffer());
   } catch {
-    refuse(new Refusal("list cannot be read"));
-    return false;
+    if (listTurn === state.listTurn) refuse(new Refusal("list cannot be read"));
   }
+  if (bytes === null || listTurn !== state.listTurn) return false;
+  state.file = bytes;
   return sendList();
 }
 
@@ -119,7 +125,7 @@ function seedChanged() {
   changed();
   clearRefusals("seed");
   const seed = part("seed").value;
-  const odd = /^\s|\s$|[^\x20-\x7e]/.test(seed);
+  const odd = /^\s|\s$| {2}|[^\x20-\x7e]/.test(seed);
   say("seed-read", odd ? `The seed is read as ${writtenSeed(seed)}. Each space, line and accent ` +
     "counts: others must type exactly the same." : "");
 }
@@ -139,7 +145,7 @@ async function drawNow() {
       const fields = { seed: part("seed").value, count: part("count").value };
       const drawing = await client.ask("draw", fields);
       if (turn === state.turn) showDrawing(drawing);
-    } else {
+    } else if (turn === state.turn) {
       part("list-text").focus();
     }
   } catch (error) {
@@ -160,11 +166,13 @@ async function checkNow() {
   part("outcome").hidden = true;
   part("check").disabled = true;
   const { turn } = state;
+  const text = part("check-text").value;
+  const isLate = () => turn !== state.turn || text !== part("check-text").value;
   try {
     if (await listSent()) {
-      const answer = await client.ask("check", { text: part("check-text").value });
-      if (turn === state.turn) showCheck(answer);
-    } else {
+      const answer = await client.ask("check", { text });
+      if (!isLate()) showCheck(answer);
+    } else if (!isLate()) {
       part("list-text").focus();
     }
   } catch (error) {

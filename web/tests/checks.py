@@ -11,6 +11,14 @@ from page import Page
 
 LIST = "Ada\nBarbara\nChidi\nDmitri\nElif\nFarid\nGrace\nHedy\nInes\nJun\nKatherine\nLise\n"
 SEED = "4 1 6 3 3 2 5 6 1 4 2 6 5 3 1 1 6 2 4 5"
+TITLES = {
+    "agrees": "The record agrees: the same list, and the draw repeated here gives the same result. "
+              "Whether its list and its seed are those that were announced, only you can compare.",
+    "other module": "The result agrees, but the record names another version or another module.",
+    "differs": "The record differs from the draw repeated here.",
+    "no record": "This is no record of a draw.",
+    "no list": "The record can be read. Open or paste its list above, and check again.",
+}
 NAMES = ["seed", "list SHA-256", "entrants", "drawn", "version", "module SHA-256", "result SHA-256"]
 
 
@@ -26,6 +34,7 @@ def outcome(counts: Counts, page: Page, name: str, record: str, wanted: str, *fi
     shown = page.check(record)
     found = shown["findings"]
     right = len(found) == len(findings) and all(one.startswith(begin) for one, begin in zip(found, findings))
+    right = right and shown["outcomeTitle"] == TITLES.get(shown["outcome"])
     counts.case(name, "" if (shown["outcome"], right) == (wanted, True)
                 else f"{shown['outcome']}: {found} and not {wanted}: {findings}")
 
@@ -77,6 +86,8 @@ def differences(counts: Counts, page: Page, record: str) -> None:
             "Line 1 of the result:", sum_differs)
     outcome(counts, page, "a space after the seed", with_line(record, 2, f"seed: {json.dumps(SEED + ' ')}"), "differs",
             "Line 1 of the result:", sum_differs)
+    outcome(counts, page, "two spaces", with_line(record, 10, "2: Jun  Ito"), "differs",
+            "Line 2 of the result: the record says Jun  Ito, the draw gives Jun.")
     more = record.replace("drawn: 3", "drawn: 13") + "".join(f"{k}: x\n" for k in range(4, 14))
     outcome(counts, page, "13 drawn of 12", more, "differs", "The list has 12 entrants, and 13 are asked for.")
     for name, text in (("another order", LIST.replace("Ada\nBarbara", "Barbara\nAda")),
@@ -107,6 +118,8 @@ def no_records(counts: Counts, page: Page, record: str) -> None:
         no(f"cut before line {number}", "\n".join(lines[:number - 1]), 1 if number == 1 else number)
         without = lines[:number - 1] + lines[number:]
         no(f"without line {number}", "\n".join(without), number)
+        for space in (" ", "\t", "\u00a0", "\ufeff"):
+            no(f"{space!r} before line {number}", with_line(record, number, space + lines[number - 1]), number)
         no(f"line {number} twice", "\n".join(lines[:number] + lines[number - 1:]), number + 1)
     for number, name in enumerate(NAMES, 2):
         swapped = lines[:]

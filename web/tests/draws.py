@@ -166,7 +166,8 @@ def saved(page: Page, folder: Path, name: str) -> bytes:
 def files(counts: Counts, page: Page, program: str, folder: Path) -> None:
     """The three files that the page gives: the list, the record, the result."""
     page.load()
-    for index, data in enumerate((b"a\nb\r\n\xff\xfe\nd", b"Ada\nBarbara\n", b"\xef\xbb\xbfx\n\0\n")):
+    large = b"".join(b"entrant %d\n" % number for number in range(20_000))
+    for index, data in enumerate((b"a\nb\r\n\xff\xfe\nd", b"Ada\nBarbara\n", b"\xef\xbb\xbfx\n\0\n", large)):
         page.open_file(data)
         page.fill("a seed", "all")
         shown = page.draw()
@@ -179,11 +180,20 @@ def files(counts: Counts, page: Page, program: str, folder: Path) -> None:
 
 def copies(counts: Counts, page: Page) -> None:
     """What the two buttons copy, inserted in the field that checks a record."""
-    page.load()
-    page.paste("Ada\nBarbara\n")
-    page.fill(" é ", "all")
-    page.facts()
-    shown = page.draw()
+    for text in ("Ada\nBarbara\n", "".join(f"entrant {number}\n" for number in range(20_000))):
+        page.load()
+        page.paste(text)
+        page.fill(" é ", "all")
+        page.facts()
+        copied(counts, page, page.draw())
+    page.browser.run("""const button = document.getElementById("copy-digest");
+        button.click();
+        setTimeout(() => button.click(), 300);""")
+    time.sleep(3)
+    counts.same("a label after two copies", page.browser.label("#copy-digest"), "Copy the SHA-256")
+
+
+def copied(counts: Counts, page: Page, shown: Dict[str, Any]) -> None:
     for button, wanted in (("copy-digest", shown["digest"]), ("copy-record", shown["record"])):
         label = page.browser.label(f"#{button}")
         page.browser.click(f"#{button}")

@@ -156,10 +156,12 @@ def said_of_lists(counts: Counts, page: Page) -> None:
         right = len(found) == len(begins) and all(one.startswith(begin) for one, begin in zip(found, begins))
         counts.case(f"warnings of {data!r}", "" if right else str(found))
     for seed, read in (("plain seed", ""), (" x", 'The seed is read as " x".'), ("x\n", 'The seed is read as "x\\n".'),
+                       ("4 1  6", 'The seed is read as "4 1  6".'), ("   x", 'The seed is read as "   x".'),
                        ("é", 'The seed is read as "é".'), ("\u200b", 'The seed is read as "\\u200b".')):
         page.fill(seed)
-        counts.case(f"the seed {seed!r} is shown", "" if page.shown()["read"].startswith(read) and
-                    bool(read) == bool(page.shown()["read"]) else page.shown()["read"])
+        shown = page.shown()["read"]
+        right = shown.startswith(read) and bool(read) == bool(shown)
+        counts.case(f"the seed {seed!r} is shown", "" if right else f"{shown!r} and not {read!r}")
 
 
 def no_request(counts: Counts, page: Page) -> None:

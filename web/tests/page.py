@@ -14,10 +14,10 @@ field.dispatchEvent(new Event("input"));
 SHOWN = """
 const shown = (id) => {
   const element = document.getElementById(id);
-  return element && element.checkVisibility() ? element.value ?? element.textContent : "";
+  return element && element.checkVisibility() ? element.value ?? element.innerText : "";
 };
 const items = (id) => shown(id) === "" ? [] :
-  Array.from(document.getElementById(id).children, (item) => item.textContent);
+  Array.from(document.getElementById(id).children, (item) => item.innerText);
 return {
   page: shown("page-error"), list: shown("list-error"), seed: shown("seed-error"),
   count: shown("count-error"), entrants: shown("entrants"), digest: shown("list-digest"),

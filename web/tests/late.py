@@ -1,0 +1,132 @@
+"""Answers that come late, to a list, a file, a record or a field that is no longer there, and errors that are over."""
+
+from counts import Counts, sha256
+from page import Page
+
+SET = """
+window.put = (id, value) => {
+  document.getElementById(id).value = value;
+  document.getElementById(id).dispatchEvent(new Event("input"));
+};
+"""
+# Each text that an element shows from here on.
+WATCH = """
+window.seen = [];
+const element = document.getElementById(arguments[0]);
+new MutationObserver(() => seen.push(element.textContent)).observe(element, {childList: true});
+"""
+# A text is put in place of another at once when that one has been sent to the worker, before its answer.
+REPLACED = """
+const [first, second] = arguments;
+const post = Worker.prototype.postMessage;
+let posts = 0;
+Worker.prototype.postMessage = function (...sent) {
+  post.apply(this, sent);
+  posts += 1;
+  if (posts === 1) queueMicrotask(() => put("list-text", second));
+};
+put("list-text", first);
+"""
+# The first file is read slowly, as from a drive far away, and each later one at once.
+SLOW_FILE = """
+const read = Blob.prototype.arrayBuffer;
+let files = 0;
+Blob.prototype.arrayBuffer = function () {
+  files += 1;
+  const bytes = read.call(this);
+  return files > 1 ? bytes : new Promise((done) => setTimeout(() => done(bytes), 800));
+};
+"""
+LARGE = "\n".join(str(number) for number in range(60_000)) + "\n"
+# In milliseconds: longer than the pause after typing, and than the slow file takes.
+LATEST = 1500
+
+
+def idle(page: Page) -> None:
+    """Waits until the worker has had nothing to do for longer than any of these answers is late."""
+    page.browser.run("window.busy = performance.now();")
+    page.browser.wait("""if (!document.getElementById("progress").hidden) window.busy = performance.now();
+        return performance.now() - window.busy > arguments[0];""", LATEST)
+
+
+def last_digest(page: Page, wanted: str) -> str:
+    """The digest that stays. On a machine with much else to do the one that is wanted may take a while."""
+    for _ in range(20):
+        idle(page)
+        if page.shown()["digest"] == wanted:
+            break
+    return str(page.shown()["digest"])
+
+
+def facts_of_older_lists(counts: Counts, page: Page) -> None:
+    """Of a list that another one follows nothing is shown, whatever the other one is."""
+    for text in ("Ada\n", "", "a\n\nb\n"):
+        page.load()
+        page.browser.run(SET)
+        page.browser.run(WATCH, "list-digest")
+        page.browser.run(REPLACED, LARGE, text)
+        wanted = [sha256(text.encode())] if text == "Ada\n" else []
+        counts.same(f"the digest with {text!r}", last_digest(page, "".join(wanted)), "".join(wanted))
+        counts.same(f"digests until {text!r}", page.browser.run("return seen;"), wanted)
+
+
+def files_read_late(counts: Counts, page: Page) -> None:
+    """A file that is read after another was opened, or after it was closed, is not the list."""
+    page.load()
+    page.browser.run(SLOW_FILE)
+    page.open_file(b"slow\n")
+    page.open_file(b"fast\n")
+    counts.same("two files", last_digest(page, sha256(b"fast\n")), sha256(b"fast\n"))
+    page.load()
+    page.browser.run(SLOW_FILE)
+    page.open_file(b"slow\n")
+    for name, text in (("a file that was closed", "pasted\n"), ("a text after it", "later\n")):
+        page.paste(text)
+        wanted = sha256(text.encode())
+        counts.same(name, last_digest(page, wanted), wanted)
+
+
+def checks_of_older_records(counts: Counts, page: Page) -> None:
+    """A check's outcome is of the record, the list and the fields that are still there."""
+    page.load()
+    page.browser.run(SET)
+    page.browser.run('put("list-text", arguments[0]); put("seed", "seed"); put("count", "2");', LARGE)
+    record = page.draw()["record"]
+    counts.same("a check", page.check(record)["outcome"], "agrees")
+    for field, value in (("check-text", "no record"), ("list-text", LARGE + "x\n"), ("seed", "other"), ("count", "3")):
+        page.browser.run("""put("check-text", arguments[0]);
+            document.getElementById("check").click();
+            put(arguments[1], arguments[2]);""", record, field, value)
+        page.browser.wait('return !document.getElementById("check").disabled;', seconds=60)
+        counts.same(f"a late outcome, {field}", page.shown()["outcome"], "")
+
+
+def errors_that_are_over(counts: Counts, page: Page) -> None:
+    """A refusal goes at the next draw, also where another field has done away with its cause."""
+    page.load()
+    page.paste("a\nb\n")
+    page.fill("seed", "3")
+    counts.case("too few", "" if page.draw()["count"] else "is not said")
+    page.paste("a\nb\nc\n")
+    shown = page.draw()
+    said = [shown[field] for field in ("page", "list", "seed", "count")]
+    counts.same("no error beside a result", (said, len(shown["drawn"])), (["", "", "", ""], 3))
+    invalid = "return Array.from(document.querySelectorAll('[aria-invalid]'), (field) => field.id);"
+    counts.same("no field is invalid", page.browser.run(invalid), [])
+    for field, bad in (("list-text", "a\n\n"), ("seed", ""), ("count", "x")):
+        good = page.browser.run("return document.getElementById(arguments[0]).value;", field)
+        page.browser.run(SET)
+        page.browser.run("put(arguments[0], arguments[1]);", field, bad)
+        page.draw()
+        counts.same(f"{field}: invalid", page.browser.run(invalid), [field])
+        page.browser.run("put(arguments[0], arguments[1]);", field, good)
+        idle(page)
+        counts.same(f"{field}: valid again", page.browser.run(invalid), [])
+        counts.same(f"{field}: a result", len(page.draw()["drawn"]), 3)
+
+
+def run(counts: Counts, page: Page) -> None:
+    facts_of_older_lists(counts, page)
+    files_read_late(counts, page)
+    checks_of_older_records(counts, page)
+    errors_that_are_over(counts, page)
