@@ -11,7 +11,7 @@
  * must not overlap anything else that the call takes. Bytes may lie at any address, the rest as its type wants.
  *
  * WyRand and Pcg64 are not cryptographically secure: never draw a key, a token or a password from them.
- * ChaCha is the key stream of a stream cipher under the key, the nonce and the counter of its state. Nothing
+ * ChaCha is the keystream of a stream cipher under the key, the nonce and the counter of its state. Nothing
  * here seeds itself from the system or erases a key from memory.
  */
 #ifndef NANORAND_H
@@ -462,7 +462,7 @@ uint8_t nanorand_chacha20_shuffle_full(nanorand_chacha *state, size_t *items, si
 uint8_t nanorand_chacha20_sample(
     nanorand_chacha *state, size_t count, size_t *places, size_t length);
 
-/* ---- The key stream of ChaCha with 20 rounds, without a gap between calls. ---- */
+/* ---- The keystream of ChaCha with 20 rounds, without a gap between calls. ---- */
 
 /* Draws a number of 64 bits: the next 8 bytes, least byte first. */
 uint64_t nanorand_stream_u64(nanorand_stream *stream);

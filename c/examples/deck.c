@@ -44,7 +44,7 @@ static int throw_die(void)
     return 0;
 }
 
-/* Requests of 3, 64 and 1 bytes: together they are the first 68 of the key stream. */
+/* Requests of 3, 64 and 1 bytes: together they are the first 68 of the keystream. */
 static void read_stream(void)
 {
     nanorand_stream stream;

@@ -46,4 +46,5 @@ def indexed(name: str, value: object, method: str = "__getitem__") -> None:
     kind = type(value)
     fits = hasattr(kind, "__len__") and hasattr(kind, method)
     if not fits or isinstance(value, (Mapping, Set)):
-        raise TypeError(f"{name} is a {kind.__name__}, which has no items by index that fit")
+        wanted = "a sequence" + (" whose items can be replaced" if method == "__setitem__" else "")
+        raise TypeError(f"{name} is a {kind.__name__}, not {wanted}")

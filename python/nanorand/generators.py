@@ -488,7 +488,7 @@ class ChaCha20(_ChaCha):
 
 
 class Stream(Generator):
-    """The key stream of ChaCha20 without a gap.
+    """The keystream of ChaCha20 without a gap.
 
     It is made from a key of 32 bytes, a nonce of 8, a counter, and at most 63 buffered bytes, which
     come first.

@@ -191,7 +191,7 @@ class ChaCha20Random(GeneratorRandom):
 
 
 class StreamRandom(GeneratorRandom):
-    """`Stream`, the unbroken key stream of ChaCha20, as `random.Random`.
+    """`Stream`, the unbroken keystream of ChaCha20, as `random.Random`.
 
     >>> StreamRandom(0).randbytes(4).hex()
     '76b8e0ad'

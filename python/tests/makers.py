@@ -49,3 +49,13 @@ def refuses(test, rng, errors, call):
         test.assertIs(type(caught.exception), errors)
     test.assertEqual(rng.state, before)
     return caught.exception
+
+
+def views_of(text):
+    """Views of other memory that show these bytes: of a part, of each third byte, from the end, by signed items."""
+    return [
+        memoryview(b"ab" + text + b"c")[2 : 2 + len(text)],
+        memoryview(bytes(one for byte in text for one in (byte, 10, 0)))[::3],
+        memoryview(bytearray(text[::-1]))[::-1],
+        memoryview(text).cast("b"),
+    ]

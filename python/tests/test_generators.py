@@ -9,7 +9,7 @@ import threading
 import unittest
 from unittest import mock
 
-from makers import CHACHAS, CLASSES, KEY, NONCE, generators, refuses
+from makers import CHACHAS, CLASSES, KEY, NONCE, generators, refuses, views_of
 
 from nanorand import (
     ChaCha8,
@@ -170,6 +170,16 @@ class States(unittest.TestCase):
         self.assertEqual(repr(ChaCha8(KEY, counter=7)), "<ChaCha8 counter=7>")
         self.assertEqual(repr(Stream(KEY, counter=7, rest=b"abc")), "<Stream counter=7 buffered=3>")
         self.assertEqual(eval(repr(Pcg64(99))), Pcg64(99))
+
+    def test_views(self):
+        """A view of a part, of each second byte or from the end is the bytes that it shows."""
+        key, nonce, state = bytes(range(32)), bytes(range(8)), bytes(range(48))
+        for one, other, whole in zip(views_of(key), views_of(nonce), views_of(state)):
+            for kind in (*CHACHAS, Stream):
+                self.assertEqual(kind(one, other), kind(key, nonce))
+                self.assertEqual(kind.from_state(whole), kind.from_state(state))
+            self.assertEqual(Stream(key, rest=other), Stream(key, rest=nonce))
+            self.assertEqual(WyRand.from_state(other), WyRand.from_state(nonce))
 
     def test_a_stream_with_too_many_buffered_bytes(self):
         """No state that can be set has them; the library reads more than 63 as 63."""
@@ -394,6 +404,10 @@ class Lists(unittest.TestCase):
                 refuses(self, rng, TypeError, lambda rng, items=items: rng.shuffle(items))
                 refuses(self, rng, TypeError, lambda rng, items=items: rng.shuffle_full(items))
             refuses(self, rng, TypeError, lambda rng: rng.shuffle(memoryview(b"abc")))
+            error = refuses(self, rng, TypeError, lambda rng: rng.shuffle("abc"))
+            self.assertEqual(str(error), "items is a str, not a sequence whose items can be replaced")
+            error = refuses(self, rng, TypeError, lambda rng: rng.choice(5))
+            self.assertEqual(str(error), "items is a int, not a sequence")
 
     def test_a_sequence_that_refuses_an_item(self):
         for rng in generators():

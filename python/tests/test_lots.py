@@ -5,6 +5,7 @@ import random
 import unittest
 from unittest import mock
 
+from makers import views_of
 from nanorand import Exhausted, NanorandError, OutOfBounds, _library, lots
 from nanorand.errors import EmptyLine, EmptySeed, SeedNotText, TooFew
 
@@ -30,6 +31,19 @@ class Lots(unittest.TestCase):
             self.assertEqual(lots.draw(SEED, NAMES, count), whole[:count])
         self.assertEqual(lots.draw(SEED, [], 0), [])
         self.assertEqual(lots.draw(SEED, b""), [])
+
+    def test_views(self):
+        """A view of a part, of each second byte or from the end is the bytes that it shows."""
+        for text in (TEXT, b"", b"a", TEXT[:-1]):
+            for view in views_of(text):
+                self.assertEqual(lots.digest(view), lots.digest(text))
+                self.assertEqual(lots.count(view), lots.count(text))
+                self.assertEqual(lots.draw("seed", view), lots.draw("seed", text))
+        for view in views_of(SEED.encode()):
+            self.assertEqual(lots.draw(view, TEXT), lots.draw(SEED, TEXT))
+        for view in views_of(b"a\n\nb\n"):
+            with self.assertRaises(EmptyLine):
+                lots.draw("seed", view)
 
     def test_digests(self):
         rng = random.Random(1)

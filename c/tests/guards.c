@@ -1,0 +1,149 @@
+/*
+ * Memory that no call may touch: each array lies at the end of a page, and then at the beginning of one,
+ * beside pages that can be neither read nor written. A byte too many ends the program. Also the greatest
+ * counts and numbers, which C's types can say.
+ */
+#define _DEFAULT_SOURCE
+#include <stdio.h>
+#include <string.h>
+#include <sys/mman.h>
+
+#include "nanorand.h"
+
+enum { PAGE = 65536, LONGEST = 600 };
+
+static unsigned passed = 0;
+static unsigned failed = 0;
+static uint8_t *page; /* A page that can be used, between two that cannot. */
+
+static void check(const char *name, int holds)
+{
+    if (holds) {
+        passed++;
+    } else {
+        failed++;
+        printf("FAILED %s\n", name);
+    }
+}
+
+/* So many bytes at the end of the page, or at its beginning. */
+static uint8_t *placed(int at_end, size_t size)
+{
+    memset(page, 0x61, PAGE);
+    return at_end ? page + PAGE - size : page;
+}
+
+#define TESTS(G, S)                                                                                \
+    static void arrays_##G(S start, int at_end)                                                    \
+    {                                                                                              \
+        static uint8_t wanted[LONGEST];                                                            \
+        int holds = 1;                                                                             \
+        size_t length;                                                                             \
+        for (length = 0; length <= LONGEST; length++) {                                            \
+            S state = start, other = start;                                                        \
+            uint8_t *bytes = placed(at_end, length);                                               \
+            nanorand_##G##_fill_bytes(&state, bytes, length);                                      \
+            nanorand_##G##_fill_bytes(&other, wanted, length);                                     \
+            holds = holds && memcmp(bytes, wanted, length) == 0;                                   \
+        }                                                                                          \
+        check(#G ": bytes", holds);                                                                \
+        for (length = 0; length < 40; length++) {                                                  \
+            S state = start;                                                                       \
+            size_t *items = (size_t *)(void *)placed(at_end, length * sizeof *items);              \
+            holds = holds && nanorand_##G##_sample(&state, SIZE_MAX, items, length) == 0;          \
+            holds = holds && nanorand_##G##_sample(&state, length, items, length) == 0;            \
+            holds = holds && nanorand_##G##_shuffle(&state, items, length) == 0;                   \
+            holds = holds && nanorand_##G##_shuffle_full(&state, items, length) == 0;              \
+        }                                                                                          \
+        check(#G ": items", holds);                                                                \
+        {                                                                                          \
+            S *state = (S *)(void *)placed(at_end, sizeof start);                                  \
+            uint64_t number = 7;                                                                   \
+            memcpy(state, &start, sizeof start);                                                   \
+            nanorand_##G##_u64(state);                                                             \
+            holds = nanorand_##G##_range_u64(state, UINT64_MAX, UINT64_MAX, &number) == 0;         \
+            check(#G ": a state", holds && number == UINT64_MAX);                                  \
+        }                                                                                          \
+        {                                                                                          \
+            S state = start;                                                                       \
+            uint32_t *narrow = (uint32_t *)(void *)placed(at_end, sizeof *narrow);                 \
+            holds = nanorand_##G##_range_u32(&state, UINT32_MAX, UINT32_MAX, narrow) == 0;         \
+            check(#G ": a number", holds && *narrow == UINT32_MAX);                                \
+        }                                                                                          \
+    }
+
+TESTS(wyrand, nanorand_wyrand)
+TESTS(pcg64, nanorand_pcg64)
+TESTS(chacha8, nanorand_chacha)
+TESTS(chacha12, nanorand_chacha)
+TESTS(chacha20, nanorand_chacha)
+TESTS(stream, nanorand_stream)
+
+/* A list, a seed and a digest at the edge, and draws of as many as a size_t can say. */
+static void lots(int at_end)
+{
+    size_t number = 0, length, places[3] = {7, 7, 7};
+    uint8_t sum[32];
+    int holds = 1;
+    for (length = 1; length <= LONGEST; length++) {
+        uint8_t *text = placed(at_end, length);
+        nanorand_lots_digest(text, length, sum);
+        holds = holds && nanorand_lots_count(text, length, &number) == 0 && number == 1;
+        holds = holds && nanorand_lots_draw(text, length, places, 3, 3) == 0;
+        text[length - 1] = '\n';
+        holds = holds && nanorand_lots_count(text, length, &number) == (length == 1 ? 4 : 0);
+        /* The first byte of a character whose others are missing. */
+        text[length - 1] = 0xf0;
+        holds = holds && nanorand_lots_draw(text, length, places, 3, 3) == NANORAND_LOTS_BAD_SEED;
+    }
+    check("lots: texts", holds);
+    nanorand_lots_digest(sum, 3, placed(at_end, 32));
+    for (length = 0; length < 40; length++) {
+        size_t *drawn = (size_t *)(void *)placed(at_end, length * sizeof *drawn);
+        holds = holds && nanorand_lots_draw((const uint8_t *)"s", 1, drawn, length, length) == 0;
+        holds = holds && nanorand_lots_draw((const uint8_t *)"s", 1, drawn, length, SIZE_MAX) == 3;
+    }
+    check("lots: places", holds);
+}
+
+/* A number of buffered bytes that no call leaves counts as 63. */
+static void too_many_buffered(void)
+{
+    nanorand_stream stream, other;
+    uint8_t some[100], same[100];
+    memset(&stream, 0x5a, sizeof stream);
+    other = stream;
+    stream.buffered = UINT64_MAX;
+    other.buffered = 63;
+    nanorand_stream_fill_bytes(&stream, some, sizeof some);
+    nanorand_stream_fill_bytes(&other, same, sizeof same);
+    check("stream: too many buffered", memcmp(some, same, sizeof some) == 0);
+}
+
+int main(void)
+{
+    nanorand_pcg64 pcg64 = {5, 1};
+    nanorand_stream stream;
+    uint8_t *pages =
+        (uint8_t *)mmap(NULL, (size_t)3 * PAGE, PROT_NONE, MAP_PRIVATE | MAP_ANONYMOUS, -1, 0);
+    int at_end;
+    memset(&stream, 0x5a, sizeof stream);
+    stream.buffered = 0;
+    page = pages + PAGE;
+    if (pages == (uint8_t *)MAP_FAILED || mprotect(page, PAGE, PROT_READ | PROT_WRITE) != 0) {
+        puts("no pages\n0 passed, 1 failed");
+        return 1;
+    }
+    for (at_end = 0; at_end < 2; at_end++) {
+        arrays_wyrand(nanorand_wyrand_new_seed(42), at_end);
+        arrays_pcg64(pcg64, at_end);
+        arrays_chacha8(stream.chacha, at_end);
+        arrays_chacha12(stream.chacha, at_end);
+        arrays_chacha20(stream.chacha, at_end);
+        arrays_stream(stream, at_end);
+        lots(at_end);
+    }
+    too_many_buffered();
+    printf("%u passed, %u failed\n", passed, failed);
+    return failed == 0 ? 0 : 1;
+}
