@@ -59,9 +59,9 @@ def jumped(rng, draws):
     return rng
 
 
-def refused(rng, size):
+def refused(rng, size, bits=64):
     try:
-        return rules.number_below(rng, size, 64)
+        return rules.number_below(rng, size, bits)
     except rules.Refused:
         return "refused"
 
@@ -78,6 +78,8 @@ def numbers_and_words():
     yield "Pcg64 after 2^125", jumped(pcg64(5), 2**125).seed, 2**127 + 5
     yield "Pcg64 after its period", jumped(pcg64(5), 2**126).seed, 5
     yield "a word of zeros", refused(Script(), 3), "refused"
+    yield "the 128th word", refused(Script(*[0] * 127, 8), 3, 8), 0
+    yield "128 rejected words", refused(Script(*[0] * 128, 8), 3, 8), "refused"
     yield "a byte 0, then 8", rules.number_in(Script(0, 8), 10, 12, 8), 10
     yield "of a byte 1", rules.number_in(Script(1), -1, 1, 8), -1
 
