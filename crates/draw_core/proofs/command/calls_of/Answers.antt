@@ -1,3 +1,4 @@
+use Rattle.std.proofs.lemmas.Grind.{common_steps}
 use Rattle.std.proofs.Common.{◌<◌, length, sym, subst, ◌∙◌, arith, below_more}
 use Rattle.std.proofs.lemmas.List.{length-map}
 use Rattle.std.specs.Prelude.{string_bytes}
@@ -26,3 +27,6 @@ pub returns-clause-said : goal.returns-clause-said
 returns-clause-said g c =
     let loop = c.loop-index in
     said_all (texts c.args.requests.now) loop.calls.items loop.index (omega (arith, length-map c.args.requests.now string_bytes)) loop.invariant.said
+
+pub returns-in_default-clause-bad : goal.returns-in_default-clause-bad
+returns-in_default-clause-bad g c = grind (arith, common_steps)

@@ -58,3 +58,6 @@ returns-clause-only g c = λ other said.
     (let part = c.in_ok-mode.ensures.ok_part in cc)
     (let part = c.in_ok-count.ensures.ok_part in cc)
     (c.in_ok-calls.ensures.only other.calls (subst (λ ws. AreRequests ws other.calls) (sym (texts_from 4 c.args.arguments.now)) said.requests))
+
+pub returns-in_err-count-clause-early : goal.returns-in_err-count-clause-early
+returns-in_err-count-clause-early g c = search rules

@@ -1,4 +1,5 @@
-use Rattle.std.proofs.Common.{◌≢◌, ◌+◌, ◌∷◌, ◌++◌, [], ap, arith, sym, ◌∙◌}
+use Rattle.std.proofs.lemmas.Grind.{common_steps}
+use Rattle.std.proofs.Common.{rules, ◌≢◌, ◌+◌, ◌∷◌, ◌++◌, [], ap, arith, sym, ◌∙◌}
 use Rattle.std.proofs.lemmas.List.{append_assoc, length_push}
 use Rattle.std.proofs.lemmas.List.Elements.{All-push}
 use Rattle.lots_core.specs.Lists.{lines_of}
@@ -20,3 +21,12 @@ lines-preserved c =
       ),
       omega (arith, c.lines.invariant.1, c.first_line.ensures.shorter),
     )
+
+pub returns-then-is_empty-clause-empty : goal.returns-then-is_empty-clause-empty
+returns-then-is_empty-clause-empty c = grind (arith, common_steps)
+
+pub lines-init : goal.lines-init
+lines-init c = search rules
+
+pub returns-clause-number : goal.returns-clause-number
+returns-clause-number c = grind (arith, common_steps)

@@ -1,4 +1,4 @@
-use Rattle.std.proofs.Common.{◌≡◌, ◌∙◌, sym, subst, Option, Some, None, Err, ok_or, IsSomeAnd, arith}
+use Rattle.std.proofs.Common.{rules, ◌≡◌, ◌∙◌, sym, subst, Option, Some, None, Err, ok_or, IsSomeAnd, arith}
 use Rattle.lots_core.specs.Lists.{IsFirstEmpty, lines_of}
 use Rattle.lots_core.proofs.run.text_asked.Goals as goal
 
@@ -14,3 +14,6 @@ returns-in_err-request-clause-usage g c = λ _ asked asks.
 pub returns-clause-empty : goal.returns-clause-empty
 returns-clause-empty g c = λ k is.
     (c.in_ok-list.list.items, c.in_ok-list.ensures.read, subst (λ list. IsFirstEmpty (lines_of list) k) c.deref.ensures.value (c.select.ensures.empty k is))
+
+pub returns-in_err-request-clause-unreadable : goal.returns-in_err-request-clause-unreadable
+returns-in_err-request-clause-unreadable g c = search rules
