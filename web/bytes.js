@@ -5,6 +5,17 @@ export function hasHalfCharacter(text) {
   return /[\uD800-\uDBFF](?![\uDC00-\uDFFF])|(?<![\uD800-\uDBFF])[\uDC00-\uDFFF]/.test(text);
 }
 
+/**
+ * Control and format characters, separators, what fonts leave out (selectors of variants, Hangul
+ * fillers), and the empty Braille pattern.
+ */
+const UNSEEN = /^[\p{Cc}\p{Cf}\p{Z}\p{Default_Ignorable_Code_Point}\u2800]$/u;
+
+/** Whether a letter cannot be seen, or not be told from another. @param {string} letter */
+export function isUnseen(letter) {
+  return UNSEEN.test(letter);
+}
+
 /** @param {string} text @returns {Uint8Array} */
 export function utf8(text) {
   return new TextEncoder().encode(text);

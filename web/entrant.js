@@ -1,9 +1,6 @@
 // An entrant as a text that can be printed, and back. Entrants are bytes; they need not be text.
 
-import { hexOfByte, textOf, utf8 } from "./bytes.js";
-
-/** What cannot be seen, or not be told apart: control and format characters, separators. */
-const UNSEEN = /[\p{Cc}\p{Cf}\p{Z}]/u;
+import { hexOfByte, isUnseen, textOf, utf8 } from "./bytes.js";
 
 /** @param {Uint8Array} bytes @returns {string} \x and two digits for each byte */
 function escapedBytes(bytes) {
@@ -14,7 +11,7 @@ function escapedBytes(bytes) {
 function written(letter, atEdge) {
   if (letter === "\\") return "\\\\";
   if (letter === " " && !atEdge) return letter;
-  return UNSEEN.test(letter) ? escapedBytes(utf8(letter)) : letter;
+  return isUnseen(letter) ? escapedBytes(utf8(letter)) : letter;
 }
 
 /**

@@ -1,6 +1,6 @@
 // The record of a draw: the text that says everything another needs to repeat it.
 
-import { hasHalfCharacter } from "./bytes.js";
+import { hasHalfCharacter, isUnseen } from "./bytes.js";
 import { printed, unprinted } from "./entrant.js";
 
 const TITLE = "nanorand public draw 1";
@@ -40,10 +40,15 @@ function matching(form, value) {
   return (text) => (form.test(text) ? value(text) : null);
 }
 
+/** A letter as JSON's escapes, one for each unit of UTF-16. @param {string} letter */
+function escapedUnits(letter) {
+  return letter.replace(/[^]/g, (unit) => `\\u${unit.charCodeAt(0).toString(16).padStart(4, "0")}`);
+}
+
 /** A seed as a JSON string in which all that cannot be seen is escaped. @param {string} seed */
 export function writtenSeed(seed) {
-  return JSON.stringify(seed).replace(/(?! )[\p{Cc}\p{Cf}\p{Z}]/gu, (letter) =>
-    letter.replace(/[^]/g, (unit) => `\\u${unit.charCodeAt(0).toString(16).padStart(4, "0")}`));
+  return Array.from(JSON.stringify(seed), (letter) =>
+    (letter !== " " && isUnseen(letter) ? escapedUnits(letter) : letter)).join("");
 }
 
 /** @param {string} text @returns {?string} */

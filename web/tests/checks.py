@@ -6,7 +6,7 @@ import re
 from pathlib import Path
 from typing import List
 
-from counts import Counts, lots, sha256
+from counts import UNSEEN, Counts, lots, sha256
 from page import Page
 
 LIST = "Ada\nBarbara\nChidi\nDmitri\nElif\nFarid\nGrace\nHedy\nInes\nJun\nKatherine\nLise\n"
@@ -160,11 +160,11 @@ def seeds_survive(counts: Counts, page: Page, program: str) -> None:
     """A record holds any seed in one line, and a second page reads the same from it."""
     seeds = [" ", "  two  ", "\n", "a\nb\n", "\ttab", "\"quoted\"", "\\", "\\n", "é", "e\u0301", "🎲", "\u200b",
              "\u00a0x", "\u2028", "\u202eabc", "\x00", "\x7f", "</script>", "{{python}}", "nanorand public draw 1",
-             "\ufeffx", "\U000e0041", "漢字"]
+             "\ufeffx", "\U000e0041", "漢字", f"a{UNSEEN[1:]}b"]
     for seed in seeds:
         record = first_record(page, seed, "all")
         line = record.split("\n")[1]
-        visible = all(letter.isprintable() for letter in line)
+        visible = all(letter.isprintable() and letter not in UNSEEN for letter in line)
         right = visible and json.loads(line[6:]) == seed
         if "\0" not in seed:
             right = right and sha256(lots(program, seed, "all", LIST.encode()).output) in record

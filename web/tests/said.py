@@ -3,7 +3,7 @@
 import re
 from pathlib import Path
 
-from counts import Counts
+from counts import UNSEEN, Counts
 from page import Page
 
 TOP = Path(__file__).resolve().parents[2]
@@ -47,6 +47,15 @@ def hints_on_bytes(counts: Counts, page: Page) -> None:
         counts.same(f"the hint on {data!r}", page.draw()["escapes"], wanted)
 
 
+def letters_that_nobody_sees(counts: Counts, page: Page) -> None:
+    """Each is shown by its bytes, so that no two entrants look alike. Others are shown as they are."""
+    wanted = {f"a{letter}b": "a" + "".join(f"\\x{byte:02x}" for byte in letter.encode()) + "b" for letter in UNSEEN}
+    wanted.update({entrant: entrant for entrant in ("a b", "é", "e\u0301", "漢字", "🎲", "\u2801")})
+    page.open_file("".join(f"{entrant}\n" for entrant in wanted).encode())
+    page.fill("seed", "all")
+    counts.same("letters that nobody sees", sorted(page.draw()["drawn"]), sorted(wanted.values()))
+
+
 def texts(counts: Counts, page: Page, module: str) -> None:
     text = "return document.querySelector(arguments[0]).textContent;"
     counts.same("the module", page.browser.run(text, "#maker"), f"Version 1.0.0, module SHA-256 {module}")
@@ -80,3 +89,4 @@ def run(counts: Counts, page: Page, module: str) -> None:
     loads_nothing(counts, page)
     counts_of_draws(counts, page)
     hints_on_bytes(counts, page)
+    letters_that_nobody_sees(counts, page)
