@@ -198,9 +198,9 @@ uint8_t nanorand_wyrand_shuffle_full(nanorand_wyrand *rng, size_t *items, size_t
 
 /*
  * Samples different numbers below `count`, one for each place, by Floyd's algorithm; each set of
- * them is equally likely, their order is not uniform. It returns 0, or 1 if there are more places
- * than numbers (nothing is drawn or written), or 2 if 128 words in a row were rejected for one
- * place; the places before it are then written, and the draws stay.
+ * them has equally many words, their order is not uniform. It returns 0, or 1 if there are more
+ * places than numbers (nothing is drawn or written), or 2 if 128 words in a row were rejected for
+ * one place; the places before it are then written, and the draws stay.
  */
 uint8_t nanorand_wyrand_sample(nanorand_wyrand *rng, size_t count, size_t *places, size_t length);
 
@@ -258,9 +258,9 @@ uint8_t nanorand_pcg64_shuffle_full(nanorand_pcg64 *seed, size_t *items, size_t 
 
 /*
  * Samples different numbers below `count`, one for each place, by Floyd's algorithm; each set of
- * them is equally likely, their order is not uniform. It returns 0, or 1 if there are more places
- * than numbers (nothing is drawn or written), or 2 if 128 words in a row were rejected for one
- * place; the places before it are then written, and the draws stay.
+ * them has equally many words, their order is not uniform. It returns 0, or 1 if there are more
+ * places than numbers (nothing is drawn or written), or 2 if 128 words in a row were rejected for
+ * one place; the places before it are then written, and the draws stay.
  */
 uint8_t nanorand_pcg64_sample(nanorand_pcg64 *seed, size_t count, size_t *places, size_t length);
 
@@ -325,9 +325,9 @@ uint8_t nanorand_chacha8_shuffle_full(nanorand_chacha *state, size_t *items, siz
 
 /*
  * Samples different numbers below `count`, one for each place, by Floyd's algorithm; each set of
- * them is equally likely, their order is not uniform. It returns 0, or 1 if there are more places
- * than numbers (nothing is drawn or written), or 2 if 128 words in a row were rejected for one
- * place; the places before it are then written, and the draws stay.
+ * them has equally many words, their order is not uniform. It returns 0, or 1 if there are more
+ * places than numbers (nothing is drawn or written), or 2 if 128 words in a row were rejected for
+ * one place; the places before it are then written, and the draws stay.
  */
 uint8_t nanorand_chacha8_sample(
     nanorand_chacha *state, size_t count, size_t *places, size_t length);
@@ -390,9 +390,9 @@ uint8_t nanorand_chacha12_shuffle_full(nanorand_chacha *state, size_t *items, si
 
 /*
  * Samples different numbers below `count`, one for each place, by Floyd's algorithm; each set of
- * them is equally likely, their order is not uniform. It returns 0, or 1 if there are more places
- * than numbers (nothing is drawn or written), or 2 if 128 words in a row were rejected for one
- * place; the places before it are then written, and the draws stay.
+ * them has equally many words, their order is not uniform. It returns 0, or 1 if there are more
+ * places than numbers (nothing is drawn or written), or 2 if 128 words in a row were rejected for
+ * one place; the places before it are then written, and the draws stay.
  */
 uint8_t nanorand_chacha12_sample(
     nanorand_chacha *state, size_t count, size_t *places, size_t length);
@@ -455,9 +455,9 @@ uint8_t nanorand_chacha20_shuffle_full(nanorand_chacha *state, size_t *items, si
 
 /*
  * Samples different numbers below `count`, one for each place, by Floyd's algorithm; each set of
- * them is equally likely, their order is not uniform. It returns 0, or 1 if there are more places
- * than numbers (nothing is drawn or written), or 2 if 128 words in a row were rejected for one
- * place; the places before it are then written, and the draws stay.
+ * them has equally many words, their order is not uniform. It returns 0, or 1 if there are more
+ * places than numbers (nothing is drawn or written), or 2 if 128 words in a row were rejected for
+ * one place; the places before it are then written, and the draws stay.
  */
 uint8_t nanorand_chacha20_sample(
     nanorand_chacha *state, size_t count, size_t *places, size_t length);
@@ -514,9 +514,9 @@ uint8_t nanorand_stream_shuffle_full(nanorand_stream *stream, size_t *items, siz
 
 /*
  * Samples different numbers below `count`, one for each place, by Floyd's algorithm; each set of
- * them is equally likely, their order is not uniform. It returns 0, or 1 if there are more places
- * than numbers (nothing is drawn or written), or 2 if 128 words in a row were rejected for one
- * place; the places before it are then written, and the draws stay.
+ * them has equally many words, their order is not uniform. It returns 0, or 1 if there are more
+ * places than numbers (nothing is drawn or written), or 2 if 128 words in a row were rejected for
+ * one place; the places before it are then written, and the draws stay.
  */
 uint8_t nanorand_stream_sample(
     nanorand_stream *stream, size_t count, size_t *places, size_t length);

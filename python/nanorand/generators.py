@@ -225,8 +225,8 @@ class Generator:
     def sample(self, population: Sequence[Item], length: SupportsIndex) -> "list[Item]":
         """`length` items of different places.
 
-        Each set of places is as likely. Their order is not random: shuffle it if that matters. It
-        raises `EmptyRange` if there are fewer items.
+        Each set of places has equally many words. Their order is not random: shuffle it if that
+        matters. It raises `EmptyRange` if there are fewer items.
 
         >>> from nanorand import WyRand
         >>> WyRand(42).sample("abcdefghij", 3)

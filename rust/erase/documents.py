@@ -37,9 +37,11 @@ SENTENCES = {
         "`backup` returns this, and `from_entropy` where the system has none."
     ),
     "Precondition: the type has a number below `n`. The only error is `Exhausted`, after 128 rejected"
-    " words, and for a power of two there is none: no word is rejected then.": (
+    " words. If 2^k numbers are below `n` (of an unsigned type: `n` is a power of two), there is none:"
+    " no word is rejected then.": (
         "It returns `Empty` if the type has no number below `n`, and `Exhausted` if 128 words in a row"
-        " were rejected. For a power of two no word is rejected."
+        " were rejected. If 2^k numbers are below `n` (of an unsigned type: `n` is a power of two), no"
+        " word is rejected."
     ),
     "Nothing is promised about the provided methods of `Read`.": "",
     "It allocates nothing itself, so it never fails if the inner clone never does.": (

@@ -17,8 +17,8 @@ pub use word::pick_word;
 
 /// A type whose values can be drawn from a generator. A draw of a value cannot be refused.
 ///
-/// There are no floats: draw a number below a power of two with `choices::below`, and an event of a
-/// given probability with `choices::ratio`.
+/// There are no floats: draw a number below a power of two with `choices::below`, and an event that
+/// happens in n of m cases with `choices::ratio`.
 ///
 /// An integer of N bits takes one request of N / 8 bytes, read least byte first, the signed types
 /// in two's complement. `usize` and `isize` have 64 bits. An array of N bytes takes one request of

@@ -1,7 +1,7 @@
 // Written by `python3 rust/erase` from:
 // crates/nanorand_core/src/choices/uniform.rt
 
-//! Choices of which each is as likely as any other: by fairness, each has equally many words.
+//! Choices of which each has equally many words.
 
 use crate::rand::Rng;
 use crate::values::number::Number;
@@ -15,7 +15,8 @@ use core::ops::Bound;
 /// # Errors
 ///
 /// It returns `Empty` if the type has no number below `n`, and `Exhausted` if 128 words in a row
-/// were rejected. For a power of two no word is rejected.
+/// were rejected. If 2^k numbers are below `n` (of an unsigned type: `n` is a power of two), no
+/// word is rejected.
 #[inline]
 pub fn below<T: Number, G: Rng<OUTPUT>, const OUTPUT: usize>(
     rng: &mut G,
@@ -53,8 +54,8 @@ pub fn choose_mut<'a, T, G: Rng<OUTPUT>, const OUTPUT: usize>(
     Ok(&mut items[index])
 }
 
-/// Returns true with the probability `numerator / denominator`: for exactly `numerator` times as
-/// many words as one number below `denominator` has.
+/// Returns true in `numerator` of `denominator` cases: for exactly `numerator` times as many words
+/// as one number below `denominator` has.
 ///
 /// If `numerator` is `denominator` or more, it is always true.
 ///

@@ -1,4 +1,4 @@
-//! Choices of which each is as likely as any other: by fairness, each has equally many words.
+//! Choices of which each has equally many words.
 ghost use Rattle.std.specs.Prelude.{◌≡◌, ℕ, ◌^◌, ◌<◌, ◌≤◌, [], true, false, length, slice_get, nat_lt, Some, Ok, Err, IsOk, IsOkAnd, IfOk, IfErr, MatchResult};
 ghost use Rattle.std.specs.declared.ops.Bound.TheVariants.{Excluded, Unbounded};
 ghost use Rattle.nanorand_core.specs.values.Range.{range_within};
@@ -17,7 +17,8 @@ use std::ops::Bound;
 /// from the type's least number on.
 ///
 /// Precondition: the type has a number below `n`. The only error is `Exhausted`, after 128 rejected
-/// words, and for a power of two there is none: no word is rejected then.
+/// words. If 2^k numbers are below `n` (of an unsigned type: `n` is a power of two), there is none:
+/// no word is rejected then.
 #[inline]
 pub fn below<T: Number, G: Rng<OUTPUT>, const OUTPUT: usize>(
     rng: &mut G,
@@ -83,8 +84,8 @@ pub fn choose_mut<'a, T, G: Rng<OUTPUT>, const OUTPUT: usize>(
     Ok(&mut items[index])
 }
 
-/// Returns true with the probability `numerator / denominator`: for exactly `numerator` times as
-/// many words as one number below `denominator` has.
+/// Returns true in `numerator` of `denominator` cases: for exactly `numerator` times as many words
+/// as one number below `denominator` has.
 ///
 /// If `numerator` is `denominator` or more, it is always true. It returns `Empty` if `denominator`
 /// is 0, and draws nothing then. It returns `Exhausted` if 128 words in a row were rejected; they

@@ -138,7 +138,7 @@ fn ranges_of_dice(rt: HostRuntime) {
 
 // The number that a word of 8 bits names, by a search: number k has the `quota` words from
 // ceil((256 k + rejected) / size) on.
-fn named_by_counting(size: u32, word: u32) -> Option<u8> {
+fn named_by_search(size: u32, word: u32) -> Option<u8> {
     let quota = 256 / size.max(1);
     let rejected = 256 % size.max(1);
     (0..size)
@@ -161,7 +161,7 @@ fn every_size_and_byte(rt: HostRuntime) {
                 Bound::Excluded((size % 256) as u8)
             };
             let drawn = constant.generate_range::<u8>(Bound::Included(0), high);
-            match named_by_counting(size, byte) {
+            match named_by_search(size, byte) {
                 Some(number) => equal_at(&rt, drawn, Ok(number), format_args!("{byte} of {size}")),
                 None => {
                     equal_at(
