@@ -8,7 +8,7 @@ type, a float for one, is a `TypeError`.
 ...     WyRand(42).range(6, 1)
 ... except EmptyRange as error:
 ...     print(error)
-the range contains no number
+there is no number or item to draw
 """
 
 __all__ = [
@@ -38,11 +38,11 @@ class EmptyRange(NanorandError, ValueError):
     """There is no number or item to draw; or a sample asks for more numbers than there are.
 
     >>> str(EmptyRange())
-    'the range contains no number'
+    'there is no number or item to draw'
     """
 
     def __str__(self) -> str:
-        return "the range contains no number"
+        return "there is no number or item to draw"
 
 
 class Exhausted(NanorandError, RuntimeError):
