@@ -1,7 +1,7 @@
 """Checks of arguments. C takes what it is given, so a number has to fit before it crosses."""
 
 import operator
-from collections.abc import Mapping, Set
+from collections.abc import Mapping, Sequence, Set
 from typing import SupportsIndex, Union
 
 from nanorand.errors import OutOfBounds, WrongLength
@@ -48,3 +48,12 @@ def indexed(name: str, value: object, method: str = "__getitem__") -> None:
     if not fits or isinstance(value, (Mapping, Set)):
         wanted = "a sequence" + (" whose items can be replaced" if method == "__setitem__" else "")
         raise TypeError(f"{name} is a {kind.__name__}, not {wanted}")
+
+
+def owned(name: str, items: Sequence[object]) -> None:
+    """Requires items that a sequence does not make anew at each reading, as a matrix does its rows.
+
+    Such an item is a view, and shows another row's content once that is moved to its place.
+    """
+    if len(items) > 1 and hasattr(type(items[0]), "__setitem__") and items[0] is not items[0]:
+        raise TypeError(f"{name} is a {type(items).__name__}, whose items are views of it")

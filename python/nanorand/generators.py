@@ -26,6 +26,7 @@ from nanorand._checks import (
     number,
     octets,
     octets_of,
+    owned,
 )
 from nanorand.errors import EmptyRange, OutOfBounds, WrongLength
 
@@ -201,7 +202,8 @@ class Generator:
     def shuffle(self, items: MutableSequence[Item]) -> None:
         """Shuffles a list in place: each order is drawn by equally many lists of words.
 
-        If the sequence refuses to take an item, the state is as before.
+        If the sequence refuses to take an item, the state is as before. A sequence whose items are
+        views of it, as the rows of a matrix, is a TypeError: shuffle its places.
 
         >>> from nanorand import WyRand
         >>> digits = list(range(10))
@@ -258,6 +260,7 @@ class Generator:
     def _permute(self, call: Callable[..., int], items: MutableSequence[Item]) -> None:
         """Shuffles places, and then moves the items: also after `Exhausted`, as far as it came."""
         indexed("items", items, "__setitem__")
+        owned("items", items)
         before = [items[place] for place in range(len(items))]
         places = _places(len(before))
         places[:] = list(range(len(before)))
@@ -355,7 +358,7 @@ class Pcg64(Generator):
         >>> Pcg64(42).seed
         42
         """
-        return int(self._c.high) << 64 | int(self._c.low)
+        return int.from_bytes(self.state, "little")
 
     def jump(self, draws: SupportsIndex) -> None:
         """Leaves what so many draws leave, below 2^128 of them.
@@ -524,7 +527,8 @@ class Stream(Generator):
         >>> rng.bytes(2), rng.state[48:]
         (b'ab', b'c')
         """
-        return bytes(self._c.chacha) + self.rest
+        generator, rest = self._parts()
+        return generator + rest
 
     @state.setter
     def state(self, state: Buffer) -> None:
@@ -573,7 +577,13 @@ class Stream(Generator):
         >>> len(rng.rest)
         63
         """
-        return bytes(self._c.block)[64 - self._c.buffered :]
+        return self._parts()[1]
+
+    def _parts(self) -> "tuple[Octets, Octets]":
+        """Key, nonce and counter, and the buffered bytes: of one moment, also if threads draw."""
+        whole = bytes(self._c)
+        generator, block, buffered = whole[:48], whole[48:112], int.from_bytes(whole[112:], "little")
+        return generator, block[64 - buffered :]
 
     def __repr__(self) -> str:
         """It shows no key and no byte."""

@@ -43,9 +43,10 @@ class Index:
 class OwnList(collections.abc.MutableSequence):
     """A mutable sequence that takes no slices, and refuses an item after some."""
 
-    def __init__(self, items, room=None):
+    def __init__(self, items, room=None, error=KeyError):
         self.items = list(items)
         self.room = room
+        self.error = error
 
     def __len__(self):
         return len(self.items)
@@ -55,7 +56,7 @@ class OwnList(collections.abc.MutableSequence):
 
     def __setitem__(self, place, item):
         if self.room is not None and place >= self.room:
-            raise KeyError(place)
+            raise self.error(place)
         self.items[int(place)] = item
 
     def __delitem__(self, place):
@@ -63,6 +64,19 @@ class OwnList(collections.abc.MutableSequence):
 
     def insert(self, place, item):
         raise NotImplementedError
+
+
+class Matrix(OwnList):
+    """Rows by views of one memory, as numpy has them."""
+
+    def __init__(self, rows):
+        super().__init__([array.array("q", row) for row in rows])
+
+    def __getitem__(self, place):
+        return memoryview(self.items[place])
+
+    def __setitem__(self, place, item):
+        memoryview(self.items[place])[:] = item
 
 
 class States(unittest.TestCase):
@@ -411,14 +425,28 @@ class Lists(unittest.TestCase):
 
     def test_a_sequence_that_refuses_an_item(self):
         for rng in generators():
-            for room in (0, 5):
-                refuses(self, rng, KeyError, lambda rng, room=room: rng.shuffle(OwnList(range(9), room)))
+            for error in (KeyError, KeyboardInterrupt):
+                for room in (0, 5):
+                    items = OwnList(range(9), room, error)
+                    refuses(self, rng, error, lambda rng, items=items: rng.shuffle(items))
+
+    def test_a_sequence_of_views(self):
+        """Rows that are moved over one another would be lost."""
+        for rng in generators():
+            matrix = Matrix([[1, 2], [3, 4], [5, 6]])
+            for name in ("shuffle", "shuffle_full"):
+                refuses(self, rng, TypeError, lambda rng, name=name: getattr(rng, name)(matrix))
+            self.assertEqual([list(row) for row in matrix], [[1, 2], [3, 4], [5, 6]])
+            self.assertIn(list(rng.choice(matrix)), [[1, 2], [3, 4], [5, 6]])
 
     def test_choices(self):
         for rng in generators():
             for items in ("abc", [1, 2, 3], (1, 2, 3), range(3), b"abc", array.array("q", [1, 2, 3])):
                 same = rng.copy()
                 self.assertEqual(rng.choice(items), items[same.below(3)])
+            for count in (2**32, 2**40 + 1, 2**63 - 1):
+                same = rng.copy()
+                self.assertEqual(rng.choice(range(count)), same.below(count))
             for items in ("", [], (), range(0)):
                 refuses(self, rng, EmptyRange, lambda rng, items=items: rng.choice(items))
             for items in (None, 5, {1, 2}, {0: 1}, iter("abc")):

@@ -71,7 +71,8 @@ class Lots(unittest.TestCase):
         self.assertEqual(NAMES[0], "Ada")
 
     def test_seeds_of_every_kind(self):
-        for seed in ("seed", "Zürich, 1. März", "\0", " ", "\U0010ffff"):
+        odd = ["\0", " ", "\U0010ffff", "\ufeffseed", " seed ", "seed\n", "seed\r\n", "\n", "e\u0301", "SEED", "ﬁ"]
+        for seed in ("seed", "Zürich, 1. März", *odd):
             text = seed.encode()
             wanted = lots.draw(seed, NAMES)
             for same in (text, bytearray(text), memoryview(text)):
@@ -120,6 +121,8 @@ class Lots(unittest.TestCase):
             lots.draw("seed", NAMES, 13)
         self.assertEqual((caught.exception.entrants, caught.exception.count), (12, 13))
         self.assertEqual(str(caught.exception), "12 entrants, 13 asked for")
+        with self.assertRaisesRegex(TypeError, "^entrants is a str: give a list's bytes, or a sequence of entrants$"):
+            lots.draw("seed", "abc")
         for error in (EmptySeed, SeedNotText, EmptyLine, TooFew):
             self.assertTrue(issubclass(error, NanorandError) and issubclass(error, ValueError))
 

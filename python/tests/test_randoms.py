@@ -139,6 +139,7 @@ class Randoms(unittest.TestCase):
                 self.assertIs(type(made), generator)
                 self.assertEqual(made.state[:length], seed.to_bytes(length, "little"))
                 self.assertEqual(set(made.state[length:]), {0} if made.state[length:] else set())
+            self.assertEqual(kind(True).generator, kind(1).generator)
             for seed in (-1, 2 ** (8 * length)):
                 with self.assertRaises(OutOfBounds):
                     kind(seed)
@@ -149,7 +150,7 @@ class Randoms(unittest.TestCase):
     def test_texts_are_seeds(self):
         for kind in RANDOMS:
             length = SEED_LENGTHS.get(kind.__name__, 32)
-            for text in ("", "a seed", "Zürich"):
+            for text in ("", "a seed", "Zürich", "A seed\n", " a seed", "\ufeff", "e\u0301"):
                 digest = hashlib.sha256(text.encode()).digest()
                 for seed in (text, text.encode(), bytearray(text.encode())):
                     self.assertEqual(kind(seed).generator.state[:length], digest[:length])
@@ -190,6 +191,9 @@ class Randoms(unittest.TestCase):
                 wanted = [rng.gauss(0, 1) for _ in range(5)]
                 rng.setstate(saved)
                 self.assertEqual([rng.gauss(0, 1) for _ in range(5)], wanted)
+                for kept in (0.0, -0.5, None):
+                    rng.setstate((*saved[:2], kept))
+                    self.assertEqual(rng.getstate(), (*saved[:2], kept))
                 other = kind()
                 other.setstate(saved)
                 self.assertEqual([other.gauss(0, 1) for _ in range(5)], wanted)

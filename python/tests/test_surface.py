@@ -1,0 +1,196 @@
+"""What callers see beside the numbers: names of arguments, types, texts without keys, special methods, imports."""
+
+import copy
+import inspect
+import pickle
+import re
+import subprocess
+import sys
+import unittest
+from pathlib import Path
+
+from makers import CHACHAS, KEY, NONCE, RANDOMS, generators, refuses
+
+from nanorand import ChaCha20, OutOfBounds, Pcg64, Stream, WrongLength, WyRand, errors, generators as kinds, lots
+
+README = Path(__file__).resolve().parents[1] / "README.md"
+HUGE = 10**5000  # more digits than Python writes
+# Every other special method would be one more thing that a generator can do: an order, a length, a text.
+SPECIAL = {
+    "Generator": {"__init__", "__hash__", "__copy__", "__deepcopy__", "__reduce__", "__eq__"},
+    "WyRand": {"__init__", "__repr__"},
+    "Pcg64": {"__init__", "__repr__"},
+    "_ChaCha": {"__init__", "__repr__"},
+    "Stream": {"__init__", "__repr__"},
+    "GeneratorRandom": {"__new__", "__init__"},
+}
+# What Python itself writes in each class.
+OF_EVERY_CLASS = {
+    *("__module__", "__doc__", "__dict__", "__weakref__", "__annotations__", "__qualname__"),
+    *("__static_attributes__", "__firstlineno__", "__annotate_func__", "__annotations_cache__"),
+}
+
+
+def parameters(call):
+    return [name for name in inspect.signature(call).parameters if name != "self"]
+
+
+class Arguments(unittest.TestCase):
+    def test_the_readme_names_them_as_the_calls_do(self):
+        """So a caller can give each by its name."""
+        kind = {"block": ChaCha20, "jump": Pcg64}
+        rows = re.findall(r"^\| ((?:`\w+\([^`]*\)`(?:, )?)+) \|", README.read_text(encoding="utf-8"), re.M)
+        found = {call: names for row in rows for call, names in re.findall(r"`(\w+)\(([^)]*)\)`", row)}
+        self.assertGreaterEqual(len(found), 14)
+        for call, names in found.items():
+            thing = getattr(kinds, call, None) or getattr(kind.get(call, WyRand), call)
+            self.assertEqual(", ".join(parameters(thing)), names, call)
+        self.assertEqual(parameters(lots.draw), ["seed", "entrants", "count"])
+        self.assertIn("`draw(seed, entrants, count)`", README.read_text(encoding="utf-8"))
+        for chacha in CHACHAS:
+            self.assertEqual(parameters(chacha), ["key", "nonce", "counter"])
+
+    def test_an_error_names_the_argument(self):
+        good = {"first": 0, "last": 9, "count": 9, "length": 1, "population": "abc", "end": 5, "draws": 1}
+        for rng in generators():
+            for call in ("bytes", "below", "range", "range32", "sample", "sample_below", "jump"):
+                for name in parameters(getattr(rng, call, lambda: None)):
+                    given = {other: good[other] for other in parameters(getattr(rng, call))}
+                    for bad, kind in ((None, TypeError), (HUGE, OutOfBounds), (-HUGE, OutOfBounds)):
+                        if name == "population" and bad is not None:
+                            continue
+                        error = refuses(self, rng, kind, lambda rng: getattr(rng, call)(**{**given, name: bad}))
+                        self.assertRegex(str(error), rf"^{name} is ")
+
+    def test_an_error_of_a_maker_names_the_argument(self):
+        for kind in (WyRand, Pcg64):
+            for bad, error in ((None, TypeError), (HUGE, OutOfBounds), (-1, OutOfBounds)):
+                with self.assertRaisesRegex(error, "^seed is "):
+                    kind(bad)
+        good = {"key": KEY, "nonce": NONCE, "counter": 0, "rest": b""}
+        for kind in (*CHACHAS, Stream):
+            for name in parameters(kind):
+                for bad in (None, HUGE):
+                    with self.assertRaisesRegex((TypeError, OutOfBounds), f"^{name} is "):
+                        kind(**{**{other: good[other] for other in parameters(kind)}, name: bad})
+
+
+class Types(unittest.TestCase):
+    def test_bytes_are_bytes(self):
+        for rng in generators():
+            rng.state = bytearray(rng.state)
+            given = [rng.state, rng.bytes(9), *(getattr(rng, name, b"") for name in ("key", "nonce", "rest"))]
+            self.assertEqual({type(one) for one in given}, {bytes})
+        for text in (b"a\nb", bytearray(b"a\nb\n"), memoryview(b"a\nb\n")):
+            self.assertEqual({type(one) for one in [lots.digest(text), *lots.draw("seed", text)]}, {bytes})
+
+    def test_a_state_is_no_view_of_what_it_was_set_from(self):
+        for rng in generators():
+            given = bytearray(rng.state)
+            rng.state, made = given, type(rng).from_state(given)
+            before = bytes(given)
+            given[:] = bytes(len(given))
+            self.assertEqual((rng.state, made.state), (before, before))
+
+    def test_a_view_that_was_released(self):
+        view = memoryview(bytearray(32))
+        view.release()
+        for call in (lambda: Stream(bytes(32), rest=view), lambda: lots.count(view), lambda: WyRand.from_state(view)):
+            self.assertRaises(ValueError, call)
+
+    def test_special_methods(self):
+        classes = [one for kind in [*map(type, generators()), *RANDOMS] for one in kind.__mro__]
+        for kind in {one for one in classes if one.__module__.startswith("nanorand")}:
+            special = {name for name in vars(kind) if name.startswith("__") and name.endswith("__")}
+            self.assertEqual(special - OF_EVERY_CLASS, SPECIAL.get(kind.__name__, set()), kind.__name__)
+
+    def test_nothing_is_kept_beside_the_state(self):
+        for rng in generators():
+            rng.sample("abc", 2)
+            rng.shuffle([1, 2, 3])
+            self.assertEqual(set(vars(rng)), {"_c"})
+
+    def test_copies_within_a_copy(self):
+        for rng in generators():
+            first, second, other = copy.deepcopy([rng, rng, rng.copy()])
+            self.assertIs(first, second)
+            self.assertIsNot(first, other)
+
+
+class Secrets(unittest.TestCase):
+    def shows_no_key(self, *texts):
+        for text in texts:
+            for secret in (KEY.hex(), NONCE.hex(), repr(KEY)[2:20], str(list(KEY))[1:20]):
+                self.assertNotIn(secret, text)
+
+    def test_texts(self):
+        whole = int.from_bytes(KEY, "little")
+        things = [*[kind(KEY, NONCE) for kind in CHACHAS], Stream(KEY, NONCE, rest=NONCE)]
+        things += [kind(whole) for kind in RANDOMS if kind.__name__ not in ("WyRandRandom", "Pcg64Random")]
+        for thing in things:
+            self.shows_no_key(repr(thing), str(thing), f"{thing}", f"{thing!a}", "%s %r" % (thing, thing))
+            self.assertNotIn(str(whole), f"{thing} {thing!r}")
+
+    def test_texts_of_errors(self):
+        long = 4 * KEY
+        calls = [lambda kind=kind, data=data: kind(*data) for kind in (*CHACHAS, Stream)
+                 for data in ((long,), (KEY, long), ([*KEY],), (KEY.hex(),), (KEY, [*NONCE]), (KEY, NONCE, KEY))]
+        calls += [lambda kind=kind: kind.from_state(long) for kind in (*CHACHAS, Stream)]
+        calls += [lambda: Stream(KEY, NONCE, 0, long), lambda: Stream(KEY, NONCE, 0, [*KEY])]
+        for call in calls:
+            with self.assertRaises((TypeError, WrongLength)) as caught:
+                call()
+            self.shows_no_key(str(caught.exception), repr(caught.exception))
+
+
+class Errors(unittest.TestCase):
+    def test_errors_cross_processes(self):
+        """As of a pool of workers, which pickles them."""
+        made = [errors.EmptyLine(7), errors.TooFew(3, 4), errors.ForeignState("WyRand")]
+        made += [getattr(errors, name)() for name in ("EmptyRange", "Exhausted", "EmptySeed", "SeedNotText")]
+        made += [getattr(errors, name)("why") for name in ("OutOfBounds", "WrongLength", "LibraryRefused")]
+        self.assertEqual({type(error).__name__ for error in made} | {"NanorandError"}, set(errors.__all__))
+        for error in made:
+            for again in (pickle.loads(pickle.dumps(error)), copy.copy(error)):
+                self.assertIs(type(again), type(error))
+                self.assertEqual((str(again), vars(again)), (str(error), vars(error)))
+
+
+class Imports(unittest.TestCase):
+    def test_an_import_does_nothing_else(self):
+        code = "import random; state = random.getstate(); import nanorand; assert state == random.getstate()"
+        for flags in (["-W", "error"], ["-OO"]):
+            done = subprocess.run([sys.executable, *flags, "-c", code], capture_output=True, text=True)
+            self.assertEqual((done.returncode, done.stdout, done.stderr), (0, "", ""))
+
+
+class Moments(unittest.TestCase):
+    def test_a_state_is_of_one_moment(self):
+        """Between any two steps of Python that read a state another thread may draw; here a tracer does."""
+        for rng in generators():
+            for name in ("state", "seed", "rest"):
+                if not hasattr(rng, name):
+                    continue
+                drawn = rng.copy()
+                moments = []
+                for _ in range(200):
+                    moments.append(getattr(drawn, name))
+                    drawn.u64()
+                self.assertIn(self.read_meanwhile(rng, name), moments)
+
+    def read_meanwhile(self, rng, name):
+        def draws(frame, event, argument):
+            frame.f_trace_opcodes = True
+            rng._calls.u64(rng._c)
+            return draws
+
+        before = sys.gettrace()
+        sys.settrace(draws)
+        try:
+            return getattr(rng, name)
+        finally:
+            sys.settrace(before)
+
+
+if __name__ == "__main__":
+    unittest.main()
