@@ -431,15 +431,19 @@ fn errors_are_passed_on() {
 }
 
 #[cfg(unix)]
+fn every_byte_changes<const SIZE: usize>(seeds: &[[u8; SIZE]]) -> bool {
+    (0..SIZE).all(|place| seeds.iter().any(|seed| seed[place] != seeds[0][place]))
+}
+
+#[cfg(unix)]
 #[test]
 fn seeds_from_the_system() {
-    let keys: Vec<[u8; 32]> = (0..4)
-        .map(|_| ChaCha20::from_entropy().expect("entropy").key())
+    let made: Vec<ChaCha20> = (0..64)
+        .map(|_| ChaCha20::from_entropy().expect("entropy"))
         .collect();
-    for (index, key) in keys.iter().enumerate() {
-        assert_ne!(*key, [0; 32]);
-        assert!(!keys[..index].contains(key));
-    }
+    let keys: Vec<[u8; 32]> = made.iter().map(ChaCha20::key).collect();
+    let nonces: Vec<[u8; 8]> = made.iter().map(ChaCha20::nonce).collect();
+    assert!(made.iter().all(|rng| rng.counter() == 0));
     // A byte that never changes would be one that is not the system's.
     let words: Vec<[u8; 8]> = (0..64)
         .map(|_| {
@@ -452,8 +456,8 @@ fn seeds_from_the_system() {
     let seeds: Vec<[u8; 16]> = (0..64)
         .map(|_| Pcg64::from_entropy().expect("entropy").seed().to_le_bytes())
         .collect();
-    assert!((0..8).all(|place| words.iter().any(|word| word[place] != words[0][place])));
-    assert!((0..16).all(|place| seeds.iter().any(|seed| seed[place] != seeds[0][place])));
+    assert!(every_byte_changes(&keys) && every_byte_changes(&nonces));
+    assert!(every_byte_changes(&words) && every_byte_changes(&seeds));
 }
 
 fn panics<T>(call: impl FnOnce() -> T) -> bool {
@@ -551,12 +555,20 @@ fn ranks_of_numbers() {
 /// A lent generator is reseeded, too.
 #[test]
 fn a_lent_generator_is_reseeded() {
-    fn seed<R: SeedableRng<8, 8>>(mut rng: R) {
-        rng.reseed([42, 0, 0, 0, 0, 0, 0, 0]);
+    fn seed<R: SeedableRng<SIZE, OUTPUT>, const SIZE: usize, const OUTPUT: usize>(mut rng: R) {
+        let mut bytes = [0; SIZE];
+        bytes[0] = 42;
+        rng.reseed(bytes);
     }
     let mut rng = BufferedRng::new(WyRand::new_seed(0));
     seed(&mut rng);
     assert_eq!(rng, BufferedRng::new(WyRand::new_seed(42)));
+    let mut rng = Pcg64::new_seed(0);
+    seed(&mut rng);
+    assert_eq!(rng, Pcg64::new_seed(42));
+    let mut rng = ChaCha8::new_key([0; 32], [0; 8]);
+    seed(&mut rng);
+    assert_eq!(rng.key()[0], 42);
 }
 
 /// A generator that panics in the middle of a shuffle leaves a permutation of the items.

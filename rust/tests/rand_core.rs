@@ -4,7 +4,7 @@
 use nanorand_proved::{BufferedRng, ChaCha, ChaCha12, ChaCha20, ChaCha8, ChaChaSeed};
 use nanorand_proved::{Pcg64, Rng, WyRand};
 use rand_core::{CryptoRng, RngCore, SeedableRng};
-use std::fmt::Debug;
+use std::fmt::{Debug, Display, LowerHex, UpperHex};
 
 /// Does not compile if the type has the trait: two implementations of `Without` are its then.
 macro_rules! lacks {
@@ -24,9 +24,18 @@ macro_rules! lacks {
 fn what_is_not_implemented() {
     lacks!(WyRand: CryptoRng);
     lacks!(Pcg64: CryptoRng);
+    lacks!(ChaCha8: CryptoRng);
+    lacks!(ChaCha12: CryptoRng);
     lacks!(ChaCha20: CryptoRng);
+    lacks!(BufferedRng<WyRand, 8>: CryptoRng);
+    lacks!(BufferedRng<Pcg64, 8>: CryptoRng);
+    lacks!(BufferedRng<ChaCha8, 64>: CryptoRng);
+    lacks!(BufferedRng<ChaCha12, 64>: CryptoRng);
     lacks!(BufferedRng<ChaCha20, 64>: CryptoRng);
     lacks!(ChaChaSeed: Debug);
+    lacks!(ChaChaSeed: Display);
+    lacks!(ChaChaSeed: LowerHex);
+    lacks!(ChaChaSeed: UpperHex);
 }
 
 /// The four functions of `RngCore` give what the functions of `Rng` give, and leave the same.

@@ -100,6 +100,8 @@ fn of_a_buffer() {
     let inner = "ChaCha20 { rounds: 8, counter: 1 }";
     let text = format!("BufferedRng {{ inner: {inner}, buffered: 61 }}");
     assert_eq!(format!("{rng:?}"), text);
+    let lines = format!("BufferedRng {{\n    inner: {inner},\n    buffered: 61,\n}}");
+    assert_eq!(format!("{rng:#?}"), lines);
 }
 
 #[test]
