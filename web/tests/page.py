@@ -5,10 +5,11 @@ from typing import Any, Dict, Optional
 
 from drivers import Browser
 
+# As a method of input does that composes letters, and tells nothing when it is done.
 SET = """
 const field = document.getElementById(arguments[0]);
 field.value = arguments[1];
-field.dispatchEvent(new Event("input"));
+field.dispatchEvent(new InputEvent("input", { isComposing: true }));
 """
 
 SHOWN = """

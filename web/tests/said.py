@@ -1,6 +1,7 @@
-"""What the page says beside a draw: counts, hints, the module, the Python code; and what it may load."""
+"""What the page says beside a draw: counts, hints, the module, the Python code; its frame, and what it may load."""
 
 import re
+import time
 from pathlib import Path
 
 from counts import UNSEEN, Counts
@@ -18,6 +19,11 @@ POLICY = [
     "default-src 'none'", "script-src 'sha256-' 'wasm-unsafe-eval'", "worker-src blob:", "style-src 'sha256-'",
     "img-src data:", "base-uri 'none'", "form-action 'none'",
 ]
+
+# A browser changes nothing of what is typed in these, and offers nothing that was typed before.
+TYPED = ["list-text", "seed", "count", "check-text"]
+AS_TYPED = {"spellcheck": "false", "autocomplete": "off", "autocapitalize": "off", "autocorrect": "off"}
+MARKED = "<b>Ada</b>&amp;<img>"
 
 
 def grouped(number: int) -> str:
@@ -83,7 +89,77 @@ def loads_nothing(counts: Counts, page: Page) -> None:
     counts.same("the policy", re.sub(r"(?<='sha256-)[^']+", "", policy).split("; "), POLICY)
 
 
+def frame(counts: Counts, page: Page) -> None:
+    """The language, the title, a phone's width, the headings' levels, and what stands there without scripts."""
+    found = page.browser.run("""return [document.documentElement.lang, document.title,
+        document.querySelector("meta[name=viewport]")?.content, document.querySelector("noscript")?.textContent];""")
+    counts.same("the frame", [" ".join((text or "").split()) for text in found], [
+        "en", "A public draw", "width=device-width, initial-scale=1",
+        '<p class="error">This page needs JavaScript. The program lots and the Python code below draw the same.</p>'])
+    levels = page.browser.run("return Array.from(document.querySelectorAll('h1,h2,h3,h4,h5,h6'), (one) => one.tagName);")
+    skipped = [pair for pair in zip(levels, levels[1:]) if int(pair[1][1]) > int(pair[0][1]) + 1]
+    counts.same("the levels of headings", (levels[0], levels.count("H1"), skipped), ("H1", 1, []))
+    counts.same("sections without a heading", page.browser.run("""return Array.from(document.querySelectorAll("section"))
+        .filter((one) => !/^H/.test(document.getElementById(one.getAttribute("aria-labelledby")).tagName)).length;"""), 0)
+    counts.same("buttons that submit", page.browser.run("""return Array.from(document.querySelectorAll("button"))
+        .filter((button) => button.getAttribute("type") !== "button").map((button) => button.id);"""), [])
+
+
+def fields(counts: Counts, page: Page) -> None:
+    read = "return document.getElementById(arguments[0]).getAttribute(arguments[1]);"
+    for field in TYPED:
+        counts.same(f"{field} as typed", {name: page.browser.run(read, field, name) for name in AS_TYPED}, AS_TYPED)
+    counts.same("the record is not edited", page.browser.run('return document.getElementById("record").readOnly;'), True)
+
+
+def fresh_page(counts: Counts, page: Page) -> None:
+    """Before anything was typed the list is empty: nobody is drawn, and a record has no list."""
+    page.load()
+    page.browser.run('document.getElementById("seed").value = "seed";')
+    counts.same("a draw of nobody", page.draw()["title"], "Nobody was drawn.")
+    page.paste("Ada\n")
+    record = page.draw()["record"]
+    page.load()
+    counts.same("a check without a list", page.check(record)["outcome"], "no list")
+
+
+def files_named(counts: Counts, page: Page) -> None:
+    """The name and the size of the file that is open, and none of one that was closed."""
+    for name, size in (("one", 3), (MARKED.replace("/", ""), 12345)):
+        (page.folder / name).write_bytes(b"a" * (size - 1) + b"\n")
+        page.browser.type("#list-file", str(page.folder / name))
+        page.facts()
+        text = page.browser.run('return document.getElementById("file-name").textContent;')
+        counts.same(f"the file {name}", text, f"{name}, {grouped(size)} bytes")
+    page.browser.click("#close-file")
+    counts.same("no file is chosen", page.browser.run('return document.getElementById("list-file").files.length;'), 0)
+
+
+def mark_up(counts: Counts, page: Page) -> None:
+    """What others wrote is shown as it is written, and makes no element."""
+    elements = 'return document.querySelectorAll("b, img").length;'
+    page.paste(f"{MARKED}\n")
+    page.fill(f" {MARKED}", "all")
+    shown = page.draw()
+    counts.same("mark-up of an entrant", shown["drawn"], [MARKED])
+    counts.case("mark-up of a seed", "" if f'" {MARKED}"' in shown["read"] else shown["read"])
+    finding = page.check(shown["record"].replace(f"1: {MARKED}", f"1: {MARKED}!"))["findings"]
+    counts.same("mark-up of a finding", finding[:1],
+                [f"Line 1 of the result: the record says {MARKED}!, the draw gives {MARKED}."])
+    counts.same("elements of mark-up", page.browser.run(elements), 0)
+
+
+def copies_that_fail(counts: Counts, page: Page) -> None:
+    page.browser.run("navigator.clipboard.writeText = () => Promise.reject(new Error());")
+    page.browser.run('document.getElementById("copy-record").click();')
+    time.sleep(0.5)
+    counts.same("a copy that failed", page.browser.label("#copy-record"), "Not copied: select the text")
+
+
 def run(counts: Counts, page: Page, module: str) -> None:
+    for part in (frame, fields, fresh_page, files_named, mark_up, copies_that_fail):
+        part(counts, page)
+    page.load()
     texts(counts, page, module)
     descriptions(counts, page)
     loads_nothing(counts, page)
