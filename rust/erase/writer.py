@@ -20,7 +20,7 @@ def formatted(text):
     """As rustfmt writes it."""
     command = ["rustfmt", "--edition", "2021", "--quiet"]
     try:
-        run = subprocess.run(command, input=text, capture_output=True, text=True, check=False)
+        run = subprocess.run(command, input=text, capture_output=True, encoding="utf-8", check=False)
     except FileNotFoundError:
         raise SystemExit("rust/erase needs rustfmt") from None
     if run.returncode != 0:
