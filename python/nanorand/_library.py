@@ -70,6 +70,14 @@ def check(status: int) -> None:
         raise Exhausted
 
 
+def places(length: int) -> "ctypes.Array[c_size_t]":
+    """An array of so many places. One that no memory could hold is a `MemoryError`."""
+    try:
+        return (c_size_t * length)()
+    except OverflowError:
+        raise MemoryError(f"{length} places") from None
+
+
 class Calls:
     """The functions that every generator has."""
 

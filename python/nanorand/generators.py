@@ -11,7 +11,7 @@ import ctypes
 import os
 import sys
 from collections.abc import Callable, MutableSequence, Sequence
-from ctypes import byref, c_int64, c_size_t, c_uint32, c_uint64
+from ctypes import byref, c_int64, c_uint32, c_uint64
 from typing import Any, ClassVar, SupportsIndex, TypeVar
 
 from nanorand import _library
@@ -248,7 +248,7 @@ class Generator:
         wanted = number("length", length, 0, U64_LAST)
         if wanted > below:
             raise EmptyRange
-        places = _places(wanted)
+        places = _library.places(wanted)
         _library.check(self._calls.sample(self._c, below, places, wanted))
         return list(places)
 
@@ -262,7 +262,7 @@ class Generator:
         indexed("items", items, "__setitem__")
         owned("items", items)
         before = [items[place] for place in range(len(items))]
-        places = _places(len(before))
+        places = _library.places(len(before))
         places[:] = list(range(len(before)))
         state = self.state
         status = call(self._c, places, len(before))
@@ -273,14 +273,6 @@ class Generator:
             self.state = state
             raise
         _library.check(status)
-
-
-def _places(length: int) -> "ctypes.Array[c_size_t]":
-    """An array of so many places. One that no memory could hold is a `MemoryError`."""
-    try:
-        return (c_size_t * length)()
-    except OverflowError:
-        raise MemoryError(f"{length} places") from None
 
 
 class WyRand(Generator):

@@ -81,7 +81,7 @@ def draw(seed: Seed, entrants: object, count: Optional[SupportsIndex] = None) ->
     drawn = len(items) if wanted is None else wanted
     if drawn > len(items):
         raise TooFew(len(items), drawn)
-    places = (c_size_t * len(items))()
+    places = _library.places(len(items))
     _check(_library.lots_draw(text, len(text), places, len(items), drawn), len(items), drawn)
     return [items[place] for place in places[:drawn]]
 

@@ -91,6 +91,8 @@ class Lots(unittest.TestCase):
             (TooFew, "seed", b"a\n", 2),
             (TooFew, "seed", NAMES, 2**64 - 1),
             (TooFew, "seed", [], 1),
+            (MemoryError, "seed", range(2**60), 1),
+            (MemoryError, "seed", range(2**63 - 1), 1),
             (OutOfBounds, "seed", NAMES, -1),
             (OutOfBounds, "seed", NAMES, 2**64),
             (TypeError, "seed", NAMES, 1.0),

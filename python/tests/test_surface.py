@@ -112,9 +112,11 @@ class Types(unittest.TestCase):
 
     def test_copies_within_a_copy(self):
         for rng in generators():
-            first, second, other = copy.deepcopy([rng, rng, rng.copy()])
+            items = []
+            before, first, second, other, after = copy.deepcopy([items, rng, rng, rng.copy(), items])
             self.assertIs(first, second)
             self.assertIsNot(first, other)
+            self.assertIs(before, after)
 
 
 class Secrets(unittest.TestCase):
