@@ -6,7 +6,7 @@ import { runsModules } from "./module.js";
 import { writtenSeed } from "./record.js";
 import { Refusal } from "./refusal.js";
 import {
-  clearRefusals, copy, grouped, part, save, say, showCheck, showList, showRefusal, showResult,
+  clearRefusals, copy, fieldOf, grouped, part, save, say, showCheck, showList, showRefusal, showResult,
 } from "./view.js";
 
 const PAUSE = 300;
@@ -146,7 +146,7 @@ async function drawNow() {
       const drawing = await client.ask("draw", fields);
       if (turn === state.turn) showDrawing(drawing);
     } else if (turn === state.turn) {
-      part("list-text").focus();
+      fieldOf("list").focus();
     }
   } catch (error) {
     if (turn === state.turn) refuseHere(error);
@@ -173,7 +173,7 @@ async function checkNow() {
       const answer = await client.ask("check", { text });
       if (!isLate()) showCheck(answer);
     } else if (!isLate()) {
-      part("list-text").focus();
+      fieldOf("list").focus();
     }
   } catch (error) {
     if (turn === state.turn) refuseHere(error);

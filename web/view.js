@@ -24,20 +24,25 @@ export function itemize(id, texts) {
   part(id).hidden = texts.length === 0;
 }
 
-/** The field that each kind of refusal belongs to. */
-const FIELDS = { seed: "seed", count: "count", list: "list-text" };
+/** The fields that each kind of refusal can belong to: of a list the pasted text, or the file. */
+const FIELDS = { seed: ["seed"], count: ["count"], list: ["list-text", "list-file"], page: [] };
+
+/** The one of them that is there to be seen. @param {string} kind @returns {HTMLElement|undefined} */
+export function fieldOf(kind) {
+  return FIELDS[kind].map(part).find((field) => field.checkVisibility());
+}
 
 /** Shows a refusal beside its field. @param {import("./refusal.js").Refusal} refusal */
 export function showRefusal(refusal) {
   say(`${refusal.field}-error`, refusal.words);
-  if (refusal.field in FIELDS) part(FIELDS[refusal.field]).setAttribute("aria-invalid", "true");
+  fieldOf(refusal.field)?.setAttribute("aria-invalid", "true");
 }
 
-/** Takes the refusals of some fields away. @param {...string} fields */
-export function clearRefusals(...fields) {
-  for (const field of fields) {
-    say(`${field}-error`, "");
-    if (field in FIELDS) part(FIELDS[field]).removeAttribute("aria-invalid");
+/** Takes the refusals of some fields away. @param {...string} kinds */
+export function clearRefusals(...kinds) {
+  for (const kind of kinds) {
+    say(`${kind}-error`, "");
+    for (const field of FIELDS[kind]) part(field).removeAttribute("aria-invalid");
   }
 }
 

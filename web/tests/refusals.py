@@ -7,6 +7,7 @@ from counts import Counts, lots
 from drivers import Browser
 from page import Page
 
+INVALID = "return Array.from(document.querySelectorAll('[aria-invalid]'), (field) => field.id);"
 LETTERS = "a\nb\nc\nd\ne\nf\ng\nh\ni\nj\n"
 NO_NUMBER = "The count must be the word all, or digits alone: no sign, no space, no comma."
 TOO_LARGE = "The count is too large: at most 18446744073709551615."
@@ -81,7 +82,11 @@ def lists_refused(counts: Counts, page: Page, program: str) -> None:
             page.fill("seed", "all")
             shown = page.draw()
             counts.same(f"line {line}, {way}", (shown["list"], shown["record"], shown["digest"]), (empty(line), "", ""))
+            field = "list-text" if way == "pasted" else "list-file"
+            counts.same(f"line {line}, {way}: focus", page.browser.run("return document.activeElement.id;"), field)
+            counts.same(f"line {line}, {way}: aria", page.browser.run(INVALID), [field])
         page.paste("")
+        counts.same("no field is invalid", page.browser.run(INVALID), [])
     page.browser.run("""document.getElementById("list-text").value = "a\\nb\\ud83d\\n";
         document.getElementById("list-text").dispatchEvent(new Event("input"));""")
     counts.same("half a character", page.facts()["list"], half(2))
