@@ -133,9 +133,9 @@ typedef struct nanorand_v1_chacha {
 } nanorand_chacha;
 
 /*
- * A stream: its generator, and the block that it took last, whose last `buffered` bytes are
- * delivered first. At most 63 bytes are buffered; a greater number counts as 63. With 0, the stream
- * begins at the generator's next block.
+ * A stream: its generator, and a block whose last `buffered` bytes are delivered first; the bytes
+ * before them mean nothing. At most 63 bytes are buffered; a greater number counts as 63, and no
+ * call leaves one. With 0, the stream begins at the generator's next block.
  */
 typedef struct nanorand_v1_stream {
     nanorand_chacha chacha;

@@ -1,5 +1,5 @@
 //! The draw by lot of `lots_core`, over the caller's memory.
-ghost use Rattle.std.specs.Prelude.{◌≡◌, ◌≢◌, ◌⊎◌, ◌↔◌, [], ◌<◌, ◌≤◌, Err, length, take};
+ghost use Rattle.std.specs.Prelude.{◌≡◌, ◌≢◌, ◌⊎◌, ◌↔◌, [], ◌<◌, ◌≤◌, Ok, Err, length, take};
 ghost use Rattle.std.specs.Str.{IsUtf8};
 ghost use Rattle.sha2.specs.Sha256.{sha256};
 ghost use Rattle.nanorand_core.specs.shuffles.Arrangements.{IsArrangement, rising};
@@ -53,6 +53,8 @@ pub extern "C" fn nanorand_v1_lots_draw(seed: &[u8], places: &mut [usize], count
     ensures drawn { result ≡ 0 →
         take count places.new ≡ places_drawn seed.now count (length places.old) }
     ensures enough { result ≡ 0 → count ≤ length places.old }
+    ensures answer { result ≡ 0 →
+        (drawing seed.now count (rising (length places.old))).answer ≡ Ok tt }
     ensures usage { (result ≡ 2) ↔ (IsUtf8 seed.now → seed.now ≡ []) }
     ensures stays { result ≡ 2 → places.new ≡ places.old }
     ensures few { IsUtf8 seed.now → seed.now ≢ [] → length places.old < count → result ≡ 3 }

@@ -13,9 +13,9 @@ use crate::calls::{range_i64, range_u32, range_u64, range_usize, sample, shuffle
 use crate::chacha::{self, ChaChaState};
 use nanorand::{BufferedRng, ChaCha20, Rng};
 
-/// A stream: its generator, and the block that it took last, whose last `buffered` bytes are
-/// delivered first. At most 63 bytes are buffered; a greater number counts as 63. With 0, the
-/// stream begins at the generator's next block.
+/// A stream: its generator, and a block whose last `buffered` bytes are delivered first; the bytes
+/// before them mean nothing. At most 63 bytes are buffered; a greater number counts as 63, and no
+/// call leaves one. With 0, the stream begins at the generator's next block.
 #[derive(Clone, Copy)]
 #[repr(C)]
 pub struct Stream {
@@ -33,7 +33,8 @@ fn loaded(stream: &Stream) -> BufferedRng<ChaCha20, 64>
 }
 
 fn store(stream: &mut Stream, rng: &BufferedRng<ChaCha20, 64>)
-    ensures { stream_at stream.new ≡ rng.now }
+    ensures state { stream_at stream.new ≡ rng.now }
+    ensures buffered { stream.new.buffered < 64 }
 {
     let rest = rng.rest();
     let block = &mut stream.block[..];
@@ -47,6 +48,7 @@ fn store(stream: &mut Stream, rng: &BufferedRng<ChaCha20, 64>)
 pub extern "C" fn nanorand_v1_stream_u64(stream: &mut Stream) -> u64
     ensures value { result ≡ number_of (stream_requests.bytes (stream_at stream.old) 8) }
     ensures state { stream_at stream.new ≡ stream_requests.after (stream_at stream.old) 8 }
+    ensures buffered { stream.new.buffered < 64 }
 {
     let mut rng = loaded(stream);
     let value = rng.generate();
@@ -60,6 +62,7 @@ pub extern "C" fn nanorand_v1_stream_fill_bytes(stream: &mut Stream, buffer: &mu
     ensures bytes { buffer.new ≡ stream_requests.bytes (stream_at stream.old) (length buffer.old) }
     ensures state { let start = stream_at stream.old in
         stream_at stream.new ≡ stream_requests.after start (length buffer.old) }
+    ensures buffered { stream.new.buffered < 64 }
 {
     let mut rng = loaded(stream);
     rng.fill_bytes(buffer);
@@ -83,6 +86,7 @@ pub extern "C" fn nanorand_v1_stream_range_u32(
     ensures within { result ≡ 0 → (first ≤ number.new) × (number.new ≤ last) }
     ensures state { let draw = between stream_requests 32 first last (stream_at stream.old) in
         stream_at stream.new ≡ draw.1 }
+    ensures buffered { stream.new.buffered < 64 }
 {
     let mut rng = loaded(stream);
     let status = range_u32(&mut rng, first, last, number);
@@ -105,6 +109,7 @@ pub extern "C" fn nanorand_v1_stream_range_u64(
     ensures within { result ≡ 0 → (first ≤ number.new) × (number.new ≤ last) }
     ensures state { let draw = between stream_requests 64 first last (stream_at stream.old) in
         stream_at stream.new ≡ draw.1 }
+    ensures buffered { stream.new.buffered < 64 }
 {
     let mut rng = loaded(stream);
     let status = range_u64(&mut rng, first, last, number);
@@ -131,6 +136,7 @@ pub extern "C" fn nanorand_v1_stream_range_i64(
     ensures state { let start = stream_at stream.old in
         let draw = between_signed stream_requests 64 first last start in
         stream_at stream.new ≡ draw.1 }
+    ensures buffered { stream.new.buffered < 64 }
 {
     let mut rng = loaded(stream);
     let status = range_i64(&mut rng, first, last, number);
@@ -154,6 +160,7 @@ pub extern "C" fn nanorand_v1_stream_range_usize(
     ensures within { result ≡ 0 → (first ≤ number.new) × (number.new ≤ last) }
     ensures state { let draw = between stream_requests 64 first last (stream_at stream.old) in
         stream_at stream.new ≡ draw.1 }
+    ensures buffered { stream.new.buffered < 64 }
 {
     let mut rng = loaded(stream);
     let status = range_usize(&mut rng, first, last, number);
@@ -176,6 +183,7 @@ pub extern "C" fn nanorand_v1_stream_shuffle(stream: &mut Stream, items: &mut [u
         let shuffle = shuffled stream_requests from_itself start items.old in
         stream_at stream.new ≡ shuffle.state }
     ensures arrangement { IsPermutation items.old items.new }
+    ensures buffered { stream.new.buffered < 64 }
 {
     let mut rng = loaded(stream);
     let status = shuffle(&mut rng, items);
@@ -197,6 +205,7 @@ pub extern "C" fn nanorand_v1_stream_shuffle_full(stream: &mut Stream, items: &m
         let shuffle = shuffled stream_requests from_all start items.old in
         stream_at stream.new ≡ shuffle.state }
     ensures arrangement { IsPermutation items.old items.new }
+    ensures buffered { stream.new.buffered < 64 }
 {
     let mut rng = loaded(stream);
     let status = shuffle_full(&mut rng, items);
@@ -224,6 +233,7 @@ pub extern "C" fn nanorand_v1_stream_sample(
         stream_at stream.new ≡ sample.state }
     ensures below { result ≡ 0 → All (λ number. number < count) places.new }
     ensures apart { result ≡ 0 → AllPairs (λ number other. number ≢ other) places.new }
+    ensures buffered { stream.new.buffered < 64 }
 {
     let mut rng = loaded(stream);
     let status = sample(&mut rng, count, places);
