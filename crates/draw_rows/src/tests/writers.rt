@@ -13,7 +13,8 @@ use std::process::Abort;
 use std::test::Fail;
 
 /// A writer that takes at most `piece` bytes at a time, keeps them, and counts its calls. Write
-/// number `failing`, counted from 0, fails, and so does each flush unless `can_flush`.
+/// number `failing`, counted from 0, fails with this error, and so does each flush unless
+/// `can_flush`.
 #[derive(Drop)]
 pub struct Pieces {
     pub kept: Vec<u8>,
@@ -23,6 +24,7 @@ pub struct Pieces {
     pub writes_since_flush: u64,
     piece: usize,
     failing: u64,
+    error: ErrorKind,
     can_flush: bool,
 }
 
@@ -31,10 +33,11 @@ const NEVER: u64 = u64::MAX;
 impl Pieces {
     /// Takes at most `piece` bytes at a time, and never fails.
     pub fn honest(alloc: Global, piece: usize) -> Pieces {
-        Pieces::failing(alloc, piece, NEVER, true)
+        Pieces::failing(alloc, piece, NEVER, ErrorKind::BrokenPipe)
     }
 
-    fn failing(alloc: Global, piece: usize, failing: u64, can_flush: bool) -> Pieces {
+    // Write number `failing`, counted from 0, fails with this error.
+    fn failing(alloc: Global, piece: usize, failing: u64, error: ErrorKind) -> Pieces {
         Pieces {
             kept: Vec::new(alloc),
             writes: 0,
@@ -42,8 +45,16 @@ impl Pieces {
             writes_since_flush: 0,
             piece,
             failing,
-            can_flush,
+            error,
+            can_flush: true,
         }
+    }
+
+    // Takes at most `piece` bytes at a time, and fails at each flush.
+    fn unflushed(alloc: Global, piece: usize) -> Pieces {
+        let mut pieces = Pieces::honest(alloc, piece);
+        pieces.can_flush = false;
+        pieces
     }
 }
 
@@ -54,7 +65,7 @@ impl Write for Pieces {
         self.writes_since_flush = self.writes_since_flush.wrapping_add(1);
         let count = self.piece.min(buf.len());
         if write == self.failing || self.kept.extend_from_slice(&buf[..count]).is_err() {
-            return Err(io::Error::from(ErrorKind::BrokenPipe));
+            return Err(io::Error::from(self.error));
         }
         Ok(count)
     }
@@ -65,7 +76,7 @@ impl Write for Pieces {
         if self.can_flush {
             Ok(())
         } else {
-            Err(io::Error::from(ErrorKind::BrokenPipe))
+            Err(io::Error::from(self.error))
         }
     }
 }
@@ -100,8 +111,9 @@ fn one_byte_at_a_time(rt: HostRuntime) -> Result<(), Fail> {
     Ok(())
 }
 
-// A run that succeeds flushes once, after the last byte, however many writes that takes. The text
-// is that of a run into a vector, which the known-answer tests check.
+// A run that succeeds flushes once, after the last byte, however many writes that takes: as few as
+// the writer's pieces allow, since the whole text is written at once. The text is that of a run into a
+// vector, which the known-answer tests check.
 #[test]
 fn one_flush_at_the_end(rt: HostRuntime) -> Result<(), Fail> {
     let alloc = rt.alloc();
@@ -119,6 +131,7 @@ fn one_flush_at_the_end(rt: HostRuntime) -> Result<(), Fail> {
             let mut out = Pieces::honest(alloc, piece);
             equal_at(&rt, run(alloc, &arguments, &mut out), Ok(()), &line);
             check_flushed(&rt, &out, text.as_slice(), line);
+            equal_at(&rt, out.writes as usize, text.len().div_ceil(piece), &line);
         }
     }
     Ok(())
@@ -133,7 +146,7 @@ fn failed_flush(rt: HostRuntime) -> Result<(), Fail> {
         let (outcome, text) = drawn(alloc, line)?;
         equal_at(&rt, outcome, Ok(()), &line);
         for piece in [1, 7, 4096] {
-            let mut out = Pieces::failing(alloc, piece, NEVER, false);
+            let mut out = Pieces::unflushed(alloc, piece);
             let outcome = run(alloc, &arguments, &mut out);
             equal_at(&rt, outcome, Err(DrawError::Write), &line);
             check_flushed(&rt, &out, text.as_slice(), line);
@@ -148,7 +161,7 @@ fn failed_writes(rt: HostRuntime) -> Result<(), Fail> {
     let alloc = rt.alloc();
     let arguments = arguments(alloc, LONGEST)?;
     for failing in 0..LONGEST_TEXT.len() as u64 {
-        let mut out = Pieces::failing(alloc, 1, failing, true);
+        let mut out = Pieces::failing(alloc, 1, failing, ErrorKind::BrokenPipe);
         let outcome = run(alloc, &arguments, &mut out);
         equal_at(&rt, outcome, Err(DrawError::Write), &failing);
         equal(&rt, out.writes, failing + 1);
@@ -163,15 +176,32 @@ fn failed_writes(rt: HostRuntime) -> Result<(), Fail> {
     Ok(())
 }
 
-// A writer that takes no bytes counts as one that fails.
+// A write that is interrupted is tried again.
+#[test]
+fn interrupted_writes(rt: HostRuntime) -> Result<(), Fail> {
+    let alloc = rt.alloc();
+    let arguments = arguments(alloc, LONGEST)?;
+    for failing in 0..LONGEST_TEXT.len() as u64 {
+        let mut out = Pieces::failing(alloc, 1, failing, ErrorKind::Interrupted);
+        equal_at(&rt, run(alloc, &arguments, &mut out), Ok(()), &failing);
+        check_flushed(&rt, &out, LONGEST_TEXT.as_bytes(), "interrupted writes");
+        equal_at(&rt, out.writes, LONGEST_TEXT.len() as u64 + 1, &failing);
+    }
+    Ok(())
+}
+
+// A writer that takes no bytes counts as one that fails, and is asked once.
 #[test]
 fn nothing_taken(rt: HostRuntime) -> Result<(), Fail> {
     let alloc = rt.alloc();
     let arguments = arguments(alloc, LONGEST)?;
     for can_flush in [true, false] {
-        let mut out = Pieces::failing(alloc, 0, NEVER, can_flush);
+        let mut out = Pieces::honest(alloc, 0);
+        out.can_flush = can_flush;
         let outcome = run(alloc, &arguments, &mut out);
         equal(&rt, outcome, Err(DrawError::Write));
+        equal(&rt, out.writes, 1);
+        equal(&rt, out.flushes, 0);
     }
     Ok(())
 }
