@@ -1,10 +1,11 @@
-//! Runs whose allocations are refused.
+//! Runs whose allocations are refused. Each gives back all memory that it took.
 
 use super::writers::{Pieces, check_flushed, check_untouched};
 use super::{arguments, drawn};
 use crate::comparing::{equal, equal_at, holds};
 use draw_core::DrawError;
 use draw_core::run::run;
+use linked_list_allocator::LocalHeap;
 use refusing::Refusing;
 use std::alloc::{AllocError, Global};
 use std::process::Abort;
@@ -25,8 +26,16 @@ pub fn two_hundred_requests(alloc: Global) -> Result<String, AllocError> {
     Ok(line)
 }
 
+// The bytes of the heap of these runs, more than any of them takes.
+const ROOM: usize = 1 << 22;
+
 // A run on this heap is out of memory, and does not call the writer.
-fn check_no_memory(rt: &impl Abort, alloc: Global, heap: &Refusing<Global>, arguments: &[String]) {
+fn check_no_memory(
+    rt: &impl Abort,
+    alloc: Global,
+    heap: &Refusing<&LocalHeap>,
+    arguments: &[String],
+) {
     let mut out = Pieces::honest(alloc, usize::MAX);
     equal_at(
         rt,
@@ -38,7 +47,7 @@ fn check_no_memory(rt: &impl Abort, alloc: Global, heap: &Refusing<Global>, argu
 }
 
 // Refuses the first allocation, then the second, and so on, until a run meets no refusal; that run
-// writes the text. Returns the number of allocations of a run.
+// writes the text. After each run all memory is free again. Returns the number of allocations of a run.
 fn each_request_refused(
     rt: &impl Abort,
     alloc: Global,
@@ -46,10 +55,12 @@ fn each_request_refused(
     text: &[u8],
 ) -> Result<u64, Fail> {
     let arguments = arguments(alloc, line)?;
+    let room = LocalHeap::new(alloc, ROOM)?;
     for number in 1..1000u64 {
         let mut out = Pieces::honest(alloc, usize::MAX);
-        let heap = Refusing::nth(alloc, number);
+        let heap = Refusing::nth(&room, number);
         let outcome = run(&heap, &arguments, &mut out);
+        equal_at(rt, room.used(), 0, &number);
         if heap.requests() < number {
             equal_at(rt, outcome, Ok(()), &number);
             check_flushed(rt, &out, text, line);
@@ -57,7 +68,8 @@ fn each_request_refused(
         }
         equal_at(rt, outcome, Err(DrawError::Memory), &number);
         check_untouched(rt, &out, line);
-        check_no_memory(rt, alloc, &Refusing::from_nth(alloc, number), &arguments);
+        check_no_memory(rt, alloc, &Refusing::from_nth(&room, number), &arguments);
+        equal_at(rt, room.used(), 0, &number);
     }
     Err(Fail::from("each run met a refusal"))
 }
@@ -83,11 +95,13 @@ fn memory(rt: HostRuntime) -> Result<(), Fail> {
 fn memory_before_a_bad_argument(rt: HostRuntime) -> Result<(), Fail> {
     let alloc = rt.alloc();
     let arguments = arguments(alloc, "wyrand d29b42879be2895f plain 0 u8 u9")?;
+    let room = LocalHeap::new(alloc, ROOM)?;
     let mut met = [false; 2];
     for number in 1..9 {
         let mut out = Pieces::honest(alloc, usize::MAX);
-        let heap = Refusing::nth(alloc, number);
+        let heap = Refusing::nth(&room, number);
         let outcome = run(&heap, &arguments, &mut out);
+        equal_at(&rt, room.used(), 0, &number);
         let refused = number <= heap.requests();
         let error = if refused {
             DrawError::Memory

@@ -1,9 +1,10 @@
-//! Runs whose allocations are refused.
+//! Runs whose allocations are refused. Each gives back all memory that it took.
 
 use super::readers::Feed;
 use super::writers::{Pieces, check_flushed, check_untouched};
 use super::{DRAWN, NAMES, THROWS, strings};
 use crate::comparing::{equal, equal_at, holds};
+use linked_list_allocator::LocalHeap;
 use lots_core::run::run;
 use lots_core::{LotsError, entrants_of};
 use refusing::Refusing;
@@ -11,11 +12,14 @@ use std::alloc::{AllocError, Global};
 use std::process::Abort;
 use std::test::Fail;
 
+// The bytes of the heap of these runs, more than any of them takes.
+const ROOM: usize = 1 << 22;
+
 // A run on this heap is out of memory, and does not call the writer.
 fn check_no_memory(
     rt: &impl Abort,
     alloc: Global,
-    heap: &Refusing<Global>,
+    heap: &Refusing<&LocalHeap>,
     arguments: &[String],
     list: &[u8],
 ) {
@@ -44,7 +48,7 @@ fn check_outcome(
 }
 
 // Refuses the first allocation, then the second, and so on, until a run meets no refusal; that run
-// ends as wanted. Returns the number of allocations of a run.
+// ends as wanted. After each run all memory is free again. Returns the number of allocations of a run.
 fn each_request_refused(
     rt: &impl Abort,
     alloc: Global,
@@ -53,11 +57,13 @@ fn each_request_refused(
     wanted: Outcome<'_>,
 ) -> Result<u64, Fail> {
     let arguments = strings(alloc, arguments)?;
+    let room = LocalHeap::new(alloc, ROOM)?;
     for number in 1..1000u64 {
-        let heap = Refusing::nth(alloc, number);
+        let heap = Refusing::nth(&room, number);
         let mut input = Feed::honest(list, usize::MAX);
         let mut out = Pieces::honest(alloc, usize::MAX);
         let outcome = run(&heap, &arguments, &mut input, &mut out);
+        equal_at(rt, room.used(), 0, &number);
         if heap.requests() < number {
             check_outcome(rt, outcome, &out, wanted);
             return Ok(number - 1);
@@ -67,10 +73,11 @@ fn each_request_refused(
         check_no_memory(
             rt,
             alloc,
-            &Refusing::from_nth(alloc, number),
+            &Refusing::from_nth(&room, number),
             &arguments,
             list,
         );
+        equal_at(rt, room.used(), 0, &number);
     }
     Err(Fail::from("each run met a refusal"))
 }
@@ -136,7 +143,7 @@ fn arguments_without_memory(rt: HostRuntime) -> Result<(), Fail> {
 }
 
 // The entrants of a list on this heap: how many there are.
-fn count_on(heap: &Refusing<Global>, list: &[u8]) -> Result<usize, LotsError> {
+fn count_on(heap: &Refusing<&LocalHeap>, list: &[u8]) -> Result<usize, LotsError> {
     Ok(entrants_of(heap, list)?.len())
 }
 
@@ -147,17 +154,20 @@ fn each_request_of_entrants_refused(
     list: &[u8],
     wanted: Result<usize, LotsError>,
 ) -> Result<u64, Fail> {
+    let room = LocalHeap::new(alloc, ROOM)?;
     for number in 1..1000u64 {
-        let heap = Refusing::nth(alloc, number);
+        let heap = Refusing::nth(&room, number);
         let outcome = count_on(&heap, list);
+        equal_at(rt, room.used(), 0, &number);
         if heap.requests() < number {
             equal(rt, outcome, wanted);
             return Ok(number - 1);
         }
         equal_at(rt, outcome, Err(LotsError::Memory), &number);
-        let heap = Refusing::from_nth(alloc, number);
+        let heap = Refusing::from_nth(&room, number);
         let outcome = count_on(&heap, list);
         equal_at(rt, outcome, Err(LotsError::Memory), &number);
+        equal_at(rt, room.used(), 0, &number);
     }
     Err(Fail::from("each call met a refusal"))
 }
