@@ -162,7 +162,7 @@ fn bytes_taken(rt: HostRuntime) {
     }
 }
 
-// A reader that ends after any number of bytes that is too small.
+// A reader that ends after any number of bytes that is too small. Nothing is read after its end.
 #[test]
 fn short(rt: HostRuntime) {
     let bytes = counted();
@@ -177,13 +177,21 @@ fn short(rt: HostRuntime) {
                     Err(EntropyError::Short),
                     format_args!("{length} of {size}"),
                 );
+                if piece == 1 {
+                    equal_at(
+                        &rt,
+                        source.reads(),
+                        length as u64 + 1,
+                        format_args!("{length} of {size}"),
+                    );
+                }
             }
         }
     }
 }
 
-// A reader that fails at one of its reads. A failure after the last read that is needed is never
-// met.
+// A reader that fails at one of its reads. Nothing is read after a failure. A failure after the last
+// read that is needed is never met: there is no such read, not even one of no bytes.
 #[test]
 fn fault(rt: HostRuntime) {
     let bytes = counted();
@@ -198,6 +206,12 @@ fn fault(rt: HostRuntime) {
                     Err(EntropyError::Fault),
                     format_args!("{read} of {size}"),
                 );
+                equal_at(
+                    &rt,
+                    source.reads(),
+                    read as u64 + 1,
+                    format_args!("{read} of {size}"),
+                );
             }
             let mut source = Pieces::failing(&bytes, 1, size as u64, kind);
             equal_at(
@@ -206,6 +220,7 @@ fn fault(rt: HostRuntime) {
                 Ok(()),
                 format_args!("{size}"),
             );
+            equal_at(&rt, source.reads(), size as u64, format_args!("{size}"));
         }
     }
 }

@@ -7,8 +7,8 @@ use std::fmt;
 use std::process::Abort;
 use std::test::Fail;
 
-// The value has these texts. No format option changes them: alternate form, sign, width, fill or
-// precision.
+// The value has these texts. No format option changes them, alone or with others: alternate form, sign,
+// zeros in front, width, alignment, fill or precision.
 fn has_texts<T: fmt::Debug + fmt::Display>(
     rt: &(impl Abort + AllocGlobal),
     value: &T,
@@ -17,13 +17,24 @@ fn has_texts<T: fmt::Debug + fmt::Display>(
 ) -> Result<(), AllocError> {
     debug_is(rt, value, debug)?;
     display_is(rt, &format_args!("{value:#?}"), debug)?;
-    display_is(rt, &format_args!("{value:>200?}"), debug)?;
+    display_is(rt, &format_args!("{value:+?}"), debug)?;
     display_is(rt, &format_args!("{value:08?}"), debug)?;
+    display_is(rt, &format_args!("{value:200?}"), debug)?;
+    display_is(rt, &format_args!("{value:>200?}"), debug)?;
+    display_is(rt, &format_args!("{value:<200?}"), debug)?;
+    display_is(rt, &format_args!("{value:.3?}"), debug)?;
     display_is(rt, &format_args!("{value:*^+200.3?}"), debug)?;
+    display_is(rt, &format_args!("{value:*^+#0200.3?}"), debug)?;
     display_is(rt, value, display)?;
     display_is(rt, &format_args!("{value:#}"), display)?;
+    display_is(rt, &format_args!("{value:+}"), display)?;
+    display_is(rt, &format_args!("{value:0200}"), display)?;
+    display_is(rt, &format_args!("{value:20}"), display)?;
     display_is(rt, &format_args!("{value:>20}"), display)?;
+    display_is(rt, &format_args!("{value:<20}"), display)?;
+    display_is(rt, &format_args!("{value:.3}"), display)?;
     display_is(rt, &format_args!("{value:*^200.3}"), display)?;
+    display_is(rt, &format_args!("{value:*^+#0200.3}"), display)?;
     Ok(())
 }
 
