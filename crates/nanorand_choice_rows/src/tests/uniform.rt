@@ -171,6 +171,20 @@ fn nothing_to_choose_from(rt: HostRuntime) {
     equal(&rt, zeros.drawn(), 256);
 }
 
+// A refusal lends nothing, and leaves every item where it was.
+#[test]
+fn a_refused_choice_leaves_the_items(rt: HostRuntime) {
+    let mut zeros = Zeros::new();
+    let mut items = [1u32, 2, 3];
+    equal(
+        &rt,
+        choose_mut(&mut zeros, &mut items).map(|item| *item),
+        Err(RangeError::Exhausted),
+    );
+    equal(&rt, items, [1, 2, 3]);
+    equal(&rt, zeros.drawn(), 128);
+}
+
 #[test]
 fn a_ratio_is_true_below_its_numerator(rt: HostRuntime) {
     for denominator in [1u64, 2, 3, 7, 100, 1 << 63, u64::MAX] {
