@@ -1,4 +1,5 @@
-use Rattle.std.proofs.Common.{◌≡◌, ℕ, ◌+◌, ◌-◌, ◌≤◌, List, ◌++◌, length, rules, take, drop, ap, sym, subst, ◌∙◌, le_refl, drop_at, length-take-le}
+use Rattle.std.proofs.lemmas.Grind.{common_steps}
+use Rattle.std.proofs.Common.{◌≡◌, ℕ, ◌+◌, ◌-◌, ◌≤◌, List, ◌++◌, length, rules, take, drop, ap, sym, subst, ◌∙◌, le_refl, drop_at, length-take-le, arith}
 use Rattle.std.proofs.lemmas.Slice.{take-put_mid_below}
 use Rattle.std.proofs.KnownBytes.{Consumes-trans}
 use Rattle.std.specs.Io.KnownBytes.{Consumes}
@@ -25,3 +26,15 @@ loop-filled-preserved g c =
       so_far = subst (Consumes _ _) (sym part) (Consumes-trans _ _ _ _ _ loop.invariant.so_far c.in-Ok.ensures.bytes.0);
       at_first = search rules;
     }
+
+pub returns-in-Ok-eq0-clause-next : goal.returns-in-Ok-eq0-clause-next
+returns-in-Ok-eq0-clause-next g c = search rules
+
+pub returns-in-Err-clause-short : goal.returns-in-Err-clause-short
+returns-in-Err-clause-short g c = search rules
+
+pub returns-in-Err-clause-error : goal.returns-in-Err-clause-error
+returns-in-Err-clause-error g c = search rules
+
+pub returns-clause-next : goal.returns-clause-next
+returns-clause-next g c = grind (arith, common_steps)

@@ -1,4 +1,4 @@
-use Rattle.std.proofs.Common.{◌+◌, ◌%◌, ◌^◌, ap, ◌∙◌}
+use Rattle.std.proofs.Common.{◌+◌, ◌%◌, ◌^◌, ap, ◌∙◌, rules}
 use Rattle.nanorand.specs.generators.ChaCha.{counter, key_of, nonce_of}
 use Rattle.nanorand_c.proofs.chacha.loaded.Goals as goal
 
@@ -19,3 +19,6 @@ pub returns-clause-nonces : goal.returns-clause-nonces
 returns-clause-nonces g c n =
     let law = c.chacha_counter.ensures in
     ap nonce_of (law.steps n _) ∙ law.nonce n _ ∙ c.at.ensures.nonce
+
+pub returns-clause-state : goal.returns-clause-state
+returns-clause-state g c = search rules

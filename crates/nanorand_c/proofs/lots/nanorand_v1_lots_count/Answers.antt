@@ -1,4 +1,4 @@
-use Rattle.std.proofs.Common.{Err, ap, ◌∙◌}
+use Rattle.std.proofs.Common.{Err, ap, ◌∙◌, rules}
 use Rattle.nanorand_c.proofs.lots.nanorand_v1_lots_count.Goals as goal
 
 -- The number is that of the error.
@@ -6,3 +6,6 @@ pub returns-in-Err-EmptyLine-clause-empty : goal.returns-in-Err-EmptyLine-clause
 returns-in-Err-EmptyLine-clause-empty c four =
     let refused = c.in-Err-EmptyLine in
     c.count_entrants.ensures.empty refused.line (refused.is ∙ ap Err refused.field-0-is)
+
+pub returns-in-Ok-clause-number : goal.returns-in-Ok-clause-number
+returns-in-Ok-clause-number c = search rules

@@ -1,3 +1,4 @@
+use Rattle.std.proofs.Common.{rules}
 use Rattle.nanorand_core.specs.samples.Samples.{number_up_to}
 use Rattle.nanorand_core.proofs.samples.draw_up_to.Goals as goal
 
@@ -8,3 +9,6 @@ returns-clause-value g c = c.generate_range.ensures.value
 pub returns-clause-state : goal.returns-clause-state
 unfolding number_up_to
 returns-clause-state g c = c.generate_range.ensures.state
+
+pub returns-clause-refusal : goal.returns-clause-refusal
+returns-clause-refusal g c = search rules

@@ -1,4 +1,4 @@
-use Rattle.std.proofs.Common.{◌+◌, ap, ◌∙◌, Ok, arith, ℕ, sym}
+use Rattle.std.proofs.Common.{◌+◌, ap, ◌∙◌, Ok, arith, ℕ, sym, rules}
 use Rattle.std.proofs.lemmas.Bool.{leb-true, ltb-true}
 use Rattle.nanorand_core.proofs.lemmas.ranges.RangeLemmas.{range-empty, range-places, range-count, value-empty, left-empty, value-number, value-exhausted, left-drawn}
 use Rattle.nanorand_core.proofs.values.range.draw_number.Goals as goal
@@ -58,3 +58,12 @@ returns-in-None-clause-divisor g c none =
     c.first_place-first.ensures.admits c.end_place-end.ensures.admits c.end_place-end.ensures.within c.if-end-first.false in
     let count = range-count _ _ _ _ is in
     let found = c.in-None.ensures.divisor (rw (c.BITS.ensures, ← count) none) in cc
+
+pub returns-then-end-first-clause-words : goal.returns-then-end-first-clause-words
+returns-then-end-first-clause-words g c = search rules
+
+pub returns-then-end-first-clause-empty : goal.returns-then-end-first-clause-empty
+returns-then-end-first-clause-empty g c = search rules
+
+pub draw_below-requires-clause-some : goal.draw_below-requires-clause-some
+draw_below-requires-clause-some g c = search rules

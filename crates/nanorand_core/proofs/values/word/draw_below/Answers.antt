@@ -1,4 +1,4 @@
-use Rattle.std.proofs.Common.{sym, ◌∙◌, arith}
+use Rattle.std.proofs.Common.{sym, ◌∙◌, arith, rules}
 use Rattle.nanorand_core.specs.values.Draws.{word_limit}
 use Rattle.nanorand_core.proofs.lemmas.ranges.RunLemmas.{picks, rejecting-fits}
 use Rattle.nanorand_core.proofs.lemmas.ranges.DrawLemmas.{first_word, next_word, last_word, counted_words}
@@ -48,3 +48,9 @@ returns-clause-divisor g c none =
     let miss = sym (sym c.in_default.is ∙ c.pick_word.ensures.value) in
     let hit = picks c.args.bits c.args.size _ c.requires.some c.draw_word-first.ensures.fits (rw none (omega arith)) in
     absurd (let clash = sym miss ∙ hit in cc)
+
+pub returns-clause-exhausted : goal.returns-clause-exhausted
+returns-clause-exhausted g c = search rules
+
+pub others-smaller : goal.others-smaller
+others-smaller g c = search rules

@@ -1,4 +1,4 @@
-use Rattle.std.proofs.Common.{◌≡◌, ◌/◌, arith, ap, ◌∙◌}
+use Rattle.std.proofs.Common.{◌≡◌, ◌/◌, arith, ap, ◌∙◌, rules}
 use Rattle.nanorand.specs.generators.ChaChaRounds.{quarter_round, on_diagonals, rounds}
 use Rattle.nanorand_core.specs.support.IterateLemmas.{iterate-more}
 use Rattle.nanorand.proofs.crypto.chacha.four_blocks.mix.Goals as goal
@@ -12,3 +12,6 @@ unfolding rounds
 returns g c j h =
     let all : c.pairs._pair ≡ g.row.ROUNDS / 2 = omega arith in
     rw (← all) (c.pairs.invariant j h)
+
+pub pairs-init : goal.pairs-init
+pairs-init c = search rules

@@ -22,3 +22,6 @@ returns-clause-nonce g c =
     let key : length c.args.key ≡ 32 = search rules in
     let nonce : length c.args.nonce ≡ 8 = search rules in
     ap nonce_of (returns-clause-state g c) ∙ nonce-state_at c.args.key c.args.nonce c.args.index key nonce (search rules)
+
+pub returns-clause-counter : goal.returns-clause-counter
+returns-clause-counter g c = search rules

@@ -9,3 +9,6 @@ returns-clause-state g c =
     let matrix : IsMatrix c.args.self.now = record { sixteen = search rules; words = search rules } in
     let closed : c.set_counter.new.state ≡ advanced c.args.n c.args.self.now = search rules in
     closed ∙ sym (chacha_closed c.args.n c.args.self.now matrix)
+
+pub returns-clause-counter : goal.returns-clause-counter
+returns-clause-counter g c = search rules

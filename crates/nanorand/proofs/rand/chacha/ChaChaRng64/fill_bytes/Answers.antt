@@ -1,4 +1,5 @@
-use Rattle.std.proofs.Common.{ℕ, ◌-◌, ◌≤◌, length, arith, ◌∙◌}
+use Rattle.std.proofs.lemmas.Grind.{common_steps}
+use Rattle.std.proofs.Common.{ℕ, ◌-◌, ◌≤◌, length, arith, ◌∙◌, rules}
 use Rattle.nanorand.specs.generators.ChaCha.{chacha_block, next_state}
 use Rattle.nanorand.specs.support.ChaChaDrawLemmas.{length-chacha_block}
 use Rattle.nanorand.proofs.lemmas.chacha.GroupLemmas.{grouped_length, grouped_bytes, grouped_state}
@@ -20,3 +21,9 @@ groups-preserved g c =
       bytes = rw (long, c.fill_group.ensures.state) (bytes ∙ c.groups.invariant.bytes);
       state = rw (long, c.fill_group.ensures.state) (state ∙ c.groups.invariant.state);
     }
+
+pub returns-clause-state : goal.returns-clause-state
+returns-clause-state g c = search rules
+
+pub returns-clause-bytes : goal.returns-clause-bytes
+returns-clause-bytes g c = grind (arith, common_steps)

@@ -1,7 +1,10 @@
-use Rattle.std.proofs.Common.{take, ap, ◌∙◌}
+use Rattle.std.proofs.Common.{take, ap, ◌∙◌, rules}
 use Rattle.nanorand.proofs.lemmas.chacha.SavedLemmas.{constants-initial_state}
 use Rattle.nanorand.proofs.rand.chacha.ChaChaSeedableRng4064.reseed.Goals as goal
 
 pub invariant_of-self : goal.invariant_of-self
 invariant_of-self g c =
     (c.self.invariant.0, ap (take 4) c.chacha_init-self-inside.ensures ∙ constants-initial_state _ _)
+
+pub returns : goal.returns
+returns g c = search rules

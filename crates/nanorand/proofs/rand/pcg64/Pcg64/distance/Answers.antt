@@ -1,4 +1,4 @@
-use Rattle.std.proofs.Common.{◌≡◌, ap, sym, ◌∙◌, Some, arith}
+use Rattle.std.proofs.Common.{◌≡◌, ap, sym, ◌∙◌, Some, arith, rules}
 use Rattle.std.proofs.lemmas.Bool.{false≢true}
 use Rattle.nanorand.specs.generators.Pcg64.{Generator, seed_after}
 use Rattle.nanorand.proofs.lemmas.cycles.ReachLemmas.{seed_after-only, reached-class}
@@ -16,3 +16,9 @@ returns-else-in_one_cycle-clause-only c n fits leads =
     ap (λ (g : Generator). seed_after n g.seed) c.self.view_is ∙ leads ∙ sym (ap (λ (g : Generator). g.seed) c.other.view_is) in
     let class = (reached-class c.self.inside.seed c.other.inside.seed (omega arith)).0 (n, from_fields) in
     absurd (false≢true (sym c.if-in_one_cycle.false ∙ c.in_one_cycle.ensures.1 class))
+
+pub returns-then-in_one_cycle-clause-reached : goal.returns-then-in_one_cycle-clause-reached
+returns-then-in_one_cycle-clause-reached c = search rules
+
+pub returns-then-in_one_cycle-clause-leads : goal.returns-then-in_one_cycle-clause-leads
+returns-then-in_one_cycle-clause-leads c = search rules

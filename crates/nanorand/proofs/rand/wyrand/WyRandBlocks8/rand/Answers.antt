@@ -1,0 +1,8 @@
+use Rattle.std.proofs.Common.{rules}
+use Rattle.nanorand.proofs.rand.wyrand.WyRandBlocks8.rand.Goals as goal
+
+pub returns-clause-bytes : goal.returns-clause-bytes
+returns-clause-bytes c = search rules
+
+pub returns-clause-state : goal.returns-clause-state
+returns-clause-state c = search rules

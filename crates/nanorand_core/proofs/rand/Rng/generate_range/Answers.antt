@@ -1,0 +1,11 @@
+use Rattle.std.proofs.Common.{rules}
+use Rattle.nanorand_core.proofs.rand.Rng.generate_range.Goals as goal
+
+pub returns-clause-value : goal.returns-clause-value
+returns-clause-value g c = search rules
+
+pub returns-clause-state : goal.returns-clause-state
+returns-clause-state g c = search rules
+
+pub returns-clause-limits : goal.returns-clause-limits
+returns-clause-limits g c = search rules
