@@ -14,4 +14,4 @@ returns g c j h =
     rw (← all) (c.pairs.invariant j h)
 
 pub pairs-init : goal.pairs-init
-pairs-init c = search rules
+pairs-init g c = search rules
