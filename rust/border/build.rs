@@ -8,7 +8,7 @@ fn main() {
     println!("cargo:rerun-if-changed={}", archive.display());
     if !archive.exists() {
         eprintln!(
-            "{} is missing: run `tests/rust`, or `rt lib` in crates/nanorand_c",
+            "{} is missing: run `tests/border`, or `rt lib` in crates/nanorand_c",
             archive.display()
         );
         std::process::exit(1);
