@@ -1,2 +1,1 @@
 mod lemmas
-mod known_answers

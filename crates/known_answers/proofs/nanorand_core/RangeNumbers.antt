@@ -6,7 +6,7 @@ use Rattle.nanorand_core.specs.values.Runs.{named}
 use Rattle.nanorand_core.specs.values.Range.{unsigned_range, signed_range, range_within}
 use Rattle.nanorand_core.specs.values.Draws.{unsigned_outcome, signed_outcome, deciding_place, value_drawn, left_by, left_after, words_from}
 use Rattle.nanorand_core.specs.declared.values.range.RangeError.TheVariants.{Empty, Exhausted}
-use Rattle.nanorand_core.proofs.known_answers.SmallGenerators.{steps}
+use Rattle.known_answers.proofs.nanorand_core.SmallGenerators.{steps}
 
 -- the numbers that words of 8 bits name, for the sizes 3, 171 and 256
 thirds_of_a_byte : map (named 8 3) (0 ∷ 1 ∷ 85 ∷ 86 ∷ 170 ∷ 171 ∷ 255 ∷ []) ≡ None ∷ Some 0 ∷ Some 0 ∷ Some 1 ∷ Some 1 ∷ Some 2 ∷ Some 2 ∷ []

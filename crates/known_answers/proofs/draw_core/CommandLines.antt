@@ -19,7 +19,7 @@ use Rattle.draw_core.specs.declared.command.Mode.TheVariants.{Plain, Buffered}
 use Rattle.draw_core.specs.declared.command.SeededGenerator.TheVariants.{WyRand, Pcg64, ChaCha20}
 use Rattle.draw_core.specs.Arguments.{Asked, AsksFor, IsCount}
 use Rattle.draw_core.specs.Text.{text_asked}
-use Rattle.draw_core.proofs.known_answers.RangeRequests.{u8_10_to_12, u8_empty, seed_of_pcg64, seed_of_zeros, seed_in_order}
+use Rattle.known_answers.proofs.draw_core.RangeRequests.{u8_10_to_12, u8_empty, seed_of_pcg64, seed_of_zeros, seed_in_order}
 
 no_items : IsCount (codes "0") 0
 no_items = record { number = record { digits = (omega arith, (omega arith, tt)); value = refl; fits = omega arith }; small = omega arith }

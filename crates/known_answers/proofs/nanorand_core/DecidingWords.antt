@@ -11,7 +11,7 @@ use Rattle.nanorand_core.specs.values.Draws.{unsigned_outcome, signed_outcome, v
 use Rattle.nanorand_core.specs.declared.values.range.RangeError.{RangeError}
 use Rattle.nanorand_core.specs.declared.values.range.RangeError.TheVariants.{Empty, Exhausted}
 use Rattle.nanorand_core.proofs.lemmas.ranges.RunLemmas.{picks, rejects, names-itself}
-use Rattle.nanorand_core.proofs.known_answers.SmallGenerators.{script}
+use Rattle.known_answers.proofs.nanorand_core.SmallGenerators.{script}
 
 -- the outcome of a range, drawn from a list of bytes, each a block of eight equal bytes, with zeros
 -- after the list; the state is the number of blocks drawn

@@ -4,7 +4,7 @@ use Rattle.std.specs.Int.{w8}
 use Rattle.std.specs.Prelude.{negsuc, true, false}
 use Rattle.nanorand_core.specs.generators.Blocks.{taken}
 use Rattle.nanorand_core.specs.values.Values.{number_of, signed_number_of, truth_of}
-use Rattle.nanorand_core.proofs.known_answers.SmallGenerators.{steps}
+use Rattle.known_answers.proofs.nanorand_core.SmallGenerators.{steps}
 
 -- sixteen bytes take two blocks
 two_blocks_drawn : steps.after 0 16 ≡ 2

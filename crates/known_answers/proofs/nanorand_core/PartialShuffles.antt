@@ -9,7 +9,7 @@ use Rattle.nanorand_core.specs.shuffles.Shuffles.{arranged, from_itself, partner
 use Rattle.nanorand_core.specs.shuffles.Arrangements.{completed}
 use Rattle.nanorand_core.specs.declared.values.range.RangeError.TheVariants.{Exhausted}
 use Rattle.nanorand_core.proofs.lemmas.shuffles.PartnerLemmas.{partner_between}
-use Rattle.nanorand_core.proofs.known_answers.SmallGenerators.{script}
+use Rattle.known_answers.proofs.nanorand_core.SmallGenerators.{script}
 
 -- no steps draw nothing and move nothing
 nothing_chosen : partly_shuffled (script []) from_itself 0 7 (codes "abc") ≡ record { answer = Ok tt; choices = []; items = codes "abc"; state = 7 }

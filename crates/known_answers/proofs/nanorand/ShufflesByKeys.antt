@@ -19,7 +19,7 @@ use Rattle.nanorand_streams.specs.declared.replay.Span.TheVariants as spans
 use Rattle.nanorand_streams.specs.declared.replay.Call.TheVariants.{Range, Shuffle}
 use Rattle.nanorand_streams.specs.declared.replay.Answer.TheVariants.{Empty, Shuffled}
 use Rattle.nanorand_core.proofs.lemmas.shuffles.PartnerLemmas.{Makes, partner_between, three_partners}
-use Rattle.nanorand_streams.proofs.known_answers.Replays.{goes_on, whole_shuffle}
+use Rattle.known_answers.proofs.nanorand_streams.Replays.{goes_on, whole_shuffle}
 
 abbrev plain_requests : Requests (List ℕ)
 plain_requests = chacha_requests 20

@@ -17,7 +17,7 @@ use Rattle.nanorand_core.specs.shuffles.Shuffles.{arranged, from_itself, partner
 use Rattle.nanorand_streams.specs.replay.Replay.{shuffle_call_answer}
 use Rattle.nanorand_streams.specs.declared.replay.Answer.TheVariants.{Empty}
 use Rattle.draw_core.specs.Text.{text_of, text_asked}
-use Rattle.draw_core.proofs.known_answers.CommandLines.{empty_and_shuffle, shuffle_in_order, shuffle_of_zeros, in_order}
+use Rattle.known_answers.proofs.draw_core.CommandLines.{empty_and_shuffle, shuffle_in_order, shuffle_of_zeros, in_order}
 
 -- Past its high bound a range has no numbers, so it is computed without listing all 2^64.
 none_past : (low end a n : ℕ) → end ≤ a → filter (λ x. nat_le low x && nat_lt x end) (map unsigned_number (range_with_len a n)) ≡ []

@@ -11,9 +11,9 @@ use Rattle.nanorand_core.specs.shuffles.Shuffles.{from_itself, partner_drawn}
 use Rattle.nanorand_streams.specs.declared.replay.Kind.TheVariants as kinds
 use Rattle.nanorand_streams.specs.declared.replay.Span.TheVariants as spans
 use Rattle.nanorand_streams.specs.declared.replay.Call.TheVariants.{Gen, Range}
-use Rattle.nanorand_core.proofs.known_answers.SmallGenerators.{steps, script}
+use Rattle.known_answers.proofs.nanorand_core.SmallGenerators.{steps, script}
 use Rattle.nanorand_core.proofs.lemmas.shuffles.PartnerLemmas.{numbers_between, partner_between}
-use Rattle.nanorand_streams.proofs.known_answers.Replays.{four_calls, items_7_to_9, third_block_on}
+use Rattle.known_answers.proofs.nanorand_streams.Replays.{four_calls, items_7_to_9, third_block_on}
 
 -- a value asks for its size, a range for its words up to the deciding one or for all 128, and an
 -- empty range for nothing

@@ -8,7 +8,7 @@ use Rattle.nanorand_core.specs.values.Draws.{words_from, value_drawn, left_by, l
 use Rattle.nanorand_core.specs.shuffles.Shuffles.{arranged, from_all, from_itself, partner_drawn, choices_from, shuffle_choices}
 use Rattle.nanorand_core.specs.declared.values.range.RangeError.TheVariants.{Exhausted}
 use Rattle.nanorand_core.proofs.lemmas.shuffles.PartnerLemmas.{Makes, partner_between, none_to_shuffle, three_partners, first_refused, second_refused}
-use Rattle.nanorand_core.proofs.known_answers.SmallGenerators.{steps, script}
+use Rattle.known_answers.proofs.nanorand_core.SmallGenerators.{steps, script}
 
 -- a shuffle of no items draws nothing
 none_shuffled : Makes steps from_itself 0 7 (Ok tt) [] 7

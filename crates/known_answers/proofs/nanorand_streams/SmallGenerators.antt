@@ -1,7 +1,7 @@
 -- The generators of the known answers of `nanorand_core`, buffered.
 use Rattle.std.specs.Prelude.{ℕ, List}
 use Rattle.nanorand_core.specs.generators.Blocks.{Requests}
-use Rattle.nanorand_core.proofs.known_answers.SmallGenerators.{next_count, rising_block, script_block}
+use Rattle.known_answers.proofs.nanorand_core.SmallGenerators.{next_count, rising_block, script_block}
 use Rattle.nanorand_streams.specs.generators.Buffered.{Buffered, buffered}
 
 abbrev pub steps_buffered : Requests (Buffered ℕ)

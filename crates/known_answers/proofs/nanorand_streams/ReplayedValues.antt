@@ -6,7 +6,7 @@ use Rattle.nanorand_core.specs.generators.Blocks.{taken}
 use Rattle.nanorand_core.specs.values.Runs.{named}
 use Rattle.nanorand_core.specs.values.Range.{range_within}
 use Rattle.nanorand_core.specs.values.Draws.{value_drawn, left_by, left_after, words_from}
-use Rattle.nanorand_core.proofs.known_answers.SmallGenerators.{steps}
+use Rattle.known_answers.proofs.nanorand_core.SmallGenerators.{steps}
 use Rattle.nanorand_streams.specs.generators.Buffered.{Buffered, buffer_of, buffered_taken, buffered_after}
 use Rattle.nanorand_streams.specs.replay.Replay.{Replay, replayed}
 use Rattle.nanorand_streams.specs.declared.replay.Kind.TheVariants as kinds
@@ -14,7 +14,7 @@ use Rattle.nanorand_streams.specs.declared.replay.Span.TheVariants as spans
 use Rattle.nanorand_streams.specs.declared.replay.Call.{Call}
 use Rattle.nanorand_streams.specs.declared.replay.Call.TheVariants.{Gen, Range}
 use Rattle.nanorand_streams.specs.declared.replay.Answer.TheVariants.{Unsigned, Truth, Empty}
-use Rattle.nanorand_streams.proofs.known_answers.SmallGenerators.{steps_buffered}
+use Rattle.known_answers.proofs.nanorand_streams.SmallGenerators.{steps_buffered}
 
 -- a plain generator starts each request on a new block: u8, u8, u16
 two_bytes_and_a_word : (replayed steps 0 [] (Gen kinds.U8 ∷ Gen kinds.U8 ∷ Gen kinds.U16 ∷ [])).answers ≡ Unsigned 0 ∷ Unsigned 8 ∷ Unsigned 0x1110 ∷ []

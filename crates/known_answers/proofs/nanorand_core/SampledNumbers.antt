@@ -11,7 +11,7 @@ use Rattle.nanorand_core.specs.values.Draws.{range_outcome, words_from, value_dr
 use Rattle.nanorand_core.specs.samples.Samples.{factorial, holds, joined, number_up_to, sampled, samples_that}
 use Rattle.nanorand_core.specs.declared.values.range.RangeError.TheVariants.{Exhausted}
 use Rattle.nanorand_core.proofs.lemmas.ranges.RangeLemmas.{range-places}
-use Rattle.nanorand_core.proofs.known_answers.SmallGenerators.{script}
+use Rattle.known_answers.proofs.nanorand_core.SmallGenerators.{script}
 
 -- three of ten numbers: a number drawn again gives way to the greatest that could be drawn
 three_different : joined 9 2 (joined 8 1 (joined 7 0 [])) ≡ 0 ∷ 1 ∷ 2 ∷ []

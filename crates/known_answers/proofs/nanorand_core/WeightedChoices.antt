@@ -7,7 +7,7 @@ use Rattle.nanorand_core.specs.values.Fairness.{passes}
 use Rattle.nanorand_core.specs.shuffles.Arrangements.{rising}
 use Rattle.nanorand_core.specs.choices.Weighted.{item_at, item_named, total_of, choice_answer, choice_state}
 use Rattle.nanorand_core.specs.declared.choices.weighted.WeightError.TheVariants.{NoWeight, TooHeavy, Exhausted}
-use Rattle.nanorand_core.proofs.known_answers.SmallGenerators.{script}
+use Rattle.known_answers.proofs.nanorand_core.SmallGenerators.{script}
 
 -- the items of the numbers below 10, for the weights 0, 3, 0, 2 and 5
 shares_of_ten : map (item_at (0 ∷ 3 ∷ 0 ∷ 2 ∷ 5 ∷ [])) (rising 10) ≡ 1 ∷ 1 ∷ 1 ∷ 3 ∷ 3 ∷ 4 ∷ 4 ∷ 4 ∷ 4 ∷ 4 ∷ []

@@ -12,7 +12,7 @@ use Rattle.nanorand_streams.specs.declared.replay.Call.TheVariants.{Gen}
 use Rattle.nanorand_streams.specs.declared.replay.Kind.TheVariants as kinds
 use Rattle.draw_core.specs.Requests.{IsRequest}
 use Rattle.draw_core.specs.Arguments.{IsReadable, IsFirstUnreadable, IsSeed, IsCount, name_of_generator, generator_of}
-use Rattle.draw_core.proofs.known_answers.BadRequests.{no_u9, no_range_of_u128, no_u8_to_300, no_u8_to_nothing}
+use Rattle.known_answers.proofs.draw_core.BadRequests.{no_u9, no_range_of_u128, no_u8_to_300, no_u8_to_nothing}
 
 -- No arguments: the first is missing.
 no_name : (generator : Generator) → [] ≡ name_of_generator generator → ⊥

@@ -7,7 +7,7 @@ use Rattle.nanorand_core.specs.values.Draws.{words_from, value_drawn, left_by, l
 use Rattle.nanorand_core.specs.shuffles.Shuffles.{arranged, from_all, from_itself, shuffle_choices}
 use Rattle.nanorand_core.specs.shuffles.Arrangements.{rising}
 use Rattle.nanorand_core.proofs.lemmas.shuffles.PartnerLemmas.{Makes, partner_between, three_partners}
-use Rattle.nanorand_core.proofs.known_answers.SmallGenerators.{script}
+use Rattle.known_answers.proofs.nanorand_core.SmallGenerators.{script}
 
 -- the six valid lists of three choices, and the permutations that they make
 nothing_moved : arranged (0 ∷ 1 ∷ 2 ∷ []) (rising 3) ≡ 0 ∷ 1 ∷ 2 ∷ []

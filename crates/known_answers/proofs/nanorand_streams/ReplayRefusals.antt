@@ -17,9 +17,9 @@ use Rattle.nanorand_streams.specs.declared.replay.Call.{Call}
 use Rattle.nanorand_streams.specs.declared.replay.Call.TheVariants.{Gen, Range, Shuffle}
 use Rattle.nanorand_streams.specs.declared.replay.Answer.TheVariants.{Unsigned, Truth, Exhausted}
 use Rattle.nanorand_core.proofs.lemmas.shuffles.PartnerLemmas.{Makes, partner_between, first_refused}
-use Rattle.nanorand_core.proofs.known_answers.SmallGenerators.{script}
-use Rattle.nanorand_streams.proofs.known_answers.SmallGenerators.{script_buffered}
-use Rattle.nanorand_streams.proofs.known_answers.Replays.{goes_on, refused_shuffle}
+use Rattle.known_answers.proofs.nanorand_core.SmallGenerators.{script}
+use Rattle.known_answers.proofs.nanorand_streams.SmallGenerators.{script_buffered}
+use Rattle.known_answers.proofs.nanorand_streams.Replays.{goes_on, refused_shuffle}
 
 abbrev range_and_byte : List Call
 range_and_byte = Range (spans.U8 (Included 10) (Included 12)) ∷ Gen kinds.U8 ∷ []

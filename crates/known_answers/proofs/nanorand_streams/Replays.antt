@@ -17,8 +17,8 @@ use Rattle.nanorand_streams.specs.declared.replay.Call.{Call}
 use Rattle.nanorand_streams.specs.declared.replay.Call.TheVariants.{Gen, Range, Shuffle}
 use Rattle.nanorand_streams.specs.declared.replay.Answer.{Answer}
 use Rattle.nanorand_streams.specs.declared.replay.Answer.TheVariants.{Unsigned, Truth, Exhausted, Shuffled}
-use Rattle.nanorand_core.proofs.known_answers.SmallGenerators.{steps}
-use Rattle.nanorand_streams.proofs.known_answers.SmallGenerators.{steps_buffered}
+use Rattle.known_answers.proofs.nanorand_core.SmallGenerators.{steps}
+use Rattle.known_answers.proofs.nanorand_streams.SmallGenerators.{steps_buffered}
 use Rattle.nanorand_core.proofs.lemmas.shuffles.PartnerLemmas.{Makes, partner_between, three_partners}
 
 -- how a replay continues after a shuffle whose outcome is known

@@ -4,7 +4,7 @@ use Rattle.std.specs.List.{range_with_len}
 use Rattle.nanorand_core.specs.generators.Blocks.{taken, plain_after}
 use Rattle.nanorand_streams.specs.generators.Buffered.{Buffered, buffer_of, buffered_block, buffered_step, buffered_taken, buffered_after}
 use Rattle.nanorand_core.specs.values.Values.{number_of, values_from}
-use Rattle.nanorand_core.proofs.known_answers.SmallGenerators.{next_count, rising_block, steps}
+use Rattle.known_answers.proofs.nanorand_core.SmallGenerators.{next_count, rising_block, steps}
 
 abbrev kept_taken : ℕ → Buffered ℕ → ℕ → List ℕ
 kept_taken size = buffered_taken (rising_block size) next_count size
