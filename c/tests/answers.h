@@ -52,6 +52,18 @@ static int items_are(const size_t *wanted, size_t length)
         && (length == 0 || memcmp(inner_items, wanted, length * sizeof *wanted) == 0);
 }
 
+/* None of the first `length` items was written. */
+static int are_untouched(size_t length)
+{
+    const uint8_t *inner = (const uint8_t *)inner_items;
+    for (size_t place = 0; place < length * sizeof *items; place++) {
+        if (inner[place] != GUARD) {
+            return 0;
+        }
+    }
+    return 1;
+}
+
 static uint64_t number_of(const uint8_t *from)
 {
     uint64_t number = 0;

@@ -15,8 +15,6 @@ pub mod lots;
 pub mod pcg64;
 mod status;
 pub mod stream;
-#[cfg(test)]
-mod tests;
 pub mod version;
 pub mod wide;
 pub mod wyrand;
