@@ -1,11 +1,6 @@
 pub mod Steps
-pub mod Constant
 pub mod Script
-pub mod Rising
 pub mod Waste
 pub mod Card
-pub mod Die
 pub mod Forking
-pub mod Zeros
 pub mod SplitMix
-pub mod support

@@ -14,12 +14,9 @@ ghost use Rattle.nanorand.specs.generators.WyRand.{wyrand_requests};
 
 pub mod card;
 pub mod counted;
-pub mod die;
 pub mod examples;
 pub mod fills;
 pub mod loops;
-pub mod nested;
-pub mod rounds;
 pub mod saved;
 pub mod split_mix;
 

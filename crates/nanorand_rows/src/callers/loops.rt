@@ -39,34 +39,3 @@ fn write_deck(deck: &mut [u8])
         deck[card] = card as u8;
     }
 }
-
-#[cfg(test)]
-mod tests {
-    use super::*;
-    use std::test::Fail;
-
-    #[test]
-    fn letters_of_an_alphabet(rt: HostRuntime) -> Result<(), Fail> {
-        let mut rng = ChaCha20::new_key([7; 32], [9; 8]);
-        let mut token = [0; 16];
-        assert_eq!(rt; letters(&mut rng, b"abc", &mut token), Ok(()));
-        for letter in token {
-            assert!(rt; b"abc".contains(&letter));
-        }
-        assert_eq!(rt; letters(&mut rng, &[], &mut []), Ok(()));
-        assert_eq!(rt; letters(&mut rng, &[], &mut token), Err(RangeError::Empty));
-        Ok(())
-    }
-
-    #[test]
-    fn whole_deck(rt: HostRuntime) -> Result<(), Fail> {
-        let mut rng = WyRand::new_seed(42);
-        let mut deck = [0; 52];
-        assert_eq!(rt; deal_deck(&mut rng, &mut deck), Ok(()));
-        deck.sort_unstable();
-        for (card, expected) in deck.into_iter().zip(0u8..) {
-            assert_eq!(rt; card, expected);
-        }
-        Ok(())
-    }
-}

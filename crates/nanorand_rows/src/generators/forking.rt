@@ -3,7 +3,6 @@ ghost use Rattle.std.specs.Prelude.{◌≡◌, ◌<◌, refl, length, OnOk, IfOk
 ghost use Rattle.std.proofs.Common.{rules};
 ghost use Rattle.nanorand_core.specs.generators.Blocks.{plain};
 ghost use Rattle.nanorand_streams.specs.generators.Buffered.{buffer_of, buffered_taken};
-ghost use Rattle.nanorand_rows.specs.declared.generators.forking.Forking.{Forking};
 ghost use Rattle.nanorand_rows.specs.Forking.{forked, forking_block, forking_step};
 
 use nanorand::rand::fill_by_blocks;
@@ -76,11 +75,6 @@ impl Rng<8> for Forking {
 
     ghost after_block = { λ _. refl };
 }
-
-/// A block belongs to one stream alone.
-pub fn streams_differ()
-    ensures { (g h : Forking) → forking_block g ≡ forking_block h → g.stream ≡ h.stream }
-{}
 
 /// The parts of a clone of a buffer: the number of its buffered bytes, which is the original's, and
 /// its inner generator, which is a clone of the original's.

@@ -1,4 +1,4 @@
-//! A generator of the bytes of a list.
+//! A generator of the words of a list.
 ghost use Rattle.std.specs.Prelude.{◌≡◌, ⊤, refl};
 ghost use Rattle.std.proofs.Common.{rules};
 ghost use Rattle.nanorand_core.specs.generators.Blocks.{plain};
@@ -9,31 +9,40 @@ use nanorand::{Blocks, Rng};
 use std::alloc::AllocError;
 use std::marker::Model;
 
-/// A generator whose block n is item n of a list, eight times. After the list its blocks are zeros.
+/// A generator whose block n is word n of a list. After the list its blocks are zeros, which every
+/// range rejects whose size is no power of two.
 #[derive(Drop)]
 pub struct Script<'a> {
-    bytes: &'a [u8],
+    words: &'a [u64],
     drawn: u64,
 }
 
-// The model is the list and the number of blocks drawn so far, modulo 2^64.
+// The model is the list and the number of the next block, modulo 2^64.
 impl<'a> Model for Script<'a> {
     ghost use Rattle.std.specs.Prelude.{ℕ, List};
 
     ghost Value = { List ℕ × ℕ };
 
-    ghost view = { λ generator. (generator.bytes.now, generator.drawn) };
+    ghost view = { λ generator. (generator.words.now, generator.drawn) };
 }
 
 impl<'a> Script<'a> {
-    /// A new generator of these bytes.
-    pub fn new(bytes: &'a [u8]) -> Self
-        ensures { result ≡ (bytes.now, 0) }
+    /// A new generator of these words.
+    pub fn new(words: &'a [u64]) -> Self
+        ensures { result ≡ (words.now, 0) }
     {
-        Script { bytes, drawn: 0 }
+        Script { words, drawn: 0 }
     }
 
-    /// The number of blocks drawn so far, modulo 2^64.
+    /// The same from block number `drawn` on. Block numbers wrap, so 2^64 - n puts n words of 0 before
+    /// the list.
+    pub fn from_block(words: &'a [u64], drawn: u64) -> Self
+        ensures { result ≡ (words.now, drawn) }
+    {
+        Script { words, drawn }
+    }
+
+    /// The number of the next block, modulo 2^64.
     pub fn drawn(&self) -> u64
         ensures { result ≡ self.now.1 }
     {
@@ -48,7 +57,7 @@ impl Clone for Script<'_> {
 
     fn clone(&self) -> Result<Self, AllocError> {
         Ok(Script {
-            bytes: self.bytes,
+            words: self.words,
             drawn: self.drawn,
         })
     }
@@ -60,9 +69,9 @@ impl Blocks<8> for Script<'_> {
     ghost step = { script_step };
 
     fn rand(&mut self) -> [u8; 8] {
-        let byte = self.bytes.get(self.drawn as usize).map_or(0, |byte| *byte);
+        let word = self.words.get(self.drawn as usize).map_or(0, |word| *word);
         self.drawn = self.drawn.wrapping_add(1);
-        [byte; 8]
+        word.to_le_bytes()
     }
 
     ghost positive = { Prim.search rules };

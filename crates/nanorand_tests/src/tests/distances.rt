@@ -1,0 +1,75 @@
+//! Jumps, and distances. A body of single draws would never end on most of them.
+
+use crate::comparing::{equal, equal_at};
+use nanorand::{Blocks, ChaCha8, Pcg64, WyRand};
+use std::process::Abort;
+
+const FIRST: u128 = 0x3b1dd060ff2fd1e09624b94fc0ada4df;
+
+// A jump by the distance leads to the second seed.
+#[test]
+fn of_wyrand(rt: HostRuntime) {
+    for (start, end, draws) in [
+        (0, 0xa0761d6478bd642f, 1),
+        (0xa0761d6478bd642f, 0, u64::MAX),
+        (0, 1 << 63, 1 << 63),
+        (42, 42, 0),
+    ] {
+        let mut wyrand = WyRand::new_seed(start);
+        equal_at(&rt, wyrand.distance(&WyRand::new_seed(end)), draws, end);
+        wyrand.jump(draws);
+        equal_at(&rt, wyrand.seed(), end, draws);
+    }
+}
+
+#[test]
+fn of_pcg64(rt: HostRuntime) {
+    for (start, end, distance) in [
+        (5, (1 << 127) + 5, Some(1 << 125)),
+        (0, 1, None),
+        (0, 0, Some(0)),
+        (0, FIRST, Some(1)),
+        (FIRST, 0, Some((1 << 126) - 1)),
+        (5, 3, None),
+    ] {
+        let mut pcg64 = Pcg64::new_seed(start);
+        equal_at(&rt, pcg64.distance(&Pcg64::new_seed(end)), distance, end);
+        if let Some(draws) = distance {
+            pcg64.jump(draws);
+            equal_at(&rt, pcg64.seed(), end, draws);
+        }
+    }
+}
+
+// Among the seeds 0 to 7, draws lead from seed s to s and to 7 - s, and to no other.
+#[test]
+fn four_cycles_of_pcg64(rt: HostRuntime) {
+    for start in 0..8u128 {
+        for end in 0..8u128 {
+            let mut pcg64 = Pcg64::new_seed(start);
+            let distance = pcg64.distance(&Pcg64::new_seed(end));
+            let reached = start == end || end == 7 - start;
+            equal_at(&rt, distance.is_some(), reached, end);
+            pcg64.jump(distance.unwrap_or(0));
+            equal_at(&rt, pcg64.seed(), if reached { end } else { start }, end);
+        }
+    }
+}
+
+#[test]
+fn a_jump_is_its_draws(rt: HostRuntime) {
+    let (mut wyrand, mut pcg64) = (WyRand::new_seed(42), Pcg64::new_seed(42));
+    let mut chacha = ChaCha8::new_key([7; 32], [9; 8]);
+    for _ in 0..1000u32 {
+        let _ = wyrand.rand();
+        let _ = pcg64.rand();
+        let _ = chacha.rand();
+    }
+    let (mut far, mut further) = (WyRand::new_seed(42), Pcg64::new_seed(42));
+    let mut furthest = ChaCha8::new_key([7; 32], [9; 8]);
+    far.jump(1000);
+    further.jump(1000);
+    furthest.jump(1000);
+    let equals = (far == wyrand, further == pcg64, furthest == chacha);
+    equal(&rt, equals, (true, true, true));
+}

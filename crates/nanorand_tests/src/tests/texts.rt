@@ -1,0 +1,68 @@
+//! The `Debug` and `Display` texts of generators. A clause says the plain ones; that no format option
+//! changes them is tested.
+
+use crate::comparing::display_is;
+use nanorand::{Blocks, ChaCha, ChaCha8, ChaCha12, ChaCha20, Pcg64, WyRand};
+use std::alloc::AllocError;
+use std::fmt::{Debug, Display};
+use std::process::Abort;
+use std::test::Fail;
+
+// The value has these texts, also in alternate form, with a sign, zeros in front, a width, an alignment,
+// a fill or a precision, and with all of them.
+fn has_texts<T: Debug + Display>(
+    rt: &(impl Abort + AllocGlobal),
+    value: &T,
+    debug: &str,
+    display: &str,
+) -> Result<(), AllocError> {
+    let seven = format!(in rt.alloc(); "{debug}{debug}{debug}{debug}{debug}{debug}{debug}")?;
+    let debugs = format_args!(
+        "{value:?}{value:#?}{value:+?}{value:0200?}{value:>200?}{value:.3?}{value:*^+#0200.3?}"
+    );
+    display_is(rt, &debugs, seven.as_str())?;
+    let seven = format!(in rt.alloc();
+        "{display}{display}{display}{display}{display}{display}{display}"
+    )?;
+    let displays = format_args!(
+        "{value}{value:#}{value:+}{value:0200}{value:>20}{value:.3}{value:*^+#0200.3}"
+    );
+    display_is(rt, &displays, seven.as_str())
+}
+
+// A generator at a counter. Its texts do not show the key or the nonce.
+fn chacha_has_texts<const ROUNDS: u8>(
+    rt: &(impl Abort + AllocGlobal),
+    generator: &mut ChaCha<ROUNDS>,
+    counter: u64,
+) -> Result<(), AllocError> {
+    generator.jump(counter);
+    let debug = format!(in rt.alloc(); "ChaCha20 {{ rounds: {ROUNDS}, counter: {counter} }}")?;
+    let display = format!(in rt.alloc(); "ChaCha ({ROUNDS} rounds)")?;
+    has_texts(rt, generator, debug.as_str(), display.as_str())
+}
+
+#[test]
+fn of_wyrand_and_pcg64(rt: HostRuntime) -> Result<(), Fail> {
+    has_texts(
+        &rt,
+        &WyRand::new_seed(u64::MAX),
+        "WyRand { seed: 0xffffffffffffffff }",
+        "WyRand",
+    )?;
+    let mut pcg64 = Pcg64::new_seed(u128::MAX);
+    let _ = pcg64.rand();
+    let drawn =
+        "Pcg64 { seed: 0xad254c432166b9e3173c6cc51e71ac88, state: 0xad254c432166b9e3173c6cc51e71ac88, inc: 0xffffffffffffffffffffffffffffffff }";
+    has_texts(&rt, &pcg64, drawn, "Pcg64")?;
+    Ok(())
+}
+
+#[test]
+fn of_chacha(rt: HostRuntime) -> Result<(), Fail> {
+    let (key, nonce) = ([0xab; 32], [0xcd; 8]);
+    chacha_has_texts(&rt, &mut ChaCha8::new_key(key, nonce), 0)?;
+    chacha_has_texts(&rt, &mut ChaCha12::new_key(key, nonce), 1 << 32)?;
+    chacha_has_texts(&rt, &mut ChaCha20::new_key(key, nonce), u64::MAX)?;
+    Ok(())
+}
