@@ -67,3 +67,12 @@ returns-then-end-first-clause-empty g c = search rules
 
 pub draw_below-requires-clause-some : goal.draw_below-requires-clause-some
 draw_below-requires-clause-some g c = search rules
+
+pub returns-in-Some-clause-exhausted : goal.returns-in-Some-clause-exhausted
+returns-in-Some-clause-exhausted g c = search rules
+
+pub returns-in-Some-clause-refusal : goal.returns-in-Some-clause-refusal
+returns-in-Some-clause-refusal g c = search rules
+
+pub returns-in-Some-clause-divisor : goal.returns-in-Some-clause-divisor
+returns-in-Some-clause-divisor g c = search rules
