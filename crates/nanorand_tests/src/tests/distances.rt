@@ -41,21 +41,6 @@ fn of_pcg64(rt: HostRuntime) {
     }
 }
 
-// Among the seeds 0 to 7, draws lead from seed s to s and to 7 - s, and to no other.
-#[test]
-fn four_cycles_of_pcg64(rt: HostRuntime) {
-    for start in 0..8u128 {
-        for end in 0..8u128 {
-            let mut pcg64 = Pcg64::new_seed(start);
-            let distance = pcg64.distance(&Pcg64::new_seed(end));
-            let reached = start == end || end == 7 - start;
-            equal_at(&rt, distance.is_some(), reached, end);
-            pcg64.jump(distance.unwrap_or(0));
-            equal_at(&rt, pcg64.seed(), if reached { end } else { start }, end);
-        }
-    }
-}
-
 #[test]
 fn a_jump_is_its_draws(rt: HostRuntime) {
     let (mut wyrand, mut pcg64) = (WyRand::new_seed(42), Pcg64::new_seed(42));

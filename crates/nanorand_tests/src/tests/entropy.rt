@@ -86,9 +86,10 @@ fn the_next_bytes(rt: HostRuntime) {
 // A reader that ends after any number of bytes that is too small. Nothing is read after its end.
 #[test]
 fn short(rt: HostRuntime) {
+    let bytes = BYTES;
     for (made, size) in MAKERS {
         for length in 0..size {
-            let mut source = Pieces::of(&BYTES[..length], 1);
+            let mut source = Pieces::of(&bytes[..length], 1);
             let number = number_of(made, &mut source);
             equal_at(&rt, number, Err(EntropyError::Short), length);
             equal_at(&rt, source.reads(), length as u64 + 1, length);

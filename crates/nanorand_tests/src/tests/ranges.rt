@@ -2,51 +2,94 @@
 
 use crate::comparing::{equal, equal_at};
 use nanorand::RangeError::{Empty, Exhausted};
-use nanorand::{RandomRange, Rng};
+use nanorand::{RandomRange, RangeError, Rng};
 use nanorand_rows::{Script, Steps};
-use std::fmt::Debug;
-use std::ops::Bound::{Excluded, Included, Unbounded};
-use std::process::Abort;
+use std::ops::Bound::{self, Excluded, Included, Unbounded};
 
-// What the least word and the greatest draw from ranges at the least two numbers and at the greatest
-// two. The least word is rejected if the range has all numbers but one.
-fn bounds_of<'a, T: RandomRange<Script<'a>, 8> + Copy + PartialEq + Debug + Drop>(
-    rt: &impl Abort,
-    words: [&'a [u64]; 2],
-    [least, second, before, last]: [T; 4],
-) {
-    let rows = [
-        (Unbounded, Unbounded, Ok(least), Ok(last)),
-        (Included(least), Excluded(second), Ok(least), Ok(least)),
-        (Excluded(least), Unbounded, Err(Exhausted), Ok(last)),
-        (Excluded(least), Excluded(second), Err(Empty), Err(Empty)),
-        (Unbounded, Excluded(least), Err(Empty), Err(Empty)),
-        (Excluded(before), Included(last), Ok(last), Ok(last)),
-        (Unbounded, Excluded(last), Err(Exhausted), Ok(before)),
-        (Excluded(last), Unbounded, Err(Empty), Err(Empty)),
-    ];
-    for (low, high, by_least, by_greatest) in rows {
-        let [zeros, ones] = words;
-        equal(rt, Script::new(zeros).generate_range(low, high), by_least);
-        equal(rt, Script::new(ones).generate_range(low, high), by_greatest);
-    }
+// Whether the word 0 and the greatest word draw these from a range.
+fn draws<'a, T: RandomRange<Script<'a>, 8> + Copy + PartialEq + Drop>(
+    ones: &'a [u64],
+    low: Bound<T>,
+    high: Bound<T>,
+    by_least: Result<T, RangeError>,
+    by_greatest: Result<T, RangeError>,
+) -> bool {
+    Script::new(&[]).generate_range(low, high) == by_least
+        && Script::new(ones).generate_range(low, high) == by_greatest
+}
+
+// Of ranges at the least two numbers and at the greatest two. The word 0 is rejected if the range has
+// all numbers but one.
+fn all_draw<'a, T: RandomRange<Script<'a>, 8> + Copy + PartialEq + Drop>(
+    ones: &'a [u64],
+    least: T,
+    second: T,
+    before: T,
+    last: T,
+) -> [bool; 8] {
+    let (none, rejected) = (Err(Empty), Err(Exhausted));
+    [
+        draws(ones, Unbounded, Unbounded, Ok(least), Ok(last)),
+        draws(
+            ones,
+            Included(least),
+            Excluded(second),
+            Ok(least),
+            Ok(least),
+        ),
+        draws(ones, Excluded(least), Unbounded, rejected, Ok(last)),
+        draws(ones, Excluded(least), Excluded(second), none, none),
+        draws(ones, Unbounded, Excluded(least), none, none),
+        draws(ones, Excluded(before), Included(last), Ok(last), Ok(last)),
+        draws(ones, Unbounded, Excluded(last), rejected, Ok(before)),
+        draws(ones, Excluded(last), Unbounded, none, none),
+    ]
 }
 
 #[test]
 fn bounds_at_both_ends(rt: HostRuntime) {
     let ones = [u64::MAX];
-    let words: [&[u64]; 2] = [&[], &ones];
-    bounds_of::<u8>(&rt, words, [0, 1, 254, 255]);
-    bounds_of::<u16>(&rt, words, [0, 1, 65534, 65535]);
-    bounds_of::<u32>(&rt, words, [0, 1, u32::MAX - 1, u32::MAX]);
-    bounds_of::<u64>(&rt, words, [0, 1, u64::MAX - 1, u64::MAX]);
-    bounds_of::<usize>(&rt, words, [0, 1, usize::MAX - 1, usize::MAX]);
-    bounds_of::<i8>(&rt, words, [-128, -127, 126, 127]);
-    bounds_of::<i16>(&rt, words, [-32768, -32767, 32766, 32767]);
-    bounds_of::<i32>(&rt, words, [i32::MIN, i32::MIN + 1, i32::MAX - 1, i32::MAX]);
-    bounds_of::<i64>(&rt, words, [i64::MIN, i64::MIN + 1, i64::MAX - 1, i64::MAX]);
-    let numbers = [isize::MIN, isize::MIN + 1, isize::MAX - 1, isize::MAX];
-    bounds_of::<isize>(&rt, words, numbers);
+    equal(&rt, all_draw::<u8>(&ones, 0, 1, 254, 255), [true; 8]);
+    equal(&rt, all_draw::<u16>(&ones, 0, 1, 65534, 65535), [true; 8]);
+    equal(
+        &rt,
+        all_draw(&ones, 0, 1, u32::MAX - 1, u32::MAX),
+        [true; 8],
+    );
+    equal(
+        &rt,
+        all_draw(&ones, 0, 1, u64::MAX - 1, u64::MAX),
+        [true; 8],
+    );
+    equal(
+        &rt,
+        all_draw(&ones, 0, 1, usize::MAX - 1, usize::MAX),
+        [true; 8],
+    );
+    equal(&rt, all_draw::<i8>(&ones, -128, -127, 126, 127), [true; 8]);
+    equal(
+        &rt,
+        all_draw::<i16>(&ones, -32768, -32767, 32766, 32767),
+        [true; 8],
+    );
+    let (least, last) = (i32::MIN, i32::MAX);
+    equal(
+        &rt,
+        all_draw(&ones, least, least + 1, last - 1, last),
+        [true; 8],
+    );
+    let (least, last) = (i64::MIN, i64::MAX);
+    equal(
+        &rt,
+        all_draw(&ones, least, least + 1, last - 1, last),
+        [true; 8],
+    );
+    let (least, last) = (isize::MIN, isize::MAX);
+    equal(
+        &rt,
+        all_draw(&ones, least, least + 1, last - 1, last),
+        [true; 8],
+    );
 }
 
 // The last of 128 words may decide. An empty range draws none.

@@ -2,7 +2,7 @@
 
 use crate::comparing::equal;
 use nanorand::{BufferedRng, ChaCha8, ChaCha20, Pcg64, Rng, WyRand};
-use nanorand_rows::{Script, Steps};
+use nanorand_rows::Steps;
 use std::io::{self, Read};
 use std::process::Abort;
 use std::test::Fail;
@@ -16,10 +16,10 @@ const COUNTERS: [u64; 5] = [0, 0xffff_fffd, 0xffff_ffff, u64::MAX - 2, u64::MAX]
 // One request to a plain generator, and two to a buffered one, the second by `read`.
 fn gives_its_blocks<G: Rng<OUTPUT> + Drop, const OUTPUT: usize>(
     rt: &(impl Abort + AllocGlobal),
-    fresh: G,
+    fresh: &BufferedRng<G, OUTPUT>,
 ) -> io::Result<()> {
     let mut stream = Vec::new(rt.alloc());
-    let mut blocks = fresh.clone()?;
+    let mut blocks = fresh.clone()?.into_inner();
     for _ in 0..10_000 {
         if stream.len() < 10_000 {
             stream.extend_from_slice(&blocks.rand())?;
@@ -27,9 +27,9 @@ fn gives_its_blocks<G: Rng<OUTPUT> + Drop, const OUTPUT: usize>(
     }
     for length in LENGTHS {
         let mut bytes = vec![in rt.alloc(); 0xee; length]?;
-        fresh.clone()?.fill_bytes(&mut bytes);
+        fresh.clone()?.into_inner().fill_bytes(&mut bytes);
         assert!(rt; stream.starts_with(bytes.as_slice()), "{length}");
-        let mut buffered = BufferedRng::new(fresh.clone()?);
+        let mut buffered = fresh.clone()?;
         bytes.fill(0xee);
         buffered.fill_bytes(&mut bytes);
         assert!(rt; stream.starts_with(bytes.as_slice()), "{length}");
@@ -42,13 +42,18 @@ fn gives_its_blocks<G: Rng<OUTPUT> + Drop, const OUTPUT: usize>(
 
 #[test]
 fn of_many_lengths(rt: HostRuntime) -> Result<(), Fail> {
-    gives_its_blocks(&rt, Steps::new())?;
-    gives_its_blocks(&rt, Script::new(&[1, u64::MAX]))?;
-    gives_its_blocks(&rt, WyRand::new_seed(42))?;
-    gives_its_blocks(&rt, Pcg64::new_seed(u128::MAX))?;
-    gives_its_blocks(&rt, ChaCha8::new_key([255; 32], [255; 8]))?;
+    gives_its_blocks(&rt, &BufferedRng::new(Steps::new()))?;
+    gives_its_blocks(&rt, &BufferedRng::new(WyRand::new_seed(42)))?;
+    gives_its_blocks(&rt, &BufferedRng::new(Pcg64::new_seed(u128::MAX)))?;
+    gives_its_blocks(
+        &rt,
+        &BufferedRng::new(ChaCha8::new_key([255; 32], [255; 8])),
+    )?;
     for counter in COUNTERS {
-        gives_its_blocks(&rt, ChaCha20::at([1; 32], [2; 8], counter))?;
+        gives_its_blocks(
+            &rt,
+            &BufferedRng::new(ChaCha20::at([1; 32], [2; 8], counter)),
+        )?;
     }
     Ok(())
 }
