@@ -15,8 +15,6 @@ mod kinds;
 mod numbers;
 mod requests;
 pub mod run;
-#[cfg(test)]
-mod tests;
 mod text;
 
 pub use error::DrawError;

@@ -13,8 +13,6 @@ mod entrants;
 mod error;
 pub mod laws;
 pub mod run;
-#[cfg(test)]
-mod tests;
 mod text;
 
 pub use draws::{draw, draw_places};
