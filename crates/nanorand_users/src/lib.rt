@@ -11,5 +11,3 @@ pub mod reservoir;
 pub mod retry;
 pub mod simulation;
 pub mod streams;
-#[cfg(test)]
-mod tests;

@@ -1,0 +1,8 @@
+//! What each program returns and writes, also where memory, a reader or a writer fails.
+
+mod draw;
+mod lots;
+mod programs;
+mod readers;
+mod users;
+mod writers;

@@ -1,0 +1,251 @@
+//! The program `lots`, and the draw of places.
+
+use super::programs::{
+    Program, check_end, check_flush, check_memory, check_writes, refused, strings, writes,
+};
+use super::readers::Feed;
+use super::writers::Pieces;
+use crate::comparing::{equal, equal_at};
+use lots_core::run::{report, run};
+use lots_core::{LotsError, draw_places};
+use std::alloc::{AllocError, Allocator, Global};
+use std::io::{ErrorKind, Write};
+use std::process::Abort;
+use std::test::Fail;
+
+// The program with its arguments, and a list to read.
+#[derive(Drop)]
+struct Lots<'a> {
+    arguments: Vec<String>,
+    list: &'a [u8],
+}
+
+impl Program for Lots<'_> {
+    fn run<A: Allocator, W: Write>(&self, alloc: A, out: &mut W, err: &mut Vec<u8>) -> u8 {
+        let mut input = Feed::honest(self.list, usize::MAX);
+        report(run(alloc, &self.arguments, &mut input, out), err)
+    }
+}
+
+fn lots_of<'a>(alloc: Global, arguments: &[&str], list: &'a str) -> Result<Lots<'a>, AllocError> {
+    Ok(Lots {
+        arguments: strings(alloc, arguments)?,
+        list: list.as_bytes(),
+    })
+}
+
+// The seed of the example in docs/LOTS.md: 20 throws of a die.
+const THROWS: &str = "4 1 6 3 3 2 5 6 1 4 2 6 5 3 1 1 6 2 4 5";
+
+// The list of the example.
+const NAMES: &str =
+    "Ada\nBarbara\nChidi\nDmitri\nElif\nFarid\nGrace\nHedy\nInes\nJun\nKatherine\nLise\n";
+
+// All of them, in the order drawn.
+const DRAWN: &str =
+    "Katherine\nJun\nChidi\nFarid\nGrace\nAda\nLise\nDmitri\nElif\nBarbara\nInes\nHedy\n";
+
+// A seed, a count, a list, and what is drawn.
+const TEXTS: [(&str, &str, &str, &str); 8] = [
+    (THROWS, "all", NAMES, DRAWN),
+    (THROWS, "1", NAMES, "Katherine\n"),
+    (THROWS, "0003", NAMES, "Katherine\nJun\nChidi\n"),
+    (THROWS, "0", NAMES, ""),
+    ("seed", "all", "", ""),
+    ("seed", "3", "Ada\nAda\nLise", "Ada\nLise\nAda\n"),
+    ("--help", "all", "Zoë\r\n", "Zoë\r\n"),
+    ("抽選", "1", "\0 \t\u{85}", "\0 \t\u{85}\n"),
+];
+
+const USAGE: &str = "lots: usage: lots SEED COUNT|all < entrants\n";
+
+// Arguments, a list, and the status and the line of the refusal: of several the first that is found.
+const REFUSED: [(&[&str], &str, u8, &str); 10] = [
+    (&["seed"], "\n", 2, USAGE),
+    (&["seed", "all", "3"], "\n", 2, USAGE),
+    (&["", "9"], "\n", 2, USAGE),
+    (&["seed", "+1"], "\n", 2, USAGE),
+    (&["seed", "18446744073709551616"], "Ada\n", 2, USAGE),
+    (&["seed", "9"], "Ada\n\n", 4, "lots: line 2 is empty\n"),
+    (&["seed", "0"], "\n", 4, "lots: line 1 is empty\n"),
+    (&["seed", "1"], "", 3, "lots: 0 entrants, 1 asked for\n"),
+    (
+        &["seed", "013"],
+        NAMES,
+        3,
+        "lots: 12 entrants, 13 asked for\n",
+    ),
+    (
+        &["seed", "18446744073709551615"],
+        "Ada",
+        3,
+        "lots: 1 entrants, 18446744073709551615 asked for\n",
+    ),
+];
+
+#[test]
+fn ends(rt: HostRuntime) -> Result<(), Fail> {
+    for (seed, count, list, text) in TEXTS {
+        let program = lots_of(rt.alloc(), &[seed, count], list)?;
+        check_end(&rt, rt.alloc(), &program, writes(text));
+    }
+    for (arguments, list, status, line) in REFUSED {
+        let program = lots_of(rt.alloc(), arguments, list)?;
+        check_end(&rt, rt.alloc(), &program, refused(status, line));
+    }
+    Ok(())
+}
+
+#[test]
+fn failures_of_writers(rt: HostRuntime) -> Result<(), Fail> {
+    let program = lots_of(rt.alloc(), &[THROWS, "all"], NAMES)?;
+    check_writes(&rt, rt.alloc(), &program, DRAWN, 7);
+    check_flush(&rt, rt.alloc(), &program, DRAWN, 7);
+    Ok(())
+}
+
+// Arguments, a list, the status and the text of each, and whether it asks for memory. Arguments are
+// read without.
+const WITH_MEMORY: [(&[&str], &str, u8, &str, bool); 4] = [
+    (&[THROWS, "all"], NAMES, 0, DRAWN, true),
+    (&["seed", "9"], "Ada\nLise\n\n", 4, "", true),
+    (&["seed", "13"], NAMES, 3, "", true),
+    (&["seed", "+1"], NAMES, 2, "", false),
+];
+
+#[test]
+fn memory(rt: HostRuntime) -> Result<(), Fail> {
+    for (arguments, list, status, text, asks) in WITH_MEMORY {
+        let program = lots_of(rt.alloc(), arguments, list)?;
+        let requests = check_memory(&rt, rt.alloc(), &program, status, text, 5)?;
+        equal_at(&rt, requests > 0, asks, &arguments);
+    }
+    Ok(())
+}
+
+// A run of the example on this reader ends so. If it fails, the writer is not called.
+fn check_read(
+    rt: &impl Abort,
+    alloc: Global,
+    input: &mut Feed<'_>,
+    wanted: Result<(), LotsError>,
+) -> Result<(), Fail> {
+    let arguments = strings(alloc, &[THROWS, "all"])?;
+    let mut out = Pieces::honest(alloc, usize::MAX);
+    equal(rt, run(alloc, &arguments, input, &mut out), wanted);
+    let text = wanted.map_or("", |_| DRAWN);
+    equal(rt, out.kept.as_slice(), text.as_bytes());
+    equal(rt, out.flushes, u64::from(wanted.is_ok()));
+    Ok(())
+}
+
+// A list in pieces, and the same if each second read is interrupted.
+#[test]
+fn interrupted_reads(rt: HostRuntime) -> Result<(), Fail> {
+    for piece in [1, 7, 4096, usize::MAX] {
+        let mut honest = Feed::honest(NAMES.as_bytes(), piece);
+        check_read(&rt, rt.alloc(), &mut honest, Ok(()))?;
+        let mut input = Feed::interrupted(NAMES.as_bytes(), piece);
+        check_read(&rt, rt.alloc(), &mut input, Ok(()))?;
+        let reads = honest.reads.wrapping_mul(2);
+        equal_at(&rt, [input.reads, input.ends], [reads, 1], &piece);
+    }
+    Ok(())
+}
+
+// Each read fails in turn, that which would find the end too. Nothing is read after it. A reader can be
+// out of memory.
+#[test]
+fn failed_reads(rt: HostRuntime) -> Result<(), Fail> {
+    for (kind, error) in [
+        (ErrorKind::Other, LotsError::Read),
+        (ErrorKind::UnexpectedEof, LotsError::Read),
+        (ErrorKind::OutOfMemory, LotsError::Memory),
+    ] {
+        for failing in 0..=NAMES.len() as u64 {
+            let mut input = Feed::failing(NAMES.as_bytes(), 1, failing, kind);
+            check_read(&rt, rt.alloc(), &mut input, Err(error))?;
+            let reads = failing.wrapping_add(1);
+            equal_at(&rt, [input.reads, input.ends], [reads, 0], &failing);
+        }
+    }
+    Ok(())
+}
+
+// Outcomes, their `Debug` texts, and the status and the line of each.
+const REPORTS: [(Result<(), LotsError>, &str, u8, &str); 8] = [
+    (Ok(()), "Ok(())", 0, ""),
+    (Err(LotsError::Usage), "Err(Usage)", 2, USAGE),
+    (
+        Err(LotsError::TooFew {
+            entrants: 12,
+            count: usize::MAX,
+        }),
+        "Err(TooFew { entrants: 12, count: 18446744073709551615 })",
+        3,
+        "lots: 12 entrants, 18446744073709551615 asked for\n",
+    ),
+    (
+        Err(LotsError::EmptyLine(54321)),
+        "Err(EmptyLine(54321))",
+        4,
+        "lots: line 54321 is empty\n",
+    ),
+    (
+        Err(LotsError::Memory),
+        "Err(Memory)",
+        5,
+        "lots: no memory\n",
+    ),
+    (Err(LotsError::Read), "Err(Read)", 6, "lots: read failed\n"),
+    (
+        Err(LotsError::Write),
+        "Err(Write)",
+        7,
+        "lots: write failed\n",
+    ),
+    (
+        Err(LotsError::Exhausted),
+        "Err(Exhausted)",
+        8,
+        "lots: 128 words were rejected\n",
+    ),
+];
+
+// The status is the same if the line cannot be written. An outcome equals itself and no other.
+#[test]
+fn reports(rt: HostRuntime) -> Result<(), Fail> {
+    for (outcome, debug, status, line) in REPORTS {
+        let mut err = Vec::new(rt.alloc());
+        equal(&rt, report(outcome, &mut err), status);
+        equal(&rt, err.as_slice(), line.as_bytes());
+        let mut stuck = Pieces::honest(rt.alloc(), 0);
+        equal(&rt, report(outcome, &mut stuck), status);
+        let shown = format!(in rt.alloc(); "{outcome:?}")?;
+        equal(&rt, shown.as_str(), debug);
+        for (other, text, _, _) in REPORTS {
+            equal_at(&rt, outcome == other, debug == text, &debug);
+        }
+    }
+    Ok(())
+}
+
+// A seed, and the order in which it draws the places of twelve. The program refuses an empty seed, the
+// draw does not.
+const ORDERS: [(&str, [usize; 12]); 3] = [
+    (THROWS, [10, 9, 2, 5, 6, 0, 11, 3, 4, 1, 8, 7]),
+    (
+        "Zürich, 24. Dezember",
+        [0, 9, 3, 2, 10, 8, 6, 7, 11, 4, 5, 1],
+    ),
+    ("", [3, 10, 7, 8, 0, 6, 4, 2, 11, 5, 9, 1]),
+];
+
+#[test]
+fn places(rt: HostRuntime) {
+    for (seed, order) in ORDERS {
+        let mut places = [7; 12];
+        equal_at(&rt, draw_places(seed, &mut places, 12), Ok(()), &seed);
+        equal_at(&rt, places, order, &seed);
+    }
+}

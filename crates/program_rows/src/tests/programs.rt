@@ -1,0 +1,169 @@
+//! What is tested of `draw` and of `lots` alike: a run in pieces, and each write, flush and allocation
+//! that fails.
+
+use super::writers::Pieces;
+use crate::comparing::{equal_at, holds};
+use linked_list_allocator::LocalHeap;
+use refusing::Refusing;
+use std::alloc::{AllocError, Allocator, Global};
+use std::io::{ErrorKind, Write};
+use std::process::Abort;
+use std::test::Fail;
+
+/// A program with its arguments and its input.
+pub trait Program {
+    /// Runs it. Returns its exit status, and appends to `err` what it writes to standard error.
+    fn run<A: Allocator, W: Write>(&self, alloc: A, out: &mut W, err: &mut Vec<u8>) -> u8;
+}
+
+/// How a run ends: its exit status, and what it writes to standard output and to standard error.
+#[derive(Clone, Copy, Debug)]
+pub struct End<'a> {
+    pub status: u8,
+    pub out: &'a str,
+    pub err: &'a str,
+}
+
+/// The run of a text.
+pub fn writes(text: &str) -> End<'_> {
+    End {
+        status: 0,
+        out: text,
+        err: "",
+    }
+}
+
+/// A run that is refused.
+pub fn refused(status: u8, line: &str) -> End<'_> {
+    End {
+        status,
+        out: "",
+        err: line,
+    }
+}
+
+/// The arguments of a command line.
+pub fn strings(alloc: Global, arguments: &[&str]) -> Result<Vec<String>, AllocError> {
+    let mut strings = Vec::new(alloc);
+    for argument in arguments {
+        strings.push(String::from_str(alloc, argument)?)?;
+    }
+    Ok(strings)
+}
+
+// The bytes at a time that a writer takes.
+const PIECES: [usize; 4] = [1, 7, 4096, usize::MAX];
+
+/// The program ends so. Its text is written in as few writes as the writer's pieces allow, since it
+/// is written at once, and then flushed once; after a refusal the writer is not called.
+pub fn check_end(rt: &impl Abort, alloc: Global, program: &impl Program, end: End<'_>) {
+    let flushes = u64::from(end.status == 0);
+    for piece in PIECES {
+        let mut out = Pieces::honest(alloc, piece);
+        let mut err = Vec::new(alloc);
+        equal_at(rt, program.run(alloc, &mut out, &mut err), end.status, &end);
+        equal_at(rt, out.kept.as_slice(), end.out.as_bytes(), &end);
+        equal_at(rt, err.as_slice(), end.err.as_bytes(), &end);
+        let writes = end.out.len().div_ceil(piece) as u64;
+        let counted = [out.writes, out.flushes, out.writes_since_flush];
+        equal_at(rt, counted, [writes, flushes, 0], &end);
+    }
+}
+
+/// Each write of the text fails in turn: after it, the program neither writes nor flushes, and ends
+/// with the status `failed`. A write that is interrupted is tried again.
+pub fn check_writes(
+    rt: &impl Abort,
+    alloc: Global,
+    program: &impl Program,
+    text: &str,
+    failed: u8,
+) {
+    let length = text.len() as u64;
+    for number in 0..length {
+        for (error, status, kept, flushes) in [
+            (ErrorKind::BrokenPipe, failed, number, 0),
+            (ErrorKind::Interrupted, 0, length, 1),
+        ] {
+            let mut out = Pieces::failing(alloc, 1, number, error);
+            let ended = program.run(alloc, &mut out, &mut Vec::new(alloc));
+            equal_at(rt, ended, status, &number);
+            let counted = [out.kept.len() as u64, out.writes, out.flushes];
+            equal_at(rt, counted, [kept, kept.wrapping_add(1), flushes], &number);
+            holds(
+                rt,
+                text.as_bytes().starts_with(out.kept.as_slice()),
+                &number,
+            );
+        }
+    }
+}
+
+/// If only the flush fails, the whole text was written before it. A writer that takes no bytes is
+/// asked once. An error of memory is the writer's own, and counts as a failed write.
+pub fn check_flush(rt: &impl Abort, alloc: Global, program: &impl Program, text: &str, failed: u8) {
+    for error in [ErrorKind::BrokenPipe, ErrorKind::OutOfMemory] {
+        for (piece, kept, flushes) in [
+            (0, "", 0),
+            (1, text, 1),
+            (7, text, 1),
+            (usize::MAX, text, 1),
+        ] {
+            let mut out = Pieces::unflushed(alloc, piece, error);
+            let ended = program.run(alloc, &mut out, &mut Vec::new(alloc));
+            equal_at(rt, ended, failed, &piece);
+            equal_at(rt, out.kept.as_slice(), kept.as_bytes(), &piece);
+            equal_at(rt, out.flushes, flushes, &piece);
+        }
+    }
+}
+
+// The bytes of the heap of these runs, more than any of them takes.
+const ROOM: usize = 1 << 22;
+
+// A run on a heap that refuses request `number` writes nothing and ends with the status `no_memory`,
+// unless it makes fewer requests: then it ends with this status and text.
+fn check_on_heap(
+    rt: &impl Abort,
+    alloc: Global,
+    program: &impl Program,
+    heap: &Refusing<&LocalHeap>,
+    number: u64,
+    (status, text): (u8, &str),
+    no_memory: u8,
+) {
+    let mut out = Pieces::honest(alloc, usize::MAX);
+    let ended = program.run(heap, &mut out, &mut Vec::new(alloc));
+    if heap.requests() < number {
+        equal_at(rt, ended, status, &number);
+        equal_at(rt, out.kept.as_slice(), text.as_bytes(), &number);
+    } else {
+        equal_at(rt, ended, no_memory, &number);
+        equal_at(rt, [out.writes, out.flushes], [0, 0], &number);
+    }
+}
+
+/// Refuses the first allocation, alone and with all later ones, then the second, and so on, until a
+/// run meets no refusal and ends with this status and text. After each run all memory is free again. Returns the number of
+/// allocations of a run.
+pub fn check_memory(
+    rt: &impl Abort,
+    alloc: Global,
+    program: &impl Program,
+    status: u8,
+    text: &str,
+    no_memory: u8,
+) -> Result<u64, Fail> {
+    let room = LocalHeap::new(alloc, ROOM)?;
+    for number in 1..1000u64 {
+        let all = Refusing::from_nth(&room, number);
+        check_on_heap(rt, alloc, program, &all, number, (status, text), no_memory);
+        let one = Refusing::nth(&room, number);
+        check_on_heap(rt, alloc, program, &one, number, (status, text), no_memory);
+        equal_at(rt, room.used(), 0, &number);
+        if one.requests() < number {
+            return Ok(number - 1);
+        }
+    }
+    Err(Fail::from("each run met a refusal"))
+}
