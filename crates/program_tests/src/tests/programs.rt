@@ -144,8 +144,8 @@ fn check_on_heap(
 }
 
 /// Refuses the first allocation, alone and with all later ones, then the second, and so on, until a
-/// run meets no refusal and ends with this status and text. After each run all memory is free again. Returns the number of
-/// allocations of a run.
+/// run meets no refusal and ends with this status and text. After each run all memory is free again.
+/// Returns the number of allocations of a run.
 pub fn check_memory(
     rt: &impl Abort,
     alloc: Global,
