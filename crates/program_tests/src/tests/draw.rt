@@ -1,12 +1,13 @@
 //! The program `draw`.
 
 use super::programs::{
-    Program, check_end, check_flush, check_memory, check_writes, refused, strings, writes,
+    Program, check_end, check_flush, check_memory, check_writes, refused, sizes, strings, writes,
 };
 use super::writers::Pieces;
 use crate::comparing::{equal, equal_at};
 use draw_core::DrawError;
 use draw_core::run::{report, run};
+use nanorand::{Rng, WyRand};
 use std::alloc::{AllocError, Allocator, Global};
 use std::io::Write;
 use std::test::Fail;
@@ -171,6 +172,40 @@ fn memory(rt: HostRuntime) -> Result<(), Fail> {
         let requests = check_memory(&rt, rt.alloc(), &program, status, out, 3)?;
         equal_at(&rt, requests > 0, asks, &line);
     }
+    Ok(())
+}
+
+// Requests for this many bytes, and their text by direct calls.
+fn bytes_asked(alloc: Global, count: u64) -> Result<(Draw, String), AllocError> {
+    let mut line = String::from_str(alloc, "wyrand 0000000000000000 plain 0")?;
+    let mut text = String::new(alloc);
+    let mut rng = WyRand::new_seed(0);
+    for _ in 0..count {
+        line.push_str(" u8")?;
+        writeln!(text, "{}", rng.generate::<u8>())?;
+    }
+    Ok((draw_of(alloc, line.as_str())?, text))
+}
+
+// Requests of every size are answered, and a bad one after them is named by its number.
+#[test]
+fn all_sizes(rt: HostRuntime) -> Result<(), Fail> {
+    for count in sizes(rt.alloc())?.iter() {
+        let (mut program, text) = bytes_asked(rt.alloc(), *count)?;
+        check_end(&rt, rt.alloc(), &program, writes(text.as_str()));
+        program.arguments.push(String::from_str(rt.alloc(), "u9")?)?;
+        let error = format!(in rt.alloc(); "draw: bad word {}\n", count.wrapping_add(5))?;
+        check_end(&rt, rt.alloc(), &program, refused(2, error.as_str()));
+    }
+    Ok(())
+}
+
+// A text for which memory grows several times.
+#[test]
+fn memory_of_a_long_text(rt: HostRuntime) -> Result<(), Fail> {
+    let (program, text) = bytes_asked(rt.alloc(), 1000)?;
+    let requests = check_memory(&rt, rt.alloc(), &program, 0, text.as_str(), 3)?;
+    equal_at(&rt, requests > 9, true, &requests);
     Ok(())
 }
 

@@ -1,7 +1,8 @@
 //! The program `lots`, and the draw of places.
 
 use super::programs::{
-    Program, check_end, check_flush, check_memory, check_writes, refused, strings, writes,
+    End, Program, check_end, check_flush, check_memory, check_writes, refused, sizes, strings,
+    writes,
 };
 use super::readers::Feed;
 use super::writers::Pieces;
@@ -120,6 +121,58 @@ fn memory(rt: HostRuntime) -> Result<(), Fail> {
         let requests = check_memory(&rt, rt.alloc(), &program, status, text, 5)?;
         equal_at(&rt, requests > 0, asks, &arguments);
     }
+    Ok(())
+}
+
+// A list of the numbers below `count`, a line each, and all of them in the order drawn.
+fn numbers_drawn(rt: &impl Abort, alloc: Global, count: u64) -> Result<(String, String), Fail> {
+    let mut list = String::new(alloc);
+    let mut places = Vec::new(alloc);
+    for number in 0..count {
+        writeln!(list, "{number}")?;
+        places.push(0)?;
+    }
+    let there = places.len();
+    equal_at(
+        rt,
+        draw_places("seed", places.as_mut_slice(), there),
+        Ok(()),
+        &count,
+    );
+    let mut text = String::new(alloc);
+    for place in places.iter() {
+        writeln!(text, "{place}")?;
+    }
+    Ok((list, text))
+}
+
+// A draw of all of this list ends so.
+fn check_list(rt: &impl Abort, alloc: Global, list: &str, end: End<'_>) -> Result<(), AllocError> {
+    let program = lots_of(alloc, &["seed", "all"], list)?;
+    check_end(rt, alloc, &program, end);
+    Ok(())
+}
+
+// Lists of every size are drawn, and an empty line after them is named by its number.
+#[test]
+fn all_sizes(rt: HostRuntime) -> Result<(), Fail> {
+    for count in sizes(rt.alloc())?.iter() {
+        let (mut list, text) = numbers_drawn(&rt, rt.alloc(), *count)?;
+        check_list(&rt, rt.alloc(), list.as_str(), writes(text.as_str()))?;
+        list.push_str("\n")?;
+        let error = format!(in rt.alloc(); "lots: line {} is empty\n", count.wrapping_add(1))?;
+        check_list(&rt, rt.alloc(), list.as_str(), refused(4, error.as_str()))?;
+    }
+    Ok(())
+}
+
+// A list for which memory grows several times.
+#[test]
+fn memory_of_a_long_list(rt: HostRuntime) -> Result<(), Fail> {
+    let (list, text) = numbers_drawn(&rt, rt.alloc(), 1000)?;
+    let program = lots_of(rt.alloc(), &["seed", "all"], list.as_str())?;
+    let requests = check_memory(&rt, rt.alloc(), &program, 0, text.as_str(), 5)?;
+    equal_at(&rt, requests > 9, true, &requests);
     Ok(())
 }
 

@@ -51,6 +51,19 @@ pub fn strings(alloc: Global, arguments: &[&str]) -> Result<Vec<String>, AllocEr
     Ok(strings)
 }
 
+/// Sizes spread evenly over their logarithm: each power of two up to 2^16, and its neighbours.
+pub fn sizes(alloc: Global) -> Result<Vec<u64>, AllocError> {
+    let mut sizes = Vec::new(alloc);
+    let mut power = 1u64;
+    for _ in 0..17 {
+        for size in [power.wrapping_sub(1), power, power.wrapping_add(1)] {
+            sizes.push(size)?;
+        }
+        power = power.wrapping_mul(2);
+    }
+    Ok(sizes)
+}
+
 // The bytes at a time that a writer takes.
 const PIECES: [usize; 4] = [1, 7, 4096, usize::MAX];
 
