@@ -3,7 +3,7 @@
 
 //! Lists of calls on a generator, made in order, with one answer each.
 
-use crate::{RangeError, Rng};
+use crate::{RandomGen, RandomRange, RangeError, Rng};
 use core::ops::Bound;
 
 /// The type of the value that `Call::Gen` draws.
@@ -132,56 +132,44 @@ fn make_call<G: Rng<OUTPUT>, const OUTPUT: usize>(
 
 fn draw<G: Rng<OUTPUT>, const OUTPUT: usize>(rng: &mut G, kind: Kind) -> Answer {
     match kind {
-        Kind::I8 => Answer::Signed(i128::from(rng.generate::<i8>())),
-        Kind::I16 => Answer::Signed(i128::from(rng.generate::<i16>())),
-        Kind::I32 => Answer::Signed(i128::from(rng.generate::<i32>())),
-        Kind::I64 => Answer::Signed(i128::from(rng.generate::<i64>())),
-        Kind::I128 => Answer::Signed(rng.generate::<i128>()),
-        Kind::Isize => Answer::Signed(rng.generate::<isize>() as i128),
-        Kind::U8 => Answer::Unsigned(u128::from(rng.generate::<u8>())),
-        Kind::U16 => Answer::Unsigned(u128::from(rng.generate::<u16>())),
-        Kind::U32 => Answer::Unsigned(u128::from(rng.generate::<u32>())),
-        Kind::U64 => Answer::Unsigned(u128::from(rng.generate::<u64>())),
-        Kind::U128 => Answer::Unsigned(rng.generate::<u128>()),
-        Kind::Usize => Answer::Unsigned(rng.generate::<usize>() as u128),
-        Kind::Bool => Answer::Truth(rng.generate::<bool>()),
+        Kind::I8 => Answer::Signed(i128::from(i8::random(rng))),
+        Kind::I16 => Answer::Signed(i128::from(i16::random(rng))),
+        Kind::I32 => Answer::Signed(i128::from(i32::random(rng))),
+        Kind::I64 => Answer::Signed(i128::from(i64::random(rng))),
+        Kind::I128 => Answer::Signed(i128::random(rng)),
+        Kind::Isize => Answer::Signed(isize::random(rng) as i128),
+        Kind::U8 => Answer::Unsigned(u128::from(u8::random(rng))),
+        Kind::U16 => Answer::Unsigned(u128::from(u16::random(rng))),
+        Kind::U32 => Answer::Unsigned(u128::from(u32::random(rng))),
+        Kind::U64 => Answer::Unsigned(u128::from(u64::random(rng))),
+        Kind::U128 => Answer::Unsigned(u128::random(rng)),
+        Kind::Usize => Answer::Unsigned(usize::random(rng) as u128),
+        Kind::Bool => Answer::Truth(bool::random(rng)),
     }
 }
 
 fn draw_within<G: Rng<OUTPUT>, const OUTPUT: usize>(rng: &mut G, span: &Span) -> Answer {
     match span {
-        Span::I8(low, high) => {
-            signed_answer(rng.generate_range::<i8>((*low, *high)).map(i128::from))
+        Span::I8(low, high) => signed_answer(i8::random_range(rng, *low, *high).map(i128::from)),
+        Span::I16(low, high) => signed_answer(i16::random_range(rng, *low, *high).map(i128::from)),
+        Span::I32(low, high) => signed_answer(i32::random_range(rng, *low, *high).map(i128::from)),
+        Span::I64(low, high) => signed_answer(i64::random_range(rng, *low, *high).map(i128::from)),
+        Span::Isize(low, high) => {
+            signed_answer(isize::random_range(rng, *low, *high).map(|number| number as i128))
         }
-        Span::I16(low, high) => {
-            signed_answer(rng.generate_range::<i16>((*low, *high)).map(i128::from))
-        }
-        Span::I32(low, high) => {
-            signed_answer(rng.generate_range::<i32>((*low, *high)).map(i128::from))
-        }
-        Span::I64(low, high) => {
-            signed_answer(rng.generate_range::<i64>((*low, *high)).map(i128::from))
-        }
-        Span::Isize(low, high) => signed_answer(
-            rng.generate_range::<isize>((*low, *high))
-                .map(|number| number as i128),
-        ),
-        Span::U8(low, high) => {
-            unsigned_answer(rng.generate_range::<u8>((*low, *high)).map(u128::from))
-        }
+        Span::U8(low, high) => unsigned_answer(u8::random_range(rng, *low, *high).map(u128::from)),
         Span::U16(low, high) => {
-            unsigned_answer(rng.generate_range::<u16>((*low, *high)).map(u128::from))
+            unsigned_answer(u16::random_range(rng, *low, *high).map(u128::from))
         }
         Span::U32(low, high) => {
-            unsigned_answer(rng.generate_range::<u32>((*low, *high)).map(u128::from))
+            unsigned_answer(u32::random_range(rng, *low, *high).map(u128::from))
         }
         Span::U64(low, high) => {
-            unsigned_answer(rng.generate_range::<u64>((*low, *high)).map(u128::from))
+            unsigned_answer(u64::random_range(rng, *low, *high).map(u128::from))
         }
-        Span::Usize(low, high) => unsigned_answer(
-            rng.generate_range::<usize>((*low, *high))
-                .map(|number| number as u128),
-        ),
+        Span::Usize(low, high) => {
+            unsigned_answer(usize::random_range(rng, *low, *high).map(|number| number as u128))
+        }
     }
 }
 
