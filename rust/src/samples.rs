@@ -4,7 +4,7 @@
 //! Samples without repetition, which take no memory.
 
 use crate::rand::Rng;
-use crate::values::RangeError;
+use crate::values::{RandomRange, RangeError};
 use core::ops::Bound;
 
 /// Samples `places.len()` different numbers below `count`, one into each slot.
@@ -58,5 +58,5 @@ fn draw_up_to<G: Rng<OUTPUT>, const OUTPUT: usize>(
     rng: &mut G,
     last: usize,
 ) -> Result<usize, RangeError> {
-    rng.generate_range((Bound::Included(0), Bound::Included(last)))
+    usize::random_range(rng, Bound::Included(0), Bound::Included(last))
 }

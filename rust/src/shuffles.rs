@@ -5,7 +5,7 @@
 
 use crate::rand::{draw_partner, Rng};
 use crate::swap::swap;
-use crate::values::RangeError;
+use crate::values::{RandomRange, RangeError};
 use core::ops::Bound;
 
 /// The list is not a permutation of the numbers below its length.
@@ -176,7 +176,7 @@ pub fn shuffle_full<G: Rng<OUTPUT>, T, const OUTPUT: usize>(
 ) -> Result<(), RangeError> {
     let count = target.len();
     for place in 0..count {
-        let other = rng.generate_range((Bound::Included(0), Bound::Excluded(count)))?;
+        let other = usize::random_range(rng, Bound::Included(0), Bound::Excluded(count))?;
         swap(target, place, other);
     }
     Ok(())

@@ -6,7 +6,7 @@ ghost use Rattle.nanorand_core.specs.values.Draws.{word_limit, after_words};
 ghost use Rattle.nanorand_core.specs.declared.values.range.RangeError.TheVariants.{Exhausted};
 
 use crate::rand::Rng;
-use crate::values::RangeError;
+use crate::values::{RandomRange, RangeError};
 use std::ops::Bound;
 
 /// Samples `places.len()` different numbers below `count`, one into each slot.
@@ -73,5 +73,5 @@ fn draw_up_to<G: Rng<OUTPUT>, const OUTPUT: usize>(
     ensures refusal { IfErr result (λ refusal. refusal ≡ Exhausted) }
     ensures words { (n : ℕ) × (n ≤ word_limit) × (rng.new ≡ after_words G.requests 64 n rng.old) }
 {
-    rng.generate_range(Bound::Included(0), Bound::Included(last))
+    usize::random_range(rng, Bound::Included(0), Bound::Included(last))
 }

@@ -7,7 +7,7 @@ ghost use Rattle.nanorand_core.specs.declared.values.range.RangeError.TheVariant
 
 use crate::rand::{Rng, draw_partner};
 use crate::swap::swap;
-use crate::values::RangeError;
+use crate::values::{RandomRange, RangeError};
 use std::ops::Bound;
 use thiserror::Error;
 
@@ -185,7 +185,7 @@ pub fn shuffle_full<G: Rng<OUTPUT>, T, const OUTPUT: usize>(
 {
     let count = target.len();
     for place in 0..count {
-        let other = rng.generate_range(Bound::Included(0), Bound::Excluded(count))?;
+        let other = usize::random_range(rng, Bound::Included(0), Bound::Excluded(count))?;
         swap(target, place, other);
     }
     Ok(())

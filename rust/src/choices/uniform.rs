@@ -6,7 +6,7 @@
 use crate::rand::Rng;
 use crate::values::number::Number;
 use crate::values::range::draw_number;
-use crate::values::RangeError;
+use crate::values::{RandomRange, RangeError};
 use core::ops::Bound;
 
 /// Draws a number below `n`: of an unsigned type one of 0, 1, .., `n` - 1, and of a signed type
@@ -36,7 +36,7 @@ pub fn choose<'a, T, G: Rng<OUTPUT>, const OUTPUT: usize>(
     rng: &mut G,
     items: &'a [T],
 ) -> Result<&'a T, RangeError> {
-    let index = rng.generate_range((Bound::Included(0), Bound::Excluded(items.len())))?;
+    let index = usize::random_range(rng, Bound::Included(0), Bound::Excluded(items.len()))?;
     Ok(&items[index])
 }
 
@@ -50,7 +50,7 @@ pub fn choose_mut<'a, T, G: Rng<OUTPUT>, const OUTPUT: usize>(
     rng: &mut G,
     items: &'a mut [T],
 ) -> Result<&'a mut T, RangeError> {
-    let index = rng.generate_range((Bound::Included(0), Bound::Excluded(items.len())))?;
+    let index = usize::random_range(rng, Bound::Included(0), Bound::Excluded(items.len()))?;
     Ok(&mut items[index])
 }
 
@@ -69,6 +69,6 @@ pub fn ratio<G: Rng<OUTPUT>, const OUTPUT: usize>(
     numerator: u64,
     denominator: u64,
 ) -> Result<bool, RangeError> {
-    let number = rng.generate_range((Bound::Included(0), Bound::Excluded(denominator)))?;
+    let number = u64::random_range(rng, Bound::Included(0), Bound::Excluded(denominator))?;
     Ok(number < numerator)
 }

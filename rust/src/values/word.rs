@@ -4,6 +4,7 @@
 //! Random words of 8, 16, 32 or 64 bits, and the numbers that they name.
 
 use crate::rand::Rng;
+use crate::values::RandomGen;
 
 // The most words that are drawn for one number.
 const MAX_WORDS: usize = 128;
@@ -122,9 +123,9 @@ pub fn draw_below<G: Rng<OUTPUT>, const OUTPUT: usize>(
 #[inline(always)]
 fn draw_word<G: Rng<OUTPUT>, const OUTPUT: usize>(rng: &mut G, bits: u32) -> u64 {
     match bits {
-        8 => u64::from(rng.generate::<u8>()),
-        16 => u64::from(rng.generate::<u16>()),
-        32 => u64::from(rng.generate::<u32>()),
-        _ => rng.generate::<u64>(),
+        8 => u64::from(u8::random(rng)),
+        16 => u64::from(u16::random(rng)),
+        32 => u64::from(u32::random(rng)),
+        _ => u64::random(rng),
     }
 }

@@ -8,9 +8,9 @@ ghost use Rattle.nanorand_core.specs.choices.Uniform.{index_drawn};
 ghost use Rattle.nanorand_core.specs.declared.values.range.RangeError.TheVariants.{Empty, Exhausted};
 
 use crate::rand::Rng;
-use crate::values::RangeError;
 use crate::values::number::Number;
 use crate::values::range::draw_number;
+use crate::values::{RandomRange, RangeError};
 use std::ops::Bound;
 
 /// Draws a number below `n`: of an unsigned type one of 0, 1, .., `n` - 1, and of a signed type one
@@ -57,7 +57,7 @@ pub fn choose<'a, T, G: Rng<OUTPUT>, const OUTPUT: usize>(
     ensures empty { result ≡ Err Empty → rng.new ≡ rng.old }
     ensures words { (m : ℕ) × (m ≤ word_limit) × (rng.new ≡ after_words G.requests 64 m rng.old) }
 {
-    let index = rng.generate_range(Bound::Included(0), Bound::Excluded(items.len()))?;
+    let index = usize::random_range(rng, Bound::Included(0), Bound::Excluded(items.len()))?;
     Ok(&items[index])
 }
 
@@ -80,7 +80,7 @@ pub fn choose_mut<'a, T, G: Rng<OUTPUT>, const OUTPUT: usize>(
     ensures empty { result ≡ Err Empty → rng.new ≡ rng.old }
     ensures words { (m : ℕ) × (m ≤ word_limit) × (rng.new ≡ after_words G.requests 64 m rng.old) }
 {
-    let index = rng.generate_range(Bound::Included(0), Bound::Excluded(items.len()))?;
+    let index = usize::random_range(rng, Bound::Included(0), Bound::Excluded(items.len()))?;
     Ok(&mut items[index])
 }
 
@@ -105,6 +105,6 @@ pub fn ratio<G: Rng<OUTPUT>, const OUTPUT: usize>(
     ensures empty { result ≡ Err Empty → rng.new ≡ rng.old }
     ensures words { (m : ℕ) × (m ≤ word_limit) × (rng.new ≡ after_words G.requests 64 m rng.old) }
 {
-    let number = rng.generate_range(Bound::Included(0), Bound::Excluded(denominator))?;
+    let number = u64::random_range(rng, Bound::Included(0), Bound::Excluded(denominator))?;
     Ok(number < numerator)
 }

@@ -4,6 +4,7 @@ ghost use Rattle.nanorand_core.specs.values.Runs.{IsWordWidth, Names, named, rej
 ghost use Rattle.nanorand_core.specs.values.Draws.{word_limit, next_word, after_word, after_words, drawn_below};
 
 use crate::rand::Rng;
+use crate::values::RandomGen;
 
 // The most words that are drawn for one number.
 const MAX_WORDS: usize = 128;
@@ -141,9 +142,9 @@ fn draw_word<G: Rng<OUTPUT>, const OUTPUT: usize>(rng: &mut G, bits: u32) -> u64
     ensures state { rng.new ≡ after_word G.requests bits rng.old }
 {
     match bits {
-        8 => u64::from(rng.generate::<u8>()),
-        16 => u64::from(rng.generate::<u16>()),
-        32 => u64::from(rng.generate::<u32>()),
-        _ => rng.generate::<u64>(),
+        8 => u64::from(u8::random(rng)),
+        16 => u64::from(u16::random(rng)),
+        32 => u64::from(u32::random(rng)),
+        _ => u64::random(rng),
     }
 }

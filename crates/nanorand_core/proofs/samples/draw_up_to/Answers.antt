@@ -4,11 +4,11 @@ use Rattle.nanorand_core.proofs.samples.draw_up_to.Goals as goal
 
 pub returns-clause-value : goal.returns-clause-value
 unfolding number_up_to
-returns-clause-value g c = c.generate_range.ensures.value
+returns-clause-value g c = c.random_range.ensures.value
 
 pub returns-clause-state : goal.returns-clause-state
 unfolding number_up_to
-returns-clause-state g c = c.generate_range.ensures.state
+returns-clause-state g c = c.random_range.ensures.state
 
 pub returns-clause-refusal : goal.returns-clause-refusal
 returns-clause-refusal g c = search rules
