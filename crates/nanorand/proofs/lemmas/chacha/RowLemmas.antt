@@ -1,5 +1,5 @@
 -- Matrices in vectors: rows of four lanes, and four blocks at once.
-use Rattle.std.proofs.Common.{◌≡◌, ℕ, zero, suc, ◌<◌, ◌-◌, ◌*◌, ◌/◌, ◌%◌, ◌^◌, List, [], ◌∷◌, length, slice_index, slice_index_or, map, bit_or, bit_xor, arith, lit<, refl, sym, ap, ◌∙◌}
+use Rattle.std.proofs.Common.{◌≡◌, ℕ, zero, suc, ◌<◌, ◌-◌, ◌*◌, ◌/◌, ◌%◌, ◌^◌, List, [], ◌∷◌, ◌++◌, length, slice_index, slice_index_or, map, bit_or, bit_xor, arith, lit<, refl, sym, ap, ◌∙◌}
 use Rattle.std.specs.List.{range_with_len}
 use Rattle.std.specs.Fn.{iterate}
 use Rattle.std.specs.Simd.Lanes.{zip2}
@@ -20,6 +20,15 @@ below_four P p0 p1 p2 p3 (suc (suc (suc (suc n)))) h = absurd (omega arith)
 -- a property of all rows of four variables holds of each row of four
 pub four_lanes : (P : List ℕ → Type 0) → ((a b c d : ℕ) → P (a ∷ b ∷ c ∷ d ∷ [])) → (x : List ℕ) → length x ≡ 4 → P x
 four_lanes P all = four_more 0 P (λ a b c d. no_more _ (all a b c d))
+
+-- four rows that are the same as four others, one after another
+pub same_rows : {a b c d p q r s : List ℕ} → a ≡ p → b ≡ q → c ≡ r → d ≡ s → a ++ b ++ c ++ d ≡ p ++ q ++ r ++ s
+same_rows first second third fourth = cc
+
+-- sixteen words that are the same as sixteen others
+pub same_words : {a0 a1 a2 a3 a4 a5 a6 a7 a8 a9 a10 a11 a12 a13 a14 a15 b0 b1 b2 b3 b4 b5 b6 b7 b8 b9 b10 b11 b12 b13 b14 b15 : ℕ} → a0 ≡ b0 → a1 ≡ b1 → a2 ≡ b2 → a3 ≡ b3 → a4 ≡ b4 → a5 ≡ b5 → a6 ≡ b6 → a7 ≡ b7 → a8 ≡ b8 → a9 ≡ b9 → a10 ≡ b10 → a11 ≡ b11 → a12 ≡ b12 → a13 ≡ b13 → a14 ≡ b14 → a15 ≡ b15
+    → a0 ∷ a1 ∷ a2 ∷ a3 ∷ a4 ∷ a5 ∷ a6 ∷ a7 ∷ a8 ∷ a9 ∷ a10 ∷ a11 ∷ a12 ∷ a13 ∷ a14 ∷ a15 ∷ [] ≡ b0 ∷ b1 ∷ b2 ∷ b3 ∷ b4 ∷ b5 ∷ b6 ∷ b7 ∷ b8 ∷ b9 ∷ b10 ∷ b11 ∷ b12 ∷ b13 ∷ b14 ∷ b15 ∷ []
+same_words e0 e1 e2 e3 e4 e5 e6 e7 e8 e9 e10 e11 e12 e13 e14 e15 = cc
 
 -- two shifts and an or of each lane rotate each lane
 abbrev Rotates : ℕ → List ℕ → List ℕ → Type 0
@@ -48,24 +57,11 @@ rows_summed : (t p a : List (List ℕ))
     → Sums (slice_index_or t 3 []) (slice_index_or p 3 []) (slice_index_or a 3 [])
     → matrix t ≡ map (λ k. add (slice_index (matrix p) k) (slice_index (matrix a) k)) (range_with_len 0 16)
 rows_summed t p a h0 h1 h2 h3 =
-    rw (
-      h0 0 (lit< tt),
-      h0 1 (lit< tt),
-      h0 2 (lit< tt),
-      h0 3 (lit< tt),
-      h1 0 (lit< tt),
-      h1 1 (lit< tt),
-      h1 2 (lit< tt),
-      h1 3 (lit< tt),
-      h2 0 (lit< tt),
-      h2 1 (lit< tt),
-      h2 2 (lit< tt),
-      h2 3 (lit< tt),
-      h3 0 (lit< tt),
-      h3 1 (lit< tt),
-      h3 2 (lit< tt),
-      h3 3 (lit< tt),
-    ) refl
+    same_words
+    (h0 0 (lit< tt)) (h0 1 (lit< tt)) (h0 2 (lit< tt)) (h0 3 (lit< tt))
+    (h1 0 (lit< tt)) (h1 1 (lit< tt)) (h1 2 (lit< tt)) (h1 3 (lit< tt))
+    (h2 0 (lit< tt)) (h2 1 (lit< tt)) (h2 2 (lit< tt)) (h2 3 (lit< tt))
+    (h3 0 (lit< tt)) (h3 1 (lit< tt)) (h3 2 (lit< tt)) (h3 3 (lit< tt))
 
 -- the rows of the matrix after R rounds plus the rows of the matrix make the block
 pub rows_block : (R : ℕ) (t p a : List (List ℕ)) → matrix p ≡ rounds R (matrix a)

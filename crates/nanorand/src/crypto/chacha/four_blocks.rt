@@ -1,12 +1,12 @@
 //! Four blocks side by side: sixteen vectors, one for each word, with one lane for each block.
-ghost use Rattle.std.specs.Prelude.{◌≡◌, ℕ, ◌%◌, ◌^◌, ◌<◌, ◌/◌, map, slice_index};
+ghost use Rattle.std.specs.Prelude.{◌≡◌, ℕ, ◌%◌, ◌^◌, ◌<◌, ◌/◌, [], ◌∷◌, map, slice_index, slice_index_or};
 ghost use Rattle.std.specs.Fn.{iterate};
 ghost use Rattle.std.specs.List.{range_with_len};
 ghost use Rattle.nanorand.specs.generators.ChaChaRounds.{add, quarter_round, on_columns, on_diagonals, rounds, block};
 ghost use Rattle.nanorand.specs.generators.ChaCha.{next_state, chacha_after};
-ghost use Rattle.nanorand.specs.support.ChaChaRows.{lane};
+ghost use Rattle.nanorand.specs.support.ChaChaRows.{lane, lanes};
 
-use super::lanes::{add, quarter_round};
+use super::lanes::{Rows, add, matrix_of, quarter_round};
 use super::state::counter;
 use std::simd::u32x4;
 
@@ -94,40 +94,38 @@ fn mix<const ROUNDS: u8>(x: Lanes) -> Lanes
     mixed
 }
 
+// Vector j of the result has lane j of each of the four vectors.
+#[inline(always)]
+fn transposed(a: u32x4, b: u32x4, c: u32x4, d: u32x4) -> Rows
+    ensures { (j : ℕ) → j < 4 → lanes (slice_index_or result j [])
+        ≡ slice_index a j ∷ slice_index b j ∷ slice_index c j ∷ slice_index d j ∷ [] }
+{
+    let [a0, a1, a2, a3] = a.to_array();
+    let [b0, b1, b2, b3] = b.to_array();
+    let [c0, c1, c2, c3] = c.to_array();
+    let [d0, d1, d2, d3] = d.to_array();
+    [
+        u32x4::from_array([a0, b0, c0, d0]),
+        u32x4::from_array([a1, b1, c1, d1]),
+        u32x4::from_array([a2, b2, c2, d2]),
+        u32x4::from_array([a3, b3, c3, d3]),
+    ]
+}
+
 #[inline(always)]
 fn matrices(x: Lanes) -> ([u32; 16], [u32; 16], [u32; 16], [u32; 16])
     ensures { (result.0 ≡ lane 0 x) × (result.1 ≡ lane 1 x) × (result.2 ≡ lane 2 x)
         × (result.3 ≡ lane 3 x) }
 {
-    let [a0, b0, c0, d0] = x[0].to_array();
-    let [a1, b1, c1, d1] = x[1].to_array();
-    let [a2, b2, c2, d2] = x[2].to_array();
-    let [a3, b3, c3, d3] = x[3].to_array();
-    let [a4, b4, c4, d4] = x[4].to_array();
-    let [a5, b5, c5, d5] = x[5].to_array();
-    let [a6, b6, c6, d6] = x[6].to_array();
-    let [a7, b7, c7, d7] = x[7].to_array();
-    let [a8, b8, c8, d8] = x[8].to_array();
-    let [a9, b9, c9, d9] = x[9].to_array();
-    let [a10, b10, c10, d10] = x[10].to_array();
-    let [a11, b11, c11, d11] = x[11].to_array();
-    let [a12, b12, c12, d12] = x[12].to_array();
-    let [a13, b13, c13, d13] = x[13].to_array();
-    let [a14, b14, c14, d14] = x[14].to_array();
-    let [a15, b15, c15, d15] = x[15].to_array();
+    let [a0, a1, a2, a3] = transposed(x[0], x[1], x[2], x[3]);
+    let [b0, b1, b2, b3] = transposed(x[4], x[5], x[6], x[7]);
+    let [c0, c1, c2, c3] = transposed(x[8], x[9], x[10], x[11]);
+    let [d0, d1, d2, d3] = transposed(x[12], x[13], x[14], x[15]);
     (
-        [
-            a0, a1, a2, a3, a4, a5, a6, a7, a8, a9, a10, a11, a12, a13, a14, a15,
-        ],
-        [
-            b0, b1, b2, b3, b4, b5, b6, b7, b8, b9, b10, b11, b12, b13, b14, b15,
-        ],
-        [
-            c0, c1, c2, c3, c4, c5, c6, c7, c8, c9, c10, c11, c12, c13, c14, c15,
-        ],
-        [
-            d0, d1, d2, d3, d4, d5, d6, d7, d8, d9, d10, d11, d12, d13, d14, d15,
-        ],
+        matrix_of([a0, b0, c0, d0]),
+        matrix_of([a1, b1, c1, d1]),
+        matrix_of([a2, b2, c2, d2]),
+        matrix_of([a3, b3, c3, d3]),
     )
 }
 
