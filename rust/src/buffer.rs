@@ -128,13 +128,11 @@ impl<G: Rng<OUTPUT>, const OUTPUT: usize> BufferedRng<G, OUTPUT> {
         out: &mut std::vec::Vec<u8>,
     ) -> Result<usize, std::collections::TryReserveError> {
         let count = OUTPUT - self.cursor;
-        if count > 0 {
-            let bytes = &self.block[..];
-            out.try_reserve(count)?;
-            // There is room now, so this never fails.
-            out.extend_from_slice(&bytes[self.cursor..]);
-            self.cursor = OUTPUT;
-        }
+        let bytes = &self.block[..];
+        out.try_reserve(count)?;
+        // There is room now, so this never fails.
+        out.extend_from_slice(&bytes[self.cursor..]);
+        self.cursor = OUTPUT;
         Ok(count)
     }
 

@@ -147,13 +147,11 @@ impl<G: Rng<OUTPUT>, const OUTPUT: usize> BufferedRng<G, OUTPUT> {
         ensures empty { self.old.rest ≡ [] → IsOk result }
     {
         let count = OUTPUT - self.cursor;
-        if count > 0 {
-            let bytes = &self.block[..];
-            out.reserve(count)?;
-            // There is room now, so this never fails.
-            out.extend_from_slice(&bytes[self.cursor..])?;
-            self.cursor = OUTPUT;
-        }
+        let bytes = &self.block[..];
+        out.reserve(count)?;
+        // There is room now, so this never fails.
+        out.extend_from_slice(&bytes[self.cursor..])?;
+        self.cursor = OUTPUT;
         Ok(count)
     }
 
