@@ -48,11 +48,12 @@ ShufflesAreFair =
     (λ numbers. pointwise ◌==◌ (arranged (choices_by 0 numbers) (rising n)) order)
     ≡ quotas 64 (deal_sizes n n)
 
--- A map of lists of words exchanges two deals: it is an involution, keeps which words are rejected,
--- and words deal the one exactly if their image deals the other.
+-- A map of lists of words exchanges two deals: it is an involution, keeps the length and which words
+-- are rejected, and words deal the one exactly if their image deals the other.
 pub record ExchangesDeals (k n : ℕ) (deal other : List ℕ) (swap : List ℕ → List ℕ) : Type 0 where
   pub fits : (words : List ℕ) → All (λ word. word < 2 ^ 64) words
       → All (λ word. word < 2 ^ 64) (swap words)
+  pub keeps_length : (words : List ℕ) → length (swap words) ≡ length words
   pub back : (words : List ℕ) → swap (swap words) ≡ words
   pub deciding : (words : List ℕ) → deciding_in_turn 64 (deal_sizes k n) (swap words)
       ≡ deciding_in_turn 64 (deal_sizes k n) words

@@ -111,11 +111,12 @@ swapped_numbers (e ∷ exchanges) [] = []
 swapped_numbers (e ∷ exchanges) (number ∷ numbers) =
     swapped_number e.one e.other number ∷ swapped_numbers exchanges numbers
 
--- Exchanging runs word by word is an involution on lists of words. It keeps which words are
--- rejected, and exchanges the numbers drawn.
+-- Exchanging runs word by word is an involution on lists of words. It keeps the length and which
+-- words are rejected, and exchanges the numbers drawn.
 pub record SwapsInTurn (bits : ℕ) (exchanges : List Exchange) (words : List ℕ) : Type 0 where
   pub fits : All (λ word. word < 2 ^ bits) words
       → All (λ word. word < 2 ^ bits) (swapped_in_turn bits exchanges words)
+  pub keeps_length : length (swapped_in_turn bits exchanges words) ≡ length words
   pub back : swapped_in_turn bits exchanges (swapped_in_turn bits exchanges words) ≡ words
   pub deciding :
       deciding_in_turn bits (map (λ e. e.size) exchanges) (swapped_in_turn bits exchanges words)

@@ -46,7 +46,8 @@ pub fn fairness_with_rejections()
 /// lists with one word for each size, each list of numbers is drawn by equally many: the product of
 /// floor(2^N / size). `rejections`: of all lists of n words, each list of numbers is drawn by equally
 /// many. `swaps`: exchanging two numbers of each draw, word by word, is an involution on lists of
-/// words. It keeps which words are rejected, and exchanges these numbers and nothing else.
+/// words. It keeps the length and which words are rejected, and exchanges these numbers and nothing
+/// else.
 pub fn numbers_in_turn_are_fair()
     ensures numbers { NumbersInTurnAreFair }
     ensures rejections { RejectionsPreferNothing }
@@ -61,10 +62,10 @@ pub fn numbers_in_turn_are_fair()
 /// indices is dealt by equally many lists of k words, the product of floor(2^64 / (n - i)) for i from
 /// 0 to k - 1. `orders`: so each order of n items is made by equally many lists of n words. `swaps`:
 /// for any two deals there is a map on lists of words, of any length and with rejected words, that
-/// is an involution, keeps which words are rejected, and exchanges the two deals. `shares`: of the
-/// lists of m words that draw a whole deal, rejected words included, exactly k of every n deal a
-/// given index. So any two indices are dealt by equally many. `parts`: of these lists, exactly one of
-/// every n (n - 1) .. (n - k + 1) deals a given deal.
+/// is an involution, keeps the length and which words are rejected, and exchanges the two deals.
+/// `shares`: of the lists of m words that draw a whole deal, rejected words included, exactly k of
+/// every n deal a given index. So any two indices are dealt by equally many. `parts`: of these lists,
+/// exactly one of every n (n - 1) .. (n - k + 1) deals a given deal.
 ///
 /// It does not say that seeds deal equally often: a seed of b bits gives at most 2^b of the n!
 /// orders.

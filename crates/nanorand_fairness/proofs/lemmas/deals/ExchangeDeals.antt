@@ -63,6 +63,7 @@ module _ (width : IsWordWidth 64) (swaps : NoListOfNumbersIsPreferred)
     exchanges_deals : ExchangesDeals k n deal other (swapped_in_turn 64 exchanges)
     exchanges_deals = record {
       fits = λ words all. (swapped words).fits all;
+      keeps_length = λ words. (swapped words).keeps_length;
       back = λ words. (swapped words).back;
       deciding = λ words.
           subst (λ sizes. deciding_in_turn 64 sizes (swapped_in_turn 64 exchanges words) ≡ deciding_in_turn 64 sizes words) same_sizes (swapped words).deciding;

@@ -1,5 +1,5 @@
 -- Exchanging two runs word by word, while numbers are drawn in turn.
-use Rattle.std.proofs.Common.{◌≡◌, ℕ, zero, suc, ◌<◌, ◌^◌, Bool, true, false, List, [], ◌∷◌, map, Option, Some, None, option_map, slice_index, refl, sym, ◌∙◌, ap, arith}
+use Rattle.std.proofs.Common.{◌≡◌, ℕ, zero, suc, ◌<◌, ◌^◌, Bool, true, false, List, [], ◌∷◌, length, map, Option, Some, None, option_map, slice_index, refl, sym, ◌∙◌, ap, arith}
 use Rattle.std.specs.List.{All}
 use Rattle.std.proofs.lemmas.List.Elements.{All-nil, All-cons, All-head, All-tail, All-same}
 use Rattle.nanorand_core.specs.values.Runs.{IsWordWidth, named}
@@ -23,6 +23,7 @@ sizes_of exchanges = map (λ e. e.size) exchanges
 -- the law, where the first draw may still take `left` words
 record Swaps (bits : ℕ) (exchanges : List Exchange) (left : ℕ) (words : List ℕ) : Type 0 where
   pub fits : All (IsWord bits) words → All (IsWord bits) (swapped_from bits exchanges left words)
+  pub keeps_length : length (swapped_from bits exchanges left words) ≡ length words
   pub back : swapped_from bits exchanges left (swapped_from bits exchanges left words) ≡ words
   pub deciding : deciding_from bits (sizes_of exchanges) left (swapped_from bits exchanges left words) ≡ deciding_from bits (sizes_of exchanges) left words
   pub numbers : numbers_from bits (sizes_of exchanges) left (swapped_from bits exchanges left words)
@@ -64,6 +65,7 @@ module _ (preferred : NoNumberIsPreferred) (bits : ℕ) (width : IsWordWidth bit
         let now = word-named None is in
         record {
           fits = λ all. fits_both exchanges left words (swapped_from bits (e ∷ exchanges) left words) (rw is refl) all again.fits;
+          keeps_length = rw is (ap (λ (n : ℕ). suc n) again.keeps_length);
           back = rw (is, now, word-back) (ap (λ (ws : List ℕ). word ∷ ws) again.back);
           deciding = rw (is, now) (ap (λ (ds : List Bool). false ∷ ds) again.deciding);
           numbers = rw (is, now) again.numbers;
@@ -72,6 +74,7 @@ module _ (preferred : NoNumberIsPreferred) (bits : ℕ) (width : IsWordWidth bit
         let now = word-named (Some k) is in
         record {
           fits = λ all. fits_both exchanges left words (swapped_from bits exchanges word_limit words) (rw is refl) all next.fits;
+          keeps_length = rw is (ap (λ (n : ℕ). suc n) next.keeps_length);
           back = rw (is, now, word-back) (ap (λ (ws : List ℕ). word ∷ ws) next.back);
           deciding = rw (is, now) (ap (λ (ds : List Bool). true ∷ ds) next.deciding);
           numbers = rw (is, now) (ap (λ (ns : List ℕ). swapped_number e.one e.other k ∷ ns) next.numbers);
@@ -79,9 +82,9 @@ module _ (preferred : NoNumberIsPreferred) (bits : ℕ) (width : IsWordWidth bit
 
   -- by induction on the words
   swaps_from : (exchanges : List Exchange) (left : ℕ) (words : List ℕ) → All (IsExchange bits) exchanges → Swaps bits exchanges left words
-  swaps_from [] left words can = record { fits = λ all. all; back = refl; deciding = refl; numbers = refl }
-  swaps_from (e ∷ exchanges) zero words can = record { fits = λ all. all; back = refl; deciding = refl; numbers = refl }
-  swaps_from (e ∷ exchanges) (suc left) [] can = record { fits = λ all. all; back = refl; deciding = refl; numbers = refl }
+  swaps_from [] left words can = record { fits = λ all. all; keeps_length = refl; back = refl; deciding = refl; numbers = refl }
+  swaps_from (e ∷ exchanges) zero words can = record { fits = λ all. all; keeps_length = refl; back = refl; deciding = refl; numbers = refl }
+  swaps_from (e ∷ exchanges) (suc left) [] can = record { fits = λ all. all; keeps_length = refl; back = refl; deciding = refl; numbers = refl }
   swaps_from (e ∷ exchanges) (suc left) (word ∷ words) can =
       with_word e (All-head (IsExchange bits) e exchanges can) word exchanges left words (named bits e.size word) refl
       (swaps_from (e ∷ exchanges) left words can) (swaps_from exchanges word_limit words (All-tail (IsExchange bits) e exchanges can))
@@ -89,4 +92,4 @@ module _ (preferred : NoNumberIsPreferred) (bits : ℕ) (width : IsWordWidth bit
   pub swaps_in_turn : (exchanges : List Exchange) (words : List ℕ) → All (IsExchange bits) exchanges → SwapsInTurn bits exchanges words
   swaps_in_turn exchanges words can =
       let all = swaps_from exchanges word_limit words can in
-      record { fits = all.fits; back = all.back; deciding = all.deciding; numbers = all.numbers }
+      record { fits = all.fits; keeps_length = all.keeps_length; back = all.back; deciding = all.deciding; numbers = all.numbers }
