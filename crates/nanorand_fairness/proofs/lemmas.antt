@@ -2,6 +2,7 @@ pub mod Sums
 pub mod NamedSums
 pub mod DrawLists
 pub mod WordCounts
+pub mod FirstWords
 pub mod EventCounts
 pub mod turns
 pub mod samples

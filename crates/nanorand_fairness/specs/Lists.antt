@@ -1,9 +1,9 @@
 -- Counting lists of words: one draw from a list of words, rejected words included.
-use Rattle.std.specs.Prelude.{◌≡◌, ℕ, zero, suc, ◌+◌, ◌*◌, ◌^◌, ◌<◌, ◌≤◌, ◌==◌, Bool, List, [], ◌∷◌, length, sum, sum_by, count_by, slice_index, nat_lt, is_none, option_map, if◌then◌else◌}
+use Rattle.std.specs.Prelude.{◌≡◌, ℕ, zero, suc, ◌+◌, ◌-◌, ◌*◌, ◌^◌, ◌<◌, ◌≤◌, ◌==◌, Bool, List, [], ◌∷◌, length, min, take, sum, sum_by, count_by, slice_index, nat_lt, Option, is_none, option_map, if◌then◌else◌}
 use Rattle.std.specs.List.{range_with_len}
 use Rattle.std.specs.Option.{option_map_or}
 use Rattle.nanorand_core.specs.values.Runs.{IsWordWidth, rejected}
-use Rattle.nanorand_core.specs.values.Draws.{deciding_place, decided}
+use Rattle.nanorand_core.specs.values.Draws.{deciding_place, decided, word_limit}
 use Rattle.nanorand_core.specs.values.Fairness.{passes}
 use Rattle.nanorand_core.specs.choices.Weighted.{item_at}
 
@@ -17,17 +17,29 @@ sum_over_lists bits (suc n) f =
 abbrev pub lists_that : ℕ → ℕ → (List ℕ → Bool) → ℕ
 lists_that bits n test = sum_over_lists bits n (λ words. if test words then 1 else 0)
 
--- How many words of the list a draw takes: those up to the deciding word, or all of them.
+-- The number that a draw takes from a list of words, if it takes one: a draw decides by the first
+-- 128 words.
+abbrev pub number_by_words : ℕ → ℕ → List ℕ → Option ℕ
+number_by_words bits size words = decided bits size (take word_limit words)
+
+-- How many words of the list a draw takes: those up to the deciding word, or all of the first 128.
 abbrev pub words_taken : ℕ → ℕ → List ℕ → ℕ
 words_taken bits size words =
-    option_map_or (λ i. i + 1) (deciding_place bits size words) (length words)
+    let first = take word_limit words in
+    option_map_or (λ i. i + 1) (deciding_place bits size first) (length first)
 
--- After n words, a draw is undecided in exactly t^n of all lists, where t words are rejected.
+-- Of all lists of n words, for n up to 128, a draw takes no number from exactly t^n, where t words
+-- are rejected. Of more words it takes 128: so from t^128 for each list of the other words.
 abbrev pub UndecidedListsAreFew : Type 0
 UndecidedListsAreFew =
     (bits size n : ℕ) → IsWordWidth bits → 1 ≤ size → size ≤ 2 ^ bits
-    → lists_that bits n (λ words. is_none (deciding_place bits size words))
-    ≡ rejected bits size ^ n
+    → let taken = min n word_limit in
+    lists_that bits n (λ words. is_none (number_by_words bits size words))
+    ≡ rejected bits size ^ taken * (2 ^ bits) ^ (n - taken)
+
+-- A draw takes at most 128 words.
+abbrev pub DrawsEndAtTheLimit : Type 0
+DrawsEndAtTheLimit = (bits size : ℕ) (words : List ℕ) → words_taken bits size words ≤ word_limit
 
 -- A draw takes fewer than two words on average: over all lists of n words, fewer than twice as many
 -- words are taken as there are lists.
@@ -41,23 +53,25 @@ DrawsTakeFewWords =
 abbrev pub EventsInListsAreFair : Type 0
 EventsInListsAreFair =
     (bits size n k : ℕ) (test : ℕ → Bool) → IsWordWidth bits → size ≤ 2 ^ bits → k < size
-    → lists_that bits n (λ words. passes test (decided bits size words))
+    → let drawn = number_by_words bits size in
+    lists_that bits n (λ words. passes test (drawn words))
     ≡ count_by test (range_with_len 0 size)
-    * lists_that bits n (λ words. passes (λ j. j == k) (decided bits size words))
+    * lists_that bits n (λ words. passes (λ j. j == k) (drawn words))
 
 -- So the event of a ratio is decided by `numerator` times as many lists as one number.
 abbrev pub RatiosInListsAreFair : Type 0
 RatiosInListsAreFair =
     (bits numerator denominator n k : ℕ) → IsWordWidth bits → denominator ≤ 2 ^ bits
     → numerator ≤ denominator → k < denominator
-    → lists_that bits n (λ words. passes (λ j. nat_lt j numerator) (decided bits denominator words))
-    ≡ numerator * lists_that bits n (λ words. passes (λ j. j == k) (decided bits denominator words))
+    → let drawn = number_by_words bits denominator in
+    lists_that bits n (λ words. passes (λ j. nat_lt j numerator) (drawn words))
+    ≡ numerator * lists_that bits n (λ words. passes (λ j. j == k) (drawn words))
 
 -- And an item is chosen by as many times as many lists as one number as its weight is.
 abbrev pub WeightsInListsAreFair : Type 0
 WeightsInListsAreFair =
     (bits : ℕ) (weights : List ℕ) (n i k : ℕ) → IsWordWidth bits → sum weights ≤ 2 ^ bits
     → i < length weights → k < sum weights
-    → let drawn = decided bits (sum weights) in
+    → let drawn = number_by_words bits (sum weights) in
     lists_that bits n (λ words. passes (λ j. j == i) (option_map (item_at weights) (drawn words)))
     ≡ slice_index weights i * lists_that bits n (λ words. passes (λ j. j == k) (drawn words))

@@ -1,7 +1,7 @@
 //! Fairness over lists of words: of every list of n words it is said what is drawn from it, and the
 //! lists are counted. Rejected words are in the lists too. The functions do nothing; a proof calls
 //! one to use its law.
-ghost use Rattle.nanorand_fairness.specs.Lists.{UndecidedListsAreFew, DrawsTakeFewWords, EventsInListsAreFair, RatiosInListsAreFair, WeightsInListsAreFair};
+ghost use Rattle.nanorand_fairness.specs.Lists.{UndecidedListsAreFew, DrawsEndAtTheLimit, DrawsTakeFewWords, EventsInListsAreFair, RatiosInListsAreFair, WeightsInListsAreFair};
 ghost use Rattle.nanorand_fairness.specs.InTurn.{NumbersInTurnAreFair, RejectionsPreferNothing, NoListOfNumbersIsPreferred};
 ghost use Rattle.nanorand_fairness.specs.Deals.{DealsAreFair, ShufflesAreFair, NoDealIsPreferred, PartsAreEqual, SharesAreEqual, ShufflesDrawInTurn};
 ghost use Rattle.nanorand_fairness.specs.Samples.{NoSetIsPreferred, SampledSetsAreFair, SamplesDrawInTurn};
@@ -14,17 +14,21 @@ use nanorand_core::laws::{
 /// How many words a bounded draw takes, for words of N = 8, 16, 32 and 64 bits and every size from 1
 /// to 2^N. So a number takes fewer than two words on average, and is refused very seldom.
 ///
-/// `undecided`: of the lists of n words, a draw is undecided after exactly t^n, where t of the 2^N
-/// words are rejected. So a draw is refused, after 128 words, for t^128 of 2^(128 N) lists. `few`:
-/// over all lists of n words, fewer than twice as many words are taken as there are lists.
+/// A draw decides by the first 128 words of a list. `undecided`: of the lists of n words, for n up to
+/// 128, it takes no number from exactly t^n, where t of the 2^N words are rejected. Of more words it
+/// takes 128, and is refused for t^128 lists of these, whatever the others are. `limit`: it takes at
+/// most 128 words. `few`: over all lists of n words, fewer than twice as many words are taken as
+/// there are lists.
 pub fn words_of_a_draw()
     ensures undecided { UndecidedListsAreFew }
+    ensures limit { DrawsEndAtTheLimit }
     ensures few { DrawsTakeFewWords }
 {
     fairness();
 }
 
 /// One draw from all lists of n words, rejected words included, for words of 8, 16, 32 and 64 bits.
+/// It decides by the first 128 words.
 ///
 /// `events`: an event of m numbers is decided by m times as many lists as one number, and all
 /// numbers by equally many. `ratios`: so `choices::ratio` is true for `numerator` times as many lists

@@ -1,5 +1,5 @@
 -- One draw from a list of words: the first word, and the rest of the list.
-use Rattle.std.proofs.Common.{◌≡◌, ℕ, zero, suc, ◌+◌, ◌*◌, ◌^◌, Bool, true, false, nat_lt, List, [], ◌∷◌, length, Option, Some, None, is_some, position, option_map, option_and_then, slice_index, refl, ◌∙◌, ap, inl, inr, arith}
+use Rattle.std.proofs.Common.{◌≡◌, ℕ, zero, suc, ◌+◌, ◌*◌, ◌≤◌, ◌^◌, Bool, true, false, nat_lt, List, [], ◌∷◌, length, Option, Some, None, is_some, position, option_map, option_and_then, slice_index, refl, ◌∙◌, ap, inl, inr, arith}
 use Rattle.std.specs.Option.{option_map_or}
 use Rattle.std.proofs.Math.Nat.{pow-zero, pow-suc}
 use Rattle.std.proofs.lemmas.Bool.{cases_lt, lt-ltb, le-ltb}
@@ -7,7 +7,7 @@ use Rattle.std.specs.List.{position_or_len}
 use Rattle.nanorand_core.specs.values.Runs.{named}
 use Rattle.nanorand_core.specs.values.Draws.{deciding_place, decided}
 use Rattle.nanorand_core.specs.values.Fairness.{passes}
-use Rattle.nanorand_fairness.specs.Lists.{sum_over_lists, words_taken}
+use Rattle.nanorand_fairness.specs.Lists.{sum_over_lists}
 use Rattle.nanorand_fairness.proofs.lemmas.Sums.{sum-terms, sum-plus, sum-constant}
 
 -- equal terms have equal sums over all lists
@@ -54,6 +54,10 @@ module _ {X : Type 0} (p : X → Bool) (x : X) (xs : List X) where
             rw (fails, high, le-ltb (position_or_len p xs) (length xs) past) refl
       ]
 
+-- how many words a draw with no limit takes
+abbrev pub taken_of : ℕ → ℕ → List ℕ → ℕ
+taken_of bits size words = option_map_or (λ i. i + 1) (deciding_place bits size words) (length words)
+
 -- one draw, by what the first word names
 module _ (bits size word : ℕ) (words : List ℕ) where
   pub place-first : (k : ℕ) → named bits size word ≡ Some k → deciding_place bits size (word ∷ words) ≡ Some 0
@@ -73,12 +77,21 @@ module _ (bits size word : ℕ) (words : List ℕ) where
   pub decided-later : named bits size word ≡ None → decided bits size (word ∷ words) ≡ decided bits size words
   decided-later is = rw (place-later is) (at_later (deciding_place bits size words))
 
-  pub taken-first : (k : ℕ) → named bits size word ≡ Some k → words_taken bits size (word ∷ words) ≡ 1
+  pub taken-first : (k : ℕ) → named bits size word ≡ Some k → taken_of bits size (word ∷ words) ≡ 1
   taken-first k is = rw (place-first k is) refl
 
   taken_by : (o : Option ℕ) → option_map_or (λ i. i + 1) (option_map (λ i. i + 1) o) (length (word ∷ words)) ≡ 1 + option_map_or (λ i. i + 1) o (length words)
   taken_by None = omega arith
   taken_by (Some i) = omega arith
 
-  pub taken-later : named bits size word ≡ None → words_taken bits size (word ∷ words) ≡ 1 + words_taken bits size words
+  pub taken-later : named bits size word ≡ None → taken_of bits size (word ∷ words) ≡ 1 + taken_of bits size words
   taken-later is = rw (place-later is) (taken_by (deciding_place bits size words))
+
+-- no more words are taken than there are
+pub taken-at-most : (bits size : ℕ) (words : List ℕ) → taken_of bits size words ≤ length words
+taken-at-most bits size words =
+    let place = position_or_len (λ word. is_some (named bits size word)) words in
+    elim (cases_lt place (length words)) [
+      | inl found ↦ rw (lt-ltb place (length words) found) (omega arith)
+      | inr past ↦ rw (le-ltb place (length words) past) (omega arith)
+    ]

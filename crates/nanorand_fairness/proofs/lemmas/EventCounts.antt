@@ -3,10 +3,9 @@ use Rattle.std.proofs.Common.{◌≡◌, ℕ, ◌*◌, ◌≤◌, ◌^◌, Bool,
 use Rattle.std.specs.List.{sum, count_by, range_with_len}
 use Rattle.std.proofs.Math.Nat.{eq_of_mul-eq-mul_right}
 use Rattle.nanorand_core.specs.values.Runs.{IsWordWidth, named, quota, words_that}
-use Rattle.nanorand_core.specs.values.Draws.{decided}
 use Rattle.nanorand_core.specs.values.Fairness.{passes, RunsAreFair, EventsAreFair}
 use Rattle.nanorand_core.specs.choices.Weighted.{item_at, item_named}
-use Rattle.nanorand_fairness.specs.Lists.{lists_that}
+use Rattle.nanorand_fairness.specs.Lists.{lists_that, number_by_words}
 use Rattle.nanorand_fairness.proofs.lemmas.Sums.{sum-terms}
 use Rattle.nanorand_fairness.proofs.lemmas.DrawLists.{lists-same}
 
@@ -42,9 +41,10 @@ share-count runs events bits m weights i width some fits words =
 
 -- the lists that decide an item
 pub item-lists : (bits n : ℕ) (weights : List ℕ) (i : ℕ)
-    → lists_that bits n (λ words. passes (λ j. nat_eq j i) (option_map (item_at weights) (decided bits (sum weights) words)))
-    ≡ lists_that bits n (λ words. passes (λ k. nat_eq (item_at weights k) i) (decided bits (sum weights) words))
+    → let drawn = number_by_words bits (sum weights) in
+    lists_that bits n (λ words. passes (λ j. nat_eq j i) (option_map (item_at weights) (drawn words)))
+    ≡ lists_that bits n (λ words. passes (λ k. nat_eq (item_at weights k) i) (drawn words))
 item-lists bits n weights i =
-    lists-same bits n (λ words. cond (passes (λ j. nat_eq j i) (option_map (item_at weights) (decided bits (sum weights) words))) 1 0)
-    (λ words. cond (passes (λ k. nat_eq (item_at weights k) i) (decided bits (sum weights) words)) 1 0)
-    (λ words. ap (λ (b : Bool). cond b 1 0) (passes-map (item_at weights) i (decided bits (sum weights) words)))
+    lists-same bits n (λ words. cond (passes (λ j. nat_eq j i) (option_map (item_at weights) (number_by_words bits (sum weights) words))) 1 0)
+    (λ words. cond (passes (λ k. nat_eq (item_at weights k) i) (number_by_words bits (sum weights) words)) 1 0)
+    (λ words. ap (λ (b : Bool). cond b 1 0) (passes-map (item_at weights) i (number_by_words bits (sum weights) words)))
