@@ -2,4 +2,5 @@
 pub mod Lists
 pub mod InTurn
 pub mod Deals
+pub mod FullShuffles
 pub mod Samples

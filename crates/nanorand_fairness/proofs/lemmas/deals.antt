@@ -6,3 +6,4 @@ pub mod DealLists
 pub mod ExchangeLemmas
 pub mod ExchangeDeals
 pub mod ShareLemmas
+pub mod FullShuffleLemmas
