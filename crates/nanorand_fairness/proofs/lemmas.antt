@@ -4,6 +4,7 @@ pub mod DrawLists
 pub mod WordCounts
 pub mod FirstWords
 pub mod EventCounts
+pub mod NumberSums
 pub mod turns
 pub mod samples
 pub mod deals

@@ -3,7 +3,7 @@
 use Rattle.std.specs.Prelude.{◌≡◌, ◌≢◌, ℕ, ◌*◌, ◌^◌, ◌≤◌, ◌==◌, List, [], ◌∷◌, length, replicate}
 use Rattle.std.specs.Cmp.Lexicographic.{pointwise}
 use Rattle.nanorand_core.specs.samples.Samples.{factorial}
-use Rattle.nanorand_core.specs.shuffles.Arrangements.{rising}
+use Rattle.nanorand_core.specs.shuffles.Arrangements.{rising, IsArrangement}
 use Rattle.nanorand_core.specs.shuffles.Shuffles.{arranged}
 use Rattle.nanorand_fairness.specs.InTurn.{number_lists_that, quotas, word_lists_that}
 
@@ -13,9 +13,16 @@ choices_making order =
     let n = length order in
     number_lists_that (replicate n n) (λ choices. pointwise ◌==◌ (arranged choices (rising n)) order)
 
--- For three items or more, the n^n lists of choices cannot be shared equally by the n! orders.
+-- For three items or more, the n^n lists of choices cannot be shared equally by the n! orders: n!
+-- does not divide n^n.
 abbrev pub OrdersCannotShare : Type 0
 OrdersCannotShare = (n m : ℕ) → 3 ≤ n → n ^ n ≢ m * factorial n
+
+-- So not all orders of n items are made by equally many lists of choices.
+abbrev pub OrdersAreUnequal : Type 0
+OrdersAreUnequal =
+    (n m : ℕ) → 3 ≤ n
+    → ¬ ((order : List ℕ) → length order ≡ n → IsArrangement order → choices_making order ≡ m)
 
 -- Of the 27 lists of choices of three items, five exchange the first two items, and four move none.
 abbrev pub ThreeItemsPreferOrders : Type 0

@@ -4,7 +4,7 @@
 ghost use Rattle.nanorand_fairness.specs.Lists.{UndecidedListsAreFew, DrawsEndAtTheLimit, DrawsTakeFewWords, EventsInListsAreFair, RatiosInListsAreFair, WeightsInListsAreFair};
 ghost use Rattle.nanorand_fairness.specs.InTurn.{NumbersInTurnAreFair, RejectionsPreferNothing, NoListOfNumbersIsPreferred};
 ghost use Rattle.nanorand_fairness.specs.Deals.{DealsAreFair, ShufflesAreFair, NoDealIsPreferred, PartsAreEqual, SharesAreEqual, ShufflesDrawInTurn};
-ghost use Rattle.nanorand_fairness.specs.FullShuffles.{OrdersCannotShare, ThreeItemsPreferOrders, WordsPreferOrders};
+ghost use Rattle.nanorand_fairness.specs.FullShuffles.{OrdersCannotShare, OrdersAreUnequal, ThreeItemsPreferOrders, WordsPreferOrders};
 ghost use Rattle.nanorand_fairness.specs.Samples.{NoSetIsPreferred, SampledSetsAreFair, SamplesDrawInTurn};
 
 use nanorand_core::Rng;
@@ -97,12 +97,14 @@ pub fn shuffles_draw_in_turn<G: Rng<OUTPUT>, T, const OUTPUT: usize>()
 /// A shuffle whose partners are drawn from all indices, as `shuffles::shuffle_full` draws them,
 /// prefers orders.
 ///
-/// `shared`: for n of 3 or more, n^n is no multiple of n!. So the n^n lists of n choices cannot be
-/// shared equally by the n! orders. `three`: of the 27 lists of choices of three items, five exchange
-/// the first two items, and four move none. `words`: of the lists of n words, each list of choices is
-/// drawn by equally many, the n-th power of floor(2^64 / n). So words prefer orders as choices do.
+/// `shared`: for n of 3 or more, the number n^n of lists of choices is no multiple of the number n!
+/// of orders. `unequal`: so not all orders are made by equally many lists of choices. `three`: of the
+/// 27 lists of choices of three items, five exchange the first two items, and four move none.
+/// `words`: of the lists of n words, each list of choices is drawn by equally many, the n-th power of
+/// floor(2^64 / n). So words prefer orders as choices do.
 pub fn full_shuffles_prefer_orders()
     ensures shared { OrdersCannotShare }
+    ensures unequal { OrdersAreUnequal }
     ensures three { ThreeItemsPreferOrders }
     ensures words { WordsPreferOrders }
 {

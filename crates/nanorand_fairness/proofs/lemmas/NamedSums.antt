@@ -50,7 +50,7 @@ module _ (g : ℕ → Option ℕ) (size : ℕ) (F : Option ℕ → ℕ) where
       let here = one_more x xs (g x) refl (low x) in
       omega (arith, whole, nones, rest, here)
 
-same_number : (j k : ℕ) → nat_eq j k ≡ nat_eq k j
+pub same_number : (j k : ℕ) → nat_eq j k ≡ nat_eq k j
 same_number j k =
     elim (cases_eq j k) [
       | inl same ↦ rw (eq-eqb j k same, eq-eqb k j (sym same)) refl

@@ -7,3 +7,4 @@ pub mod ExchangeLemmas
 pub mod ExchangeDeals
 pub mod ShareLemmas
 pub mod FullShuffleLemmas
+pub mod EqualOrders

@@ -5,10 +5,14 @@ use Rattle.nanorand_core.specs.shuffles.Shuffles.{arranged}
 use Rattle.nanorand_core.specs.shuffles.Arrangements.{rising}
 use Rattle.nanorand_fairness.specs.InTurn.{word_lists_that}
 use Rattle.nanorand_fairness.proofs.lemmas.deals.FullShuffleLemmas.{no-multiple, full-sizes}
+use Rattle.nanorand_fairness.proofs.lemmas.deals.EqualOrders.{equal-shares}
 use Rattle.nanorand_fairness.proofs.laws.full_shuffles_prefer_orders.Goals as goal
 
 pub returns-clause-shared : goal.returns-clause-shared
 returns-clause-shared c = no-multiple
+
+pub returns-clause-unequal : goal.returns-clause-unequal
+returns-clause-unequal c = λ n m many equal. no-multiple n m many (equal-shares n m equal)
 
 pub returns-clause-three : goal.returns-clause-three
 returns-clause-three c = (refl, refl)
