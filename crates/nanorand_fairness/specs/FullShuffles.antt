@@ -24,7 +24,7 @@ OrdersAreUnequal =
     (n m : ℕ) → 3 ≤ n
     → ¬ ((order : List ℕ) → length order ≡ n → IsArrangement order → choices_making order ≡ m)
 
--- Of the 27 lists of choices of three items, five exchange the first two items, and four move none.
+-- Of the 27 lists of choices of three items, five exchange the first two, and four leave all in place.
 abbrev pub ThreeItemsPreferOrders : Type 0
 ThreeItemsPreferOrders =
     (choices_making (1 ∷ 0 ∷ 2 ∷ []) ≡ 5) × (choices_making (0 ∷ 1 ∷ 2 ∷ []) ≡ 4)

@@ -99,7 +99,7 @@ pub fn shuffles_draw_in_turn<G: Rng<OUTPUT>, T, const OUTPUT: usize>()
 ///
 /// `shared`: for n of 3 or more, the number n^n of lists of choices is no multiple of the number n!
 /// of orders. `unequal`: so not all orders are made by equally many lists of choices. `three`: of the
-/// 27 lists of choices of three items, five exchange the first two items, and four move none.
+/// 27 lists of choices of three items, five exchange the first two, and four leave all in place.
 /// `words`: of the lists of n words, each list of choices is drawn by equally many, the n-th power of
 /// floor(2^64 / n). So words prefer orders as choices do.
 pub fn full_shuffles_prefer_orders()
