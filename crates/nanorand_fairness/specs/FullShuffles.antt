@@ -1,5 +1,5 @@
--- Shuffles whose partners are drawn from all indices, as `shuffle_full` draws them: some orders come
--- more often than others.
+-- Shuffles whose partners are drawn from all indices, as `shuffle_full` draws them: some orders
+-- come more often than others.
 use Rattle.std.specs.Prelude.{◌≡◌, ◌≢◌, ℕ, ◌*◌, ◌^◌, ◌≤◌, ◌==◌, List, [], ◌∷◌, length, replicate}
 use Rattle.std.specs.Cmp.Lexicographic.{pointwise}
 use Rattle.nanorand_core.specs.samples.Samples.{factorial}
@@ -11,7 +11,8 @@ use Rattle.nanorand_fairness.specs.InTurn.{number_lists_that, quotas, word_lists
 abbrev pub choices_making : List ℕ → ℕ
 choices_making order =
     let n = length order in
-    number_lists_that (replicate n n) (λ choices. pointwise ◌==◌ (arranged choices (rising n)) order)
+    number_lists_that (replicate n n)
+    (λ choices. pointwise ◌==◌ (arranged choices (rising n)) order)
 
 -- For three items or more, the n^n lists of choices cannot be shared equally by the n! orders: n!
 -- does not divide n^n.
@@ -24,12 +25,13 @@ OrdersAreUnequal =
     (n m : ℕ) → 3 ≤ n
     → ¬ ((order : List ℕ) → length order ≡ n → IsArrangement order → choices_making order ≡ m)
 
--- Of the 27 lists of choices of three items, five exchange the first two, and four leave all in place.
+-- Of the 27 lists of choices of three items, five exchange the first two, and four leave all in
+-- place.
 abbrev pub ThreeItemsPreferOrders : Type 0
 ThreeItemsPreferOrders =
     (choices_making (1 ∷ 0 ∷ 2 ∷ []) ≡ 5) × (choices_making (0 ∷ 1 ∷ 2 ∷ []) ≡ 4)
 
--- Words prefer orders as choices do: each list of choices is drawn by equally many lists of n words.
+-- Words prefer orders as choices do: each list of choices is drawn by equally many lists of words.
 abbrev pub WordsPreferOrders : Type 0
 WordsPreferOrders =
     (order : List ℕ) → let n = length order in n ≤ 2 ^ 64

@@ -15,10 +15,10 @@ use nanorand_core::laws::{
 /// How many words a bounded draw takes, for words of N = 8, 16, 32 and 64 bits and every size from 1
 /// to 2^N. So a number takes fewer than two words on average, and is refused very seldom.
 ///
-/// A draw decides by the first 128 words of a list. `undecided`: of the lists of n words, for n up to
-/// 128, it takes no number from exactly t^n, where t of the 2^N words are rejected. Of more words it
-/// takes 128, and is refused for t^128 lists of these, whatever the others are. `limit`: it takes at
-/// most 128 words. `few`: over all lists of n words, fewer than twice as many words are taken as
+/// A draw decides by the first 128 words of a list. `undecided`: of the lists of n words, for n up
+/// to 128, it takes no number from exactly t^n, where t of the 2^N words are rejected. Of more words
+/// it takes 128, and is refused for t^128 lists of these, whatever the others are. `limit`: it takes
+/// at most 128 words. `few`: over all lists of n words, fewer than twice as many words are taken as
 /// there are lists.
 pub fn words_of_a_draw()
     ensures undecided { UndecidedListsAreFew }
@@ -98,10 +98,10 @@ pub fn shuffles_draw_in_turn<G: Rng<OUTPUT>, T, const OUTPUT: usize>()
 /// prefers orders.
 ///
 /// `shared`: for n of 3 or more, the number n^n of lists of choices is no multiple of the number n!
-/// of orders. `unequal`: so not all orders are made by equally many lists of choices. `three`: of the
-/// 27 lists of choices of three items, five exchange the first two, and four leave all in place.
-/// `words`: of the lists of n words, each list of choices is drawn by equally many, the n-th power of
-/// floor(2^64 / n). So words prefer orders as choices do.
+/// of orders. `unequal`: so not all orders are made by equally many lists of choices. `three`: of
+/// the 27 lists of choices of three items, five exchange the first two, and four leave all in place.
+/// `words`: of the lists of n words, each list of choices is drawn by equally many, the n-th power
+/// of floor(2^64 / n). So words prefer orders as choices do.
 pub fn full_shuffles_prefer_orders()
     ensures shared { OrdersCannotShare }
     ensures unequal { OrdersAreUnequal }
