@@ -2,18 +2,20 @@
 ghost use Rattle.std.specs.Prelude.{◌≡◌, ℕ, ◌*◌, ◌<◌, ◌^◌, ◌==◌, Bool, List, [], ◌∷◌, length, is_none, option_map, count_by, OnOk};
 ghost use Rattle.std.specs.List.{list_all, list_any, range_with_len};
 ghost use Rattle.std.specs.Cmp.Lexicographic.{pointwise};
-ghost use Rattle.nanorand_core.specs.values.Draws.{deciding_place, decided, next_word, after_word, words_from};
+ghost use Rattle.nanorand_core.specs.values.Draws.{next_word, after_word, words_from};
 ghost use Rattle.nanorand_core.specs.values.Fairness.{passes};
 ghost use Rattle.nanorand_core.specs.choices.Weighted.{item_at};
-ghost use Rattle.nanorand_fairness.specs.Lists.{lists_that};
+ghost use Rattle.nanorand_core.specs.shuffles.Arrangements.{rising};
+ghost use Rattle.nanorand_core.specs.shuffles.Shuffles.{arranged};
+ghost use Rattle.nanorand_fairness.specs.Lists.{lists_that, number_by_words};
 ghost use Rattle.nanorand_fairness.specs.InTurn.{numbers_in_turn, word_lists_that};
 ghost use Rattle.nanorand_fairness.specs.Deals.{choices_by, deal_sizes, dealt, IsDeal};
 ghost use Rattle.nanorand_fairness.specs.Samples.{sample_by, sample_sizes};
 ghost use Rattle.nanorand.specs.generators.WyRand as wyrand;
 
 use nanorand::laws::{
-    fairness_with_rejections, partial_shuffles, sampled_sets_are_fair, samples_draw_in_turn,
-    shuffles_are_fair, shuffles_draw_in_turn, words_of_a_draw,
+    fairness_with_rejections, full_shuffles_prefer_orders, partial_shuffles, sampled_sets_are_fair,
+    samples_draw_in_turn, shuffles_are_fair, shuffles_draw_in_turn, words_of_a_draw,
     wyrand_words_are_not_equally_frequent,
 };
 use nanorand::samples::sample;
@@ -23,7 +25,7 @@ use nanorand::{RangeError, WyRand};
 /// A throw of a die is undecided after three bytes for 64 of the 2^24 lists: 4 of 256 bytes are
 /// rejected.
 pub fn throws_that_wait()
-    ensures { lists_that 8 3 (λ words. is_none (deciding_place 8 6 words)) ≡ 64 }
+    ensures { lists_that 8 3 (λ words. is_none (number_by_words 8 6 words)) ≡ 64 }
 {
     words_of_a_draw();
 }
@@ -32,8 +34,9 @@ pub fn throws_that_wait()
 /// the second.
 pub fn tiles_by_weight()
     ensures { let kind = option_map (item_at (6 ∷ 3 ∷ 1 ∷ [])) in
-        lists_that 64 10 (λ words. passes (λ j. j == 0) (kind (decided 64 10 words)))
-        ≡ 2 * lists_that 64 10 (λ words. passes (λ j. j == 1) (kind (decided 64 10 words))) }
+        let drawn = number_by_words 64 10 in
+        lists_that 64 10 (λ words. passes (λ j. j == 0) (kind (drawn words)))
+        ≡ 2 * lists_that 64 10 (λ words. passes (λ j. j == 1) (kind (drawn words))) }
 {
     fairness_with_rejections();
 }
@@ -56,6 +59,16 @@ pub fn cards_are_alike()
         ≡ deals (λ numbers. list_any (λ item. item == other) (dealt 5 52 numbers)) }
 {
     shuffles_are_fair();
+}
+
+/// If each of three cards changes places with any of the three, fewer lists of three words leave the
+/// cards in order than exchange the first two.
+pub fn orders_are_not_alike()
+    ensures { let makes = λ (order : List ℕ). word_lists_that 64 3 (3 ∷ 3 ∷ 3 ∷ [])
+        (λ choices. pointwise ◌==◌ (arranged choices (rising 3)) order) in
+        makes (0 ∷ 1 ∷ 2 ∷ []) < makes (1 ∷ 0 ∷ 2 ∷ []) }
+{
+    full_shuffles_prefer_orders();
 }
 
 /// Any three of ten entrants win by equally many lists of three words.
