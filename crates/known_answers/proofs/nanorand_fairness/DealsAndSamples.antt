@@ -1,11 +1,12 @@
--- Deals, samples and taken words of small lists.
-use Rattle.std.specs.Prelude.{◌≡◌, ◌==◌, true, [], ◌∷◌, map, refl}
+-- Deals, samples and taken words of small lists, and one draw at its limit.
+use Rattle.std.specs.Prelude.{◌≡◌, ◌==◌, Some, None, true, [], ◌∷◌, ◌++◌, map, replicate, refl}
 use Rattle.std.specs.List.{list_any}
 use Rattle.std.specs.Cmp.Lexicographic.{pointwise}
 use Rattle.nanorand_core.specs.values.Runs.{named}
-use Rattle.nanorand_fairness.specs.Lists.{sum_over_lists, words_taken}
+use Rattle.nanorand_fairness.specs.Lists.{sum_over_lists, number_by_words, words_taken}
 use Rattle.nanorand_fairness.specs.InTurn.{number_lists_that, word_lists_that}
 use Rattle.nanorand_fairness.specs.Deals.{choices_by, deal_sizes, dealt, deals_of}
+use Rattle.nanorand_fairness.specs.FullShuffles.{choices_making}
 use Rattle.nanorand_fairness.specs.Samples.{sample_by, sample_sizes}
 
 -- The numbers 2, 0, 0 choose the indices 2, 1, 2, which turns 0, 1, 2 round.
@@ -58,6 +59,17 @@ words_of_two : word_lists_that 2 3 (deal_sizes 2 3) (λ numbers. true) ≡ 60
 unfolding named sum_over_lists
 words_of_two = refl
 
+-- Choices from all indices: of 27 lists, five make each of three orders, and four each of the rest.
+made_by_five : map choices_making ((0 ∷ 2 ∷ 1 ∷ []) ∷ (1 ∷ 0 ∷ 2 ∷ []) ∷ (1 ∷ 2 ∷ 0 ∷ []) ∷ []) ≡ 5 ∷ 5 ∷ 5 ∷ []
+made_by_five = refl
+
+made_by_four : map choices_making ((0 ∷ 1 ∷ 2 ∷ []) ∷ (2 ∷ 0 ∷ 1 ∷ []) ∷ (2 ∷ 1 ∷ 0 ∷ []) ∷ []) ≡ 4 ∷ 4 ∷ 4 ∷ []
+made_by_four = refl
+
+-- Of two items, both orders come from two of four lists.
+made_by_two : map choices_making ((0 ∷ 1 ∷ []) ∷ (1 ∷ 0 ∷ []) ∷ []) ≡ 2 ∷ 2 ∷ []
+made_by_two = refl
+
 -- Three of five: 2 joins, then 3 in the place of a second 2, then 0.
 sample_of_three : sample_by 2 (2 ∷ 2 ∷ 0 ∷ []) [] ≡ 2 ∷ 3 ∷ 0 ∷ []
 sample_of_three = refl
@@ -73,3 +85,20 @@ taken_to_the_deciding_word = refl
 taken_in_vain : words_taken 8 3 (0 ∷ 0 ∷ []) ≡ 2
 unfolding named
 taken_in_vain = refl
+
+-- The last of 128 words still decides. After 128 rejected words no other is taken.
+last_word_decides : number_by_words 8 3 (replicate 127 0 ++ 255 ∷ 0 ∷ []) ≡ Some 2
+unfolding named
+last_word_decides = refl
+
+draw_refused : number_by_words 8 3 (replicate 128 0 ++ 255 ∷ 0 ∷ []) ≡ None
+unfolding named
+draw_refused = refl
+
+taken_by_the_last : words_taken 8 3 (replicate 127 0 ++ 255 ∷ 0 ∷ []) ≡ 128
+unfolding named
+taken_by_the_last = refl
+
+taken_in_a_refusal : words_taken 8 3 (replicate 128 0 ++ 255 ∷ 0 ∷ []) ≡ 128
+unfolding named
+taken_in_a_refusal = refl
