@@ -32,3 +32,15 @@ returns-clause-power g c k low is =
     let split : 2 ^ bits ≡ 2 ^ (bits - k) * 2 ^ k = (let sum : bits ≡ bits - k + k = omega (arith, low) in ap (λ (n : ℕ). 2 ^ n) sum) ∙ pow-add 2 (bits - k) k in
     let divides = ap (λ (n : ℕ). n % 2 ^ k) split ∙ mul-mod_left (2 ^ (bits - k)) (2 ^ k) in
     returns-clause-divisor g c (2 ^ k) is (pow_pos k) divides
+
+pub returns-clause-value : goal.returns-clause-value
+returns-clause-value g c = c.draw_number.ensures.value
+
+pub returns-clause-state : goal.returns-clause-state
+returns-clause-state g c = c.draw_number.ensures.state
+
+pub returns-clause-refusal : goal.returns-clause-refusal
+returns-clause-refusal g c = c.draw_number.ensures.refusal c.requires
+
+pub returns-clause-words : goal.returns-clause-words
+returns-clause-words g c = c.draw_number.ensures.words

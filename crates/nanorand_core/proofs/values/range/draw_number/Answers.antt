@@ -1,4 +1,4 @@
-use Rattle.std.proofs.Common.{◌+◌, ap, ◌∙◌, Ok, arith, ℕ, sym, rules}
+use Rattle.std.proofs.Common.{◌+◌, ap, ◌∙◌, Ok, arith, ℕ, sym, refl}
 use Rattle.std.proofs.lemmas.Bool.{leb-true, ltb-true}
 use Rattle.nanorand_core.proofs.lemmas.ranges.RangeLemmas.{range-empty, range-places, range-count, value-empty, left-empty, value-number, value-exhausted, left-drawn}
 use Rattle.nanorand_core.proofs.values.range.draw_number.Goals as goal
@@ -60,19 +60,43 @@ returns-in-None-clause-divisor g c none =
     let found = c.in-None.ensures.divisor (rw (c.BITS.ensures, ← count) none) in cc
 
 pub returns-then-end-first-clause-words : goal.returns-then-end-first-clause-words
-returns-then-end-first-clause-words g c = search rules
+returns-then-end-first-clause-words g c = (0, omega arith, refl)
 
 pub returns-then-end-first-clause-empty : goal.returns-then-end-first-clause-empty
-returns-then-end-first-clause-empty g c = search rules
+returns-then-end-first-clause-empty g c = λ _. refl
 
 pub draw_below-requires-clause-some : goal.draw_below-requires-clause-some
-draw_below-requires-clause-some g c = search rules
+draw_below-requires-clause-some g c = (let less = c.if-end-first.false in omega arith)
 
 pub returns-in-Some-clause-exhausted : goal.returns-in-Some-clause-exhausted
-returns-in-Some-clause-exhausted g c = search rules
+returns-in-Some-clause-exhausted g c = λ same. cc
 
 pub returns-in-Some-clause-refusal : goal.returns-in-Some-clause-refusal
-returns-in-Some-clause-refusal g c = search rules
+returns-in-Some-clause-refusal g c = λ _. tt
 
 pub returns-in-Some-clause-divisor : goal.returns-in-Some-clause-divisor
-returns-in-Some-clause-divisor g c = search rules
+returns-in-Some-clause-divisor g c = λ _. tt
+
+pub returns-in-Some-clause-words : goal.returns-in-Some-clause-words
+returns-in-Some-clause-words g c = rw (← c.BITS.ensures) c.draw_below.ensures.words
+
+pub returns-in-None-clause-words : goal.returns-in-None-clause-words
+returns-in-None-clause-words g c = rw (← c.BITS.ensures) c.draw_below.ensures.words
+
+pub returns-in-None-clause-refusal : goal.returns-in-None-clause-refusal
+returns-in-None-clause-refusal g c = λ _. refl
+
+pub returns-in-None-clause-some : goal.returns-in-None-clause-some
+returns-in-None-clause-some g c = λ k fits low high. refl
+
+pub returns-in-None-clause-empty : goal.returns-in-None-clause-empty
+returns-in-None-clause-empty g c = λ same. cc
+
+pub returns-in-Some-clause-empty : goal.returns-in-Some-clause-empty
+returns-in-Some-clause-empty g c = λ same. cc
+
+pub returns-in-Some-clause-some : goal.returns-in-Some-clause-some
+returns-in-Some-clause-some g c = λ k fits low high. tt
+
+pub returns-in-None-clause-exhausted : goal.returns-in-None-clause-exhausted
+returns-in-None-clause-exhausted g c = λ _. rw (← c.BITS.ensures) c.in-None.ensures.exhausted
