@@ -32,68 +32,48 @@ fn draw_of(alloc: Global, line: &str) -> Result<Draw, AllocError> {
     })
 }
 
-// Lines, and their texts. Those of numbers without a range are of answers/definitions.py; the first
-// bytes of ChaCha are published.
-const TEXTS: [(&str, &str); 20] = [
-    ("wyrand d29b42879be2895f plain 0", ""),
-    ("wyrand d29b42879be2895f plain 0002", "items: 0 1\n"),
-    (
-        "wyrand d29b42879be2895f plain 0 i8 i16 i32 i64 i128 isize u8 u16 u32 u64 u128 usize bool",
-        "-38\n-4820\n479898944\n-8288733542676170017\n2098628135384877439060602308257402762\n\
-         -2133170802787781948\n97\n32089\n102022102\n4256399017874265281\n\
-         310249160357949304646372891192473625865\n10150652904670825352\ntrue\n",
-    ),
-    ("wyrand D19B42879BE2895F plain 3 u8", "0\nitems: 0 1 2\n"),
-    (
-        "wyrand d29b42879be2895f buffered 0 u8 u8 u16",
-        "218\n40\n41140\n",
-    ),
-    (
-        "wyrand d19b42879be2895f plain 1 u8:5..5 shuffle",
-        "empty\nshuffled\nitems: 0\n",
-    ),
-    ("wyrand d29b42879be2895f plain 0 u16:000..01000", "159\n"),
-    ("wyrand d29b42879be2895f plain 0 u8:200..", "247\n"),
-    ("wyrand d29b42879be2895f plain 0 u8:..=0", "0\n"),
-    (
-        "wyrand d29b42879be2895f plain 0 u32:7..=7 u64:..1 usize:9..10",
-        "7\n0\n9\n",
-    ),
-    ("wyrand d29b42879be2895f plain 0 i8:..", "90\n"),
-    (
-        "wyrand d29b42879be2895f plain 0 i16:-0300..000300",
-        "-205\n",
-    ),
-    (
-        "wyrand d29b42879be2895f plain 0 i64:-0..1 isize:9223372036854775807.. i32:..=-2147483648",
-        "0\n9223372036854775807\n-2147483648\n",
-    ),
-    (
-        "pcg64 00000000000000000000000000000000 plain 0 u8 i16 bool",
-        "63\n-25903\nfalse\n",
-    ),
-    (
-        "pcg64 00000000000000000000000000000000 buffered 0 u8 u8 u16",
-        "63\n117\n16258\n",
-    ),
-    (
-        "chacha8 00000000000000000000000000000000000000000000000000000000000000000000000000000000 buffered 0 u8 u8 u8 u8",
-        "62\n0\n239\n47\n",
-    ),
-    (
-        "chacha12 00000000000000000000000000000000000000000000000000000000000000000000000000000000 buffered 0 u8 u8 u8 u8",
-        "155\n244\n154\n106\n",
-    ),
-    (
-        "chacha20 000102030405060708090a0b0c0d0e0f101112131415161718191a1b1c1d1e1f0001020304050607 plain 0 u8 u8 u8 u8",
-        "247\n56\n157\n14\n",
-    ),
-    (
-        "chacha20 00000000000000000000000000000000000000000000000000000000000000000000000000000000 buffered 3 shuffle",
-        "shuffled\nitems: 1 0 2\n",
-    ),
-    (LONGEST, LONGEST_TEXT),
-];
+// Lines, and their texts or what is said of a line that is refused; `|` ends a line. The texts of numbers
+// without a range are of answers/definitions.py; the first bytes of ChaCha are published.
+const ENDS: &str = "\
+wyrand d29b42879be2895f plain 0 > \n\
+wyrand d29b42879be2895f plain 0002 > items: 0 1|\n\
+wyrand d29b42879be2895f plain 0 i8 i16 i32 i64 i128 isize u8 u16 u32 u64 u128 usize bool > \
+-38|-4820|479898944|-8288733542676170017|2098628135384877439060602308257402762|\
+-2133170802787781948|97|32089|102022102|4256399017874265281|\
+310249160357949304646372891192473625865|10150652904670825352|true|\n\
+wyrand D19B42879BE2895F plain 3 u8 > 0|items: 0 1 2|\n\
+wyrand d29b42879be2895f buffered 0 u8 u8 u16 > 218|40|41140|\n\
+wyrand d19b42879be2895f plain 1 u8:5..5 shuffle > empty|shuffled|items: 0|\n\
+wyrand d29b42879be2895f plain 0 u16:000..01000 > 159|\n\
+wyrand d29b42879be2895f plain 0 u8:200.. > 247|\n\
+wyrand d29b42879be2895f plain 0 u8:..=0 > 0|\n\
+wyrand d29b42879be2895f plain 0 u32:7..=7 u64:..1 usize:9..10 > 7|0|9|\n\
+wyrand d29b42879be2895f plain 0 i8:.. > 90|\n\
+wyrand d29b42879be2895f plain 0 i16:-0300..000300 > -205|\n\
+wyrand d29b42879be2895f plain 0 i64:-0..1 isize:9223372036854775807.. i32:..=-2147483648 > \
+0|9223372036854775807|-2147483648|\n\
+pcg64 00000000000000000000000000000000 plain 0 u8 i16 bool > 63|-25903|false|\n\
+pcg64 00000000000000000000000000000000 buffered 0 u8 u8 u16 > 63|117|16258|\n\
+chacha8 00000000000000000000000000000000000000000000000000000000000000000000000000000000 \
+buffered 0 u8 u8 u8 u8 > 62|0|239|47|\n\
+chacha12 00000000000000000000000000000000000000000000000000000000000000000000000000000000 \
+buffered 0 u8 u8 u8 u8 > 155|244|154|106|\n\
+chacha20 000102030405060708090a0b0c0d0e0f101112131415161718191a1b1c1d1e1f0001020304050607 \
+plain 0 u8 u8 u8 u8 > 247|56|157|14|\n\
+chacha20 00000000000000000000000000000000000000000000000000000000000000000000000000000000 \
+buffered 3 shuffle > shuffled|items: 1 0 2|\n\
+> draw: bad word 1|\n\
+chacha10 d29b42879be2895f plain 0 > draw: bad word 1|\n\
+pcg64 d29b42879be2895f plain 0 > draw: bad word 2|\n\
+wyrand d29b42879be2895g plain 0 u8 > draw: bad word 2|\n\
+wyrand d29b42879be2895f neither 0 > draw: bad word 3|\n\
+wyrand d29b42879be2895f plain > draw: bad word 4|\n\
+wyrand d29b42879be2895f plain 1001 > draw: bad word 4|\n\
+wyrand d29b42879be2895f plain 0 Shuffle > draw: bad word 5|\n\
+wyrand d29b42879be2895f plain 0 u8 bool:.. > draw: bad word 6|\n\
+wyrand d29b42879be2895f plain 0 u8:0..256 > draw: bad word 5|\n\
+wyrand d29b42879be2895f plain 0 i8:-129..2 > draw: bad word 5|\n\
+wyrand d29b42879be2895f plain 0 u8 u8 u8 u8 u8 u8 u8 u9 u9 > draw: bad word 12|";
 
 // The longest line, and its text.
 const LONGEST: &str =
@@ -101,50 +81,21 @@ const LONGEST: &str =
 
 const LONGEST_TEXT: &str = "118\n12\n44512\nfalse\n";
 
-// Lines that are refused, and what is said of them.
-const BAD: [(&str, &str); 12] = [
-    ("", "draw: bad word 1\n"),
-    ("chacha10 d29b42879be2895f plain 0", "draw: bad word 1\n"),
-    ("pcg64 d29b42879be2895f plain 0", "draw: bad word 2\n"),
-    ("wyrand d29b42879be2895g plain 0 u8", "draw: bad word 2\n"),
-    ("wyrand d29b42879be2895f neither 0", "draw: bad word 3\n"),
-    ("wyrand d29b42879be2895f plain", "draw: bad word 4\n"),
-    ("wyrand d29b42879be2895f plain 1001", "draw: bad word 4\n"),
-    (
-        "wyrand d29b42879be2895f plain 0 Shuffle",
-        "draw: bad word 5\n",
-    ),
-    (
-        "wyrand d29b42879be2895f plain 0 u8 bool:..",
-        "draw: bad word 6\n",
-    ),
-    (
-        "wyrand d29b42879be2895f plain 0 u8:0..256",
-        "draw: bad word 5\n",
-    ),
-    (
-        "wyrand d29b42879be2895f plain 0 i8:-129..2",
-        "draw: bad word 5\n",
-    ),
-    (
-        "wyrand d29b42879be2895f plain 0 u8 u8 u8 u8 u8 u8 u8 u9 u9",
-        "draw: bad word 12\n",
-    ),
-];
-
 #[test]
 fn ends(rt: HostRuntime) -> Result<(), Fail> {
-    for (line, text) in TEXTS {
-        check_end(&rt, rt.alloc(), &draw_of(rt.alloc(), line)?, writes(text));
+    let mut rows = 0u64;
+    for row in ENDS.lines() {
+        let (line, text) = row.split_once("> ").unwrap_or_default();
+        let text = text.replace(rt.alloc(), "|", "\n")?;
+        let end = if text.starts_with("draw: ") {
+            refused(2, text.as_str())
+        } else {
+            writes(text.as_str())
+        };
+        check_end(&rt, rt.alloc(), &draw_of(rt.alloc(), line)?, end);
+        rows = rows.wrapping_add(1);
     }
-    for (line, error) in BAD {
-        check_end(
-            &rt,
-            rt.alloc(),
-            &draw_of(rt.alloc(), line)?,
-            refused(2, error),
-        );
-    }
+    equal(&rt, rows, 31);
     Ok(())
 }
 
@@ -209,49 +160,38 @@ fn memory_of_a_long_text(rt: HostRuntime) -> Result<(), Fail> {
     Ok(())
 }
 
-// Outcomes, their `Debug` texts, and the status and the line of each.
-const REPORTS: [(Result<(), DrawError>, &str, u8, &str); 5] = [
-    (Ok(()), "Ok(())", 0, ""),
-    (
-        Err(DrawError::BadWord(42)),
-        "Err(BadWord(42))",
-        2,
-        "draw: bad word 42\n",
-    ),
-    (
-        Err(DrawError::BadWord(usize::MAX)),
-        "Err(BadWord(18446744073709551615))",
-        2,
-        "draw: bad word 18446744073709551615\n",
-    ),
-    (
-        Err(DrawError::Memory),
-        "Err(Memory)",
-        3,
-        "draw: no memory\n",
-    ),
-    (
-        Err(DrawError::Write),
-        "Err(Write)",
-        4,
-        "draw: write failed\n",
-    ),
+// Outcomes.
+const OUTCOMES: [Result<(), DrawError>; 5] = [
+    Ok(()),
+    Err(DrawError::BadWord(42)),
+    Err(DrawError::BadWord(usize::MAX)),
+    Err(DrawError::Memory),
+    Err(DrawError::Write),
 ];
+
+// Of each its `Debug` text, its status and its line.
+const REPORTS: &str = r#"Ok(()) 0 ""
+Err(BadWord(42)) 2 "draw: bad word 42\n"
+Err(BadWord(18446744073709551615)) 2 "draw: bad word 18446744073709551615\n"
+Err(Memory) 3 "draw: no memory\n"
+Err(Write) 4 "draw: write failed\n"
+"#;
 
 // The status is the same if the line cannot be written. An outcome equals itself and no other.
 #[test]
 fn reports(rt: HostRuntime) -> Result<(), Fail> {
-    for (outcome, debug, status, line) in REPORTS {
-        let mut err = Vec::new(rt.alloc());
-        equal(&rt, report(outcome, &mut err), status);
-        equal(&rt, err.as_slice(), line.as_bytes());
+    let mut shown = String::new(rt.alloc());
+    for (place, outcome) in OUTCOMES.iter().enumerate() {
+        let mut line = Vec::new(rt.alloc());
+        let status = report(*outcome, &mut line);
+        let line = str::from_utf8(line.as_slice()).unwrap_or_default();
+        writeln!(shown, "{outcome:?} {status} {line:?}")?;
         let mut stuck = Pieces::honest(rt.alloc(), 0);
-        equal(&rt, report(outcome, &mut stuck), status);
-        let shown = format!(in rt.alloc(); "{outcome:?}")?;
-        equal(&rt, shown.as_str(), debug);
-        for (other, text, _, _) in REPORTS {
-            equal_at(&rt, outcome == other, debug == text, &debug);
+        equal(&rt, report(*outcome, &mut stuck), status);
+        for (other_place, other) in OUTCOMES.iter().enumerate() {
+            equal(&rt, outcome == other, place == other_place);
         }
     }
+    equal(&rt, shown.as_str(), REPORTS);
     Ok(())
 }

@@ -46,54 +46,51 @@ const NAMES: &str =
 const DRAWN: &str =
     "Katherine\nJun\nChidi\nFarid\nGrace\nAda\nLise\nDmitri\nElif\nBarbara\nInes\nHedy\n";
 
-// A seed, a count, a list, and what is drawn.
-const TEXTS: [(&str, &str, &str, &str); 8] = [
-    (THROWS, "all", NAMES, DRAWN),
-    (THROWS, "1", NAMES, "Katherine\n"),
-    (THROWS, "0003", NAMES, "Katherine\nJun\nChidi\n"),
-    (THROWS, "0", NAMES, ""),
-    ("seed", "all", "", ""),
-    ("seed", "3", "Ada\nAda\nLise", "Ada\nLise\nAda\n"),
-    ("--help", "all", "Zoë\r\n", "Zoë\r\n"),
-    ("抽選", "1", "\0 \t\u{85}", "\0 \t\u{85}\n"),
-];
-
-const USAGE: &str = "lots: usage: lots SEED COUNT|all < entrants\n";
-
-// Arguments, a list, and the status and the line of the refusal: of several the first that is found.
-const REFUSED: [(&[&str], &str, u8, &str); 10] = [
-    (&["seed"], "\n", 2, USAGE),
-    (&["seed", "all", "3"], "\n", 2, USAGE),
-    (&["", "9"], "\n", 2, USAGE),
-    (&["seed", "+1"], "\n", 2, USAGE),
-    (&["seed", "18446744073709551616"], "Ada\n", 2, USAGE),
-    (&["seed", "9"], "Ada\n\n", 4, "lots: line 2 is empty\n"),
-    (&["seed", "0"], "\n", 4, "lots: line 1 is empty\n"),
-    (&["seed", "1"], "", 3, "lots: 0 entrants, 1 asked for\n"),
-    (
-        &["seed", "013"],
-        NAMES,
-        3,
-        "lots: 12 entrants, 13 asked for\n",
-    ),
-    (
-        &["seed", "18446744073709551615"],
-        "Ada",
-        3,
-        "lots: 1 entrants, 18446744073709551615 asked for\n",
-    ),
-];
+// Arguments, separated by commas, a list, the status, and what is drawn or what is said: of several refusals
+// the first that is found. `/` ends a line.
+const ENDS: &str = "\
+4 1 6 3 3 2 5 6 1 4 2 6 5 3 1 1 6 2 4 5,all> \
+Ada/Barbara/Chidi/Dmitri/Elif/Farid/Grace/Hedy/Ines/Jun/Katherine/Lise/> \
+0> Katherine/Jun/Chidi/Farid/Grace/Ada/Lise/Dmitri/Elif/Barbara/Ines/Hedy/\n\
+4 1 6 3 3 2 5 6 1 4 2 6 5 3 1 1 6 2 4 5,1> \
+Ada/Barbara/Chidi/Dmitri/Elif/Farid/Grace/Hedy/Ines/Jun/Katherine/Lise/> 0> Katherine/\n\
+4 1 6 3 3 2 5 6 1 4 2 6 5 3 1 1 6 2 4 5,0003> \
+Ada/Barbara/Chidi/Dmitri/Elif/Farid/Grace/Hedy/Ines/Jun/Katherine/Lise/> 0> Katherine/Jun/Chidi/\n\
+4 1 6 3 3 2 5 6 1 4 2 6 5 3 1 1 6 2 4 5,0> Ada/Barbara/> 0> \n\
+seed,all> > 0> \n\
+seed,3> Ada/Ada/Lise> 0> Ada/Lise/Ada/\n\
+--help,all> Zoë\r/> 0> Zoë\r/\n\
+抽選,1> \0 \t\u{85}> 0> \0 \t\u{85}/\n\
+seed> /> 2> lots: usage: lots SEED COUNT|all < entrants/\n\
+seed,all,3> /> 2> lots: usage: lots SEED COUNT|all < entrants/\n\
+,9> /> 2> lots: usage: lots SEED COUNT|all < entrants/\n\
+seed,+1> /> 2> lots: usage: lots SEED COUNT|all < entrants/\n\
+seed,18446744073709551616> Ada/> 2> lots: usage: lots SEED COUNT|all < entrants/\n\
+seed,9> Ada//> 4> lots: line 2 is empty/\n\
+seed,0> /> 4> lots: line 1 is empty/\n\
+seed,1> > 3> lots: 0 entrants, 1 asked for/\n\
+seed,013> 1/2/3/4/5/6/7/8/9/10/11/12/> 3> lots: 12 entrants, 13 asked for/\n\
+seed,18446744073709551615> Ada> 3> lots: 1 entrants, 18446744073709551615 asked for/";
 
 #[test]
 fn ends(rt: HostRuntime) -> Result<(), Fail> {
-    for (seed, count, list, text) in TEXTS {
-        let program = lots_of(rt.alloc(), &[seed, count], list)?;
-        check_end(&rt, rt.alloc(), &program, writes(text));
+    let mut rows = 0u64;
+    for row in ENDS.lines() {
+        let (arguments, rest) = row.split_once("> ").unwrap_or_default();
+        let (list, rest) = rest.split_once("> ").unwrap_or_default();
+        let (status, text) = rest.split_once("> ").unwrap_or_default();
+        let arguments = arguments.split(',').collect::<Vec<&str>>(rt.alloc())?;
+        let list = list.replace(rt.alloc(), "/", "\n")?;
+        let text = text.replace(rt.alloc(), "/", "\n")?;
+        let end = match status.parse::<u8>() {
+            Ok(0) => writes(text.as_str()),
+            status => refused(status.unwrap_or_default(), text.as_str()),
+        };
+        let program = lots_of(rt.alloc(), arguments.as_slice(), list.as_str())?;
+        check_end(&rt, rt.alloc(), &program, end);
+        rows = rows.wrapping_add(1);
     }
-    for (arguments, list, status, line) in REFUSED {
-        let program = lots_of(rt.alloc(), arguments, list)?;
-        check_end(&rt, rt.alloc(), &program, refused(status, line));
-    }
+    equal(&rt, rows, 18);
     Ok(())
 }
 
@@ -225,61 +222,48 @@ fn failed_reads(rt: HostRuntime) -> Result<(), Fail> {
     Ok(())
 }
 
-// Outcomes, their `Debug` texts, and the status and the line of each.
-const REPORTS: [(Result<(), LotsError>, &str, u8, &str); 8] = [
-    (Ok(()), "Ok(())", 0, ""),
-    (Err(LotsError::Usage), "Err(Usage)", 2, USAGE),
-    (
-        Err(LotsError::TooFew {
-            entrants: 12,
-            count: usize::MAX,
-        }),
-        "Err(TooFew { entrants: 12, count: 18446744073709551615 })",
-        3,
-        "lots: 12 entrants, 18446744073709551615 asked for\n",
-    ),
-    (
-        Err(LotsError::EmptyLine(54321)),
-        "Err(EmptyLine(54321))",
-        4,
-        "lots: line 54321 is empty\n",
-    ),
-    (
-        Err(LotsError::Memory),
-        "Err(Memory)",
-        5,
-        "lots: no memory\n",
-    ),
-    (Err(LotsError::Read), "Err(Read)", 6, "lots: read failed\n"),
-    (
-        Err(LotsError::Write),
-        "Err(Write)",
-        7,
-        "lots: write failed\n",
-    ),
-    (
-        Err(LotsError::Exhausted),
-        "Err(Exhausted)",
-        8,
-        "lots: 128 words were rejected\n",
-    ),
+// Outcomes.
+const OUTCOMES: [Result<(), LotsError>; 8] = [
+    Ok(()),
+    Err(LotsError::Usage),
+    Err(LotsError::TooFew {
+        entrants: 12,
+        count: usize::MAX,
+    }),
+    Err(LotsError::EmptyLine(54321)),
+    Err(LotsError::Memory),
+    Err(LotsError::Read),
+    Err(LotsError::Write),
+    Err(LotsError::Exhausted),
 ];
+
+// Of each its `Debug` text, its status and its line.
+const REPORTS: &str = r#"Ok(()) 0 ""
+Err(Usage) 2 "lots: usage: lots SEED COUNT|all < entrants\n"
+Err(TooFew { entrants: 12, count: 18446744073709551615 }) 3 "lots: 12 entrants, 18446744073709551615 asked for\n"
+Err(EmptyLine(54321)) 4 "lots: line 54321 is empty\n"
+Err(Memory) 5 "lots: no memory\n"
+Err(Read) 6 "lots: read failed\n"
+Err(Write) 7 "lots: write failed\n"
+Err(Exhausted) 8 "lots: 128 words were rejected\n"
+"#;
 
 // The status is the same if the line cannot be written. An outcome equals itself and no other.
 #[test]
 fn reports(rt: HostRuntime) -> Result<(), Fail> {
-    for (outcome, debug, status, line) in REPORTS {
-        let mut err = Vec::new(rt.alloc());
-        equal(&rt, report(outcome, &mut err), status);
-        equal(&rt, err.as_slice(), line.as_bytes());
+    let mut shown = String::new(rt.alloc());
+    for (place, outcome) in OUTCOMES.iter().enumerate() {
+        let mut line = Vec::new(rt.alloc());
+        let status = report(*outcome, &mut line);
+        let line = str::from_utf8(line.as_slice()).unwrap_or_default();
+        writeln!(shown, "{outcome:?} {status} {line:?}")?;
         let mut stuck = Pieces::honest(rt.alloc(), 0);
-        equal(&rt, report(outcome, &mut stuck), status);
-        let shown = format!(in rt.alloc(); "{outcome:?}")?;
-        equal(&rt, shown.as_str(), debug);
-        for (other, text, _, _) in REPORTS {
-            equal_at(&rt, outcome == other, debug == text, &debug);
+        equal(&rt, report(*outcome, &mut stuck), status);
+        for (other_place, other) in OUTCOMES.iter().enumerate() {
+            equal(&rt, outcome == other, place == other_place);
         }
     }
+    equal(&rt, shown.as_str(), REPORTS);
     Ok(())
 }
 
