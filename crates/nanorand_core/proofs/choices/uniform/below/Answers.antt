@@ -1,10 +1,11 @@
-use Rattle.std.proofs.Common.{◌≡◌, ℕ, ◌+◌, ◌-◌, ◌*◌, ◌%◌, ◌^◌, ◌≤◌, Result, Ok, Err, length, refl, sym, ◌∙◌, ap, arith}
-use Rattle.std.specs.Result.{IfErr, IsOk}
+use Rattle.std.proofs.Common.{◌≡◌, ℕ, ◌+◌, ◌-◌, ◌*◌, ◌%◌, ◌^◌, ◌≤◌, Result, Ok, Err, length, refl, sym, ◌∙◌, ap, arith, Bool, true}
+use Rattle.std.specs.Result.{IfOk, IfErr, IsOk}
 use Rattle.std.specs.declared.ops.Bound.TheVariants.{Excluded, Unbounded}
 use Rattle.std.proofs.lemmas.Bool.{le-leb}
 use Rattle.std.proofs.lemmas.Nat.{pow-add, pow_pos}
 use Rattle.std.proofs.lemmas.Nat.Gcd.{dvd_of_mod-eq-zero, le_of_dvd}
 use Rattle.std.proofs.Math.Nat.{mul-mod_left}
+use Rattle.nanorand_core.specs.values.Range.{Admits}
 use Rattle.nanorand_core.specs.values.Runs.{rejected}
 use Rattle.nanorand_core.specs.declared.values.range.RangeError.{RangeError}
 use Rattle.nanorand_core.specs.declared.values.range.RangeError.TheVariants.{Empty, Exhausted}
@@ -32,6 +33,15 @@ returns-clause-power g c k low is =
     let split : 2 ^ bits ≡ 2 ^ (bits - k) * 2 ^ k = (let sum : bits ≡ bits - k + k = omega (arith, low) in ap (λ (n : ℕ). 2 ^ n) sum) ∙ pow-add 2 (bits - k) k in
     let divides = ap (λ (n : ℕ). n % 2 ^ k) split ∙ mul-mod_left (2 ^ (bits - k)) (2 ^ k) in
     returns-clause-divisor g c (2 ^ k) is (pow_pos k) divides
+
+-- what both bounds admit is below the upper one
+admitted-below : {T : Type 0} (le lt : T → T → Bool) (n : T) (result : Result T RangeError)
+    → IfOk result (Admits le lt Unbounded (Excluded n)) → IfOk result (λ number. lt number n ≡ true)
+admitted-below le lt n (Ok number) admitted = admitted.1
+admitted-below le lt n (Err refusal) admitted = tt
+
+pub returns-clause-below : goal.returns-clause-below
+returns-clause-below g c = admitted-below g.T.Number.le g.T.Number.lt c.args.n _ c.draw_number.ensures.within
 
 pub returns-clause-value : goal.returns-clause-value
 returns-clause-value g c = c.draw_number.ensures.value
