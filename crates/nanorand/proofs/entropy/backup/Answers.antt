@@ -1,8 +1,8 @@
-use Rattle.std.proofs.Common.{rules}
+use Rattle.std.proofs.Common.{refl}
 use Rattle.nanorand.proofs.entropy.backup.Goals as goal
 
 pub returns-clause-unavailable : goal.returns-clause-unavailable
-returns-clause-unavailable c = search rules
+returns-clause-unavailable c = refl
 
 pub returns-clause-same : goal.returns-clause-same
-returns-clause-same c = search rules
+returns-clause-same c = refl

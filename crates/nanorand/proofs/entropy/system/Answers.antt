@@ -1,4 +1,4 @@
-use Rattle.std.proofs.lemmas.Grind.{common_steps}
+use Rattle.std.proofs.lemmas.List.{take_all}
 use Rattle.std.proofs.Common.{◌≡◌, ℕ, ◌+◌, ◌-◌, ◌≤◌, List, ◌++◌, length, rules, take, drop, ap, sym, subst, ◌∙◌, le_refl, drop_at, length-take-le, arith}
 use Rattle.std.proofs.lemmas.Slice.{take-put_mid_below}
 use Rattle.std.proofs.KnownBytes.{Consumes-trans}
@@ -24,17 +24,21 @@ loop-filled-preserved g c =
     record {
       in_slice = search rules;
       so_far = subst (Consumes _ _) (sym part) (Consumes-trans _ _ _ _ _ loop.invariant.so_far c.in-Ok.ensures.bytes.0);
-      at_first = search rules;
+      at_first = λ none. absurd (c.in-Ok.count-test.1 (omega arith));
     }
 
 pub returns-in-Ok-eq0-clause-next : goal.returns-in-Ok-eq0-clause-next
-returns-in-Ok-eq0-clause-next g c = search rules
+returns-in-Ok-eq0-clause-next g c = tt
 
 pub returns-in-Err-clause-short : goal.returns-in-Err-clause-short
-returns-in-Err-clause-short g c = search rules
+returns-in-Err-clause-short g c = λ same. cc
 
 pub returns-in-Err-clause-error : goal.returns-in-Err-clause-error
 returns-in-Err-clause-error g c = search rules
 
 pub returns-clause-next : goal.returns-clause-next
-returns-clause-next g c = grind (arith, common_steps)
+returns-clause-next g c =
+    subst (Consumes _ _) (take_all c.loop-filled.filled c.loop-filled.out c.loop-filled-test.false) c.loop-filled.invariant.so_far
+
+pub returns-clause-unread : goal.returns-clause-unread
+returns-clause-unread g c = λ none. c.loop-filled.invariant.at_first (omega (arith, ap length none))

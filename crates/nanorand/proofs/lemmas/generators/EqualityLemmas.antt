@@ -4,7 +4,7 @@ use Rattle.std.proofs.lemmas.Bool.Decides.{Decides-eqb, Decides-and}
 use Rattle.nanorand_core.specs.generators.Equality.{DecidesEquality}
 use Rattle.nanorand.specs.generators.Pcg64.{Generator, same_generator}
 
-same_numbers : {g h : Generator} → g.seed ≡ h.seed → g.state ≡ h.state → g.inc ≡ h.inc → g ≡ h
+pub same_numbers : {g h : Generator} → g.seed ≡ h.seed → g.state ≡ h.state → g.inc ≡ h.inc → g ≡ h
 same_numbers s t e = λ i. record { seed = s i; state = t i; inc = e i }
 
 pub pcg64_equality : DecidesEquality same_generator

@@ -1,5 +1,6 @@
 use Rattle.std.proofs.Common.{◌≡◌, length, take, rules, ap, ◌∙◌}
-use Rattle.nanorand.specs.generators.ChaCha.{state_at, key_of, nonce_of, with_counter}
+use Rattle.nanorand.specs.generators.ChaCha.{counter, state_at, key_of, nonce_of, with_counter}
+use Rattle.nanorand.specs.support.ChaChaDrawLemmas.{counter-with_counter}
 use Rattle.nanorand.proofs.lemmas.chacha.SavedLemmas.{constants-state_at, key-state_at, nonce-state_at}
 use Rattle.nanorand.proofs.rand.chacha.ChaCha.at.Goals as goal
 
@@ -24,4 +25,5 @@ returns-clause-nonce g c =
     ap nonce_of (returns-clause-state g c) ∙ nonce-state_at c.args.key c.args.nonce c.args.index key nonce (search rules)
 
 pub returns-clause-counter : goal.returns-clause-counter
-returns-clause-counter g c = search rules
+returns-clause-counter g c =
+    ap counter c.set_counter.ensures ∙ counter-with_counter c.chacha_init-state.result c.args.index (search rules)

@@ -1,4 +1,4 @@
-use Rattle.std.proofs.Common.{◌≡◌, ap, sym, ◌∙◌, Some, arith, rules}
+use Rattle.std.proofs.Common.{◌≡◌, ap, sym, ◌∙◌, Some, arith, refl}
 use Rattle.std.proofs.lemmas.Bool.{false≢true}
 use Rattle.nanorand.specs.generators.Pcg64.{Generator, seed_after}
 use Rattle.nanorand.proofs.lemmas.cycles.ReachLemmas.{seed_after-only, reached-class}
@@ -18,7 +18,8 @@ returns-else-in_one_cycle-clause-only c n fits leads =
     absurd (false≢true (sym c.if-in_one_cycle.false ∙ c.in_one_cycle.ensures.1 class))
 
 pub returns-then-in_one_cycle-clause-reached : goal.returns-then-in_one_cycle-clause-reached
-returns-then-in_one_cycle-clause-reached c = search rules
+returns-then-in_one_cycle-clause-reached c =
+    (λ _. rw (← c.self.view_is, ← c.other.view_is) (c.in_one_cycle.ensures.0 c.if-in_one_cycle.true), λ _. refl)
 
 pub returns-then-in_one_cycle-clause-leads : goal.returns-then-in_one_cycle-clause-leads
-returns-then-in_one_cycle-clause-leads c = search rules
+returns-then-in_one_cycle-clause-leads c = rw (← c.self.view_is, ← c.other.view_is) c.draws_between.ensures.leads

@@ -1,5 +1,4 @@
-use Rattle.std.proofs.Common.{rules}
 use Rattle.nanorand.proofs.rand.pcg64.Pcg64Clone.clone.Goals as goal
 
 pub returns : goal.returns
-returns c = search rules
+returns c = record { cases = c.self.view_is }
