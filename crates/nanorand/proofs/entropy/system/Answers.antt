@@ -36,9 +36,9 @@ returns-in-Err-clause-short g c = λ same. cc
 pub returns-in-Err-clause-error : goal.returns-in-Err-clause-error
 returns-in-Err-clause-error g c = search rules
 
+pub returns-clause-unread : goal.returns-clause-unread
+returns-clause-unread g c = λ none. c.loop-filled.invariant.at_first (omega (arith, ap length none))
+
 pub returns-clause-next : goal.returns-clause-next
 returns-clause-next g c =
     subst (Consumes _ _) (take_all c.loop-filled.filled c.loop-filled.out c.loop-filled-test.false) c.loop-filled.invariant.so_far
-
-pub returns-clause-unread : goal.returns-clause-unread
-returns-clause-unread g c = λ none. c.loop-filled.invariant.at_first (omega (arith, ap length none))

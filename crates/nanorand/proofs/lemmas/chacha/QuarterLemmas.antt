@@ -1,10 +1,10 @@
 -- The steps of a quarter round and their inverses.
-use Rattle.std.proofs.Common.{◌≡◌, ℕ, ◌+◌, ◌-◌, ◌*◌, ◌/◌, ◌%◌, ◌^◌, ◌<◌, bit_or, bit_xor, arith, ap, add_comm, ◌∙◌}
+use Rattle.std.proofs.Common.{◌≡◌, ℕ, ◌+◌, ◌-◌, ◌*◌, ◌/◌, ◌%◌, ◌^◌, ◌<◌, bit_or, bit_xor, arith, ap, add_comm, refl, ◌∙◌}
 use Rattle.std.specs.Int.{w32, rotate_left, rotate_right}
 use Rattle.std.specs.Int.Bits.{xor_assoc, xor_self, xor_zero_r}
 use Rattle.std.proofs.lemmas.Nat.{or_comm, or_shifted, or_of_32, xor_of_32, mod-pow-add, shl-shr, pow-add, mul-add-lt, shr_below, shr_le, shr_high, mod_low, shr_split, mod_below, pow_pos}
 use Rattle.std.proofs.Math.Nat.{mul-mod_left}
-use Rattle.nanorand.specs.generators.ChaChaRounds.{add, xor_rotate}
+use Rattle.nanorand.specs.generators.ChaChaRounds.{add, xor_rotate, quarter_round}
 use Rattle.nanorand.specs.support.ChaChaInverse.{subtract, rotate_xor}
 
 -- a rotation of k + j bits by k to the left: the low j bits move above the others
@@ -110,3 +110,12 @@ add-lt a b = omega arith
 
 pub subtract-lt : (a b : ℕ) → subtract a b < 2 ^ 32
 subtract-lt a b = omega arith
+
+-- the eight steps of a quarter round, one after another
+pub quarter_made : (a b c d : ℕ) {a1 d1 c1 b1 a2 d2 c2 b2 : ℕ}
+    → a1 ≡ add a b → d1 ≡ xor_rotate d a1 16 → c1 ≡ add c d1 → b1 ≡ xor_rotate b c1 12
+    → a2 ≡ add a1 b1 → d2 ≡ xor_rotate d1 a2 8 → c2 ≡ add c1 d2 → b2 ≡ xor_rotate b1 c2 7
+    → (a2, b2, c2, d2) ≡ quarter_round (a, b, c, d)
+unfolding quarter_round
+quarter_made a b c d first_a first_d first_c first_b second_a second_d second_c second_b =
+    rw (second_b, second_c, second_d, second_a, first_b, first_c, first_d, first_a) refl

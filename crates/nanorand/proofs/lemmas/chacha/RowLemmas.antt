@@ -1,5 +1,5 @@
 -- Matrices in vectors: rows of four lanes, and four blocks at once.
-use Rattle.std.proofs.Common.{◌≡◌, ℕ, zero, suc, ◌<◌, ◌-◌, ◌*◌, ◌/◌, ◌%◌, ◌^◌, List, [], ◌∷◌, ◌++◌, length, slice_index, slice_index_or, map, bit_or, bit_xor, arith, lit<, refl, sym, ap, ◌∙◌}
+use Rattle.std.proofs.Common.{◌≡◌, ℕ, zero, suc, ◌+◌, ◌<◌, ◌-◌, ◌*◌, ◌/◌, ◌%◌, ◌^◌, List, [], ◌∷◌, ◌++◌, length, slice_index, slice_index_or, map, bit_or, bit_xor, arith, lit<, refl, sym, ap, ◌∙◌}
 use Rattle.std.specs.List.{range_with_len}
 use Rattle.std.specs.Fn.{iterate}
 use Rattle.std.specs.Simd.Lanes.{zip2}
@@ -90,6 +90,48 @@ upright x =
     ∷ slice_index x 7 ∷ slice_index x 4 ∷ slice_index x 5 ∷ slice_index x 6
     ∷ slice_index x 10 ∷ slice_index x 11 ∷ slice_index x 8 ∷ slice_index x 9
     ∷ slice_index x 13 ∷ slice_index x 14 ∷ slice_index x 15 ∷ slice_index x 12 ∷ []
+
+-- each lane of one row is the lane n further on in another, the first after the last
+abbrev Rotated : ℕ → List ℕ → List ℕ → Type 0
+Rotated n t row = (j : ℕ) → j < 4 → slice_index t j ≡ slice_index row ((n + j) % 4)
+
+pub rows_slanted : (rows : List (List ℕ)) (b c d : List ℕ)
+    → Rotated 1 b (slice_index_or rows 1 []) → Rotated 2 c (slice_index_or rows 2 []) → Rotated 3 d (slice_index_or rows 3 [])
+    → matrix (slice_index_or rows 0 [] ∷ b ∷ c ∷ d ∷ []) ≡ slanted (matrix rows)
+rows_slanted rows b c d hb hc hd =
+    rw (
+      hb 0 (lit< tt),
+      hb 1 (lit< tt),
+      hb 2 (lit< tt),
+      hb 3 (lit< tt),
+      hc 0 (lit< tt),
+      hc 1 (lit< tt),
+      hc 2 (lit< tt),
+      hc 3 (lit< tt),
+      hd 0 (lit< tt),
+      hd 1 (lit< tt),
+      hd 2 (lit< tt),
+      hd 3 (lit< tt),
+    ) refl
+
+pub rows_upright : (rows : List (List ℕ)) (b c d : List ℕ)
+    → Rotated 3 b (slice_index_or rows 1 []) → Rotated 2 c (slice_index_or rows 2 []) → Rotated 1 d (slice_index_or rows 3 [])
+    → matrix (slice_index_or rows 0 [] ∷ b ∷ c ∷ d ∷ []) ≡ upright (matrix rows)
+rows_upright rows b c d hb hc hd =
+    rw (
+      hb 0 (lit< tt),
+      hb 1 (lit< tt),
+      hb 2 (lit< tt),
+      hb 3 (lit< tt),
+      hc 0 (lit< tt),
+      hc 1 (lit< tt),
+      hc 2 (lit< tt),
+      hc 3 (lit< tt),
+      hd 0 (lit< tt),
+      hd 1 (lit< tt),
+      hd 2 (lit< tt),
+      hd 3 (lit< tt),
+    ) refl
 
 pub upright-columns : (f : Words → Words) (x m : List ℕ) → m ≡ on_columns f (slanted x) → upright m ≡ on_diagonals f x
 unfolding on_columns on_diagonals

@@ -1,17 +1,8 @@
-use Rattle.std.proofs.Common.{refl}
-use Rattle.nanorand.specs.generators.ChaChaRounds.{quarter_round}
+use Rattle.nanorand.proofs.lemmas.chacha.QuarterLemmas.{quarter_made}
 use Rattle.nanorand.proofs.crypto.chacha.lanes.quarter_round.Goals as goal
 
 pub returns : goal.returns
-unfolding quarter_round
 returns c j h =
-    rw (
-      c.xor_rotate-b2.ensures j h,
-      c.add-c2.ensures j h,
-      c.xor_rotate-d2.ensures j h,
-      c.add-a2.ensures j h,
-      c.xor_rotate-b1.ensures j h,
-      c.add-c1.ensures j h,
-      c.xor_rotate-d1.ensures j h,
-      c.add-a1.ensures j h,
-    ) refl
+    quarter_made _ _ _ _
+    (c.add-a1.ensures j h) (c.xor_rotate-d1.ensures j h) (c.add-c1.ensures j h) (c.xor_rotate-b1.ensures j h)
+    (c.add-a2.ensures j h) (c.xor_rotate-d2.ensures j h) (c.add-c2.ensures j h) (c.xor_rotate-b2.ensures j h)
