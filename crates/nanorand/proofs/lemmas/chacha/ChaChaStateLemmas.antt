@@ -2,7 +2,7 @@
 use Rattle.std.proofs.Common.{◌≡◌, ℕ, ◌+◌, ◌/◌, ◌%◌, ◌^◌, ◌≤◌, slice_index, List, [], ◌∷◌, length, drop, arith, refl, ap, sym, ◌∙◌}
 use Rattle.std.specs.Int.{w32, from_le_bytes}
 use Rattle.std.proofs.lemmas.List.{length-drop, drop-drop, drop_all}
-use Rattle.nanorand.specs.generators.ChaCha.{words, with_counter}
+use Rattle.nanorand.specs.generators.ChaCha.{words, initial_state, with_counter}
 use Rattle.nanorand.proofs.lemmas.chacha.MatrixLemmas.{sixteen}
 
 words-cons : (bs : List ℕ) → 4 ≤ length bs → words bs ≡ from_le_bytes w32 bs ∷ words (drop 4 bs)
@@ -37,6 +37,16 @@ words_of_32 bs h =
     (words_from bs 16 _ (omega arith) (words_from bs 20 _ (omega arith)
     (words_from bs 24 _ (omega arith) (words_from bs 28 _ (omega arith)
     (words_end bs 32 (omega arith)))))))))
+
+-- the words of the constants, of a key, of the counter 0 and of a nonce make the initial state
+pub initial_made : (key nonce : List ℕ) → length key ≡ 32 → length nonce ≡ 8 → {a b c d e f g h p q : ℕ}
+    → a ≡ word key 0 → b ≡ word key 4 → c ≡ word key 8 → d ≡ word key 12
+    → e ≡ word key 16 → f ≡ word key 20 → g ≡ word key 24 → h ≡ word key 28
+    → p ≡ word nonce 0 → q ≡ word nonce 4
+    → 0x61707865 ∷ 0x3320646e ∷ 0x79622d32 ∷ 0x6b206574 ∷ a ∷ b ∷ c ∷ d ∷ e ∷ f ∷ g ∷ h ∷ 0 ∷ 0 ∷ p ∷ q ∷ [] ≡ initial_state key nonce
+unfolding initial_state
+initial_made key nonce key_long nonce_long is_a is_b is_c is_d is_e is_f is_g is_h is_p is_q =
+    rw (words_of_32 key key_long, words_of_8 nonce nonce_long, is_a, is_b, is_c, is_d, is_e, is_f, is_g, is_h, is_p, is_q) refl
 
 -- a matrix with its counter set, word by word
 pub with_counter-spelled : (x : List ℕ) (n : ℕ) → length x ≡ 16
