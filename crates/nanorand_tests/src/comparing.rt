@@ -25,22 +25,22 @@ pub fn equal_at<T: PartialEq + Debug + Drop>(
     assert_eq!(rt; left, right, "{note}");
 }
 
-/// Ends the test unless this is the `Debug` text of the value.
-pub fn debug_is(
-    rt: &(impl Abort + AllocGlobal),
-    value: &impl Debug,
-    text: &str,
-) -> Result<(), AllocError> {
-    assert_eq!(rt; format!(in rt.alloc(); "{value:?}")?.as_str(), text);
-    Ok(())
-}
-
 /// Ends the test unless this is the `Display` text of the value.
 pub fn display_is(
     rt: &(impl Abort + AllocGlobal),
     value: &impl Display,
     text: &str,
 ) -> Result<(), AllocError> {
-    assert_eq!(rt; format!(in rt.alloc(); "{value}")?.as_str(), text);
+    let found = format!(in rt.alloc(); "{value}")?;
+    equal(rt, found.as_str(), text);
     Ok(())
+}
+
+/// Ends the test unless this is the `Debug` text of the value.
+pub fn debug_is(
+    rt: &(impl Abort + AllocGlobal),
+    value: &impl Debug,
+    text: &str,
+) -> Result<(), AllocError> {
+    display_is(rt, &format_args!("{value:?}"), text)
 }

@@ -5,4 +5,6 @@
 #[cfg(test)]
 mod comparing;
 #[cfg(test)]
+mod drawing;
+#[cfg(test)]
 mod tests;

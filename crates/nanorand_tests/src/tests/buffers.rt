@@ -1,30 +1,60 @@
 //! Buffered generators: each method once, buffers that are restored, and a buffer in a buffer.
 
 use crate::comparing::equal;
+use crate::drawing::{buffered_byte, buffered_bytes, each_byte};
 use nanorand::buffer::{RestTooLong, TextRefused};
 use nanorand::{Blocks, BufferedRng, ChaCha8, Rng, SeedableRng, WyRand};
 use nanorand_rows::{Steps, Waste};
+use std::alloc::AllocError;
 use std::io::Read;
 use std::process::Abort;
 use std::test::Fail;
 
-// The bytes 0, 1, 2, .. in turn by each method, from a buffer around new `Steps`.
-fn goes_on(rt: &(impl Abort + AllocGlobal), mut rng: BufferedRng<Steps, 8>) -> Result<(), Fail> {
-    equal(rt, rng.generate::<u8>(), 0);
-    equal(rt, rng.generate::<u16>(), 0x0201);
-    let mut two = [9u8; 2];
-    rng.fill(&mut two);
-    equal(rt, two, [3, 4]);
+// Text is refused, and the string is left as it was.
+fn gives_no_text<G: Rng<OUTPUT>, const OUTPUT: usize>(
+    rt: &(impl Abort + AllocGlobal),
+    rng: &mut BufferedRng<G, OUTPUT>,
+) -> Result<(), AllocError> {
     let mut text = String::from_str(rt.alloc(), "as it was")?;
-    equal(rt, rng.read_to_string(&mut text), Err(TextRefused));
-    equal(rt, text.as_str(), "as it was");
+    let outcome = rng.read_to_string(&mut text);
+    equal(
+        rt,
+        (outcome, text.as_str()),
+        (Err(TextRefused), "as it was"),
+    );
+    Ok(())
+}
+
+// The buffered bytes, and no more, are appended.
+fn gives_its_rest<G: Rng<OUTPUT>, const OUTPUT: usize>(
+    rt: &(impl Abort + AllocGlobal),
+    rng: &mut BufferedRng<G, OUTPUT>,
+    rest: &[u8],
+) -> Result<(), AllocError> {
     let mut out = Vec::new(rt.alloc());
-    equal(rt, rng.read_to_end(&mut out), Ok(3));
-    equal(rt, out.as_slice(), [5, 6, 7].as_slice());
+    let outcome = rng.read_to_end(&mut out);
+    equal(rt, (outcome, out.as_slice()), (Ok(rest.len()), rest));
+    Ok(())
+}
+
+// The bytes 0, 1, 2, .. in turn by each method, from a new buffer.
+fn draws_go_on<G: Rng<OUTPUT>, const OUTPUT: usize>(
+    rt: &impl Abort,
+    rng: &mut BufferedRng<G, OUTPUT>,
+) {
+    equal(rt, buffered_byte(rng), 0);
+    equal(rt, buffered_bytes(rng), [1, 2]);
+    equal(rt, each_byte(rng), [3, 4]);
+}
+
+fn goes_on(rt: &(impl Abort + AllocGlobal), mut rng: BufferedRng<Steps, 8>) -> Result<(), Fail> {
+    draws_go_on(rt, &mut rng);
+    gives_no_text(rt, &mut rng)?;
+    gives_its_rest(rt, &mut rng, &[5, 6, 7])?;
     equal(rt, rng.rand(), [8, 9, 10, 11, 12, 13, 14, 15]);
     let mut four = [9; 4];
-    equal(rt, rng.read(&mut four)?, 4);
-    equal(rt, four, [16, 17, 18, 19]);
+    let count = rng.read(&mut four)?;
+    equal(rt, (four, count), ([16, 17, 18, 19], 4));
     equal(rt, rng.buffered(), 4);
     equal(rt, rng.into_inner().drawn(), 3);
     Ok(())
@@ -39,19 +69,38 @@ fn requests_go_on(rt: HostRuntime) -> Result<(), Fail> {
 #[test]
 fn reseeded_behind_the_buffer(rt: HostRuntime) {
     let mut rng = BufferedRng::new(WyRand::new_seed(0x5f89e29b87429bd2));
-    equal(&rt, rng.generate::<[u8; 5]>(), [218, 40, 180, 160, 209]);
+    equal(&rt, buffered_bytes(&mut rng), [218, 40, 180, 160, 209]);
     rng.reseed([0xd3, 0x9b, 0x42, 0x87, 0x9b, 0xe2, 0x89, 0x5f]);
-    equal(&rt, rng.generate::<[u8; 4]>(), [126, 3, 231, 179]);
+    equal(&rt, buffered_bytes(&mut rng), [126, 3, 231, 179]);
 }
 
+// The outer buffer takes a whole block of the inner one, from its second byte on.
 #[test]
 fn a_buffer_in_a_buffer(rt: HostRuntime) {
     let mut once = BufferedRng::new(Steps::new());
-    equal(&rt, once.generate::<u8>(), 0);
+    equal(&rt, buffered_byte(&mut once), 0);
     let mut twice = BufferedRng::new(once);
-    equal(&rt, twice.generate::<u8>(), 1);
-    equal(&rt, twice.buffered(), 7);
+    equal(&rt, buffered_byte(&mut twice), 1);
     equal(&rt, twice.into_inner().buffered(), 7);
+}
+
+// The buffer made anew from its parts.
+fn restored<G: Rng<OUTPUT> + Drop, const OUTPUT: usize>(
+    rng: &BufferedRng<G, OUTPUT>,
+) -> Result<BufferedRng<G, OUTPUT>, Fail> {
+    let inner = rng.inner().clone()?;
+    Ok(BufferedRng::with_rest(inner, rng.rest()).or(Err("too long"))?)
+}
+
+// Two buffers give the same bytes, and keep the same.
+fn go_on_alike<G: Rng<OUTPUT> + Drop, const OUTPUT: usize>(
+    rt: &impl Abort,
+    mut one: BufferedRng<G, OUTPUT>,
+    mut other: BufferedRng<G, OUTPUT>,
+) {
+    let given: [u8; 150] = buffered_bytes(&mut one);
+    equal(rt, buffered_bytes(&mut other), given);
+    equal(rt, one.rest(), other.rest());
 }
 
 // With each number of buffered bytes, a clone and a buffer restored from its parts go on alike.
@@ -60,15 +109,8 @@ fn is_restored<G: Rng<OUTPUT> + Drop, const OUTPUT: usize>(
     mut rng: BufferedRng<G, OUTPUT>,
 ) -> Result<(), Fail> {
     for _ in 0..=OUTPUT {
-        let mut copy = rng.clone()?;
-        let inner = rng.inner().clone()?;
-        let mut restored = BufferedRng::with_rest(inner, rng.rest()).or(Err("too long"))?;
-        let (mut next, mut again) = ([0; 150], [1; 150]);
-        copy.fill_bytes(&mut next);
-        restored.fill_bytes(&mut again);
-        equal(rt, next.as_slice(), again.as_slice());
-        equal(rt, copy.rest(), restored.rest());
-        let _ = rng.generate::<u8>();
+        go_on_alike(rt, rng.clone()?, restored(&rng)?);
+        let _ = buffered_byte(&mut rng);
     }
     Ok(())
 }

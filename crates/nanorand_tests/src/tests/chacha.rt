@@ -47,22 +47,24 @@ fn published_blocks(rt: HostRuntime) -> Result<(), Fail> {
     Ok(())
 }
 
+// At a counter of these halves the generator and the block agree, and `next` is the counter after it.
+fn ends_at(rt: &impl Abort, counter: u64, halves: [u32; 2], next: u64) {
+    let mut state = chacha_init([0; 32], [0; 8]);
+    state[12] = halves[0];
+    state[13] = halves[1];
+    let mut generator = ChaCha20::at([0; 32], [0; 8], counter);
+    equal(rt, generator.rand(), bytes_of(&chacha_block::<20>(state)));
+    let is_next = generator == ChaCha20::at([0; 32], [0; 8], next);
+    let increments = chacha_increment_counter(&mut state);
+    equal(rt, (is_next, increments), (true, next != 0));
+}
+
 // When the low half of the counter overflows, the high half grows by one. After the greatest counter
 // the stream starts again, but `chacha_increment_counter` refuses.
 #[test]
 fn ends_of_the_counter(rt: HostRuntime) {
-    let mut state = chacha_init([0; 32], [0; 8]);
-    for (counter, halves, next) in [
-        (0xffff_ffff, [0xffff_ffff, 0], 1 << 32),
-        (u64::MAX, [0xffff_ffff, 0xffff_ffff], 0),
-    ] {
-        let mut generator = ChaCha20::at([0; 32], [0; 8], counter);
-        state[12] = halves[0];
-        state[13] = halves[1];
-        equal(&rt, generator.rand(), bytes_of(&chacha_block::<20>(state)));
-        assert!(rt; generator == ChaCha20::at([0; 32], [0; 8], next));
-        equal(&rt, chacha_increment_counter(&mut state), next != 0);
-    }
+    ends_at(&rt, 0xffff_ffff, [0xffff_ffff, 0], 1 << 32);
+    ends_at(&rt, u64::MAX, [0xffff_ffff, 0xffff_ffff], 0);
 }
 
 // The words of each quarter round: four columns, and then four diagonals.

@@ -1,7 +1,8 @@
 //! Clones that are not equal to their original, and a buffer around such a generator.
 
 use crate::comparing::{equal, equal_at};
-use nanorand::{BufferedRng, Rng};
+use crate::drawing::{buffered_byte, buffered_bytes};
+use nanorand::BufferedRng;
 use nanorand_rows::Forking;
 use nanorand_rows::generators::forking::{fill_from_clone, parts_of_clone};
 use std::test::Fail;
@@ -15,7 +16,7 @@ fn a_buffer_is_cloned_where_its_generator_is(rt: HostRuntime) {
         for buffered in [0, 7, 6, 5, 4, 3, 2, 1] {
             equal(&rt, rng.buffered(), buffered);
             equal_at(&rt, rng.clone().is_ok(), stream < 255, stream);
-            let _ = rng.generate::<u8>();
+            let _ = buffered_byte(&mut rng);
         }
     }
 }
@@ -24,13 +25,12 @@ fn a_buffer_is_cloned_where_its_generator_is(rt: HostRuntime) {
 #[test]
 fn a_clone_of_another_stream(rt: HostRuntime) -> Result<(), Fail> {
     let mut rng = BufferedRng::new(Forking::new(7));
-    let _ = rng.generate::<[u8; 5]>();
+    let _ = buffered_bytes::<5, _, 8>(&mut rng);
     let (buffered, inner) = parts_of_clone(&rng)?;
     equal(&rt, (buffered, inner.stream, inner.drawn), (3, 8, 1));
-    let mut bytes = [9; 6];
-    fill_from_clone(&rng, &mut bytes)?;
-    equal(&rt, bytes, [0, 7, 0, 8, 1, 8]);
-    rng.fill_bytes(&mut bytes);
-    equal(&rt, bytes, [0, 7, 0, 7, 1, 7]);
+    let mut filled = [9; 6];
+    fill_from_clone(&rng, &mut filled)?;
+    equal(&rt, filled, [0, 7, 0, 8, 1, 8]);
+    equal(&rt, buffered_bytes(&mut rng), [0, 7, 0, 7, 1, 7]);
     Ok(())
 }

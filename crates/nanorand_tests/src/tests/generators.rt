@@ -1,6 +1,7 @@
 //! The generators: seeds, clones and equality, and a value of each type.
 
 use crate::comparing::equal;
+use crate::drawing::{between, byte, bytes, each_byte, value};
 use nanorand::values::fill_with;
 use nanorand::{Blocks, BufferedRng, ChaCha20, Pcg64, Rng, SeedableRng, WyRand};
 use nanorand_rows::callers::examples::{byte_after_byte, deal, number, percent, seeded};
@@ -56,42 +57,42 @@ fn equal_seeds_give_equal_numbers(rt: HostRuntime) -> Result<(), Fail> {
 #[test]
 fn filled_slices(rt: HostRuntime) {
     let mut steps = Steps::new();
-    let mut bytes = [9u8; 3];
-    steps.fill(&mut bytes);
-    equal(&rt, bytes, [0, 8, 16]);
+    equal(&rt, each_byte(&mut steps), [0, 8, 16]);
     let mut calls = 0u8;
     let mut pairs = [(9u8, 9u16); 2];
     fill_with(&mut steps, &mut pairs, |rng: &mut Steps| {
         calls = calls.wrapping_add(1);
-        (rng.generate::<u8>(), rng.generate::<u16>())
+        (byte(rng), value::<u16, _, 8>(rng))
     });
     equal(&rt, pairs, [(24, 0x2120), (40, 0x3130)]);
     equal(&rt, calls, 2);
-    equal(&rt, steps.generate::<[u8; 3]>(), [56, 57, 58]);
+    equal(&rt, bytes(&mut steps), [56, 57, 58]);
 }
 
 // Requests waste blocks of this generator, but those of a buffer around it are for whole blocks.
 #[test]
 fn wasted_blocks(rt: HostRuntime) {
     let mut waste = Waste::new();
-    equal(&rt, waste.generate::<u8>(), 0);
-    equal(&rt, waste.generate::<u64>(), 0x1716151413121110);
-    equal(&rt, waste.generate::<u8>(), 24);
+    equal(&rt, byte(&mut waste), 0);
+    equal(&rt, bytes(&mut waste), [16, 17, 18, 19, 20, 21, 22, 23]);
+    equal(&rt, byte(&mut waste), 24);
     equal(&rt, waste.drawn(), 5);
-    let mut buffered = BufferedRng::new(Waste::new());
-    equal(&rt, buffered.generate::<u8>(), 0);
-    equal(&rt, buffered.generate::<u8>(), 1);
+    equal(&rt, each_byte(&mut BufferedRng::new(waste)), [40, 41]);
 }
 
-// The generator and the value type of a user, and what no clause of the callers says.
+// The generator and the value type of a user.
+#[test]
+fn of_a_user(rt: HostRuntime) {
+    let mut rng = SplitMix64::new(1_234_567);
+    equal(&rt, value::<u64, _, 8>(&mut rng), 6_457_827_717_110_365_317);
+    let (low, high) = (Card::new(1, 0), Card::new(2, 0));
+    let card = between(&mut rng, Bound::Included(low), Bound::Excluded(high));
+    equal(&rt, card.map(|card| card.suit()), Ok(1));
+}
+
+// What no clause of the callers says.
 #[test]
 fn callers(rt: HostRuntime) -> Result<(), Fail> {
-    let mut rng = SplitMix64::new(1_234_567);
-    equal(&rt, rng.generate::<u64>(), 6_457_827_717_110_365_317);
-    let (low, high) = (Card::new(1, 0), Card::new(2, 0));
-    let card = rng.generate_range(Bound::Included(low), Bound::Excluded(high));
-    equal(&rt, card.map(|card| card.suit()), Ok(1));
-
     equal(&rt, number(0x5f89e29b87429bd2), 16646288086500911322);
     let mut source = [0xd2u8, 0x9b, 0x42, 0x87, 0x9b, 0xe2, 0x89, 0x5f].as_slice();
     let mut wyrand = seeded(&mut source).or(Err("short"))?;

@@ -2,94 +2,122 @@
 
 use crate::comparing::{equal, equal_at};
 use nanorand::RangeError::{Empty, Exhausted};
-use nanorand::{RandomRange, RangeError, Rng};
+use nanorand::{RandomRange, RangeError};
 use nanorand_rows::{Script, Steps};
 use std::ops::Bound::{self, Excluded, Included, Unbounded};
+use std::process::Abort;
+
+// The types by whose own functions ranges are drawn. A bound by `RandomRange` would be proved of each type
+// with all that the trait promises, which takes ten times as long.
+trait Drawn: Copy + PartialEq {
+    // The draw from a generator of these words.
+    fn draw(words: &[u64], low: Bound<Self>, high: Bound<Self>) -> Result<Self, RangeError>;
+}
+
+impl Drawn for u8 {
+    fn draw(words: &[u64], low: Bound<u8>, high: Bound<u8>) -> Result<u8, RangeError> {
+        u8::random_range(&mut Script::new(words), low, high)
+    }
+}
+
+impl Drawn for u16 {
+    fn draw(words: &[u64], low: Bound<u16>, high: Bound<u16>) -> Result<u16, RangeError> {
+        u16::random_range(&mut Script::new(words), low, high)
+    }
+}
+
+impl Drawn for u32 {
+    fn draw(words: &[u64], low: Bound<u32>, high: Bound<u32>) -> Result<u32, RangeError> {
+        u32::random_range(&mut Script::new(words), low, high)
+    }
+}
+
+impl Drawn for u64 {
+    fn draw(words: &[u64], low: Bound<u64>, high: Bound<u64>) -> Result<u64, RangeError> {
+        u64::random_range(&mut Script::new(words), low, high)
+    }
+}
+
+impl Drawn for usize {
+    fn draw(words: &[u64], low: Bound<usize>, high: Bound<usize>) -> Result<usize, RangeError> {
+        usize::random_range(&mut Script::new(words), low, high)
+    }
+}
+
+impl Drawn for i8 {
+    fn draw(words: &[u64], low: Bound<i8>, high: Bound<i8>) -> Result<i8, RangeError> {
+        i8::random_range(&mut Script::new(words), low, high)
+    }
+}
+
+impl Drawn for i16 {
+    fn draw(words: &[u64], low: Bound<i16>, high: Bound<i16>) -> Result<i16, RangeError> {
+        i16::random_range(&mut Script::new(words), low, high)
+    }
+}
+
+impl Drawn for i32 {
+    fn draw(words: &[u64], low: Bound<i32>, high: Bound<i32>) -> Result<i32, RangeError> {
+        i32::random_range(&mut Script::new(words), low, high)
+    }
+}
+
+impl Drawn for i64 {
+    fn draw(words: &[u64], low: Bound<i64>, high: Bound<i64>) -> Result<i64, RangeError> {
+        i64::random_range(&mut Script::new(words), low, high)
+    }
+}
+
+impl Drawn for isize {
+    fn draw(words: &[u64], low: Bound<isize>, high: Bound<isize>) -> Result<isize, RangeError> {
+        isize::random_range(&mut Script::new(words), low, high)
+    }
+}
 
 // Whether the word 0 and the greatest word draw these from a range.
-fn draws<'a, T: RandomRange<Script<'a>, 8> + Copy + PartialEq + Drop>(
-    ones: &'a [u64],
+fn draws<T: Drawn + Drop>(
     low: Bound<T>,
     high: Bound<T>,
     by_least: Result<T, RangeError>,
     by_greatest: Result<T, RangeError>,
 ) -> bool {
-    Script::new(&[]).generate_range(low, high) == by_least
-        && Script::new(ones).generate_range(low, high) == by_greatest
+    T::draw(&[], low, high) == by_least && T::draw(&[u64::MAX], low, high) == by_greatest
 }
 
 // Of ranges at the least two numbers and at the greatest two. The word 0 is rejected if the range has
 // all numbers but one.
-fn all_draw<'a, T: RandomRange<Script<'a>, 8> + Copy + PartialEq + Drop>(
-    ones: &'a [u64],
-    least: T,
-    second: T,
-    before: T,
-    last: T,
-) -> [bool; 8] {
+fn all_draw<T: Drawn + Drop>(rt: &impl Abort, least: T, second: T, before: T, last: T) {
     let (none, rejected) = (Err(Empty), Err(Exhausted));
-    [
-        draws(ones, Unbounded, Unbounded, Ok(least), Ok(last)),
-        draws(
-            ones,
-            Included(least),
-            Excluded(second),
-            Ok(least),
-            Ok(least),
-        ),
-        draws(ones, Excluded(least), Unbounded, rejected, Ok(last)),
-        draws(ones, Excluded(least), Excluded(second), none, none),
-        draws(ones, Unbounded, Excluded(least), none, none),
-        draws(ones, Excluded(before), Included(last), Ok(last), Ok(last)),
-        draws(ones, Unbounded, Excluded(last), rejected, Ok(before)),
-        draws(ones, Excluded(last), Unbounded, none, none),
-    ]
+    let rows = [
+        draws(Unbounded, Unbounded, Ok(least), Ok(last)),
+        draws(Included(least), Excluded(second), Ok(least), Ok(least)),
+        draws(Excluded(least), Unbounded, rejected, Ok(last)),
+        draws(Excluded(least), Excluded(second), none, none),
+        draws(Unbounded, Excluded(least), none, none),
+        draws(Excluded(before), Included(last), Ok(last), Ok(last)),
+        draws(Unbounded, Excluded(last), rejected, Ok(before)),
+        draws(Excluded(last), Unbounded, none, none),
+    ];
+    equal(rt, rows, [true; 8]);
 }
 
 #[test]
 fn bounds_at_both_ends(rt: HostRuntime) {
-    let ones = [u64::MAX];
-    equal(&rt, all_draw::<u8>(&ones, 0, 1, 254, 255), [true; 8]);
-    equal(&rt, all_draw::<u16>(&ones, 0, 1, 65534, 65535), [true; 8]);
-    equal(
-        &rt,
-        all_draw(&ones, 0, 1, u32::MAX - 1, u32::MAX),
-        [true; 8],
-    );
-    equal(
-        &rt,
-        all_draw(&ones, 0, 1, u64::MAX - 1, u64::MAX),
-        [true; 8],
-    );
-    equal(
-        &rt,
-        all_draw(&ones, 0, 1, usize::MAX - 1, usize::MAX),
-        [true; 8],
-    );
-    equal(&rt, all_draw::<i8>(&ones, -128, -127, 126, 127), [true; 8]);
-    equal(
-        &rt,
-        all_draw::<i16>(&ones, -32768, -32767, 32766, 32767),
-        [true; 8],
-    );
-    let (least, last) = (i32::MIN, i32::MAX);
-    equal(
-        &rt,
-        all_draw(&ones, least, least + 1, last - 1, last),
-        [true; 8],
-    );
-    let (least, last) = (i64::MIN, i64::MAX);
-    equal(
-        &rt,
-        all_draw(&ones, least, least + 1, last - 1, last),
-        [true; 8],
-    );
+    all_draw::<u8>(&rt, 0, 1, 254, 255);
+    all_draw::<u16>(&rt, 0, 1, 65534, 65535);
+    all_draw(&rt, 0, 1, u32::MAX - 1, u32::MAX);
+    all_draw(&rt, 0, 1, u64::MAX - 1, u64::MAX);
+    all_draw(&rt, 0, 1, usize::MAX - 1, usize::MAX);
+}
+
+#[test]
+fn bounds_at_both_ends_with_signs(rt: HostRuntime) {
+    all_draw::<i8>(&rt, -128, -127, 126, 127);
+    all_draw::<i16>(&rt, -32768, -32767, 32766, 32767);
+    all_draw(&rt, i32::MIN, i32::MIN + 1, i32::MAX - 1, i32::MAX);
+    all_draw(&rt, i64::MIN, i64::MIN + 1, i64::MAX - 1, i64::MAX);
     let (least, last) = (isize::MIN, isize::MAX);
-    equal(
-        &rt,
-        all_draw(&ones, least, least + 1, last - 1, last),
-        [true; 8],
-    );
+    all_draw(&rt, least, least + 1, last - 1, last);
 }
 
 // The last of 128 words may decide. An empty range draws none.
@@ -102,12 +130,12 @@ fn words_drawn(rt: HostRuntime) {
     ] {
         let start = 0u64.wrapping_sub(zeros);
         let mut script = Script::from_block(&[1], start);
-        let answer = script.generate_range::<u8>(Included(10), Included(12));
+        let answer = u8::random_range(&mut script, Included(10), Included(12));
         equal_at(&rt, answer, number, zeros);
         equal_at(&rt, script.drawn().wrapping_sub(start), drawn, zeros);
     }
     let mut steps = Steps::new();
-    let empty = steps.generate_range::<i32>(Included(10), Included(5));
+    let empty = i32::random_range(&mut steps, Included(10), Included(5));
     equal(&rt, empty, Err(Empty));
     equal(&rt, steps.drawn(), 0);
 }

@@ -2,10 +2,11 @@
 ghost use Rattle.std.specs.Prelude.{◌≤◌};
 
 use crate::comparing::equal;
+use crate::drawing::bytes;
 use nanorand::shuffles::{
     NotArrangement, apply_choices, choices_of, partial_shuffle, shuffle_and_record, shuffle_full,
 };
-use nanorand::{BufferedRng, ChaCha8, Pcg64, Rng, WyRand};
+use nanorand::{BufferedRng, ChaCha8, Pcg64, RangeError, Rng, WyRand};
 use nanorand_rows::{Script, Waste};
 use std::alloc::AllocError;
 use std::process::Abort;
@@ -20,35 +21,68 @@ fn identity<const N: usize>() -> [usize; N] {
     items
 }
 
-// `shuffle`, `partial_shuffle` and `shuffle_and_record` do the same. The recorded choices make the same
-// order again, and are those of the order. `shuffle_full` leaves a permutation.
+// The answer and the items of a shuffle. The recorded choices make the same order again, and are those of
+// the order.
+fn recorded<G: Rng<OUTPUT>, const OUTPUT: usize, const N: usize>(
+    rt: &impl Abort,
+    rng: &mut G,
+) -> (Result<(), RangeError>, [usize; N])
+    requires { N ≤ 1000 }
+{
+    let (mut items, mut again) = (identity::<N>(), identity::<N>());
+    let mut choices = [9; N];
+    let answer = shuffle_and_record(rng, &mut items, &mut choices);
+    apply_choices(&choices, &mut again);
+    equal(rt, again, items);
+    let mut found = [9; N];
+    let outcome = choices_of(&items, &mut found, &mut [9; N]);
+    equal(rt, (outcome, found), (Ok(()), choices));
+    (answer, items)
+}
+
+// Clones of a generator shuffle alike by the three functions: the answers, the items and the next bytes are
+// the same. The items are returned.
+fn shuffled_alike<G: Rng<OUTPUT> + Drop, const OUTPUT: usize, const N: usize>(
+    rt: &impl Abort,
+    fresh: &G,
+) -> Result<[usize; N], AllocError>
+    requires { N ≤ 1000 }
+{
+    let (mut rng, mut other, mut third) = (fresh.clone()?, fresh.clone()?, fresh.clone()?);
+    let (mut others, mut thirds) = (identity::<N>(), identity::<N>());
+    let (answer, items) = recorded::<G, OUTPUT, N>(rt, &mut rng);
+    let next: [u8; 8] = bytes(&mut rng);
+    let by_shuffle = (other.shuffle(&mut others), bytes(&mut other));
+    equal(rt, by_shuffle, (answer, next));
+    let by_part = (
+        partial_shuffle(&mut third, &mut thirds, N),
+        bytes(&mut third),
+    );
+    equal(rt, by_part, (answer, next));
+    equal(rt, (others, thirds), (items, items));
+    Ok(items)
+}
+
+// `shuffle_full` leaves a permutation.
+fn permuted<G: Rng<OUTPUT> + Drop, const OUTPUT: usize, const N: usize>(
+    rt: &impl Abort,
+    fresh: &G,
+    mut items: [usize; N],
+) -> Result<(), AllocError> {
+    let _ = shuffle_full(&mut fresh.clone()?, &mut items);
+    items.sort_unstable();
+    equal(rt, items, identity::<N>());
+    Ok(())
+}
+
 fn alike<G: Rng<OUTPUT> + Drop, const OUTPUT: usize, const N: usize>(
     rt: &impl Abort,
     fresh: &G,
 ) -> Result<(), AllocError>
     requires { N ≤ 1000 }
 {
-    let (mut rng, mut other, mut third) = (fresh.clone()?, fresh.clone()?, fresh.clone()?);
-    let (mut items, mut others, mut thirds) = (identity::<N>(), identity::<N>(), identity::<N>());
-    let mut choices = [9; N];
-    let answer = shuffle_and_record(&mut rng, &mut items, &mut choices);
-    equal(rt, answer, other.shuffle(&mut others));
-    equal(rt, answer, partial_shuffle(&mut third, &mut thirds, N));
-    equal(rt, items, others);
-    equal(rt, items, thirds);
-    let number = rng.generate::<u64>();
-    equal(rt, other.generate::<u64>(), number);
-    equal(rt, third.generate::<u64>(), number);
-    let mut again = identity::<N>();
-    apply_choices(&choices, &mut again);
-    equal(rt, again, items);
-    let mut found = [9; N];
-    equal(rt, choices_of(&items, &mut found, &mut [9; N]), Ok(()));
-    equal(rt, found, choices);
-    let _ = shuffle_full(&mut rng, &mut again);
-    again.sort_unstable();
-    equal(rt, again, identity::<N>());
-    Ok(())
+    let items = shuffled_alike::<G, OUTPUT, N>(rt, fresh)?;
+    permuted(rt, fresh, items)
 }
 
 fn lengths_alike<G: Rng<OUTPUT> + Drop, const OUTPUT: usize>(
@@ -66,6 +100,11 @@ fn of_each_generator(rt: HostRuntime) -> Result<(), Fail> {
     lengths_alike(&rt, &WyRand::new_seed(42))?;
     lengths_alike(&rt, &Pcg64::new_seed(42))?;
     lengths_alike(&rt, &BufferedRng::new(ChaCha8::new_key([7; 32], [9; 8])))?;
+    Ok(())
+}
+
+#[test]
+fn of_generators_of_known_bytes(rt: HostRuntime) -> Result<(), Fail> {
     lengths_alike(&rt, &Waste::new())?;
     lengths_alike(&rt, &Script::new(&[u64::MAX, 1 << 63, 1, 77]))?;
     Ok(())

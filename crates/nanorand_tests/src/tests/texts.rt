@@ -16,18 +16,14 @@ fn has_texts<T: Debug + Display>(
     debug: &str,
     display: &str,
 ) -> Result<(), AllocError> {
-    let seven = format!(in rt.alloc(); "{debug}{debug}{debug}{debug}{debug}{debug}{debug}")?;
     let debugs = format_args!(
         "{value:?}{value:#?}{value:+?}{value:0200?}{value:>200?}{value:.3?}{value:*^+#0200.3?}"
     );
-    display_is(rt, &debugs, seven.as_str())?;
-    let seven = format!(in rt.alloc();
-        "{display}{display}{display}{display}{display}{display}{display}"
-    )?;
+    display_is(rt, &debugs, debug.repeat(rt.alloc(), 7)?.as_str())?;
     let displays = format_args!(
         "{value}{value:#}{value:+}{value:0200}{value:>20}{value:.3}{value:*^+#0200.3}"
     );
-    display_is(rt, &displays, seven.as_str())
+    display_is(rt, &displays, display.repeat(rt.alloc(), 7)?.as_str())
 }
 
 // A generator at a counter. Its texts do not show the key or the nonce.
