@@ -13,5 +13,6 @@ mod ranges;
 mod refusals;
 mod replays;
 mod requests;
+mod runs;
 mod shuffles;
 mod texts;

@@ -9,7 +9,7 @@ use draw_core::DrawError;
 use draw_core::run::{report, run};
 use nanorand::{Rng, WyRand};
 use std::alloc::{AllocError, Allocator, Global};
-use std::io::Write;
+use std::io::{ErrorKind, Write};
 use std::test::Fail;
 
 // The program with its arguments.
@@ -177,7 +177,8 @@ Err(Memory) 3 "draw: no memory\n"
 Err(Write) 4 "draw: write failed\n"
 "#;
 
-// The status is the same if the line cannot be written. An outcome equals itself and no other.
+// The status is the same if the writer takes nothing of the line, or fails at once or after four bytes. An
+// outcome equals itself and no other.
 #[test]
 fn reports(rt: HostRuntime) -> Result<(), Fail> {
     let mut shown = String::new(rt.alloc());
@@ -186,8 +187,10 @@ fn reports(rt: HostRuntime) -> Result<(), Fail> {
         let status = report(*outcome, &mut line);
         let line = str::from_utf8(line.as_slice()).unwrap_or_default();
         writeln!(shown, "{outcome:?} {status} {line:?}")?;
-        let mut stuck = Pieces::honest(rt.alloc(), 0);
-        equal(&rt, report(*outcome, &mut stuck), status);
+        for (piece, failing) in [(0, 1), (1, 0), (1, 4)] {
+            let mut stuck = Pieces::failing(rt.alloc(), piece, failing, ErrorKind::BrokenPipe);
+            equal(&rt, report(*outcome, &mut stuck), status);
+        }
         for (other_place, other) in OUTCOMES.iter().enumerate() {
             equal(&rt, outcome == other, place == other_place);
         }

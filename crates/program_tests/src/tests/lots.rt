@@ -248,7 +248,8 @@ Err(Write) 7 "lots: write failed\n"
 Err(Exhausted) 8 "lots: 128 words were rejected\n"
 "#;
 
-// The status is the same if the line cannot be written. An outcome equals itself and no other.
+// The status is the same if the writer takes nothing of the line, or fails at once or after four bytes. An
+// outcome equals itself and no other.
 #[test]
 fn reports(rt: HostRuntime) -> Result<(), Fail> {
     let mut shown = String::new(rt.alloc());
@@ -257,8 +258,10 @@ fn reports(rt: HostRuntime) -> Result<(), Fail> {
         let status = report(*outcome, &mut line);
         let line = str::from_utf8(line.as_slice()).unwrap_or_default();
         writeln!(shown, "{outcome:?} {status} {line:?}")?;
-        let mut stuck = Pieces::honest(rt.alloc(), 0);
-        equal(&rt, report(*outcome, &mut stuck), status);
+        for (piece, failing) in [(0, 1), (1, 0), (1, 4)] {
+            let mut stuck = Pieces::failing(rt.alloc(), piece, failing, ErrorKind::BrokenPipe);
+            equal(&rt, report(*outcome, &mut stuck), status);
+        }
         for (other_place, other) in OUTCOMES.iter().enumerate() {
             equal(&rt, outcome == other, place == other_place);
         }
