@@ -75,13 +75,19 @@ fn reseeded_behind_the_buffer(rt: HostRuntime) {
 }
 
 // The outer buffer takes a whole block of the inner one, from its second byte on.
+fn goes_on_from_the_second_byte<G: Rng<8> + Drop>(
+    rt: &impl Abort,
+    mut twice: BufferedRng<BufferedRng<G, 8>, 8>,
+) {
+    equal(rt, buffered_byte(&mut twice), 1);
+    equal(rt, twice.into_inner().buffered(), 7);
+}
+
 #[test]
 fn a_buffer_in_a_buffer(rt: HostRuntime) {
     let mut once = BufferedRng::new(Steps::new());
     equal(&rt, buffered_byte(&mut once), 0);
-    let mut twice = BufferedRng::new(once);
-    equal(&rt, buffered_byte(&mut twice), 1);
-    equal(&rt, twice.into_inner().buffered(), 7);
+    goes_on_from_the_second_byte(&rt, BufferedRng::new(once));
 }
 
 // The buffer made anew from its parts.

@@ -5,6 +5,7 @@ use nanorand::choices::{WeightError, below, choose, choose_mut, choose_weighted,
 use nanorand::samples::sample;
 use nanorand::{RangeError, WyRand};
 use nanorand_rows::{Script, Steps};
+use std::process::Abort;
 use std::test::Fail;
 
 // Words, and which of five items each names.
@@ -16,23 +17,41 @@ const WORDS: [(u64, usize); 5] = [
     (u64::MAX, 4),
 ];
 
+const ITEMS: [u32; 5] = [10, 20, 30, 40, 50];
+
+// One number below five, and whether it is below two.
+fn draws_the_index(rt: &impl Abort, words: &[u64], index: usize) {
+    equal_at(rt, below(&mut Script::new(words), 5), Ok(index), index);
+    let truth = ratio(&mut Script::new(words), 2, 5);
+    equal_at(rt, truth, Ok(index < 2), index);
+}
+
+// The item there, and the index of a weight like each other.
+fn chooses_the_item(rt: &impl Abort, words: &[u64], index: usize) {
+    let item = choose(&mut Script::new(words), &ITEMS).ok();
+    equal_at(rt, item, ITEMS.get(index), index);
+    let weighted = choose_weighted(&mut Script::new(words), &[1, 1, 1, 1, 1]);
+    equal_at(rt, weighted, Ok(index), index);
+}
+
 // Of the items alone the chosen one is written.
+fn lends_the_item(rt: &impl Abort, words: &[u64], index: usize) -> Result<(), RangeError> {
+    let (mut items, mut expected) = (ITEMS, ITEMS);
+    *choose_mut(&mut Script::new(words), &mut items)? = 99;
+    if let Some(item) = expected.get_mut(index) {
+        *item = 99;
+    }
+    equal_at(rt, items, expected, index);
+    Ok(())
+}
+
 #[test]
 fn a_word_chooses_the_item(rt: HostRuntime) -> Result<(), RangeError> {
     for (word, index) in WORDS {
         let words = [word];
-        let mut items = [10, 20, 30, 40, 50];
-        equal_at(&rt, below(&mut Script::new(&words), 5), Ok(index), word);
-        let item = *choose(&mut Script::new(&words), &items)?;
-        equal_at(&rt, item, items[index], word);
-        let weighted = choose_weighted(&mut Script::new(&words), &[1, 1, 1, 1, 1]);
-        equal_at(&rt, weighted, Ok(index), word);
-        let truth = ratio(&mut Script::new(&words), 2, 5);
-        equal_at(&rt, truth, Ok(index < 2), word);
-        let mut expected = items;
-        expected[index] = 99;
-        *choose_mut(&mut Script::new(&words), &mut items)? = 99;
-        equal_at(&rt, items, expected, word);
+        draws_the_index(&rt, &words, index);
+        chooses_the_item(&rt, &words, index);
+        lends_the_item(&rt, &words, index)?;
     }
     Ok(())
 }

@@ -2,7 +2,7 @@
 
 use crate::comparing::{equal, equal_at};
 use nanorand::entropy::{EntropyError, backup, rdseed, system};
-use nanorand::{ChaCha20, Pcg64, Rng, WyRand};
+use nanorand::{ChaCha20, Pcg64, RandomGen, WyRand};
 use nanorand_rows::generators::readers::Pieces;
 use std::alloc::AllocError;
 use std::io::ErrorKind;
@@ -54,9 +54,9 @@ fn number_of(made: Made, source: &mut Pieces) -> Result<u64, EntropyError> {
             system(source, &mut bytes)?;
             u64::from_le_bytes(bytes)
         }
-        Made::WyRand => WyRand::new(source)?.generate::<u64>(),
-        Made::Pcg64 => Pcg64::new(source)?.generate::<u64>(),
-        Made::ChaCha20 => ChaCha20::new(source)?.generate::<u64>(),
+        Made::WyRand => u64::random(&mut WyRand::new(source)?),
+        Made::Pcg64 => u64::random(&mut Pcg64::new(source)?),
+        Made::ChaCha20 => u64::random(&mut ChaCha20::new(source)?),
     })
 }
 
@@ -64,9 +64,9 @@ fn number_of(made: Made, source: &mut Pieces) -> Result<u64, EntropyError> {
 fn expected(made: Made) -> u64 {
     match made {
         Made::Bytes => 0x0807060504030201,
-        Made::WyRand => WyRand::new_seed(0x0807060504030201).generate::<u64>(),
-        Made::Pcg64 => Pcg64::new_seed(0x100f0e0d0c0b0a090807060504030201).generate::<u64>(),
-        Made::ChaCha20 => ChaCha20::new_key(KEY, NONCE).generate::<u64>(),
+        Made::WyRand => u64::random(&mut WyRand::new_seed(0x0807060504030201)),
+        Made::Pcg64 => u64::random(&mut Pcg64::new_seed(0x100f0e0d0c0b0a090807060504030201)),
+        Made::ChaCha20 => u64::random(&mut ChaCha20::new_key(KEY, NONCE)),
     }
 }
 
