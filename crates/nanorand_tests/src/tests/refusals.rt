@@ -18,6 +18,17 @@ fn full<A: Allocator>(alloc: A, count: usize) -> Result<Vec<u8, A>, AllocError> 
     Ok(out)
 }
 
+// This many sevens, and then these bytes.
+fn followed_by<A: Allocator>(
+    alloc: A,
+    count: usize,
+    bytes: &[u8],
+) -> Result<Vec<u8, A>, AllocError> {
+    let mut out = full(alloc, count)?;
+    out.extend_from_slice(bytes)?;
+    Ok(out)
+}
+
 // A refusal changes neither the vector nor its capacity.
 fn is_refused<G: Rng<OUTPUT>, const OUTPUT: usize, A: Allocator>(
     rt: &impl Abort,
@@ -51,8 +62,7 @@ fn is_refused_once<G: Rng<OUTPUT> + Drop, const OUTPUT: usize>(
     number: u64,
 ) -> Result<(), AllocError> {
     let before = full(rt.alloc(), count)?;
-    let mut after = full(rt.alloc(), count)?;
-    after.extend_from_slice(rng.rest())?;
+    let after = followed_by(rt.alloc(), count, rng.rest())?;
     let made = u64::from(count > 0);
     let heap = Refusing::nth(rt.alloc(), made.wrapping_add(number));
     let mut out = full(&heap, count)?;

@@ -8,22 +8,38 @@ use std::fmt::{Debug, Display};
 use std::process::Abort;
 use std::test::Fail;
 
-// The value has these texts, also in alternate form, with a sign, zeros in front, a width, an alignment,
-// a fill or a precision, and with all of them.
+// The value has this text, also in alternate form, with a sign, zeros in front, a width, an alignment, a fill
+// or a precision, and with all of them.
+fn has_debug_text<T: Debug>(
+    rt: &(impl Abort + AllocGlobal),
+    value: &T,
+    text: &str,
+) -> Result<(), AllocError> {
+    let texts = format_args!(
+        "{value:?}{value:#?}{value:+?}{value:0200?}{value:>200?}{value:.3?}{value:*^+#0200.3?}"
+    );
+    display_is(rt, &texts, text.repeat(rt.alloc(), 7)?.as_str())
+}
+
+fn has_display_text<T: Display>(
+    rt: &(impl Abort + AllocGlobal),
+    value: &T,
+    text: &str,
+) -> Result<(), AllocError> {
+    let texts = format_args!(
+        "{value}{value:#}{value:+}{value:0200}{value:>20}{value:.3}{value:*^+#0200.3}"
+    );
+    display_is(rt, &texts, text.repeat(rt.alloc(), 7)?.as_str())
+}
+
 fn has_texts<T: Debug + Display>(
     rt: &(impl Abort + AllocGlobal),
     value: &T,
     debug: &str,
     display: &str,
 ) -> Result<(), AllocError> {
-    let debugs = format_args!(
-        "{value:?}{value:#?}{value:+?}{value:0200?}{value:>200?}{value:.3?}{value:*^+#0200.3?}"
-    );
-    display_is(rt, &debugs, debug.repeat(rt.alloc(), 7)?.as_str())?;
-    let displays = format_args!(
-        "{value}{value:#}{value:+}{value:0200}{value:>20}{value:.3}{value:*^+#0200.3}"
-    );
-    display_is(rt, &displays, display.repeat(rt.alloc(), 7)?.as_str())
+    has_debug_text(rt, value, debug)?;
+    has_display_text(rt, value, display)
 }
 
 // A generator at a counter. Its texts do not show the key or the nonce.
