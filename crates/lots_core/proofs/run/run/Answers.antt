@@ -1,8 +1,31 @@
-use Rattle.std.proofs.Common.{rules, refl, Err, ap}
+use Rattle.std.proofs.Common.{◌≡◌, ◌∙◌, ◌++◌, ℕ, List, Option, None, Some, Result, Ok, Err, true, ap, refl, rules}
 use Rattle.std.proofs.lemmas.Result.{err_from_is_err_and}
+use Rattle.std.specs.Io.KnownBytes.{Appends, Keeps}
+use Rattle.std.specs.Prelude.{OnOk}
+use Rattle.std.specs.Result.{is_ok}
+use Rattle.lots_core.specs.Arguments.{texts}
+use Rattle.lots_core.specs.Text.{IsDrawn}
 use Rattle.lots_core.specs.declared.error.LotsError.TheVariants.{Usage, EmptyLine, Exhausted}
 use Rattle.lots_core.proofs.lemmas.ErrorLemmas.{passed_on}
 use Rattle.lots_core.proofs.run.run.Goals as goal
+
+-- What was written and then kept was appended.
+appended : (before written after : Option (List ℕ)) (bytes text : List ℕ)
+    → Appends before written bytes → Keeps written after → bytes ≡ text → Appends before after text
+appended None written after bytes text appends keeps same = tt
+appended (Some x) None after bytes text appends keeps same = absurd appends
+appended (Some x) (Some y) None bytes text appends keeps same = absurd keeps
+appended (Some x) (Some y) (Some z) bytes text appends keeps same = keeps ∙ appends ∙ ap (λ l. x ++ l) same
+
+-- A text that was written is the one that was drawn.
+drawn_and_written : {T U E F : Type 0} (wrote : Result T E) (outcome : Result U F) (arguments : List (List ℕ)) (unread rest : Option (List ℕ))
+    (text bytes : List ℕ) (before written after : Option (List ℕ)) → true ≡ is_ok wrote → OnOk wrote (Appends before written bytes)
+    → Keeps written after → bytes ≡ text → IsDrawn arguments unread rest text
+    → OnOk outcome ((text : List ℕ) × IsDrawn arguments unread rest text × Appends before after text)
+drawn_and_written (Err error) outcome arguments unread rest text bytes before written after is appends keeps same drawn = absurd (cc)
+drawn_and_written (Ok it) (Err error) arguments unread rest text bytes before written after is appends keeps same drawn = tt
+drawn_and_written (Ok it) (Ok done) arguments unread rest text bytes before written after is appends keeps same drawn =
+    (text, drawn, appended before written after bytes text appends keeps same)
 
 pub returns-in_err-text-clause-usage : goal.returns-in_err-text-clause-usage
 returns-in_err-text-clause-usage g c = λ is.
@@ -33,7 +56,12 @@ pub returns-in_err-map_err-clause-untouched : goal.returns-in_err-map_err-clause
 returns-in_err-map_err-clause-untouched g c = search rules
 
 pub returns-clause-drawn : goal.returns-clause-drawn
-returns-clause-drawn g c = search rules
+returns-clause-drawn g c =
+    let contents = g.W.Write.contents in
+    drawn_and_written c.write_all.result c.map_err-2.result (texts c.args.arguments.now) (g.R.Read.remaining c.args.input.now)
+    (g.R.Read.remaining c.text_asked.new.input) c.in_ok-text.text.items c.deref.result.now (contents c.args.out.now)
+    (contents c.write_all.new.self) (contents c.flush.new.self) c.in_ok-map_err.ensures.variant c.write_all.ensures.bytes
+    c.flush.ensures.bytes c.deref.ensures.value c.in_ok-text.ensures.drawn
 
 pub returns-clause-written : goal.returns-clause-written
 returns-clause-written g c = search rules

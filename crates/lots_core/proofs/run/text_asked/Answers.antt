@@ -1,4 +1,4 @@
-use Rattle.std.proofs.Common.{rules, ◌≡◌, ◌∙◌, sym, subst, Option, Some, None, Err, ok_or, IsSomeAnd, arith}
+use Rattle.std.proofs.Common.{rules, refl, ◌≡◌, ◌∙◌, sym, subst, Option, Some, None, Err, ok_or, IsSomeAnd, arith}
 use Rattle.lots_core.specs.Lists.{IsFirstEmpty, lines_of}
 use Rattle.lots_core.proofs.run.text_asked.Goals as goal
 
@@ -10,6 +10,9 @@ some_is_no_error P (Some it) refusal error there is = search (arith, is)
 pub returns-in_err-request-clause-usage : goal.returns-in_err-request-clause-usage
 returns-in_err-request-clause-usage g c = λ _ asked asks.
     some_is_no_error _ _ _ _ (c.read.ensures.only asked asks) (sym c.ok_or.ensures.value ∙ c.in_err-request.was)
+
+pub returns-in_err-request-clause-unread : goal.returns-in_err-request-clause-unread
+returns-in_err-request-clause-unread g c = λ _. refl
 
 pub returns-clause-empty : goal.returns-clause-empty
 returns-clause-empty g c = λ k is.
