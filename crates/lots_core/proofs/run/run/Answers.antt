@@ -10,8 +10,6 @@ use Rattle.lots_core.specs.Lists.{lines_of}
 use Rattle.lots_core.specs.Text.{IsDrawn, text_drawn}
 use Rattle.lots_core.specs.declared.arguments.Count.{Count}
 use Rattle.lots_core.specs.declared.arguments.Count.TheVariants.{All, Of}
-use Rattle.lots_core.specs.declared.error.LotsError.TheVariants.{Usage, EmptyLine, Exhausted}
-use Rattle.lots_core.proofs.lemmas.ErrorLemmas.{passed_on}
 use Rattle.lots_core.proofs.run.run.Goals as goal
 
 -- What was written and then kept was appended.
@@ -78,30 +76,23 @@ known_and_written (Ok it) (Ok done) arguments unread rest text bytes before writ
     (drawn.is ∙ ap (λ it. text_drawn it (lines_of drawn.list)) (one_asked arguments drawn.asked asked drawn.asks asks))
     (appended before written after bytes text appends keeps same)
 
-pub returns-in_err-text-clause-usage : goal.returns-in_err-text-clause-usage
-returns-in_err-text-clause-usage g c = λ is.
-    c.in_err-text.ensures.usage (ap Err (passed_on c.from_residual.result c.in_err-text.field-0.0 Usage c.from_residual.ensures.1 is))
-
-pub returns-in_err-text-clause-unread : goal.returns-in_err-text-clause-unread
-returns-in_err-text-clause-unread g c = λ is.
-    c.in_err-text.ensures.unread (ap Err (passed_on c.from_residual.result c.in_err-text.field-0.0 Usage c.from_residual.ensures.1 is))
-
-pub returns-in_err-text-clause-empty : goal.returns-in_err-text-clause-empty
-returns-in_err-text-clause-empty g c = λ k is.
-    c.in_err-text.ensures.empty k (ap Err (passed_on c.from_residual.result c.in_err-text.field-0.0 (EmptyLine k) c.from_residual.ensures.1 is))
-
-pub returns-in_err-text-clause-exhausted : goal.returns-in_err-text-clause-exhausted
-returns-in_err-text-clause-exhausted g c = λ is.
-    c.in_err-text.ensures.exhausted (ap Err (passed_on c.from_residual.result c.in_err-text.field-0.0 Exhausted c.from_residual.ensures.1 is))
-
-pub returns-in_err-text-clause-untouched : goal.returns-in_err-text-clause-untouched
-returns-in_err-text-clause-untouched g c = rw (err_from_is_err_and c.from_residual.result c.from_residual.ensures.1).1 (λ _. refl)
-
-pub returns-in_err-text-clause-drawn : goal.returns-in_err-text-clause-drawn
-returns-in_err-text-clause-drawn g c = rw (err_from_is_err_and c.from_residual.result c.from_residual.ensures.1).1 tt
-
-pub returns-in_err-text-clause-written : goal.returns-in_err-text-clause-written
-returns-in_err-text-clause-written g c = rw (err_from_is_err_and c.from_residual.result c.from_residual.ensures.1).1 tt
+pub returns-in_err-text : goal.returns-in_err-text
+returns-in_err-text g c =
+    let error = err_from_is_err_and c.from_residual.result c.from_residual.ensures.1 in
+    let made = error.1 in
+    let kept = error.2 in
+    record {
+      drawn = rw made tt;
+      written = rw made tt;
+      usage = λ failed. c.in_err-text.ensures.usage (cc);
+      unread = λ failed. c.in_err-text.ensures.unread (cc);
+      unreadable = λ none. let told = c.in_err-text.ensures.unreadable none in cc;
+      empty = λ k failed. c.in_err-text.ensures.empty k (cc);
+      few = λ n k failed. c.in_err-text.ensures.few n k (cc);
+      exhausted = λ failed. c.in_err-text.ensures.exhausted (cc);
+      write = λ failed. absurd (c.in_err-text.ensures.not_write (cc));
+      untouched = rw made (λ _. refl {a = c.args.out.now});
+    }
 
 pub returns-in_err-map_err-clause-untouched : goal.returns-in_err-map_err-clause-untouched
 returns-in_err-map_err-clause-untouched g c = search rules
