@@ -6,7 +6,7 @@ use Rattle.nanorand_core.specs.values.Runs.{named}
 use Rattle.nanorand_core.specs.values.Range.{unsigned_range, signed_range, range_within}
 use Rattle.nanorand_core.specs.values.Draws.{unsigned_outcome, signed_outcome, deciding_place, value_drawn, left_by, left_after, words_from}
 use Rattle.nanorand_core.specs.declared.values.range.RangeError.TheVariants.{Empty, Exhausted}
-use Rattle.known_answers.proofs.nanorand_core.SmallGenerators.{steps}
+use Rattle.known_answers.proofs.nanorand_core.SmallGenerators.{script, steps}
 
 -- the numbers that words of 8 bits name, for the sizes 3, 171 and 256
 thirds_of_a_byte : map (named 8 3) (0 ∷ 1 ∷ 85 ∷ 86 ∷ 170 ∷ 171 ∷ 255 ∷ []) ≡ None ∷ Some 0 ∷ Some 0 ∷ Some 1 ∷ Some 1 ∷ Some 2 ∷ Some 2 ∷ []
@@ -79,8 +79,8 @@ nothing_drawn : unsigned_outcome steps 8 0 (Included 5) (Excluded 5) ≡ (Err Em
 unfolding named range_within words_from value_drawn left_by left_after taken
 nothing_drawn = refl
 
--- i8 -1..=1 by the word 1, from a generator whose bytes are all 1
-least_by_one : signed_outcome (plain (λ n. replicate 8 1) (λ n. n + 1) 8) 8 0 (Included (negsuc 0)) (Included (pos 1)) ≡ (Ok (negsuc 0), 1)
+-- i8 -1..=1 by the word 1
+least_by_one : signed_outcome (script (1 ∷ [])) 8 0 (Included (negsuc 0)) (Included (pos 1)) ≡ (Ok (negsuc 0), 1)
 unfolding named range_within words_from value_drawn left_by left_after taken
 least_by_one = refl
 

@@ -1,17 +1,18 @@
 -- Known answers: whole types as ranges, how many numbers they have, the least and the greatest.
 use Rattle.std.proofs.Common.{◌≡◌, ℕ, ◌+◌, ◌-◌, ◌^◌, [], ◌∷◌, Ok, length, map, nat_le, nat_lt, refl, ap, ◌∙◌, inl, inr, arith, sym}
-use Rattle.std.specs.Prelude.{pos, negsuc, int_le, int_lt, replicate}
+use Rattle.std.specs.Prelude.{pos, negsuc, int_le, int_lt}
 use Rattle.std.specs.List.{range_with_len}
 use Rattle.std.specs.declared.ops.Bound.TheVariants.{Included, Excluded, Unbounded}
 use Rattle.std.proofs.lemmas.Bool.{cases_lt, le-leb, lt-leb, lt-ltb, le-ltb}
 use Rattle.std.proofs.lemmas.List.FromFn.{length-map-range_with_len}
 use Rattle.std.proofs.lemmas.Nat.{pow_pos}
-use Rattle.nanorand_core.specs.generators.Blocks.{taken, Requests, plain}
+use Rattle.nanorand_core.specs.generators.Blocks.{taken}
 use Rattle.nanorand_core.specs.values.Runs.{named}
 use Rattle.nanorand_core.specs.values.Range.{unsigned_number, signed_number, unsigned_range, signed_range}
 use Rattle.nanorand_core.specs.support.NumberOrderLemmas.{int_le-signed, int_lt-signed}
 use Rattle.nanorand_core.specs.values.Draws.{unsigned_outcome, range_outcome, words_from, value_drawn, left_by, left_after}
 use Rattle.nanorand_core.proofs.lemmas.ranges.RangeLemmas.{range-empty, range-places}
+use Rattle.known_answers.proofs.nanorand_core.SmallGenerators.{script}
 
 -- the unsigned and the signed type of `bits` bits have 2^bits numbers, in order of rank
 all_unsigned : (bits : ℕ) → unsigned_range bits Unbounded Unbounded ≡ map unsigned_number (range_with_len 0 (2 ^ bits))
@@ -85,16 +86,13 @@ up_to_seven k =
 just_seven : unsigned_range 64 (Included 7) (Included 7) ≡ 7 ∷ []
 just_seven = range-places nat_le nat_lt 64 unsigned_number (Included 7) (Included 7) 7 8 (λ k. refl) (λ k in_type. up_to_seven k) (omega arith) (omega arith)
 
-abbrev constant : ℕ → Requests ℕ
-constant byte = plain (λ n. replicate 8 byte) (λ n. n + 1) 8
-
-seven_by_zeros : unsigned_outcome (constant 0) 64 0 (Included 7) (Included 7) ≡ (Ok 7, 1)
+seven_by_zeros : unsigned_outcome (script (0 ∷ [])) 64 0 (Included 7) (Included 7) ≡ (Ok 7, 1)
 unfolding named words_from value_drawn left_by left_after taken
-seven_by_zeros = ap (λ numbers. range_outcome (constant 0) 64 numbers 0) just_seven ∙ refl
+seven_by_zeros = ap (λ numbers. range_outcome (script (0 ∷ [])) 64 numbers 0) just_seven ∙ refl
 
-seven_by_ones : unsigned_outcome (constant 255) 64 0 (Included 7) (Included 7) ≡ (Ok 7, 1)
+seven_by_ones : unsigned_outcome (script (255 ∷ [])) 64 0 (Included 7) (Included 7) ≡ (Ok 7, 1)
 unfolding named words_from value_drawn left_by left_after taken
-seven_by_ones = ap (λ numbers. range_outcome (constant 255) 64 numbers 0) just_seven ∙ refl
+seven_by_ones = ap (λ numbers. range_outcome (script (255 ∷ [])) 64 numbers 0) just_seven ∙ refl
 
 -- i32 10..=5 is empty, shown without a walk through the type
 up_to_five : (k : ℕ) → nat_le k (2 ^ 31 + 5) ≡ nat_lt k (2 ^ 31 + 6)

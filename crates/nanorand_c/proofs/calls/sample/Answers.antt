@@ -1,8 +1,9 @@
-use Rattle.std.proofs.Common.{rules}
+use Rattle.std.proofs.Common.{length, refl, rules}
+use Rattle.std.proofs.lemmas.Bool.{lt-ltb}
 use Rattle.nanorand_c.proofs.calls.sample.Goals as goal
 
 pub returns-then-count-places-clause-status : goal.returns-then-count-places-clause-status
-returns-then-count-places-clause-status g c = search rules
+returns-then-count-places-clause-status g c = rw (lt-ltb c.args.count (length c.args.places.now) c.if-count-places.true) refl
 
 pub returns-then-count-places-clause-places : goal.returns-then-count-places-clause-places
 returns-then-count-places-clause-places g c = search rules

@@ -1,4 +1,4 @@
-use Rattle.std.proofs.Common.{Err, ap, ◌∙◌, rules}
+use Rattle.std.proofs.Common.{Err, ap, ◌∙◌}
 use Rattle.nanorand_c.proofs.lots.nanorand_v1_lots_count.Goals as goal
 
 -- The number is that of the error.
@@ -8,4 +8,4 @@ returns-in-Err-EmptyLine-clause-empty c four =
     c.count_entrants.ensures.empty refused.line (refused.is ∙ ap Err refused.field-0-is)
 
 pub returns-in-Ok-clause-number : goal.returns-in-Ok-clause-number
-returns-in-Ok-clause-number c = search rules
+returns-in-Ok-clause-number c done = c.in-Ok.ensures.number

@@ -1,5 +1,4 @@
-use Rattle.std.proofs.Common.{rules}
 use Rattle.nanorand_c.proofs.lots.nanorand_v1_lots_digest.Goals as goal
 
 pub returns : goal.returns
-returns c = search rules
+returns c = c.digest.ensures
