@@ -8,7 +8,7 @@ ghost use Rattle.nanorand_core.specs.values.Values.{values_from};
 ghost use Rattle.nanorand_core.specs.declared.values.range.RangeError.TheVariants.{Exhausted};
 
 use crate::swap::swap;
-use crate::values::word::draw_below;
+use crate::values::word::{MAX_WORDS, draw_below, pick_below};
 use crate::values::{RandomGen, RandomRange, RangeError};
 use std::ops::Bound;
 
@@ -106,7 +106,7 @@ pub trait Rng<const OUTPUT: usize>: Clone + Blocks<OUTPUT> {
     ///
     /// It returns `Exhausted` if 128 words in a row were rejected for one index. The swaps before
     /// that stay, and so do all draws. An empty slice draws nothing.
-    final fn shuffle<T>(&mut self, target: &mut [T]) -> Result<(), RangeError>
+    fn shuffle<T>(&mut self, target: &mut [T]) -> Result<(), RangeError>
         ensures answer { result ≡ (shuffled requests from_itself self.old target.old).answer }
         ensures items { target.new ≡ (shuffled requests from_itself self.old target.old).items }
         ensures state { self.new ≡ (shuffled requests from_itself self.old target.old).state }
@@ -119,8 +119,19 @@ pub trait Rng<const OUTPUT: usize>: Clone + Blocks<OUTPUT> {
     {
         let count = target.len();
         for place in 0..count {
-            let partner = draw_partner(self, place, count)?;
-            swap(target, place, partner);
+            let left = (count - place) as u64;
+            let mut ahead = None;
+            let mut drawn = 0;
+            while ahead.is_none() & (drawn < MAX_WORDS) {
+                let mut word = [0; 8];
+                self.fill_bytes(&mut word);
+                ahead = pick_below(left, 64, u64::from_le_bytes(word));
+                drawn += 1;
+            }
+            match ahead {
+                Some(ahead) => swap(target, place, place + ahead as usize),
+                None => return Err(RangeError::Exhausted),
+            }
         }
         Ok(())
     }

@@ -7,7 +7,7 @@ use crate::rand::Rng;
 use crate::values::RandomGen;
 
 // The most words that are drawn for one number.
-const MAX_WORDS: usize = 128;
+pub(crate) const MAX_WORDS: usize = 128;
 
 /// The number below `size` that a word of `bits` bits names, or `None` if the word is rejected.
 ///
@@ -32,7 +32,7 @@ pub fn pick_word(size: u128, bits: u32, word: u64) -> Option<u64>
 
 // As `pick_word`, for a size that fits in 64 bits. Fewer than `size` words are rejected, so a low
 // part of at least `size` is accepted without computing how many.
-fn pick_below(size: u64, bits: u32, word: u64) -> Option<u64>
+pub(crate) fn pick_below(size: u64, bits: u32, word: u64) -> Option<u64>
     requires width { IsWordWidth bits }
     requires some { 1 ≤ size }
     requires within { size ≤ 2 ^ bits }

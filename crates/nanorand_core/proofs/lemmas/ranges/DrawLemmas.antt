@@ -117,6 +117,10 @@ module _ {G : Type 0} (word : G → ℕ) (after : G → G) (limit bits size : �
         },
       )
 
+  -- no word is drawn yet
+  pub no_word : Drawn None 0 g
+  no_word = (omega arith, start)
+
   pub first_word : (o : Option ℕ) (w : ℕ) → 0 < limit → w ≡ word g → named bits size w ≡ o → Drawn o 1 (after g)
   first_word o w some drawn is = drawn_next o 0 w g some start drawn is
 

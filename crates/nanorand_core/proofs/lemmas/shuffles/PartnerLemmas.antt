@@ -1,19 +1,40 @@
 -- Partners as draws from their ranges, and shuffles of no items and of three.
-use Rattle.std.proofs.Common.{◌≡◌, ℕ, ◌+◌, ◌-◌, ◌^◌, ◌<◌, ◌≤◌, List, [], ◌∷◌, Result, Ok, Err, length, map, min, nat_le, nat_lt, refl, ap, ◌∙◌}
+use Rattle.std.proofs.Common.{◌≡◌, ℕ, ◌+◌, ◌-◌, ◌^◌, ◌<◌, ◌≤◌, List, [], ◌∷◌, Some, None, Result, Ok, Err, length, map, min, nat_le, nat_lt, refl, ap, ◌∙◌, arith}
 use Rattle.std.specs.List.{range_with_len}
 use Rattle.nanorand_core.specs.generators.Blocks.{Requests}
 use Rattle.nanorand_core.specs.values.Range.{unsigned_number, unsigned_range}
-use Rattle.nanorand_core.specs.values.Draws.{range_outcome}
-use Rattle.nanorand_core.specs.shuffles.Shuffles.{partner_drawn, choices_from, shuffle_choices, shuffle_answer, shuffle_state, state_after_places}
+use Rattle.nanorand_core.specs.values.Draws.{word_limit, number_drawn, left_after, next_word, after_word, range_outcome}
+use Rattle.nanorand_core.specs.shuffles.Shuffles.{from_itself, partner_drawn, choices_from, shuffle_choices, shuffle_answer, shuffle_state, state_after_places}
 use Rattle.nanorand_core.specs.declared.values.range.RangeError.{RangeError}
 use Rattle.nanorand_core.specs.declared.values.range.RangeError.TheVariants.{Exhausted}
 use Rattle.std.specs.declared.ops.Bound.TheVariants.{Included, Excluded}
-use Rattle.nanorand_core.proofs.lemmas.ranges.RangeLemmas.{range-places}
+use Rattle.nanorand_core.proofs.lemmas.ranges.RangeLemmas.{range-places, value-number, value-exhausted, left-drawn}
 
 -- The numbers from a to b - 1, without a walk through all numbers of 64 bits.
 pub numbers_between : (a b : ℕ) → a < b → b ≤ 2 ^ 64 → unsigned_range 64 (Included a) (Excluded b) ≡ map unsigned_number (range_with_len a (b - a))
 numbers_between a b some within =
     range-places nat_le nat_lt 64 unsigned_number (Included a) (Excluded b) a b (λ k. refl) (λ k in_type. refl) within some
+
+-- the partner of index i, by a number drawn below the items that are left
+module _ {G : Type 0} (requests : Requests G) (n i : ℕ) (g : G) (low : i < n) (within : n ≤ 2 ^ 64) where
+  pub partner-number : (k : ℕ) → k < n - i
+      → Some k ≡ number_drawn (next_word requests 64) (after_word requests 64) word_limit 64 (n - i) g
+      → Ok (i + k) ≡ (partner_drawn requests from_itself n i g).0
+  unfolding partner_drawn
+  partner-number k below number =
+      value-number _ _ _ _ _ _ (omega arith) _ (numbers_between i n low within) _ k below number
+
+  pub partner-exhausted : None ≡ number_drawn (next_word requests 64) (after_word requests 64) word_limit 64 (n - i) g
+      → Err Exhausted ≡ (partner_drawn requests from_itself n i g).0
+  unfolding partner_drawn
+  partner-exhausted number =
+      value-exhausted _ _ _ _ _ _ (omega arith) _ (numbers_between i n low within) _ number
+
+  pub partner-state : (h : G) → h ≡ left_after (next_word requests 64) (after_word requests 64) word_limit 64 (n - i) g
+      → h ≡ (partner_drawn requests from_itself n i g).1
+  unfolding partner_drawn
+  partner-state h state =
+      left-drawn _ _ _ _ _ _ (omega arith) _ (numbers_between i n low within) _ h state
 
 -- what a shuffle makes: its result, its choices and the state that it leaves
 pub record Makes {G : Type 0} (requests : Requests G) (first : ℕ → ℕ) (n : ℕ) (g : G) (answer : Result (Unit {0}) RangeError) (choices : List ℕ) (left : G) : Type 0 where

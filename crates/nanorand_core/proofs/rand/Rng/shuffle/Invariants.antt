@@ -1,8 +1,18 @@
-use Rattle.std.proofs.Common.{length}
+use Rattle.std.proofs.Common.{◌-◌, length}
 use Rattle.nanorand_core.specs.shuffles.Shuffles.{from_itself}
+use Rattle.nanorand_core.specs.values.Draws.{next_word, after_word, word_limit}
+use Rattle.nanorand_core.proofs.lemmas.ranges.DrawLemmas.{Drawn}
 use Rattle.nanorand_core.proofs.lemmas.shuffles.ShuffleLemmas.{Shuffling}
 use Rattle.nanorand_core.proofs.rand.Rng.shuffle.Given as goal
 
 abbrev pub invariant-loop-place : goal.invariant-loop-place
 invariant-loop-place g l =
     Shuffling g.Self.Rng.requests from_itself (length l.fn.target) l.fn.target l.fn.self l.place l.self l.target
+
+-- every word so far was rejected, or the last one decided
+abbrev pub invariant-loop-drawn : goal.invariant-loop-drawn
+invariant-loop-drawn g l =
+    Drawn (next_word g.Self.Rng.requests 64) (after_word g.Self.Rng.requests 64) word_limit 64 l.left l.initial.self l.ahead l.drawn l.self
+
+abbrev pub decreases-loop-drawn : goal.decreases-loop-drawn
+decreases-loop-drawn g l = word_limit - l.drawn
