@@ -6,7 +6,7 @@ ghost use Rattle.nanorand_rows.specs.Waste.{waste_requests};
 
 use crate::Steps;
 use nanorand::rand::fill_by_blocks;
-use nanorand::{Blocks, RandomGen, Rng};
+use nanorand::{Blocks, RandomGen, RangeError, Rng};
 use std::alloc::AllocError;
 use std::marker::Model;
 
@@ -86,6 +86,11 @@ impl Rng<8> for Waste {
     // An override of a provided method has to keep the trait's clauses.
     fn generate<T: RandomGen<Waste, 8>>(&mut self) -> T {
         T::random(self)
+    }
+
+    // A shuffle requests words of eight bytes alone, and none of these requests drops a block.
+    fn shuffle<T>(&mut self, target: &mut [T]) -> Result<(), RangeError> {
+        self.steps.shuffle(target)
     }
 
     ghost delivers = { λ _ _. refl };
