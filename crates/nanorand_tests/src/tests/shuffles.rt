@@ -110,6 +110,19 @@ fn of_generators_of_known_bytes(rt: HostRuntime) -> Result<(), Fail> {
     Ok(())
 }
 
+// This generator has a `shuffle` of its own.
+#[test]
+fn of_a_generator_that_replaces_it(rt: HostRuntime) {
+    let mut waste = Waste::new();
+    let mut items = identity::<20>();
+    let answer = waste.shuffle(&mut items);
+    let order = [
+        0, 2, 3, 5, 6, 7, 9, 10, 11, 12, 13, 14, 15, 16, 1, 17, 18, 8, 19, 4,
+    ];
+    equal(&rt, (answer, items), (Ok(()), order));
+    equal(&rt, waste.drawn(), 20);
+}
+
 #[test]
 fn lists_that_are_no_arrangement(rt: HostRuntime) {
     for (order, made) in [
