@@ -12,7 +12,7 @@ pub mod pcg64;
 pub mod wyrand;
 
 use crate::swap::swap;
-use crate::values::word::draw_below;
+use crate::values::word::{draw_below, pick_below, MAX_WORDS};
 use crate::values::{RandomGen, RandomRange, RangeError};
 pub use chacha::{ChaCha, ChaCha12, ChaCha20, ChaCha8};
 use core::ops::RangeBounds;
@@ -110,8 +110,19 @@ pub trait Rng<const OUTPUT: usize>: Sized {
     fn shuffle<T>(&mut self, target: &mut [T]) -> Result<(), RangeError> {
         let count = target.len();
         for place in 0..count {
-            let partner = draw_partner(self, place, count)?;
-            swap(target, place, partner);
+            let left = (count - place) as u64;
+            let mut ahead = None;
+            let mut drawn = 0;
+            while ahead.is_none() & (drawn < MAX_WORDS) {
+                let mut word = [0; 8];
+                self.fill_bytes(&mut word);
+                ahead = pick_below(left, 64, u64::from_le_bytes(word));
+                drawn += 1;
+            }
+            match ahead {
+                Some(ahead) => swap(target, place, place + ahead as usize),
+                None => return Err(RangeError::Exhausted),
+            }
         }
         Ok(())
     }

@@ -7,7 +7,7 @@ use crate::rand::Rng;
 use crate::values::RandomGen;
 
 // The most words that are drawn for one number.
-const MAX_WORDS: usize = 128;
+pub(crate) const MAX_WORDS: usize = 128;
 
 /// The number below `size` that a word of `bits` bits names, or `None` if the word is rejected.
 ///
@@ -39,7 +39,7 @@ pub fn pick_word(size: u128, bits: u32, word: u64) -> Option<u64> {
 // As `pick_word`, for a size that fits in 64 bits. Fewer than `size` words are rejected, so a low
 // part of at least `size` is accepted without computing how many.
 #[inline(always)]
-fn pick_below(size: u64, bits: u32, word: u64) -> Option<u64> {
+pub(crate) fn pick_below(size: u64, bits: u32, word: u64) -> Option<u64> {
     let (number, low) = halves_of(size, bits, word);
     if low >= size || low >= rejected(size, bits) {
         Some(number)
