@@ -43,7 +43,8 @@ pub trait Blocks<const OUTPUT: usize> {
 ///
 /// To implement it, implement `Clone` and `Blocks`, write `fill_bytes`, define `requests` (the
 /// bytes that a request of n bytes takes, and the state that it leaves), and prove the three laws
-/// at the end of the trait. The other functions follow from these.
+/// at the end of the trait. The other functions follow from these, and each may be replaced by one
+/// with the same contract.
 pub trait Rng<const OUTPUT: usize>: Clone + Blocks<OUTPUT> {
     // The bytes that a request of n bytes takes, and the state that it leaves, for every n.
     ghost requests: { Requests Self };
