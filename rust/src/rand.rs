@@ -12,7 +12,7 @@ pub mod pcg64;
 pub mod wyrand;
 
 use crate::swap::swap;
-use crate::values::word::{draw_below, pick_below, MAX_WORDS};
+use crate::values::word::{draw_below, pick_below, pick_counted, rejected, MAX_WORDS};
 use crate::values::{RandomGen, RandomRange, RangeError};
 pub use chacha::{ChaCha, ChaCha12, ChaCha20, ChaCha8};
 use core::ops::RangeBounds;
@@ -111,13 +111,18 @@ pub trait Rng<const OUTPUT: usize>: Sized {
         let count = target.len();
         for place in 0..count {
             let left = (count - place) as u64;
-            let mut ahead = None;
-            let mut drawn = 0;
-            while ahead.is_none() & (drawn < MAX_WORDS) {
-                let mut word = [0; 8];
-                self.fill_bytes(&mut word);
-                ahead = pick_below(left, 64, u64::from_le_bytes(word));
-                drawn += 1;
+            let mut word = [0; 8];
+            self.fill_bytes(&mut word);
+            let mut ahead = pick_below(left, 64, u64::from_le_bytes(word));
+            if ahead.is_none() {
+                let rejects = rejected(left, 64);
+                let mut drawn = 1;
+                while ahead.is_none() & (drawn < MAX_WORDS) {
+                    let mut word = [0; 8];
+                    self.fill_bytes(&mut word);
+                    ahead = pick_counted(left, 64, rejects, u64::from_le_bytes(word));
+                    drawn += 1;
+                }
             }
             match ahead {
                 Some(ahead) => swap(target, place, place + ahead as usize),

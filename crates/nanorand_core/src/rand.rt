@@ -8,7 +8,7 @@ ghost use Rattle.nanorand_core.specs.values.Values.{values_from};
 ghost use Rattle.nanorand_core.specs.declared.values.range.RangeError.TheVariants.{Exhausted};
 
 use crate::swap::swap;
-use crate::values::word::{MAX_WORDS, draw_below, pick_below};
+use crate::values::word::{MAX_WORDS, draw_below, pick_below, pick_counted, rejected};
 use crate::values::{RandomGen, RandomRange, RangeError};
 use std::ops::Bound;
 
@@ -121,13 +121,18 @@ pub trait Rng<const OUTPUT: usize>: Clone + Blocks<OUTPUT> {
         let count = target.len();
         for place in 0..count {
             let left = (count - place) as u64;
-            let mut ahead = None;
-            let mut drawn = 0;
-            while ahead.is_none() & (drawn < MAX_WORDS) {
-                let mut word = [0; 8];
-                self.fill_bytes(&mut word);
-                ahead = pick_below(left, 64, u64::from_le_bytes(word));
-                drawn += 1;
+            let mut word = [0; 8];
+            self.fill_bytes(&mut word);
+            let mut ahead = pick_below(left, 64, u64::from_le_bytes(word));
+            if ahead.is_none() {
+                let rejects = rejected(left, 64);
+                let mut drawn = 1;
+                'others: while ahead.is_none() & (drawn < MAX_WORDS) {
+                    let mut word = [0; 8];
+                    self.fill_bytes(&mut word);
+                    ahead = pick_counted(left, 64, rejects, u64::from_le_bytes(word));
+                    drawn += 1;
+                }
             }
             match ahead {
                 Some(ahead) => swap(target, place, place + ahead as usize),

@@ -50,7 +50,7 @@ pub(crate) fn pick_below(size: u64, bits: u32, word: u64) -> Option<u64> {
 
 // As `pick_below`, where the number of rejected words is already computed.
 #[inline(always)]
-fn pick_counted(size: u64, bits: u32, rejects: u64, word: u64) -> Option<u64> {
+pub(crate) fn pick_counted(size: u64, bits: u32, rejects: u64, word: u64) -> Option<u64> {
     let (number, low) = halves_of(size, bits, word);
     (low >= rejects).then_some(number)
 }
@@ -64,7 +64,7 @@ fn halves_of(size: u64, bits: u32, word: u64) -> (u64, u64) {
 
 // How many words are rejected. If `size` is more than half of all words, this needs no division.
 #[inline(always)]
-fn rejected(size: u64, bits: u32) -> u64 {
+pub(crate) fn rejected(size: u64, bits: u32) -> u64 {
     let others = ((1u128 << bits) - u128::from(size)) as u64;
     if others < size {
         others

@@ -48,7 +48,7 @@ pub(crate) fn pick_below(size: u64, bits: u32, word: u64) -> Option<u64>
 }
 
 // As `pick_below`, where the number of rejected words is already computed.
-fn pick_counted(size: u64, bits: u32, rejects: u64, word: u64) -> Option<u64>
+pub(crate) fn pick_counted(size: u64, bits: u32, rejects: u64, word: u64) -> Option<u64>
     requires width { IsWordWidth bits }
     requires some { 1 ≤ size }
     requires fits { word < 2 ^ bits }
@@ -71,7 +71,7 @@ fn halves_of(size: u64, bits: u32, word: u64) -> (u64, u64)
 }
 
 // How many words are rejected. If `size` is more than half of all words, this needs no division.
-fn rejected(size: u64, bits: u32) -> u64
+pub(crate) fn rejected(size: u64, bits: u32) -> u64
     requires width { IsWordWidth bits }
     requires some { 1 ≤ size }
     requires within { size ≤ 2 ^ bits }

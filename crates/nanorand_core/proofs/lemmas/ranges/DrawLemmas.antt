@@ -117,10 +117,6 @@ module _ {G : Type 0} (word : G → ℕ) (after : G → G) (limit bits size : �
         },
       )
 
-  -- no word is drawn yet
-  pub no_word : Drawn None 0 g
-  no_word = (omega arith, start)
-
   pub first_word : (o : Option ℕ) (w : ℕ) → 0 < limit → w ≡ word g → named bits size w ≡ o → Drawn o 1 (after g)
   first_word o w some drawn is = drawn_next o 0 w g some start drawn is
 
@@ -142,6 +138,12 @@ module _ {G : Type 0} (word : G → ℕ) (after : G → G) (limit bits size : �
       }
   last_word None i now false d is test = absurd cc
   last_word (Some k) i now none d is test = d.1
+
+  -- the first word ends the draw if it decides
+  pub first_decides : (o : Option ℕ) (w : ℕ) (none : Bool) → 0 < limit → w ≡ word g → named bits size w ≡ o
+      → is_some o ≡ not none → none ≡ false → Ended o (after g)
+  first_decides o w none some drawn named_is is decided =
+      last_word o 1 (after g) none (first_word o w some drawn named_is) is (ap (λ b. b && nat_lt 1 limit) decided)
 
   -- at most `limit` words are drawn
   pub counted_words : (h : G) → h ≡ left_after word after limit bits size g → (n : ℕ) × (n ≤ limit) × (h ≡ iterate after n g)

@@ -9,10 +9,13 @@ abbrev pub invariant-loop-place : goal.invariant-loop-place
 invariant-loop-place g l =
     Shuffling g.Self.Rng.requests from_itself (length l.fn.target) l.fn.target l.fn.self l.place l.self l.target
 
--- every word so far was rejected, or the last one decided
-abbrev pub invariant-loop-drawn : goal.invariant-loop-drawn
-invariant-loop-drawn g l =
-    Drawn (next_word g.Self.Rng.requests 64) (after_word g.Self.Rng.requests 64) word_limit 64 l.left l.initial.self l.ahead l.drawn l.self
+-- the steps so far led to a state from which every word was rejected, or the last one decided
+abbrev pub invariant-others : goal.invariant-others
+invariant-others g l = record {
+  start : g.row.Self.Denot;
+  so_far : Shuffling g.Self.Rng.requests from_itself (length l.fn.target) l.fn.target l.fn.self l.place start l.target;
+  draw : Drawn (next_word g.Self.Rng.requests 64) (after_word g.Self.Rng.requests 64) word_limit 64 l.left start l.ahead l.drawn l.self;
+}
 
-abbrev pub decreases-loop-drawn : goal.decreases-loop-drawn
-decreases-loop-drawn g l = word_limit - l.drawn
+abbrev pub decreases-others : goal.decreases-others
+decreases-others g l = word_limit - l.drawn
