@@ -116,7 +116,8 @@ impl<G: Rng<OUTPUT>, const OUTPUT: usize> BufferedRng<G, OUTPUT> {
     /// Appends the buffered bytes alone to `out`, empties the buffer, and returns how many bytes it
     /// appended.
     ///
-    /// Nothing is drawn. If the buffer is empty, nothing is allocated and the call returns 0.
+    /// Nothing is drawn. If the buffer is empty, nothing is allocated, the vector keeps its capacity,
+    /// and the call returns 0.
     ///
     /// # Errors
     ///
@@ -128,6 +129,9 @@ impl<G: Rng<OUTPUT>, const OUTPUT: usize> BufferedRng<G, OUTPUT> {
         out: &mut std::vec::Vec<u8>,
     ) -> Result<usize, std::collections::TryReserveError> {
         let count = OUTPUT - self.cursor;
+        if count == 0 {
+            return Ok(0);
+        }
         let bytes = &self.block[..];
         out.try_reserve(count)?;
         // There is room now, so this never fails.

@@ -1,7 +1,7 @@
 //! Seeds from a reader of random bytes that the caller passes in.
-ghost use Rattle.std.specs.Prelude.{◌≡◌, ◌<◌, ◌⊎◌, length, [], None, IfErr, OnOk};
+ghost use Rattle.std.specs.Prelude.{◌≡◌, ◌<◌, ◌⊎◌, length, [], None, IfErr, OnOk, OnErr};
 ghost use Rattle.std.specs.Io.KnownBytes.{Consumes};
-ghost use Rattle.nanorand.specs.generators.Entropy.{HasFewer};
+ghost use Rattle.nanorand.specs.generators.Entropy.{HasFewer, TakesFewer};
 ghost use Rattle.nanorand.specs.declared.entropy.EntropyError.TheVariants.{Short, Fault};
 
 use std::io::Read;
@@ -28,8 +28,8 @@ pub enum EntropyError {
 /// pieces of any size. For an empty slice it returns `Ok` and reads nothing.
 ///
 /// It returns `Short` if the reader gave no byte before the slice was full, and `Fault` if the
-/// reader returned an error, an interruption included. After an error, the contents of the slice
-/// and the position of the reader are unspecified.
+/// reader returned an error, an interruption included. Fewer bytes than the slice has were taken
+/// then; how many, and the contents of the slice, are unspecified.
 pub fn system<R: Read>(source: &mut R, out: &mut [u8]) -> Result<(), EntropyError>
     ensures next { let old = R.remaining source.old in
         OnOk result (Consumes old (R.remaining source.new) out.new) }
@@ -42,6 +42,10 @@ pub fn system<R: Read>(source: &mut R, out: &mut [u8]) -> Result<(), EntropyErro
     // had too few of them.
     ensures error { IfErr result (λ e. (e ≡ Short) ⊎ (e ≡ Fault)) }
     ensures short { result ≡ Err Short → HasFewer (R.remaining source.old) (length out.old) }
+
+    // Once all bytes are taken, nothing can fail.
+    ensures fewer { let old = R.remaining source.old in
+        OnErr result (TakesFewer old (R.remaining source.new) (length out.old)) }
 {
     let mut filled = 0;
     while filled < out.len() {

@@ -130,8 +130,8 @@ impl<G: Rng<OUTPUT>, const OUTPUT: usize> BufferedRng<G, OUTPUT> {
     /// Appends the buffered bytes alone to `out`, empties the buffer, and returns how many bytes it
     /// appended.
     ///
-    /// Nothing is drawn. If the buffer is empty, nothing is allocated and the call returns 0. It
-    /// returns an error if the vector has too little room and the allocator refuses to grow it. The
+    /// Nothing is drawn. If the buffer is empty, nothing is allocated, the vector keeps its capacity,
+    /// and the call returns 0. It returns an error if the vector has too little room and the allocator refuses to grow it. The
     /// items and the capacity of the vector and the buffer are then unchanged.
     pub fn read_to_end<A: Allocator>(&mut self, out: &mut Vec<u8, A>) -> Result<usize, AllocError>
         ensures count { IfOk result (λ count. count ≡ length self.old.rest) }
@@ -145,8 +145,12 @@ impl<G: Rng<OUTPUT>, const OUTPUT: usize> BufferedRng<G, OUTPUT> {
         ensures full { let kept = length self.old.rest in
             OnErr result (vec_capacity out.old < vec_len out.old + kept) }
         ensures empty { self.old.rest ≡ [] → IsOk result }
+        ensures untouched { self.old.rest ≡ [] → out.new ≡ out.old }
     {
         let count = OUTPUT - self.cursor;
+        if count == 0 {
+            return Ok(0);
+        }
         let bytes = &self.block[..];
         out.reserve(count)?;
         // There is room now, so this never fails.

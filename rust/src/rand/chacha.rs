@@ -71,8 +71,7 @@ impl<const ROUNDS: u8> ChaCha<ROUNDS> {
     ///
     /// # Errors
     ///
-    /// It returns `Short` or `Fault` as `entropy::system` does. The position of the reader is then
-    /// unspecified.
+    /// It returns `Short` or `Fault` as `entropy::system` does. Fewer than 40 bytes were taken then.
     #[cfg(feature = "std")]
     pub fn new<R: Read>(source: &mut R) -> Result<Self, EntropyError> {
         let () = crate::layer::Rounds::<ROUNDS>::EVEN;

@@ -60,8 +60,7 @@ impl Pcg64 {
     ///
     /// # Errors
     ///
-    /// It returns `Short` or `Fault` as `entropy::system` does. The position of the reader is then
-    /// unspecified.
+    /// It returns `Short` or `Fault` as `entropy::system` does. Fewer than 16 bytes were taken then.
     #[cfg(feature = "std")]
     pub fn new<R: Read>(source: &mut R) -> Result<Self, EntropyError> {
         let mut seed = [0; 16];

@@ -14,3 +14,8 @@ IsMadeOf count make old new value =
 -- nothing.
 abbrev pub HasFewer : Option (List ℕ) → ℕ → Type 0
 HasFewer known count = IfSome known (λ left. length left < count)
+
+-- Fewer than `count` bytes of the reader were taken. Of a reader whose bytes cannot be named this
+-- says nothing of how many.
+abbrev pub TakesFewer : Option (List ℕ) → Option (List ℕ) → ℕ → Type 0
+TakesFewer old new count = (bytes : List ℕ) × (length bytes < count) × Consumes old new bytes

@@ -1,5 +1,5 @@
 //! ChaCha as a generator: a block of 64 bytes per draw, from a 256-bit key.
-ghost use Rattle.std.specs.Prelude.{◌≡◌, ◌==◌, ◌↔◌, ℕ, ◌%◌, ◌⊎◌, List, ◌++◌, length, take, drop, ⊤, refl, Some, IfOk, IfErr, IsTrue, codes};
+ghost use Rattle.std.specs.Prelude.{◌≡◌, ◌==◌, ◌↔◌, ℕ, ◌%◌, ◌⊎◌, List, ◌++◌, length, take, drop, ⊤, refl, Some, IfOk, IfErr, OnErr, IsTrue, codes};
 ghost use Rattle.std.specs.Cmp.Lexicographic.{pointwise};
 ghost use Rattle.std.specs.Cmp.Rules.{comparing};
 ghost use Rattle.std.specs.Fmt.{decimal};
@@ -8,7 +8,7 @@ ghost use Rattle.std.specs.Fn.{iterate};
 ghost use Rattle.nanorand.specs.generators.ChaCha.{constants, initial_state, seeded_state, state_at, key_of, nonce_of, bytes, counter, chacha_block, next_state, advanced, chacha_after, chacha_requests};
 ghost use Rattle.nanorand.specs.generators.ChaChaRounds.{IsMatrix};
 ghost use Rattle.nanorand.specs.support.ChaChaDrawLemmas.{length-chacha_block};
-ghost use Rattle.nanorand.specs.generators.Entropy.{HasFewer, IsMadeOf};
+ghost use Rattle.nanorand.specs.generators.Entropy.{HasFewer, IsMadeOf, TakesFewer};
 ghost use Rattle.nanorand.specs.generators.DebugTexts.{chacha_debug};
 ghost use Rattle.nanorand.specs.declared.entropy.EntropyError.TheVariants.{Short, Fault};
 
@@ -93,14 +93,15 @@ impl<const ROUNDS: u8> ChaCha<ROUNDS> {
     /// A generator made of the reader's next 40 bytes, with the counter 0: the first 32 are the key
     /// and the other 8 the nonce. Precondition: `ROUNDS` is even.
     ///
-    /// It returns `Short` or `Fault` as `entropy::system` does. The position of the reader is then
-    /// unspecified.
+    /// It returns `Short` or `Fault` as `entropy::system` does. Fewer than 40 bytes were taken then.
     pub fn new<R: Read>(source: &mut R) -> Result<Self, EntropyError>
         requires { ROUNDS % 2 ≡ 0 }
         ensures made { let old = R.remaining source.old in
             IfOk result (IsMadeOf 40 seeded_state old (R.remaining source.new)) }
         ensures error { IfErr result (λ e. (e ≡ Short) ⊎ (e ≡ Fault)) }
         ensures short { result ≡ Err Short → HasFewer (R.remaining source.old) 40 }
+        ensures fewer { let old = R.remaining source.old in
+            OnErr result (TakesFewer old (R.remaining source.new) 40) }
     {
         let mut key = [0; 32];
         let mut nonce = [0; 8];

@@ -1,8 +1,8 @@
 //! Pcg64: a 128-bit seed, and a 64-bit word per draw.
-ghost use Rattle.std.specs.Prelude.{◌≡◌, length, ◌⊎◌, ⊤, refl, Some, IfOk, IfErr, codes, ℕ, ◌<◌, ◌^◌, ◌↔◌, IsTrue, IsSome, IfSome};
+ghost use Rattle.std.specs.Prelude.{◌≡◌, length, ◌⊎◌, ⊤, refl, Some, IfOk, IfErr, OnErr, codes, ℕ, ◌<◌, ◌^◌, ◌↔◌, IsTrue, IsSome, IfSome};
 ghost use Rattle.std.specs.Cmp.Rules.{comparing};
 ghost use Rattle.std.proofs.Common.{rules};
-ghost use Rattle.nanorand.specs.generators.Entropy.{HasFewer, IsMadeOf};
+ghost use Rattle.nanorand.specs.generators.Entropy.{HasFewer, IsMadeOf, TakesFewer};
 ghost use Rattle.nanorand.specs.generators.Pcg64.{seeded_generator, next, pcg64_after, pcg64_block, reseeded, same_generator, seed_after, SameCycle, initial_generator, pcg64_requests};
 ghost use Rattle.nanorand.specs.generators.DebugTexts.{pcg64_debug};
 ghost use Rattle.nanorand.specs.declared.entropy.EntropyError.TheVariants.{Short, Fault};
@@ -74,13 +74,14 @@ impl Pcg64 {
     /// are 0. Rust's `Pcg64::new()` takes its seed from the system; here the caller passes a
     /// reader.
     ///
-    /// It returns `Short` or `Fault` as `entropy::system` does. The position of the reader is then
-    /// unspecified.
+    /// It returns `Short` or `Fault` as `entropy::system` does. Fewer than 16 bytes were taken then.
     pub fn new<R: Read>(source: &mut R) -> Result<Self, EntropyError>
         ensures made { let old = R.remaining source.old in
             IfOk result (IsMadeOf 16 seeded_generator old (R.remaining source.new)) }
         ensures error { IfErr result (λ e. (e ≡ Short) ⊎ (e ≡ Fault)) }
         ensures short { result ≡ Err Short → HasFewer (R.remaining source.old) 16 }
+        ensures fewer { let old = R.remaining source.old in
+            OnErr result (TakesFewer old (R.remaining source.new) 16) }
     {
         let mut seed = [0; 16];
         system(source, &mut seed)?;

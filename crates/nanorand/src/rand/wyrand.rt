@@ -1,8 +1,8 @@
 //! WyRand: a 64-bit seed, and a 64-bit word per draw.
-ghost use Rattle.std.specs.Prelude.{◌≡◌, ◌==◌, ◌↔◌, length, ◌⊎◌, ⊤, refl, Some, IfOk, IfErr, IsTrue, codes, ℕ, ◌<◌, ◌^◌};
+ghost use Rattle.std.specs.Prelude.{◌≡◌, ◌==◌, ◌↔◌, length, ◌⊎◌, ⊤, refl, Some, IfOk, IfErr, OnErr, IsTrue, codes, ℕ, ◌<◌, ◌^◌};
 ghost use Rattle.std.specs.Cmp.Rules.{comparing};
 ghost use Rattle.std.proofs.Common.{rules};
-ghost use Rattle.nanorand.specs.generators.Entropy.{HasFewer, IsMadeOf};
+ghost use Rattle.nanorand.specs.generators.Entropy.{HasFewer, IsMadeOf, TakesFewer};
 ghost use Rattle.nanorand.specs.generators.DebugTexts.{wyrand_debug};
 ghost use Rattle.nanorand_core.specs.values.Values.{number_of};
 ghost use Rattle.nanorand.specs.generators.WyRand.{next_seed, wyrand_block, word, seed_after, wyrand_after, wyrand_requests};
@@ -60,13 +60,14 @@ impl WyRand {
     /// `WyRand::new()` takes its seed from the system; here the caller passes a reader, or a number
     /// to `new_seed`.
     ///
-    /// It returns `Short` or `Fault` as `entropy::system` does. The position of the reader is then
-    /// unspecified.
+    /// It returns `Short` or `Fault` as `entropy::system` does. Fewer than 8 bytes were taken then.
     pub fn new<R: Read>(source: &mut R) -> Result<Self, EntropyError>
         ensures made { let old = R.remaining source.old in
             IfOk result (IsMadeOf 8 number_of old (R.remaining source.new)) }
         ensures error { IfErr result (λ e. (e ≡ Short) ⊎ (e ≡ Fault)) }
         ensures short { result ≡ Err Short → HasFewer (R.remaining source.old) 8 }
+        ensures fewer { let old = R.remaining source.old in
+            OnErr result (TakesFewer old (R.remaining source.new) 8) }
     {
         let mut seed = [0; 8];
         system(source, &mut seed)?;

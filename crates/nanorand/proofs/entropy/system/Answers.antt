@@ -1,7 +1,7 @@
 use Rattle.std.proofs.lemmas.List.{take_all}
-use Rattle.std.proofs.Common.{◌≡◌, ℕ, ◌+◌, ◌-◌, ◌≤◌, List, ◌++◌, length, rules, take, drop, ap, sym, subst, ◌∙◌, le_refl, drop_at, length-take-le, arith}
+use Rattle.std.proofs.Common.{◌≡◌, ℕ, ◌+◌, ◌-◌, ◌≤◌, List, [], ◌++◌, length, rules, take, drop, ap, sym, subst, ◌∙◌, le_refl, drop_at, length-append, length-take-le, arith}
 use Rattle.std.proofs.lemmas.Slice.{take-put_mid_below}
-use Rattle.std.proofs.KnownBytes.{Consumes-trans}
+use Rattle.std.proofs.KnownBytes.{Consumes-kept, Consumes-trans}
 use Rattle.std.specs.Io.KnownBytes.{Consumes}
 use borrow.Rule.Slice.PartMut.{put_mid, post_of}
 use lib.Seq.{take-add, take-append-le}
@@ -42,3 +42,16 @@ returns-clause-unread g c = λ none. c.loop-filled.invariant.at_first (omega (ar
 pub returns-clause-next : goal.returns-clause-next
 returns-clause-next g c =
     subst (Consumes _ _) (take_all c.loop-filled.filled c.loop-filled.out c.loop-filled-test.false) c.loop-filled.invariant.so_far
+
+pub returns-in-Ok-eq0-clause-fewer : goal.returns-in-Ok-eq0-clause-fewer
+returns-in-Ok-eq0-clause-fewer g c =
+    let loop = c.loop-filled in
+    let taken = take loop.filled loop.out in
+    let none = ap (λ n. taken ++ take n c.read.new.buf) c.in-Ok-eq0.field-0-test in
+    (taken ++ [], omega (arith, length-take-le loop.filled loop.out loop.invariant.in_slice, length-append taken [], loop.auto.out), subst (Consumes _ _) none (Consumes-trans _ _ _ _ _ loop.invariant.so_far c.in-Ok-eq0.ensures.bytes.0))
+
+pub returns-in-Err-clause-fewer : goal.returns-in-Err-clause-fewer
+returns-in-Err-clause-fewer g c =
+    let loop = c.loop-filled in
+    let taken = take loop.filled loop.out in
+    (taken, omega (arith, length-take-le loop.filled loop.out loop.invariant.in_slice, loop.auto.out), Consumes-kept _ _ _ _ loop.invariant.so_far c.in-Err.ensures.bytes)
