@@ -7,4 +7,6 @@ mod comparing;
 #[cfg(test)]
 mod drawing;
 #[cfg(test)]
+mod spread;
+#[cfg(test)]
 mod tests;

@@ -7,6 +7,7 @@ mod derives;
 mod distances;
 mod draws;
 mod entropy;
+mod everywhere;
 mod forks;
 mod generators;
 mod ranges;

@@ -1,6 +1,8 @@
 //! The derived `Clone`, `Copy`, `PartialEq` and `Debug` of the small types, and the texts of errors.
 
 use crate::comparing::{debug_is, display_is, equal, equal_at};
+use crate::tests::everywhere::has_texts;
+use nanorand::WyRand;
 use nanorand::buffer::{RestTooLong, TextRefused};
 use nanorand::choices::weighted::WeightError;
 use nanorand::entropy::EntropyError;
@@ -139,8 +141,12 @@ fn check_errors<T: Copy + Eq + Debug + Display + Drop>(
     rt: &(impl Abort + AllocGlobal),
     rows: &[(T, &str, &str)],
 ) -> Result<(), AllocError> {
+    let mut rng = WyRand::new_seed(6);
     for (index, (value, debug, display)) in rows.iter().enumerate() {
         display_is(rt, value, *display)?;
+        for _ in 0..400 {
+            has_texts(rt, &mut rng, value, *debug, *display)?;
+        }
         for (other_index, (other, _, _)) in rows.iter().enumerate() {
             check(rt, *value, *debug, *other, index == other_index)?;
         }
