@@ -1,14 +1,15 @@
 //! The program `lots`, and the draw of places.
 
 use super::programs::{
-    End, Program, check_end, check_flush, check_memory, check_writes, refused, sizes, strings,
-    writes,
+    Program, check_end, check_flush, check_memory, check_refused, check_text, check_unflushed,
+    check_writes, refused, sizes, strings, writes,
 };
 use super::readers::Feed;
 use super::writers::Pieces;
 use crate::comparing::{equal, equal_at};
 use lots_core::run::{report, run};
 use lots_core::{LotsError, draw_places};
+use nanorand::{Rng, WyRand};
 use std::alloc::{AllocError, Allocator, Global};
 use std::io::{ErrorKind, Write};
 use std::process::Abort;
@@ -143,22 +144,102 @@ fn numbers_drawn(rt: &impl Abort, alloc: Global, count: u64) -> Result<(String, 
     Ok((list, text))
 }
 
-// A draw of all of this list ends so.
-fn check_list(rt: &impl Abort, alloc: Global, list: &str, end: End<'_>) -> Result<(), AllocError> {
-    let program = lots_of(alloc, &["seed", "all"], list)?;
-    check_end(rt, alloc, &program, end);
+// This many entrants of one to twenty digits, and the same with an empty line after `empty` lines.
+fn entrants(
+    alloc: Global,
+    rng: &mut WyRand,
+    count: u64,
+    empty: u64,
+) -> Result<(String, String), AllocError> {
+    let mut list = String::new(alloc);
+    let mut broken = String::new(alloc);
+    for number in 0..count {
+        let shift = rng.generate::<u8>() % 64;
+        let entrant = rng.generate::<u64>() >> shift;
+        writeln!(list, "{entrant}")?;
+        let before = if number == empty { "\n" } else { "" };
+        writeln!(broken, "{before}{entrant}")?;
+    }
+    if empty == count {
+        broken.push_str("\n")?;
+    }
+    Ok((list, broken))
+}
+
+// The text of the first entrants drawn, as many as `draws`, by the places that the library draws.
+fn text_drawn(rt: &impl Abort, alloc: Global, list: &str, draws: u64) -> Result<String, Fail> {
+    let lines = list.lines().collect::<Vec<&str>>(alloc)?;
+    let mut places = vec![in alloc; 0; lines.len()]?;
+    let drawn = draw_places("seed", &mut places, draws as usize);
+    equal_at(rt, drawn, Ok(()), &draws);
+    let mut text = String::new(alloc);
+    for place in places.iter().take(draws as usize) {
+        let line = lines.get(*place).copied().unwrap_or_default();
+        writeln!(text, "{line}")?;
+    }
+    Ok(text)
+}
+
+// A program that draws this number of the entrants.
+fn drawing<'a>(alloc: Global, number: u64, list: &'a str) -> Result<Lots<'a>, AllocError> {
+    let number = format!(in alloc; "{number}")?;
+    lots_of(alloc, &["seed", number.as_str()], list)
+}
+
+// One entrant more than there are is refused, and so is an empty line, by its number.
+fn check_refusals(
+    rt: &impl Abort,
+    alloc: Global,
+    (count, list): (u64, &str),
+    (empty, broken): (u64, &str),
+) -> Result<(), AllocError> {
+    let program = lots_of(alloc, &["seed", "all"], broken)?;
+    let line = format!(in alloc; "lots: line {} is empty\n", empty.wrapping_add(1))?;
+    check_refused(rt, alloc, &program, 4, line.as_str());
+    let more = count.wrapping_add(1);
+    let program = drawing(alloc, more, list)?;
+    let line = format!(in alloc; "lots: {count} entrants, {more} asked for\n")?;
+    check_refused(rt, alloc, &program, 3, line.as_str());
     Ok(())
 }
 
-// Lists of every size are drawn, and an empty line after them is named by its number.
+// Lists of every number of entrants are drawn: all, by `all` and by their number; of many, the first.
 #[test]
 fn all_sizes(rt: HostRuntime) -> Result<(), Fail> {
-    for count in sizes(rt.alloc())?.iter() {
-        let (mut list, text) = numbers_drawn(&rt, rt.alloc(), *count)?;
-        check_list(&rt, rt.alloc(), list.as_str(), writes(text.as_str()))?;
-        list.push_str("\n")?;
-        let error = format!(in rt.alloc(); "lots: line {} is empty\n", count.wrapping_add(1))?;
-        check_list(&rt, rt.alloc(), list.as_str(), refused(4, error.as_str()))?;
+    let mut rng = WyRand::new_seed(1);
+    for count in sizes(rt.alloc(), 65537)?.iter() {
+        let empty = rng.generate::<u64>() % count.wrapping_add(1).max(1);
+        let (list, broken) = entrants(rt.alloc(), &mut rng, *count, empty)?;
+        let draws = (*count).min(1025);
+        let text = text_drawn(&rt, rt.alloc(), list.as_str(), draws)?;
+        let program = drawing(rt.alloc(), draws, list.as_str())?;
+        check_text(&rt, rt.alloc(), &program, text.as_str());
+        check_unflushed(&rt, rt.alloc(), &program, text.as_str(), 7);
+        if draws == *count {
+            let program = lots_of(rt.alloc(), &["seed", "all"], list.as_str())?;
+            check_text(&rt, rt.alloc(), &program, text.as_str());
+        }
+        check_refusals(
+            &rt,
+            rt.alloc(),
+            (*count, list.as_str()),
+            (empty, broken.as_str()),
+        )?;
+    }
+    Ok(())
+}
+
+// A seed, a count and an entrant of every length.
+#[test]
+fn all_lengths(rt: HostRuntime) -> Result<(), Fail> {
+    for length in sizes(rt.alloc(), 65537)?.iter() {
+        let zeros = "0".repeat(rt.alloc(), *length as usize)?;
+        let one = format!(in rt.alloc(); "{zeros}1")?;
+        let line = format!(in rt.alloc(); "{one}\n")?;
+        for list in [one.as_str(), line.as_str()] {
+            let program = lots_of(rt.alloc(), &[one.as_str(), one.as_str()], list)?;
+            check_text(&rt, rt.alloc(), &program, line.as_str());
+        }
     }
     Ok(())
 }
@@ -260,13 +341,49 @@ fn reports(rt: HostRuntime) -> Result<(), Fail> {
         writeln!(shown, "{outcome:?} {status} {line:?}")?;
         for (piece, failing) in [(0, 1), (1, 0), (1, 4)] {
             let mut stuck = Pieces::failing(rt.alloc(), piece, failing, ErrorKind::BrokenPipe);
-            equal(&rt, report(*outcome, &mut stuck), status);
+            let again = report(*outcome, &mut stuck);
+            equal(&rt, again, status);
         }
         for (other_place, other) in OUTCOMES.iter().enumerate() {
             equal(&rt, outcome == other, place == other_place);
         }
     }
     equal(&rt, shown.as_str(), REPORTS);
+    Ok(())
+}
+
+// The line of an outcome, and its status.
+fn check_report(rt: &impl Abort, alloc: Global, error: LotsError, status: u8, said: &str) {
+    let mut line = Vec::new(alloc);
+    equal_at(rt, report(Err(error), &mut line), status, &error);
+    equal_at(rt, line.as_slice(), said.as_bytes(), &error);
+}
+
+// An empty line of every number, and every number of entrants and of what is asked for, are reported.
+#[test]
+fn all_reports(rt: HostRuntime) -> Result<(), Fail> {
+    for number in sizes(rt.alloc(), u64::MAX)?.iter() {
+        let count = *number as usize;
+        let said = format!(in rt.alloc(); "lots: line {number} is empty\n")?;
+        check_report(
+            &rt,
+            rt.alloc(),
+            LotsError::EmptyLine(count),
+            4,
+            said.as_str(),
+        );
+        let error = LotsError::TooFew {
+            entrants: count / 2,
+            count,
+        };
+        let said = format!(in rt.alloc(); "lots: {} entrants, {count} asked for\n", count / 2)?;
+        check_report(&rt, rt.alloc(), error, 3, said.as_str());
+        if count > 1 {
+            let program = drawing(rt.alloc(), *number, "Ada")?;
+            let said = format!(in rt.alloc(); "lots: 1 entrants, {number} asked for\n")?;
+            check_refused(&rt, rt.alloc(), &program, 3, said.as_str());
+        }
+    }
     Ok(())
 }
 
