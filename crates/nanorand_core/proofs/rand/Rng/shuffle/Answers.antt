@@ -79,9 +79,9 @@ returns-in-None g c =
       valid = tt;
     })
 
-pub overflow_add-place : goal.overflow_add-place
-overflow_add-place g c =
-    let over : Over g c.args.target.now c.args.self.now c.loop-place.place c.loop-place.target c.if-is_none.ahead c.if-is_none.self =
+some_over : (g : Given.Over) (c : goal.After-swap-arg-1 g)
+    → Over g c.args.target.now c.args.self.now c.loop-place.place c.loop-place.target c.if-is_none.ahead c.if-is_none.self
+some_over g c =
     elim c.if-is_none.branch [
       | then-is_none+else-others-test w ↦
           let before = w.others.invariant in
@@ -98,31 +98,16 @@ overflow_add-place g c =
             so_far = c.loop-place.invariant;
             draw = first_decides _ _ word_limit _ _ _ c.pick_below-ahead.result _ _ (omega arith) word (sym c.pick_below-ahead.ensures) c.is_none.ensures w.if-is_none.false;
           })
-    ] in
-    let below : c.in-Some.ahead < length c.args.target.now - c.loop-place.place = rw c.in-Some.is at over.draw.below in
+    ]
+
+pub overflow_add-place : goal.overflow_add-place
+overflow_add-place g c =
+    let below : c.in-Some.ahead < length c.args.target.now - c.loop-place.place = rw c.in-Some.is at (some_over g c).draw.below in
     omega (arith, below)
 
 pub swap-requires : goal.swap-requires
 swap-requires g c =
-    let over : Over g c.args.target.now c.args.self.now c.loop-place.place c.loop-place.target c.if-is_none.ahead c.if-is_none.self =
-    elim c.if-is_none.branch [
-      | then-is_none+else-others-test w ↦
-          let before = w.others.invariant in
-          rw (w.ahead-is, w.self-is) (record {
-            start = before.start;
-            so_far = before.so_far;
-            draw = last_word _ _ _ _ _ _ w.others.ahead w.others.drawn w.others.self _ before.draw w.is_none-in-others.ensures w.others-test.false;
-          })
-      | else-is_none w ↦
-          let word : c.from_le_bytes.result ≡ number_of (g.Self.Rng.requests.bytes c.loop-place.self 8) =
-          c.from_le_bytes.ensures ∙ number_of_8 c.fill_bytes.new.buffer (omega arith) ∙ ap number_of c.fill_bytes.ensures.bytes in
-          rw (w.ahead-is, w.self-is, c.fill_bytes.ensures.state) (record {
-            start = c.loop-place.self;
-            so_far = c.loop-place.invariant;
-            draw = first_decides _ _ word_limit _ _ _ c.pick_below-ahead.result _ _ (omega arith) word (sym c.pick_below-ahead.ensures) c.is_none.ensures w.if-is_none.false;
-          })
-    ] in
-    let below : c.in-Some.ahead < length c.args.target.now - c.loop-place.place = rw c.in-Some.is at over.draw.below in
+    let below : c.in-Some.ahead < length c.args.target.now - c.loop-place.place = rw c.in-Some.is at (some_over g c).draw.below in
     (omega arith, omega (arith, below))
 
 pub loop-place-preserved : goal.loop-place-preserved
