@@ -28,8 +28,9 @@ pub enum EntropyError {
 /// pieces of any size. For an empty slice it returns `Ok` and reads nothing.
 ///
 /// It returns `Short` if the reader gave no byte before the slice was full, and `Fault` if the
-/// reader returned an error, an interruption included. Fewer bytes than the slice has were taken
-/// then; how many, and the contents of the slice, are unspecified.
+/// reader returned an error, an interruption included. After an error, the contents of the slice
+/// and the position of the reader are unspecified; a reader such as a slice of bytes has given fewer
+/// bytes than were asked for.
 pub fn system<R: Read>(source: &mut R, out: &mut [u8]) -> Result<(), EntropyError>
     ensures next { let old = R.remaining source.old in
         OnOk result (Consumes old (R.remaining source.new) out.new) }

@@ -71,7 +71,8 @@ impl<const ROUNDS: u8> ChaCha<ROUNDS> {
     ///
     /// # Errors
     ///
-    /// It returns `Short` or `Fault` as `entropy::system` does. Fewer than 40 bytes were taken then.
+    /// It returns `Short` or `Fault` as `entropy::system` does. A reader such as a slice of bytes has
+    /// given fewer than 40 bytes then.
     #[cfg(feature = "std")]
     pub fn new<R: Read>(source: &mut R) -> Result<Self, EntropyError> {
         let () = crate::layer::Rounds::<ROUNDS>::EVEN;

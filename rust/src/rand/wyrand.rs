@@ -44,7 +44,8 @@ impl WyRand {
     ///
     /// # Errors
     ///
-    /// It returns `Short` or `Fault` as `entropy::system` does. Fewer than 8 bytes were taken then.
+    /// It returns `Short` or `Fault` as `entropy::system` does. A reader such as a slice of bytes has
+    /// given fewer than 8 bytes then.
     #[cfg(feature = "std")]
     pub fn new<R: Read>(source: &mut R) -> Result<Self, EntropyError> {
         let mut seed = [0; 8];

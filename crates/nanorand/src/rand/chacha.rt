@@ -93,7 +93,8 @@ impl<const ROUNDS: u8> ChaCha<ROUNDS> {
     /// A generator made of the reader's next 40 bytes, with the counter 0: the first 32 are the key
     /// and the other 8 the nonce. Precondition: `ROUNDS` is even.
     ///
-    /// It returns `Short` or `Fault` as `entropy::system` does. Fewer than 40 bytes were taken then.
+    /// It returns `Short` or `Fault` as `entropy::system` does. A reader such as a slice of bytes has
+    /// given fewer than 40 bytes then.
     pub fn new<R: Read>(source: &mut R) -> Result<Self, EntropyError>
         requires { ROUNDS % 2 ≡ 0 }
         ensures made { let old = R.remaining source.old in

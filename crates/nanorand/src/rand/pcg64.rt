@@ -74,7 +74,8 @@ impl Pcg64 {
     /// are 0. Rust's `Pcg64::new()` takes its seed from the system; here the caller passes a
     /// reader.
     ///
-    /// It returns `Short` or `Fault` as `entropy::system` does. Fewer than 16 bytes were taken then.
+    /// It returns `Short` or `Fault` as `entropy::system` does. A reader such as a slice of bytes has
+    /// given fewer than 16 bytes then.
     pub fn new<R: Read>(source: &mut R) -> Result<Self, EntropyError>
         ensures made { let old = R.remaining source.old in
             IfOk result (IsMadeOf 16 seeded_generator old (R.remaining source.new)) }

@@ -60,7 +60,8 @@ impl WyRand {
     /// `WyRand::new()` takes its seed from the system; here the caller passes a reader, or a number
     /// to `new_seed`.
     ///
-    /// It returns `Short` or `Fault` as `entropy::system` does. Fewer than 8 bytes were taken then.
+    /// It returns `Short` or `Fault` as `entropy::system` does. A reader such as a slice of bytes has
+    /// given fewer than 8 bytes then.
     pub fn new<R: Read>(source: &mut R) -> Result<Self, EntropyError>
         ensures made { let old = R.remaining source.old in
             IfOk result (IsMadeOf 8 number_of old (R.remaining source.new)) }
