@@ -49,6 +49,8 @@ class Generator:
 
     _calls: ClassVar[_library.Calls]
     _structure: ClassVar[type[ctypes.Structure]]
+    _entropy: ClassVar[int]  # the bytes of a state that `from_entropy` takes; zeros follow
+    _zeros: ClassVar[int] = 0
     _c: Any
 
     __hash__ = None  # type: ignore[assignment]
@@ -72,11 +74,13 @@ class Generator:
     def from_entropy(cls: type[Self]) -> Self:
         """A generator with a seed, or a key and a nonce, from the operating system.
 
+        `WyRand` and `Pcg64` are no more secure for that.
+
         >>> from nanorand import Stream
         >>> Stream.from_entropy() == Stream.from_entropy()
         False
         """
-        raise NotImplementedError
+        return cls.from_state(os.urandom(cls._entropy) + bytes(cls._zeros))
 
     @property
     def state(self) -> Octets:
@@ -275,7 +279,23 @@ class Generator:
         _library.check(status)
 
 
-class WyRand(Generator):
+class _Seeded(Generator):
+    """A generator whose state is its seed, least byte first."""
+
+    @property
+    def seed(self) -> int:
+        """The seed that makes an equal generator.
+
+        >>> WyRand(42).seed
+        42
+        """
+        return int.from_bytes(self.state, "little")
+
+    def __repr__(self) -> str:
+        return f"{type(self).__name__}({self.seed:#x})"
+
+
+class WyRand(_Seeded):
     """Wang Yi's wyrand, from a seed of 64 bits. It is not cryptographically secure.
 
     >>> rng = WyRand(42)
@@ -285,27 +305,10 @@ class WyRand(Generator):
 
     _calls = _library.WYRAND
     _structure = _library.WyRandState
+    _entropy = 8
 
     def __init__(self, seed: SupportsIndex) -> None:
         self._c = _library.WyRandState(number("seed", seed, 0, U64_LAST))
-
-    @classmethod
-    def from_entropy(cls: type[Self]) -> Self:
-        """A generator with a seed from the operating system. It is no more secure for that.
-
-        >>> WyRand.from_entropy() == WyRand.from_entropy()
-        False
-        """
-        return cls.from_state(os.urandom(8))
-
-    @property
-    def seed(self) -> int:
-        """The seed that makes an equal generator.
-
-        >>> WyRand(42).seed
-        42
-        """
-        return int(self._c.seed)
 
     def jump(self, draws: SupportsIndex) -> None:
         """Leaves what so many draws leave, below 2^64 of them.
@@ -317,11 +320,8 @@ class WyRand(Generator):
         """
         _library.wyrand_jump(self._c, number("draws", draws, 0, U64_LAST))
 
-    def __repr__(self) -> str:
-        return f"{type(self).__name__}({self.seed:#x})"
 
-
-class Pcg64(Generator):
+class Pcg64(_Seeded):
     """The library's Pcg64, from a seed of 128 bits. It is not cryptographically secure.
 
     >>> Pcg64(42).range(1, 100)
@@ -330,27 +330,10 @@ class Pcg64(Generator):
 
     _calls = _library.PCG64
     _structure = _library.Pcg64State
+    _entropy = 16
 
     def __init__(self, seed: SupportsIndex) -> None:
         self._c = _halves(number("seed", seed, 0, U128_LAST))
-
-    @classmethod
-    def from_entropy(cls: type[Self]) -> Self:
-        """A generator with a seed from the operating system. It is no more secure for that.
-
-        >>> Pcg64.from_entropy() == Pcg64.from_entropy()
-        False
-        """
-        return cls.from_state(os.urandom(16))
-
-    @property
-    def seed(self) -> int:
-        """The seed that makes an equal generator.
-
-        >>> Pcg64(42).seed
-        42
-        """
-        return int.from_bytes(self.state, "little")
 
     def jump(self, draws: SupportsIndex) -> None:
         """Leaves what so many draws leave, below 2^128 of them.
@@ -362,31 +345,21 @@ class Pcg64(Generator):
         """
         _library.pcg64_jump(self._c, _halves(number("draws", draws, 0, U128_LAST)))
 
-    def __repr__(self) -> str:
-        return f"{type(self).__name__}({self.seed:#x})"
-
 
 def _halves(wide: int) -> _library.Pcg64State:
     return _library.Pcg64State(wide & U64_LAST, wide >> 64)
 
 
-class _ChaCha(Generator):
-    """ChaCha by block: each request begins a new block of 64 bytes."""
+class _Keyed(Generator):
+    """A generator over ChaCha's key, nonce and counter."""
 
-    _structure = _library.ChaChaState
-    _block: ClassVar[Callable[..., None]]
+    _entropy = 40
+    _zeros = 8
 
-    def __init__(self, key: Buffer, nonce: Buffer = bytes(8), counter: SupportsIndex = 0) -> None:
-        self.state = _chacha_state(key, nonce, counter)
-
-    @classmethod
-    def from_entropy(cls: type[Self]) -> Self:
-        """A generator with a key and a nonce from the operating system.
-
-        >>> ChaCha20.from_entropy() == ChaCha20.from_entropy()
-        False
-        """
-        return cls.from_state(os.urandom(40) + bytes(8))
+    @property
+    def _chacha(self) -> Any:
+        """The part of the structure that has key, nonce and counter."""
+        return self._c
 
     @property
     def key(self) -> Octets:
@@ -395,7 +368,7 @@ class _ChaCha(Generator):
         >>> ChaCha20(b"k" * 32).key == b"k" * 32
         True
         """
-        return bytes(self._c.key)
+        return bytes(self._chacha.key)
 
     @property
     def nonce(self) -> Octets:
@@ -404,18 +377,28 @@ class _ChaCha(Generator):
         >>> ChaCha20(bytes(32), b"a nonce.").nonce
         b'a nonce.'
         """
-        return bytes(self._c.nonce)
+        return bytes(self._chacha.nonce)
 
     @property
     def counter(self) -> int:
-        """The number of the next block. After 2^64 - 1 comes 0.
+        """The number of the next block that is drawn. After 2^64 - 1 comes 0.
 
         >>> rng = ChaCha20(bytes(32), counter=2**64 - 1)
         >>> block = rng.block()
         >>> rng.counter
         0
         """
-        return int(self._c.counter)
+        return int(self._chacha.counter)
+
+
+class _ChaCha(_Keyed):
+    """ChaCha by block: each request begins a new block of 64 bytes."""
+
+    _structure = _library.ChaChaState
+    _block: ClassVar[Callable[..., None]]
+
+    def __init__(self, key: Buffer, nonce: Buffer = bytes(8), counter: SupportsIndex = 0) -> None:
+        self.state = _chacha_state(key, nonce, counter)
 
     def jump(self, draws: SupportsIndex) -> None:
         """Leaves what so many blocks leave, below 2^64 of them.
@@ -482,7 +465,7 @@ class ChaCha20(_ChaCha):
     _block = _library.chacha20_block
 
 
-class Stream(Generator):
+class Stream(_Keyed):
     """The keystream of ChaCha20 without a gap.
 
     It is made from a key of 32 bytes, a nonce of 8, a counter, and at most 63 buffered bytes, which
@@ -501,15 +484,6 @@ class Stream(Generator):
         self, key: Buffer, nonce: Buffer = bytes(8), counter: SupportsIndex = 0, rest: Buffer = b""
     ) -> None:
         self.state = _chacha_state(key, nonce, counter) + octets("rest", rest)
-
-    @classmethod
-    def from_entropy(cls: type[Self]) -> Self:
-        """A generator with a key and a nonce from the operating system.
-
-        >>> Stream.from_entropy() == Stream.from_entropy()
-        False
-        """
-        return cls.from_state(os.urandom(40) + bytes(8))
 
     @property
     def state(self) -> Octets:
@@ -534,31 +508,8 @@ class Stream(Generator):
         )
 
     @property
-    def key(self) -> Octets:
-        """The key, 32 bytes.
-
-        >>> Stream(b"k" * 32).key == b"k" * 32
-        True
-        """
-        return bytes(self._c.chacha.key)
-
-    @property
-    def nonce(self) -> Octets:
-        """The nonce, 8 bytes.
-
-        >>> Stream(bytes(32), b"a nonce.").nonce
-        b'a nonce.'
-        """
-        return bytes(self._c.chacha.nonce)
-
-    @property
-    def counter(self) -> int:
-        """The number of the next block that is drawn.
-
-        >>> Stream(bytes(32), counter=5).counter
-        5
-        """
-        return int(self._c.chacha.counter)
+    def _chacha(self) -> Any:
+        return self._c.chacha
 
     @property
     def rest(self) -> Octets:

@@ -12,7 +12,7 @@ README = Path(__file__).resolve().parents[1] / "README.md"
 MODULES = [nanorand, generators, lots, randoms, errors]
 INSECURE = [
     *[nanorand, nanorand.WyRand, nanorand.Pcg64, randoms.WyRandRandom, randoms.Pcg64Random, generators],
-    *[nanorand.WyRand.from_entropy, nanorand.Pcg64.from_entropy],
+    nanorand.Generator.from_entropy,
 ]
 
 

@@ -214,7 +214,7 @@ class States(unittest.TestCase):
     def test_generator_alone_is_none(self):
         with self.assertRaises(TypeError):
             Generator()
-        with self.assertRaises((NotImplementedError, AttributeError)):
+        with self.assertRaises(AttributeError):
             Generator.from_entropy()
 
     def test_threads_take_turns(self):

@@ -18,8 +18,9 @@ HUGE = 10**5000  # more digits than Python writes
 # Every other special method would be one more thing that a generator can do: an order, a length, a text.
 SPECIAL = {
     "Generator": {"__init__", "__hash__", "__copy__", "__deepcopy__", "__reduce__", "__eq__"},
-    "WyRand": {"__init__", "__repr__"},
-    "Pcg64": {"__init__", "__repr__"},
+    "_Seeded": {"__repr__"},
+    "WyRand": {"__init__"},
+    "Pcg64": {"__init__"},
     "_ChaCha": {"__init__", "__repr__"},
     "Stream": {"__init__", "__repr__"},
     "GeneratorRandom": {"__new__", "__init__"},

@@ -1,4 +1,4 @@
-//! The examples of the README.
+//! The shortest calls.
 
 use nanorand::entropy::EntropyError;
 use nanorand::{BufferedRng, RangeError, Rng, WyRand};
