@@ -2,12 +2,7 @@
 
 mod borrowed;
 mod debug;
-#[cfg(feature = "rand_core")]
-mod rand_core;
 mod seeds;
-
-#[cfg(feature = "rand_core")]
-pub use self::rand_core::ChaChaSeed;
 
 /// Refuses an odd number of rounds while the program is compiled.
 pub(crate) struct Rounds<const ROUNDS: u8>;

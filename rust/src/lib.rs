@@ -104,10 +104,8 @@
 //! ```
 //!
 //! Features: `std` (on by default) has readers, vectors, `std::error::Error` and seeds from the system;
-//! without it the crate is `no_std` and allocates nothing. `rand_core` implements the traits of the crate
-//! of that name, version 0.6, which is that of `rand` 0.8. A program that imports both `Rng` and `RngCore`
-//! says which it means at `next_u32`, `next_u64` and `fill_bytes`, as `Rng::next_u64(&mut rng)`; both give
-//! the same.
+//! without it the crate is `no_std` and allocates nothing. The crate `nanorand-proved-rand-core` has the traits
+//! of `rand_core` 0.6.
 #![no_std]
 #![deny(missing_docs)]
 // The proved source has the form of Rattle, and its proofs say that no cast loses a bit that counts.
@@ -162,7 +160,5 @@ struct DoesNotCompile;
 struct Readme;
 
 pub use buffer::BufferedRng;
-#[cfg(feature = "rand_core")]
-pub use layer::ChaChaSeed;
 pub use rand::{ChaCha, ChaCha12, ChaCha20, ChaCha8, Pcg64, Rng, SeedableRng, WyRand};
 pub use values::{RandomGen, RandomRange, RangeError};

@@ -8,7 +8,7 @@ use std::collections::BTreeSet;
 use std::fmt::{Debug, Display};
 use std::str::FromStr;
 
-const TABLE: &str = include_str!("answers.tsv");
+const TABLE: &str = include_str!("../../answers/answers.tsv");
 
 /// A row, by the names of its columns.
 struct Row<'a> {

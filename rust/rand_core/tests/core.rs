@@ -1,0 +1,173 @@
+//! `Core` gives what the generator inside it gives, and seeds it as `rand_core` says.
+
+use nanorand_proved::{BufferedRng, ChaCha, ChaCha12, ChaCha20, ChaCha8, Pcg64, Rng, WyRand};
+use nanorand_proved_rand_core::{ChaChaSeed, Core};
+use rand_core::{CryptoRng, RngCore, SeedableRng};
+use std::fmt::{Debug, Display, LowerHex, UpperHex};
+
+/// Does not compile if the type has the trait: two implementations of `Without` are its then.
+macro_rules! lacks {
+    ($kind:ty: $($name:path),+) => { $({
+        trait Without<Mark> {
+            fn check() {}
+        }
+        struct Mark;
+        impl<T> Without<()> for T {}
+        impl<T: $name> Without<Mark> for T {}
+        <$kind as Without<_>>::check();
+    })+ };
+}
+
+/// No generator is a `CryptoRng`, and the text of a seed would be its key.
+#[test]
+fn what_is_not_implemented() {
+    lacks!(Core<WyRand, 8>: CryptoRng);
+    lacks!(Core<Pcg64, 8>: CryptoRng);
+    lacks!(Core<ChaCha8, 64>: CryptoRng);
+    lacks!(Core<ChaCha12, 64>: CryptoRng);
+    lacks!(Core<ChaCha20, 64>: CryptoRng);
+    lacks!(Core<BufferedRng<ChaCha20, 64>, 64>: CryptoRng);
+    lacks!(ChaChaSeed: Debug, Display, LowerHex, UpperHex);
+}
+
+/// The four functions of `RngCore` give what the functions of `Rng` give, and leave the same.
+fn check<G: Rng<OUTPUT> + Clone + PartialEq + Debug, const OUTPUT: usize>(fresh: &G) {
+    let (mut core, mut own) = (Core(fresh.clone()), fresh.clone());
+    for length in (0..40).chain([63, 64, 65, 255, 256, 257, 600]) {
+        assert_eq!(core.next_u32(), own.next_u32());
+        assert_eq!(core.next_u64(), own.next_u64());
+        let (mut some, mut again) = (vec![0; length], vec![1; length]);
+        core.fill_bytes(&mut some);
+        own.fill_bytes(&mut again);
+        assert_eq!(some, again, "{length}");
+        core.try_fill_bytes(&mut some).expect("no error");
+        own.fill_bytes(&mut again);
+        assert_eq!(some, again, "{length}");
+        assert_eq!(core.0, own, "{length}");
+    }
+}
+
+/// A generator of a user's own, and what holds or borrows another.
+#[test]
+fn generators() {
+    #[derive(Clone, Debug, PartialEq)]
+    struct Counter(u32);
+
+    impl Rng<4> for Counter {
+        fn rand(&mut self) -> [u8; 4] {
+            self.0 += 1;
+            self.0.to_le_bytes()
+        }
+    }
+
+    for seed in [0, 1, 42, u64::MAX] {
+        check(&WyRand::new_seed(seed));
+        check(&Pcg64::new_seed(u128::from(seed) << 60));
+        check(&ChaCha8::at([3; 32], [4; 8], seed));
+        check(&ChaCha12::at([3; 32], [4; 8], seed));
+        check(&ChaCha20::at([3; 32], [4; 8], seed));
+        check(&BufferedRng::new(WyRand::new_seed(seed)));
+        check(&BufferedRng::new(ChaCha20::at([3; 32], [4; 8], seed)));
+    }
+    check(&Counter(0));
+    let mut lent = WyRand::new_seed(42);
+    let word = Core(&mut lent).next_u64();
+    assert_eq!(word, 12_558_987_674_375_533_620);
+    assert_ne!(lent, WyRand::new_seed(42));
+}
+
+/// The generators serve where a trait object of `rand_core` is asked for.
+#[test]
+fn trait_objects() {
+    let rngs: [(Box<dyn RngCore>, u64); 4] = [
+        (
+            Box::new(Core(WyRand::new_seed(42))),
+            12_558_987_674_375_533_620,
+        ),
+        (Box::new(Core(Pcg64::new_seed(0))), 0xad39_692f_3f82_753f),
+        (
+            Box::new(Core(ChaCha20::new_key([0; 32], [0; 8]))),
+            0x903d_f1a0_ade0_b876,
+        ),
+        (
+            Box::new(Core(BufferedRng::new(WyRand::new_seed(42)))),
+            12_558_987_674_375_533_620,
+        ),
+    ];
+    for (mut rng, word) in rngs {
+        assert_eq!(rng.next_u64(), word);
+    }
+}
+
+/// The seed of `ChaCha` is the key and then the nonce.
+fn chacha_of<const ROUNDS: u8>() {
+    let mut seed = ChaChaSeed::default();
+    assert_eq!(seed.as_mut(), [0; 40]);
+    seed.as_mut().fill(1);
+    seed.as_mut()[32..].fill(2);
+    let made = Core::from_seed(seed);
+    assert_eq!(made, Core(ChaCha::<ROUNDS>::new_key([1; 32], [2; 8])));
+}
+
+#[test]
+fn seeds() {
+    let eight = [1, 2, 3, 4, 5, 6, 7, 8];
+    let made = Core::from_seed(eight);
+    assert_eq!(made, Core(WyRand::new_seed(0x0807_0605_0403_0201)));
+    let mut sixteen = [0; 16];
+    sixteen[0] = 5;
+    sixteen[15] = 3;
+    let made = Core::from_seed(sixteen);
+    assert_eq!(made, Core(Pcg64::new_seed((3 << 120) + 5)));
+    chacha_of::<8>();
+    chacha_of::<12>();
+    chacha_of::<20>();
+}
+
+/// What `rand_core` makes of a number, which is the same for every generator: known from the seeds
+/// of a generator whose seed is an array.
+struct Bytes<const SIZE: usize>([u8; SIZE]);
+
+macro_rules! seeded_by_bytes {
+    ($($size:literal),+) => { $(
+        impl SeedableRng for Bytes<$size> {
+            type Seed = [u8; $size];
+
+            fn from_seed(seed: [u8; $size]) -> Self {
+                Bytes(seed)
+            }
+        }
+    )+ };
+}
+
+seeded_by_bytes!(8, 16);
+
+#[test]
+fn seeds_of_a_number() {
+    for number in [0, 1, 42, u64::MAX] {
+        let Bytes(eight) = Bytes::<8>::seed_from_u64(number);
+        assert_eq!(
+            Core::<WyRand, 8>::seed_from_u64(number),
+            Core(WyRand::from_seed(eight))
+        );
+        let Bytes(sixteen) = Bytes::<16>::seed_from_u64(number);
+        assert_eq!(
+            Core::<Pcg64, 8>::seed_from_u64(number),
+            Core(Pcg64::from_seed(sixteen))
+        );
+        // A longer seed begins with the bytes of a shorter one.
+        let Core(chacha) = Core::<ChaCha20, 64>::seed_from_u64(number);
+        assert_eq!(chacha.key()[..16], sixteen);
+        assert_eq!(chacha.counter(), 0);
+        assert_ne!(chacha.nonce(), [0; 8]);
+    }
+}
+
+/// A generator seeded by another takes that many of its bytes.
+#[test]
+fn seeds_from_a_generator() {
+    let mut source = WyRand::new_seed(42);
+    let made = Core::<Pcg64, 8>::from_rng(Core(&mut source)).expect("no error");
+    let bytes = WyRand::new_seed(42).generate();
+    assert_eq!(made, Core(Pcg64::from_seed(bytes)));
+}
