@@ -3,9 +3,9 @@
 #![cfg(feature = "std")]
 #![allow(clippy::mut_mut)] // a lent generator is lent again
 
-mod generators;
+mod common;
 
-use generators::{rising, zeros, Constant, Script, Steps, Waste};
+use common::{rising, zeros, Constant, Script, Steps, Waste};
 use nanorand_proved::choices::{below, choose, choose_mut, choose_weighted, ratio};
 use nanorand_proved::rand::fill_by_blocks;
 use nanorand_proved::replay::{replay, Answer, Call, Kind, Span};

@@ -2,9 +2,9 @@
 //! that of the case there. Where it takes its seed from the system, a fixed seed stands here.
 #![cfg(feature = "std")]
 
-mod generators;
+mod common;
 
-use generators::{array_of, bytes_of};
+use common::{array_of, bytes_of};
 use nanorand_proved::crypto::chacha::{chacha_block, chacha_increment_counter, chacha_init};
 use nanorand_proved::{BufferedRng, ChaCha20, RangeError, Rng, WyRand};
 use std::error::Error;

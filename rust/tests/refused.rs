@@ -2,9 +2,9 @@
 //! and changes neither the vector nor the buffer.
 #![cfg(feature = "std")]
 
-mod generators;
+mod common;
 
-use generators::{rising, Steps};
+use common::{rising, Steps};
 use nanorand_proved::samples::sample;
 use nanorand_proved::shuffles::shuffle_full;
 use nanorand_proved::{BufferedRng, ChaCha20, RangeError, Rng, WyRand};

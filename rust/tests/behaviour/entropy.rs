@@ -1,0 +1,177 @@
+//! Entropy readers, and the generators made from them.
+
+use crate::common::{array_of, Pieces};
+use nanorand_proved::entropy::{backup, rdseed, system, EntropyError};
+use nanorand_proved::{ChaCha12, ChaCha20, ChaCha8, Pcg64, Rng, WyRand};
+use std::io::ErrorKind;
+
+/// The kinds of errors with which the readers fail. `Interrupted` is one of them.
+const FAULTS: [ErrorKind; 3] = [
+    ErrorKind::Interrupted,
+    ErrorKind::WouldBlock,
+    ErrorKind::BrokenPipe,
+];
+
+type Maker = fn(&mut Pieces) -> Result<(), EntropyError>;
+
+/// What is made from a reader, with the number of bytes that it takes.
+const MAKERS: [(Maker, usize); 6] = [
+    (|source| system(source, &mut [0; 11]), 11),
+    (|source| WyRand::new(source).map(drop), 8),
+    (|source| Pcg64::new(source).map(drop), 16),
+    (|source| ChaCha8::new(source).map(drop), 40),
+    (|source| ChaCha12::new(source).map(drop), 40),
+    (|source| ChaCha20::new(source).map(drop), 40),
+];
+
+/// The bytes 1 to 50.
+fn counted() -> Vec<u8> {
+    (1..=50).collect()
+}
+
+#[test]
+fn next_bytes_in_pieces() {
+    let bytes = counted();
+    for piece in 1..12 {
+        let mut source = Pieces::of(&bytes, piece);
+        let mut out = [0; 11];
+        assert_eq!(system(&mut source, &mut out), Ok(()));
+        assert_eq!(out, [1, 2, 3, 4, 5, 6, 7, 8, 9, 10, 11], "{piece}");
+        assert_eq!(system(&mut source, &mut out[..3]), Ok(()));
+        assert_eq!(out, [12, 13, 14, 4, 5, 6, 7, 8, 9, 10, 11], "{piece}");
+        assert_eq!(source.left(), 36);
+    }
+}
+
+#[test]
+fn an_empty_slice_reads_nothing() {
+    let mut source = Pieces::failing(&[1], 1, 0, ErrorKind::BrokenPipe);
+    assert_eq!(system(&mut source, &mut []), Ok(()));
+    assert_eq!(source.reads(), 0);
+    assert_eq!(source.left(), 1);
+}
+
+#[test]
+fn generators_of_the_next_bytes() {
+    let mut source = Pieces::of(&[0x2a, 0, 0, 0, 0, 0, 0, 0], 1);
+    assert_eq!(WyRand::new(&mut source), Ok(WyRand::new_seed(42)));
+
+    let mut bytes = [0; 16];
+    bytes[0] = 1;
+    let made = Pcg64::new(&mut Pieces::of(&bytes, 1));
+    assert_eq!(made, Ok(Pcg64::new_seed(1)));
+
+    let bytes: [u8; 40] = array_of(
+        "000102030405060708090a0b0c0d0e0f101112131415161718191a1b1c1d1e1f0001020304050607",
+    );
+    let first: [u8; 64] = array_of(
+        "f798a189f195e66982105ffb640bb7757f579da31602fc93ec01ac56f85ac3c134a4547b733b46413042c9440049176905d3be59ea1c53f15916155c2be8241a",
+    );
+    for piece in [1, 7, 40] {
+        let mut source = Pieces::of(&bytes, piece);
+        let mut made = ChaCha20::new(&mut source).expect("40 bytes");
+        assert_eq!(made.rand(), first);
+        assert_eq!(source.left(), 0);
+    }
+}
+
+/// Exactly the bytes that are needed are taken from the reader.
+#[test]
+fn bytes_taken() {
+    let bytes = counted();
+    for (make, size) in MAKERS {
+        for piece in [1, 7, 50] {
+            let mut source = Pieces::of(&bytes, piece);
+            assert_eq!(make(&mut source), Ok(()), "{size}");
+            assert_eq!(source.left(), 50 - size);
+        }
+    }
+}
+
+/// A reader that ends after any number of bytes that is too small.
+#[test]
+fn short_readers() {
+    let bytes = counted();
+    for (make, size) in MAKERS {
+        for length in 0..size {
+            for piece in [1, 7] {
+                let made = make(&mut Pieces::of(&bytes[..length], piece));
+                assert_eq!(made, Err(EntropyError::Short), "{length} of {size}");
+            }
+        }
+    }
+}
+
+/// A reader that fails at one of its reads. A failure after the last read that is needed is never
+/// met.
+#[test]
+fn failing_readers() {
+    let bytes = counted();
+    for (make, size) in MAKERS {
+        for kind in FAULTS {
+            for read in 0..size {
+                let made = make(&mut Pieces::failing(&bytes, 1, read, kind));
+                assert_eq!(made, Err(EntropyError::Fault), "{read} of {size}");
+            }
+            assert_eq!(make(&mut Pieces::failing(&bytes, 1, size, kind)), Ok(()));
+        }
+    }
+}
+
+#[test]
+fn unavailable_sources() {
+    let mut out = [9, 9];
+    assert_eq!(rdseed(&mut out), None);
+    assert_eq!(backup(&mut out), Err(EntropyError::Unavailable));
+    assert_eq!(out, [9, 9]);
+    assert_eq!(rdseed(&mut []), None);
+    assert_eq!(backup(&mut []), Err(EntropyError::Unavailable));
+}
+
+/// A slice of this size is filled with the next bytes, and no more are taken.
+fn fills(bytes: &[u8], size: usize, piece: usize) {
+    let mut source = Pieces::of(bytes, piece);
+    let mut out = vec![0xee; size];
+    assert_eq!(system(&mut source, &mut out), Ok(()), "{size} by {piece}");
+    assert_eq!(out, bytes[..size], "{size} by {piece}");
+    assert_eq!(source.left() + size, bytes.len());
+}
+
+#[test]
+fn slices_of_many_sizes() {
+    let bytes: Vec<u8> = (0..251).cycle().take(70_001).collect();
+    for size in [4096, 70_000] {
+        for piece in [1, 7, 4096, 70_000] {
+            fills(&bytes, size, piece);
+        }
+    }
+    for size in 0..=300 {
+        for piece in [1, 7, 300] {
+            fills(&bytes, size, piece);
+        }
+    }
+}
+
+/// Each `new` makes the generator that its constructor makes from the next bytes of the reader.
+#[test]
+fn generators_of_any_seed() {
+    let rising: [u8; 40] = counted()[..40].try_into().expect("40 bytes");
+    for bytes in [rising, [0; 40], [0xff; 40]] {
+        let (key, nonce) = bytes.split_at(32);
+        let key = key.try_into().expect("32 bytes");
+        let nonce = nonce.try_into().expect("8 bytes");
+        let word = u64::from_le_bytes(bytes[..8].try_into().expect("8 bytes"));
+        let wide = u128::from_le_bytes(bytes[..16].try_into().expect("16 bytes"));
+        for piece in [1, 7, 40] {
+            let source = || Pieces::of(&bytes, piece);
+            assert_eq!(WyRand::new(&mut source()), Ok(WyRand::new_seed(word)));
+            assert_eq!(Pcg64::new(&mut source()), Ok(Pcg64::new_seed(wide)));
+            let made = ChaCha8::new(&mut source());
+            assert_eq!(made, Ok(ChaCha8::new_key(key, nonce)));
+            let made = ChaCha12::new(&mut source());
+            assert_eq!(made, Ok(ChaCha12::new_key(key, nonce)));
+            let made = ChaCha20::new(&mut source());
+            assert_eq!(made, Ok(ChaCha20::new_key(key, nonce)));
+        }
+    }
+}

@@ -1,0 +1,176 @@
+//! Ranges of unsigned numbers, and the numbers that words name.
+
+use crate::common::{zeros, Constant, Script, Steps};
+use nanorand_proved::values::pick_word;
+use nanorand_proved::RangeError::{self, Empty, Exhausted};
+use nanorand_proved::{RandomRange, Rng};
+use std::fmt::Debug;
+use std::ops::Bound::{self, Excluded, Included, Unbounded};
+
+/// A size, the bits of a word, a word, and the number that it names.
+const WORDS: [(u128, u32, u64, Option<u64>); 21] = [
+    (3, 8, 0, None),
+    (3, 8, 1, Some(0)),
+    (3, 8, 85, Some(0)),
+    (3, 8, 86, Some(1)),
+    (3, 8, 170, Some(1)),
+    (3, 8, 171, Some(2)),
+    (3, 8, 255, Some(2)),
+    (171, 8, 0, None),
+    (171, 8, 1, Some(0)),
+    (171, 8, 2, Some(1)),
+    (171, 8, 3, None),
+    (171, 8, 4, Some(2)),
+    (171, 8, 255, Some(170)),
+    (256, 8, 0, Some(0)),
+    (256, 8, 255, Some(255)),
+    ((1 << 63) + 1, 64, 0, None),
+    ((1 << 63) + 1, 64, 1, Some(0)),
+    ((1 << 63) + 1, 64, 2, None),
+    ((1 << 63) + 1, 64, 3, Some(1)),
+    ((1 << 63) + 1, 64, u64::MAX, Some(1 << 63)),
+    (1 << 64, 64, u64::MAX, Some(u64::MAX)),
+];
+
+#[test]
+fn words_name_numbers() {
+    for (size, bits, word, number) in WORDS {
+        assert_eq!(pick_word(size, bits, word), number, "{size} {bits} {word}");
+    }
+}
+
+#[test]
+fn the_first_accepted_word_decides() {
+    let mut refused = zeros();
+    assert_eq!(refused.generate_range::<u8>(10..=12), Err(Exhausted));
+    assert_eq!(refused.drawn(), 128);
+    assert_eq!(zeros().generate_range::<u8>(10..=13), Ok(10));
+    let mut steps = Steps::new();
+    assert_eq!(steps.generate_range::<u8>(10..=12), Ok(10));
+    assert_eq!(steps.drawn(), 2);
+}
+
+#[test]
+fn the_last_of_128_words_may_decide() {
+    let mut bytes = [0; 129];
+    bytes[127] = 1;
+    let mut early = Script::new(&bytes);
+    assert_eq!(early.generate_range::<u8>(10..=12), Ok(10));
+    assert_eq!(early.drawn(), 128);
+
+    let mut bytes = [0; 129];
+    bytes[128] = 1;
+    let mut late = Script::new(&bytes);
+    assert_eq!(late.generate_range::<u8>(10..=12), Err(Exhausted));
+    assert_eq!(late.drawn(), 128);
+    assert_eq!(late.generate_range::<u8>(10..=12), Ok(10));
+    assert_eq!(late.drawn(), 129);
+}
+
+#[test]
+fn whole_types_and_single_numbers() {
+    assert_eq!(Constant::new(255).generate_range::<u8>(..), Ok(255));
+    for byte in [0, 255] {
+        let mut any = Constant::new(byte);
+        assert_eq!(any.generate_range::<u64>(7..=7), Ok(7));
+        assert_eq!(any.drawn(), 1);
+    }
+}
+
+#[test]
+fn empty_ranges_draw_nothing() {
+    let rows: [(Bound<u8>, Bound<u8>); 9] = [
+        (Included(5), Excluded(5)),
+        (Included(10), Included(9)),
+        (Included(10), Included(5)),
+        (Included(10), Excluded(5)),
+        (Excluded(5), Included(5)),
+        (Excluded(5), Excluded(6)),
+        (Excluded(255), Unbounded),
+        (Excluded(255), Included(255)),
+        (Unbounded, Excluded(0)),
+    ];
+    let mut steps = Steps::new();
+    for range in rows {
+        assert_eq!(steps.generate_range(range), Err(Empty), "{range:?}");
+    }
+    assert_eq!(steps.drawn(), 0);
+}
+
+/// The number that a word of 8 bits names, by a search: number k has the `quota` words from
+/// ceil((256 k + rejected) / size) on.
+fn named_by_counting(size: u32, word: u32) -> Option<u32> {
+    let (quota, rejected) = (256 / size, 256 % size);
+    (0..size).find(|k| {
+        let first = (256 * k + rejected + size - 1) / size;
+        (first..first + quota).contains(&word)
+    })
+}
+
+/// Each size of a byte's range, by each byte.
+#[test]
+fn every_size_and_byte() {
+    for size in 1..=256_u32 {
+        let mut refused = 0;
+        for byte in 0..=255_u8 {
+            let high = u8::try_from(size).map_or(Unbounded, Excluded);
+            let drawn = Constant::new(byte).generate_range::<u8>((Included(0), high));
+            let named = named_by_counting(size, u32::from(byte));
+            refused += u32::from(named.is_none());
+            let expected: Result<u32, RangeError> = named.ok_or(Exhausted);
+            assert_eq!(drawn.map(u32::from), expected, "{byte} of {size}");
+            let picked = pick_word(u128::from(size), 8, u64::from(byte));
+            assert_eq!(picked, named.map(u64::from), "{byte} of {size}");
+        }
+        assert_eq!(refused, 256 % size, "{size}");
+    }
+}
+
+/// The results of a range by the least word and by the greatest.
+fn gives<T: RandomRange<Constant, 8> + Copy + PartialEq + Debug>(
+    low: Bound<T>,
+    high: Bound<T>,
+    by_least: Result<T, RangeError>,
+    by_greatest: Result<T, RangeError>,
+) {
+    let drawn = zeros().generate_range((low, high));
+    assert_eq!(drawn, by_least, "{low:?} {high:?}");
+    let drawn = Constant::new(255).generate_range((low, high));
+    assert_eq!(drawn, by_greatest, "{low:?} {high:?}");
+}
+
+/// The nine pairs of bounds at both ends of a type, and the ranges beyond them. The least word is
+/// rejected if the range has all numbers but one.
+macro_rules! check_ends {
+    ($($number:ty),+) => { $({
+        let (least, last) = (<$number>::MIN, <$number>::MAX);
+        let (second, before) = (least + 1, last - 1);
+        gives(Included(least), Included(second), Ok(least), Ok(second));
+        gives(Included(least), Excluded(second), Ok(least), Ok(least));
+        gives(Included(least), Unbounded, Ok(least), Ok(last));
+        gives(Excluded(least), Included(second), Ok(second), Ok(second));
+        gives(Excluded(least), Excluded(second), Err(Empty), Err(Empty));
+        gives(Excluded(least), Unbounded, Err(Exhausted), Ok(last));
+        gives(Unbounded, Included(second), Ok(least), Ok(second));
+        gives(Unbounded, Excluded(second), Ok(least), Ok(least));
+        gives(Unbounded, Unbounded, Ok(least), Ok(last));
+        gives(Unbounded, Excluded(least), Err(Empty), Err(Empty));
+        gives(Included(before), Included(last), Ok(before), Ok(last));
+        gives(Included(before), Excluded(last), Ok(before), Ok(before));
+        gives(Included(before), Unbounded, Ok(before), Ok(last));
+        gives(Excluded(before), Included(last), Ok(last), Ok(last));
+        gives(Excluded(before), Excluded(last), Err(Empty), Err(Empty));
+        gives(Excluded(before), Unbounded, Ok(last), Ok(last));
+        gives(Unbounded, Included(last), Ok(least), Ok(last));
+        gives(Unbounded, Excluded(last), Err(Exhausted), Ok(before));
+        gives(Excluded(last), Unbounded, Err(Empty), Err(Empty));
+        gives(Included(last), Included(least), Err(Empty), Err(Empty));
+        gives(Included(last), Included(last), Ok(last), Ok(last));
+        gives(Included(least), Included(least), Ok(least), Ok(least));
+    })+ };
+}
+
+#[test]
+fn every_pair_of_bounds_at_both_ends() {
+    check_ends!(u8, u16, u32, u64, usize, i8, i16, i32, i64, isize);
+}

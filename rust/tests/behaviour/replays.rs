@@ -1,0 +1,354 @@
+//! Replays of lists of calls.
+
+use crate::common::{array_of, bytes_of, zeros, Script, Steps};
+use nanorand_proved::replay::Answer::{Empty, Exhausted, Shuffled, Signed, Truth, Unsigned};
+use nanorand_proved::replay::{replay, Answer, Call, Kind, Span};
+use nanorand_proved::shuffles::shuffle_full;
+use nanorand_proved::{BufferedRng, ChaCha20, ChaCha8, Pcg64, Rng, SeedableRng, WyRand};
+use std::fmt::Debug;
+use std::ops::Bound::{Excluded, Included, Unbounded};
+
+const KINDS: [Kind; 13] = [
+    Kind::I8,
+    Kind::I16,
+    Kind::I32,
+    Kind::I64,
+    Kind::I128,
+    Kind::Isize,
+    Kind::U8,
+    Kind::U16,
+    Kind::U32,
+    Kind::U64,
+    Kind::U128,
+    Kind::Usize,
+    Kind::Bool,
+];
+
+fn small_range() -> Call {
+    Call::Range(Span::U8(Included(10), Included(12)))
+}
+
+/// The answers to the calls.
+fn answers<G: Rng<OUTPUT>, const OUTPUT: usize>(
+    rng: &mut G,
+    calls: &[Call],
+    items: &mut [u64],
+) -> Vec<Answer> {
+    let mut answers = vec![Empty; calls.len()];
+    replay(rng, calls, items, &mut answers);
+    answers
+}
+
+/// A byte, a byte of a small range, a shuffle and a `bool`.
+fn four_calls() -> [Call; 4] {
+    [
+        Call::Gen(Kind::U8),
+        small_range(),
+        Call::Shuffle,
+        Call::Gen(Kind::Bool),
+    ]
+}
+
+#[test]
+fn each_call_begins_a_block() {
+    let expected = [Unsigned(0), Unsigned(10), Shuffled, Truth(true)];
+    let mut steps = Steps::new();
+    let mut items = [7, 8, 9];
+    assert_eq!(answers(&mut steps, &four_calls(), &mut items), expected);
+    assert_eq!(items, [7, 8, 9]);
+    assert_eq!(steps.drawn(), 6);
+
+    let mut buffered = BufferedRng::new(Steps::new());
+    assert_eq!(answers(&mut buffered, &four_calls(), &mut items), expected);
+    assert_eq!(items, [7, 8, 9]);
+    assert_eq!(buffered.buffered(), 5);
+    assert_eq!(buffered.into_inner().drawn(), 4);
+}
+
+#[test]
+fn no_calls() {
+    let mut steps = Steps::new();
+    let mut items = [7];
+    assert_eq!(answers(&mut steps, &[], &mut items), []);
+    assert_eq!(items, [7]);
+    assert_eq!(steps.drawn(), 0);
+}
+
+#[test]
+fn a_refusal_does_not_end_a_replay() {
+    let mut steps = Steps::new();
+    let calls = [
+        Call::Gen(Kind::U8),
+        Call::Range(Span::U8(Included(5), Excluded(5))),
+        small_range(),
+        Call::Gen(Kind::Bool),
+    ];
+    let expected = [Unsigned(0), Empty, Unsigned(10), Truth(true)];
+    assert_eq!(answers(&mut steps, &calls, &mut []), expected);
+    assert_eq!(steps.drawn(), 3);
+}
+
+#[test]
+fn spans_by_zeros() {
+    let mut rng = zeros();
+    let calls = [
+        small_range(),
+        Call::Range(Span::U16(Unbounded, Unbounded)),
+        Call::Range(Span::U32(Included(1), Included(1))),
+        Call::Range(Span::U64(Included(2), Unbounded)),
+        Call::Range(Span::Usize(Excluded(2), Excluded(4))),
+    ];
+    let expected = [Exhausted, Unsigned(0), Unsigned(1), Exhausted, Unsigned(3)];
+    assert_eq!(answers(&mut rng, &calls, &mut []), expected);
+    assert_eq!(rng.drawn(), 259);
+
+    let mut rng = zeros();
+    let calls = [
+        Call::Range(Span::I8(Included(-1), Included(1))),
+        Call::Range(Span::I16(Unbounded, Unbounded)),
+        Call::Range(Span::I32(Included(-1), Included(-1))),
+        Call::Range(Span::I64(Included(2), Excluded(2))),
+        Call::Range(Span::Isize(Excluded(-2), Excluded(3))),
+    ];
+    let expected = [Exhausted, Signed(-32768), Signed(-1), Empty, Signed(-1)];
+    assert_eq!(answers(&mut rng, &calls, &mut []), expected);
+    assert_eq!(rng.drawn(), 131);
+}
+
+#[test]
+fn a_refused_range_and_a_byte() {
+    let mut list = [0; 129];
+    list[128] = 1;
+    let calls = [small_range(), Call::Gen(Kind::U8)];
+    let mut plain = Script::new(&list);
+    assert_eq!(
+        answers(&mut plain, &calls, &mut []),
+        [Exhausted, Unsigned(1)]
+    );
+    assert_eq!(plain.drawn(), 129);
+
+    let mut buffered = BufferedRng::new(Script::new(&list));
+    let given = answers(&mut buffered, &calls, &mut []);
+    assert_eq!(given, [Exhausted, Unsigned(0)]);
+    assert_eq!(buffered.buffered(), 7);
+    assert_eq!(buffered.into_inner().drawn(), 17);
+}
+
+#[test]
+fn a_refused_shuffle_and_a_bool() {
+    let calls = [Call::Shuffle, Call::Gen(Kind::Bool)];
+    let expected = [Exhausted, Truth(true)];
+    let mut items = [7, 8, 9];
+    let mut rng = zeros();
+    assert_eq!(answers(&mut rng, &calls, &mut items), expected);
+    assert_eq!(items, [7, 8, 9]);
+    assert_eq!(rng.drawn(), 129);
+
+    let mut buffered = BufferedRng::new(zeros());
+    assert_eq!(answers(&mut buffered, &calls, &mut items), expected);
+    assert_eq!(items, [7, 8, 9]);
+    assert_eq!(buffered.buffered(), 7);
+    assert_eq!(buffered.into_inner().drawn(), 129);
+}
+
+/// One value of each type, by zeros and in order of the bytes.
+#[test]
+fn values_of_each_kind() {
+    let calls = KINDS.map(Call::Gen);
+    let mut rng = zeros();
+    let expected: Vec<Answer> = [Signed(0); 6]
+        .into_iter()
+        .chain([Unsigned(0); 6])
+        .chain([Truth(true)])
+        .collect();
+    assert_eq!(answers(&mut rng, &calls, &mut []), expected);
+    assert_eq!(rng.drawn(), 15);
+
+    let expected = [
+        Signed(-1),
+        Signed(-1),
+        Signed(-1),
+        Signed(-1),
+        Signed(-1),
+        Signed(-1),
+        Unsigned(0xff),
+        Unsigned(0xffff),
+        Unsigned(0xffff_ffff),
+        Unsigned(u128::from(u64::MAX)),
+        Unsigned(u128::MAX),
+        Unsigned(u128::from(u64::MAX)),
+        Truth(false),
+    ];
+    let given = answers(&mut Script::new(&[255; 15]), &calls, &mut []);
+    assert_eq!(given, expected);
+}
+
+/// Known runs of `WyRand`: the seed's bytes, the calls and the answers.
+#[test]
+fn runs_of_wyrand() {
+    let i8_of = |low, high| Call::Range(Span::I8(low, high));
+    let rows: [(&str, Call, Answer); 12] = [
+        (
+            "d29b42879be2895f",
+            Call::Gen(Kind::U64),
+            Unsigned(16_646_288_086_500_911_322),
+        ),
+        (
+            "d29b42879be2895f",
+            Call::Gen(Kind::I64),
+            Signed(-1_800_455_987_208_640_294),
+        ),
+        ("d29b42879be2895f", Call::Gen(Kind::Bool), Truth(false)),
+        ("d19b42879be2895f", Call::Gen(Kind::Bool), Truth(true)),
+        ("d29b42879be2895f", Call::Gen(Kind::I8), Signed(-38)),
+        ("d29b42879be2895f", small_range(), Unsigned(12)),
+        (
+            "d29b42879be2895f",
+            Call::Range(Span::U8(Unbounded, Unbounded)),
+            Unsigned(218),
+        ),
+        (
+            "d29b42879be2895f",
+            Call::Range(Span::U8(Included(200), Unbounded)),
+            Unsigned(247),
+        ),
+        (
+            "d29b42879be2895f",
+            Call::Range(Span::U16(Included(0), Excluded(1000))),
+            Unsigned(159),
+        ),
+        (
+            "d29b42879be2895f",
+            i8_of(Included(-1), Included(1)),
+            Signed(1),
+        ),
+        ("d29b42879be2895f", i8_of(Unbounded, Unbounded), Signed(90)),
+        (
+            "d29b42879be2895f",
+            Call::Range(Span::I16(Included(-300), Excluded(300))),
+            Signed(-205),
+        ),
+    ];
+    for (seed, call, answer) in rows {
+        let mut rng = WyRand::from_seed(array_of(seed));
+        assert_eq!(answers(&mut rng, &[call], &mut []), [answer], "{seed}");
+    }
+    let mut rng = WyRand::from_seed(array_of("d29b42879be2895f"));
+    let calls = [i8_of(Included(-128), Excluded(-128)), Call::Shuffle];
+    assert_eq!(answers(&mut rng, &calls, &mut [0]), [Empty, Shuffled]);
+}
+
+#[test]
+fn buffered_runs() {
+    let seed = array_of("d29b42879be2895f");
+    let mut rng = BufferedRng::new(WyRand::from_seed(seed));
+    let calls = [Kind::U8, Kind::U8, Kind::U16].map(Call::Gen);
+    let expected = [Unsigned(218), Unsigned(40), Unsigned(41140)];
+    assert_eq!(answers(&mut rng, &calls, &mut []), expected);
+
+    let mut rng = BufferedRng::new(ChaCha20::new_key([0; 32], [0; 8]));
+    let calls = [
+        Call::Gen(Kind::U8),
+        small_range(),
+        Call::Gen(Kind::U16),
+        Call::Gen(Kind::Bool),
+    ];
+    let expected = [Unsigned(118), Unsigned(12), Unsigned(44512), Truth(false)];
+    assert_eq!(answers(&mut rng, &calls, &mut []), expected);
+
+    let mut pcg64 = Pcg64::new_seed(0);
+    let calls = [Call::Gen(Kind::U8)];
+    assert_eq!(answers(&mut pcg64, &calls, &mut []), [Unsigned(63)]);
+}
+
+#[test]
+fn shuffles_of_chacha() {
+    let mut seed = bytes_of("000102030405060708090a0b0c0d0e0f101112131415161718191a1b1c1d1e1f");
+    seed.extend(0..8);
+    let mut rng = ChaCha20::new_key([0; 32], [0; 8]);
+    rng.reseed(seed.try_into().expect("40 bytes"));
+    let (mut items, mut others) = ([0, 1, 2], [0, 1, 2]);
+    assert_eq!(shuffle_full(&mut rng.clone(), &mut others), Ok(()));
+    assert_eq!(others, [2, 0, 1]);
+    assert_eq!(answers(&mut rng, &[Call::Shuffle], &mut items), [Shuffled]);
+    assert_eq!(items, [1, 2, 0]);
+
+    let mut rng = BufferedRng::new(ChaCha20::new_key([0; 32], [0; 8]));
+    let (mut items, mut others) = ([0, 1, 2], [0, 1, 2]);
+    assert_eq!(shuffle_full(&mut rng.clone(), &mut others), Ok(()));
+    assert_eq!(others, [2, 1, 0]);
+    assert_eq!(answers(&mut rng, &[Call::Shuffle], &mut items), [Shuffled]);
+    assert_eq!(items, [1, 0, 2]);
+}
+
+/// A 64-bit value, a number of a small range, a shuffle and a `bool`, from the seed 42: the run is
+/// the same from a copy, and stopped and resumed at each call.
+#[test]
+fn a_run_stops_and_resumes() {
+    let calls = [
+        Call::Gen(Kind::U64),
+        small_range(),
+        Call::Shuffle,
+        Call::Gen(Kind::Bool),
+    ];
+    let expected = [
+        Unsigned(12_558_987_674_375_533_620),
+        Unsigned(12),
+        Shuffled,
+        Truth(true),
+    ];
+    for place in 0..=calls.len() {
+        let mut rng = WyRand::new_seed(42);
+        let mut copy = rng.clone();
+        let (mut items, mut others) = ([7, 8, 9], [7, 8, 9]);
+        let mut given = answers(&mut rng, &calls[..place], &mut items);
+        given.extend(answers(&mut rng, &calls[place..], &mut items));
+        assert_eq!(given, expected, "{place}");
+        assert_eq!(answers(&mut copy, &calls, &mut others), expected);
+        assert_eq!(items, [9, 7, 8]);
+        assert_eq!(others, items);
+        assert_eq!(rng.seed(), 0xc2c4_b05a_d470_5944);
+        assert_eq!(rng, copy);
+    }
+}
+
+const MANY: usize = 20_000;
+
+/// The answer to call `index`, by the generator's own methods.
+fn answer<G: Rng<OUTPUT>, const OUTPUT: usize>(
+    rng: &mut G,
+    index: usize,
+    items: &mut [u64],
+) -> Answer {
+    match index % 4 {
+        0 => Unsigned(u128::from(rng.generate::<u8>())),
+        1 => rng
+            .generate_range::<u8>(10..=12)
+            .map_or(Exhausted, |number| Unsigned(u128::from(number))),
+        2 => rng.shuffle(items).map_or(Exhausted, |()| Shuffled),
+        _ => Truth(rng.generate()),
+    }
+}
+
+/// A replay gives the answers of the single calls, and leaves the same items and generator.
+fn check_many<G, const OUTPUT: usize>(mut rng: G)
+where
+    G: Rng<OUTPUT> + Clone + PartialEq + Debug,
+{
+    let mut again = rng.clone();
+    let calls: Vec<Call> = (0..MANY / 4).flat_map(|_| four_calls()).collect();
+    let (mut items, mut others) = ([7, 8, 9], [7, 8, 9]);
+    let given = answers(&mut rng, &calls, &mut items);
+    for (index, given) in given.into_iter().enumerate() {
+        assert_eq!(answer(&mut again, index, &mut others), given, "{index}");
+    }
+    assert_eq!(items, others);
+    assert_eq!(rng, again);
+}
+
+#[test]
+fn replays_of_many_calls() {
+    check_many(WyRand::new_seed(0));
+    check_many(Pcg64::new_seed(0));
+    check_many(BufferedRng::new(ChaCha8::new_key([0xff; 32], [0xff; 8])));
+}

@@ -1,0 +1,422 @@
+//! Values, and which bytes and blocks a request takes.
+
+use crate::common::{zeros, Rising, Script, Steps, Waste};
+use nanorand_proved::rand::fill_by_blocks;
+use nanorand_proved::values::fill_with;
+use nanorand_proved::{
+    BufferedRng, ChaCha12, ChaCha20, ChaCha8, Pcg64, RandomGen, Rng, SeedableRng, WyRand,
+};
+use std::fmt::Debug;
+use std::io::Read;
+
+#[test]
+fn each_request_begins_a_block() {
+    let mut steps = Steps::new();
+    assert_eq!(steps.generate::<u8>(), 0);
+    assert_eq!(steps.generate::<u8>(), 8);
+    assert_eq!(steps.generate::<u16>(), 0x1110);
+    assert_eq!(steps.drawn(), 3);
+}
+
+#[test]
+fn a_value_of_16_bytes_takes_two_blocks() {
+    let mut steps = Steps::new();
+    assert_eq!(
+        steps.generate::<u128>(),
+        0x0f0e_0d0c_0b0a_0908_0706_0504_0302_0100
+    );
+    assert_eq!(steps.drawn(), 2);
+}
+
+#[test]
+fn bytes_of_requests() {
+    let mut three = [9; 3];
+    Steps::new().fill_bytes(&mut three);
+    assert_eq!(three, [0, 1, 2]);
+
+    let mut steps = Steps::new();
+    let mut nine = [9; 9];
+    steps.fill_bytes(&mut nine);
+    assert_eq!(nine, [0, 1, 2, 3, 4, 5, 6, 7, 8]);
+    assert_eq!(steps.generate::<u8>(), 16);
+
+    let mut untouched = Steps::new();
+    untouched.fill_bytes(&mut []);
+    assert_eq!(untouched.drawn(), 0);
+}
+
+#[test]
+fn each_type_once() {
+    let mut steps = Steps::new();
+    assert_eq!(steps.rand(), [0, 1, 2, 3, 4, 5, 6, 7]);
+    assert_eq!(steps.generate::<i8>(), 8);
+    assert_eq!(steps.generate::<i16>(), 0x1110);
+    assert_eq!(steps.generate::<i32>(), 0x1b1a_1918);
+    assert_eq!(steps.generate::<i64>(), 0x2726_2524_2322_2120);
+    assert_eq!(
+        steps.generate::<i128>(),
+        0x3736_3534_3332_3130_2f2e_2d2c_2b2a_2928
+    );
+    assert_eq!(steps.generate::<isize>(), 0x3f3e_3d3c_3b3a_3938);
+    assert_eq!(steps.generate::<u32>(), 0x4342_4140);
+    assert_eq!(steps.generate::<u64>(), 0x4f4e_4d4c_4b4a_4948);
+    assert_eq!(steps.generate::<usize>(), 0x5756_5554_5352_5150);
+    assert!(steps.generate::<bool>());
+    assert_eq!(steps.drawn(), 12);
+}
+
+/// The value of each type by bytes that are all equal: signed types are in two's complement.
+#[test]
+fn ones_and_halves() {
+    let mut ones = Script::new(&[255; 14]);
+    assert_eq!(ones.generate::<u8>(), u8::MAX);
+    assert_eq!(ones.generate::<u16>(), u16::MAX);
+    assert_eq!(ones.generate::<u32>(), u32::MAX);
+    assert_eq!(ones.generate::<u64>(), u64::MAX);
+    assert_eq!(ones.generate::<u128>(), u128::MAX);
+    assert_eq!(ones.generate::<usize>(), usize::MAX);
+    assert_eq!(ones.generate::<i8>(), -1);
+    assert_eq!(ones.generate::<i16>(), -1);
+    assert_eq!(ones.generate::<i32>(), -1);
+    assert_eq!(ones.generate::<i64>(), -1);
+    assert_eq!(ones.generate::<isize>(), -1);
+    assert_eq!(ones.generate::<[u8; 3]>(), [255; 3]);
+    let mut truths = Script::new(&[127, 128, 0, 255]);
+    assert_eq!(truths.generate::<i8>(), 127);
+    assert_eq!(truths.generate::<i8>(), -128);
+    for (byte, truth) in [(0, true), (127, true), (128, false), (255, false)] {
+        assert_eq!(Script::new(&[byte]).generate::<bool>(), truth, "{byte}");
+    }
+}
+
+#[test]
+fn one_value_an_item() {
+    let mut steps = Steps::new();
+    let mut bytes = [9_u8; 3];
+    steps.fill(&mut bytes);
+    assert_eq!(bytes, [0, 8, 16]);
+    assert_eq!(steps.drawn(), 3);
+
+    let mut none: [u64; 0] = [];
+    steps.fill(&mut none);
+    assert_eq!(steps.drawn(), 3);
+}
+
+#[test]
+fn blocks_of_one_byte() {
+    let mut plain = Rising::<1>::new();
+    assert_eq!(plain.generate::<u16>(), 0x0100);
+    assert_eq!(plain.drawn(), 2);
+    let mut buffered = BufferedRng::new(Rising::<1>::new());
+    assert_eq!(buffered.generate::<u16>(), 0x0100);
+    assert_eq!(buffered.buffered(), 0);
+    assert_eq!(buffered.into_inner().drawn(), 2);
+}
+
+#[test]
+fn blocks_of_64_bytes() {
+    let mut plain = Rising::<64>::new();
+    assert_eq!(plain.generate::<u8>(), 0);
+    assert_eq!(plain.generate::<u8>(), 64);
+    assert_eq!(plain.drawn(), 2);
+    let mut buffered = BufferedRng::new(Rising::<64>::new());
+    assert_eq!(buffered.generate::<u8>(), 0);
+    assert_eq!(buffered.generate::<u8>(), 1);
+    assert_eq!(buffered.buffered(), 62);
+    assert_eq!(buffered.into_inner().drawn(), 1);
+}
+
+#[test]
+fn wasted_blocks() {
+    let mut waste = Waste::new();
+    assert_eq!(waste.generate::<u8>(), 0);
+    assert_eq!(waste.generate::<u64>(), 0x1716_1514_1312_1110);
+    assert_eq!(waste.generate::<u8>(), 24);
+    assert_eq!(waste.drawn(), 5);
+    let mut buffered = BufferedRng::new(Waste::new());
+    assert_eq!(buffered.generate::<u8>(), 0);
+    assert_eq!(buffered.generate::<u8>(), 1);
+}
+
+#[test]
+fn one_call_an_item() {
+    let mut steps = Steps::new();
+    let mut bytes = [99_u8; 3];
+    let mut calls = 0;
+    fill_with(&mut steps, &mut bytes, |rng: &mut Steps| {
+        calls += 1;
+        rng.generate::<u8>()
+    });
+    assert_eq!(bytes, [0, 8, 16]);
+    assert_eq!(calls, 3);
+    assert_eq!(steps.drawn(), 3);
+
+    let mut none: [u8; 0] = [];
+    fill_with(&mut steps, &mut none, |rng: &mut Steps| {
+        rng.generate::<u8>()
+    });
+    assert_eq!(steps.drawn(), 3);
+}
+
+/// Items that are no value of one type: a number of a range, and a pair.
+#[test]
+fn ranges_and_pairs() {
+    let mut script = Script::new(&[0, 255, 130]);
+    let mut faces = [99_u8; 3];
+    fill_with(&mut script, &mut faces, |rng: &mut Script| {
+        rng.generate_range(1..=6).unwrap_or(0)
+    });
+    assert_eq!(faces, [6, 4, 0]);
+    assert_eq!(script.drawn(), 131);
+
+    let mut steps = Steps::new();
+    let mut pairs = [(9_u8, 9_u16); 2];
+    fill_with(&mut steps, &mut pairs, |rng: &mut Steps| {
+        (rng.generate(), rng.generate())
+    });
+    assert_eq!(pairs, [(0, 0x0908), (16, 0x1918)]);
+
+    let mut script = Script::new(&[130, 255, 1, 200]);
+    let mut faces = [0_u8; 4];
+    fill_with(&mut script, &mut faces, |rng: &mut Script| {
+        rng.generate_range(1..=6).unwrap_or(1)
+    });
+    assert_eq!(faces, [4, 6, 1, 5]);
+}
+
+#[test]
+fn a_fill_is_its_calls() {
+    let mut some = [0_u8; 5];
+    let mut again = [9_u8; 5];
+    fill_with(&mut WyRand::new_seed(7), &mut some, |rng: &mut WyRand| {
+        rng.generate()
+    });
+    WyRand::new_seed(7).fill(&mut again);
+    assert_eq!(some, again);
+}
+
+#[test]
+fn arrays_of_bytes() {
+    let mut steps = Steps::new();
+    assert_eq!(steps.generate::<[u8; 4]>(), [0, 1, 2, 3]);
+    assert_eq!(steps.generate::<[u8; 8]>(), [8, 9, 10, 11, 12, 13, 14, 15]);
+    assert_eq!(steps.drawn(), 2);
+    assert_eq!(
+        steps.generate::<[u8; 12]>(),
+        [16, 17, 18, 19, 20, 21, 22, 23, 24, 25, 26, 27]
+    );
+    assert_eq!(steps.drawn(), 4);
+    assert_eq!(steps.generate::<[u8; 0]>(), []);
+    assert_eq!(steps.drawn(), 4);
+
+    let mut buffered = BufferedRng::new(Steps::new());
+    assert_eq!(buffered.generate::<[u8; 4]>(), [0, 1, 2, 3]);
+    assert_eq!(buffered.generate::<[u8; 4]>(), [4, 5, 6, 7]);
+    let mut pieces = [[9_u8; 4]; 2];
+    Steps::new().fill(&mut pieces);
+    assert_eq!(pieces, [[0, 1, 2, 3], [8, 9, 10, 11]]);
+}
+
+/// Two fills are one fill of both lengths.
+#[test]
+fn fills_join() {
+    let (mut low, mut high) = ([0_u16; 2], [0_u16; 1]);
+    let mut steps = Steps::new();
+    steps.fill(&mut low);
+    steps.fill(&mut high);
+    assert_eq!(low, [0x0100, 0x0908]);
+    assert_eq!(high, [0x1110]);
+}
+
+const LENGTHS: [usize; 13] = [0, 1, 7, 8, 9, 63, 64, 65, 255, 256, 257, 4096, 70_000];
+
+/// The blocks of a generator, one after another, until they have at least `count` bytes.
+fn stream_of<G: Rng<OUTPUT>, const OUTPUT: usize>(mut rng: G, count: usize) -> Vec<u8> {
+    let mut stream = Vec::new();
+    while stream.len() < count {
+        stream.extend_from_slice(&rng.rand());
+    }
+    stream
+}
+
+/// One request to a plain generator, and two to a buffered one, the second by `read`.
+fn check_length<G: Rng<OUTPUT> + Clone, const OUTPUT: usize>(
+    fresh: &G,
+    stream: &[u8],
+    length: usize,
+) {
+    let mut bytes = vec![0xee; length];
+    fresh.clone().fill_bytes(&mut bytes);
+    assert_eq!(bytes, stream[..length], "{length}");
+
+    let mut buffered = BufferedRng::new(fresh.clone());
+    bytes.fill(0xee);
+    buffered.fill_bytes(&mut bytes);
+    assert_eq!(bytes, stream[..length], "{length}");
+    assert_eq!(buffered.read(&mut bytes).expect("no error"), length);
+    assert_eq!(bytes, stream[length..2 * length], "{length}");
+}
+
+/// A request of any length gives the blocks, and leaves the state after the last one that it began.
+fn check_lengths<G: Rng<OUTPUT> + Clone + PartialEq + Debug, const OUTPUT: usize>(fresh: &G) {
+    let stream = stream_of(fresh.clone(), 140_000);
+    for length in LENGTHS {
+        check_length(fresh, &stream, length);
+    }
+    let mut blocks = fresh.clone();
+    for length in 1..=1000 {
+        let mut rng = fresh.clone();
+        let mut bytes = vec![0xee; length];
+        rng.fill_bytes(&mut bytes);
+        assert_eq!(bytes, stream[..length], "{length}");
+        if length % OUTPUT == 1 % OUTPUT {
+            let _ = blocks.rand();
+        }
+        assert_eq!(rng, blocks, "{length}");
+    }
+}
+
+#[test]
+fn requests_give_the_blocks() {
+    check_lengths(&Steps::new());
+    check_lengths(&Rising::<1>::new());
+    check_lengths(&Rising::<3>::new());
+    check_lengths(&Rising::<64>::new());
+    for seed in [0, 42, u64::MAX] {
+        check_lengths(&WyRand::new_seed(seed));
+        check_lengths(&Pcg64::new_seed(u128::from(seed) << 64 | 7));
+    }
+    for (key, nonce) in [([0; 32], [0; 8]), ([1; 32], [2; 8]), ([255; 32], [255; 8])] {
+        check_lengths(&ChaCha8::new_key(key, nonce));
+        check_lengths(&ChaCha12::new_key(key, nonce));
+        check_lengths(&ChaCha20::new_key(key, nonce));
+    }
+}
+
+/// A fill of ChaCha, which computes several blocks side by side, is that of its blocks one by one,
+/// also where the counter carries or begins again.
+#[test]
+fn fills_of_chacha_are_those_block_by_block() {
+    for start in [0, 0xffff_fffd, 0xffff_ffff, u64::MAX - 2, u64::MAX] {
+        for length in [0, 1, 64, 255, 256, 257, 511, 512, 600, 1024, 4000] {
+            let mut wide = ChaCha20::at([1; 32], [2; 8], start);
+            let mut narrow = wide.clone();
+            let mut some = vec![7; length];
+            let mut again = vec![8; length];
+            wide.fill_bytes(&mut some);
+            fill_by_blocks(&mut narrow, &mut again);
+            assert_eq!(some, again, "{start} {length}");
+            assert_eq!(wide, narrow, "{start} {length}");
+        }
+    }
+    let mut wide = ChaCha8::new_key([3; 32], [4; 8]);
+    let mut narrow = wide.clone();
+    let (mut some, mut again) = ([0; 300], [1; 300]);
+    wide.fill_bytes(&mut some);
+    fill_by_blocks(&mut narrow, &mut again);
+    assert_eq!(some, again);
+}
+
+/// The values of every type are read from the bytes of one request.
+fn check_values<G: Rng<OUTPUT> + Clone, const OUTPUT: usize>(fresh: &G) {
+    fn drawn<T: RandomGen<G, OUTPUT>, G: Rng<OUTPUT> + Clone, const OUTPUT: usize>(fresh: &G) -> T {
+        fresh.clone().generate()
+    }
+    let mut bytes = [0; 16];
+    fresh.clone().fill_bytes(&mut bytes);
+    let number = u128::from_le_bytes(bytes);
+    let [byte, ..] = bytes;
+    assert_eq!(drawn::<u128, G, OUTPUT>(fresh), number);
+    assert_eq!(drawn::<i128, G, OUTPUT>(fresh), i128::from_le_bytes(bytes));
+    assert_eq!(
+        u128::from(drawn::<u64, G, OUTPUT>(fresh)),
+        number % (1 << 64)
+    );
+    assert_eq!(
+        u128::from(drawn::<u32, G, OUTPUT>(fresh)),
+        number % (1 << 32)
+    );
+    assert_eq!(
+        u128::from(drawn::<u16, G, OUTPUT>(fresh)),
+        number % (1 << 16)
+    );
+    assert_eq!(drawn::<u8, G, OUTPUT>(fresh), byte);
+    assert_eq!(drawn::<usize, G, OUTPUT>(fresh).to_le_bytes(), bytes[..8]);
+    assert_eq!(drawn::<isize, G, OUTPUT>(fresh).to_le_bytes(), bytes[..8]);
+    assert_eq!(drawn::<i64, G, OUTPUT>(fresh).to_le_bytes(), bytes[..8]);
+    assert_eq!(drawn::<i32, G, OUTPUT>(fresh).to_le_bytes(), bytes[..4]);
+    assert_eq!(drawn::<i16, G, OUTPUT>(fresh).to_le_bytes(), bytes[..2]);
+    assert_eq!(drawn::<i8, G, OUTPUT>(fresh).to_le_bytes(), [byte]);
+    assert_eq!(drawn::<bool, G, OUTPUT>(fresh), byte < 128);
+    assert_eq!(drawn::<[u8; 5], G, OUTPUT>(fresh), bytes[..5]);
+}
+
+#[test]
+fn values_are_read_from_requests() {
+    for seed in 0..50 {
+        check_values(&WyRand::new_seed(seed));
+        check_values(&Pcg64::new_seed(u128::from(seed)));
+        check_values(&ChaCha8::at([9; 32], [8; 8], seed));
+    }
+    check_values(&Steps::new());
+    check_values(&Rising::<1>::new());
+    check_values(&Rising::<64>::new());
+    check_values(&Waste::new());
+    check_values(&zeros());
+    let mut buffered = BufferedRng::new(WyRand::new_seed(3));
+    for _ in 0..20 {
+        check_values(&buffered);
+        let _ = buffered.generate::<u8>();
+    }
+}
+
+/// A generator reseeded by the bytes of a seed equals the one made from it, and its clone, and their
+/// first numbers are known.
+fn check_seed<G, const SEED: usize, const OUTPUT: usize>(
+    mut made: G,
+    mut other: G,
+    seed: [u8; SEED],
+) where
+    G: SeedableRng<SEED, OUTPUT> + Clone + PartialEq + Debug,
+{
+    other.reseed(seed);
+    let mut copy = made.clone();
+    for _ in 0..5 {
+        let block = made.rand();
+        assert_eq!(other.rand(), block);
+        assert_eq!(copy.rand(), block);
+        assert_eq!(copy, made);
+    }
+}
+
+#[test]
+fn equal_seeds_give_equal_numbers() {
+    let mut seed = 0x5f89_e29b_8742_9bd2_u64.to_le_bytes();
+    let wyrand = WyRand::new_seed(0x5f89_e29b_8742_9bd2);
+    assert_eq!(wyrand.clone().generate::<u64>(), 16_646_288_086_500_911_322);
+    check_seed(wyrand, WyRand::new_seed(42), seed);
+    seed.reverse();
+    check_seed(
+        WyRand::new_seed(u64::from_le_bytes(seed)),
+        WyRand::new_seed(0),
+        seed,
+    );
+
+    let pcg64 = Pcg64::new_seed(0);
+    assert_eq!(pcg64.clone().generate::<u64>(), 0xad39_692f_3f82_753f);
+    check_seed(pcg64, Pcg64::new_seed(1), [0; 16]);
+
+    let mut seed = [0; 40];
+    Steps::new().fill_bytes(&mut seed[..32]);
+    Steps::new().fill_bytes(&mut seed[32..]);
+    let (mut key, mut nonce) = ([0; 32], [0; 8]);
+    key.copy_from_slice(&seed[..32]);
+    nonce.copy_from_slice(&seed[32..]);
+    let mut other = ChaCha20::new_key([7; 32], [7; 8]);
+    let _ = other.rand();
+    check_seed(ChaCha20::new_key(key, nonce), other, seed);
+    let mut rng = ChaCha20::new_key(key, nonce);
+    for number in [247, 56, 157, 14] {
+        assert_eq!(rng.generate::<u8>(), number);
+    }
+}

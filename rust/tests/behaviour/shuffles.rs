@@ -1,0 +1,268 @@
+//! `fill`, `shuffle`, `shuffle_full` and `partial_shuffle`.
+
+use crate::common::{rising, zeros, Constant, Script, Steps, Waste};
+use nanorand_proved::shuffles::{partial_shuffle, shuffle_full};
+use nanorand_proved::{BufferedRng, ChaCha12, ChaCha20, ChaCha8, Pcg64, RangeError, Rng, WyRand};
+
+const LETTERS: [char; 3] = ['a', 'b', 'c'];
+
+const EXHAUSTED: Result<(), RangeError> = Err(RangeError::Exhausted);
+
+#[test]
+fn chosen_from_the_rest() {
+    let rows: [(&[u8], [char; 3]); 2] =
+        [(&[255], ['c', 'b', 'a']), (&[128, 1, 255], ['b', 'a', 'c'])];
+    for (bytes, shuffled) in rows {
+        let mut script = Script::new(bytes);
+        let mut letters = LETTERS;
+        assert_eq!(script.shuffle(&mut letters), Ok(()));
+        assert_eq!(letters, shuffled);
+        assert_eq!(script.drawn(), 3);
+    }
+    let mut steps = Steps::new();
+    let mut letters = LETTERS;
+    assert_eq!(steps.shuffle(&mut letters), Ok(()));
+    assert_eq!(letters, LETTERS);
+    assert_eq!(steps.drawn(), 3);
+}
+
+#[test]
+fn chosen_from_all() {
+    let mut steps = Steps::new();
+    let mut letters = LETTERS;
+    assert_eq!(shuffle_full(&mut steps, &mut letters), Ok(()));
+    assert_eq!(letters, ['c', 'a', 'b']);
+    assert_eq!(steps.drawn(), 3);
+
+    let mut letters = LETTERS;
+    let mut script = Script::new(&[128, 1, 255]);
+    assert_eq!(shuffle_full(&mut script, &mut letters), Ok(()));
+    assert_eq!(letters, LETTERS);
+
+    let mut four = ['a', 'b', 'c', 'd'];
+    let mut script = Script::new(&[255; 4]);
+    assert_eq!(shuffle_full(&mut script, &mut four), Ok(()));
+    assert_eq!(four, ['d', 'a', 'b', 'c']);
+}
+
+/// Of two items no word is rejected.
+#[test]
+fn two_items_by_zeros() {
+    let mut pair = ['a', 'b'];
+    assert_eq!(zeros().shuffle(&mut pair), Ok(()));
+    assert_eq!(pair, ['a', 'b']);
+    assert_eq!(shuffle_full(&mut zeros(), &mut pair), Ok(()));
+    assert_eq!(pair, ['b', 'a']);
+}
+
+#[test]
+fn refused_by_zeros() {
+    let mut letters = LETTERS;
+    let mut rng = zeros();
+    assert_eq!(rng.shuffle(&mut letters), EXHAUSTED);
+    assert_eq!(letters, LETTERS);
+    assert_eq!(rng.drawn(), 128);
+
+    let mut rng = zeros();
+    assert_eq!(shuffle_full(&mut rng, &mut letters), EXHAUSTED);
+    assert_eq!(letters, LETTERS);
+    assert_eq!(rng.drawn(), 128);
+}
+
+/// The swaps before the refused draw stay.
+#[test]
+fn refused_at_the_second_draw() {
+    let mut script = Script::new(&[255]);
+    let mut letters = LETTERS;
+    assert_eq!(shuffle_full(&mut script, &mut letters), EXHAUSTED);
+    assert_eq!(letters, ['c', 'b', 'a']);
+    assert_eq!(script.drawn(), 129);
+
+    let mut script = Script::new(&[255]);
+    let mut letters = ['a', 'b', 'c', 'd'];
+    assert_eq!(script.shuffle(&mut letters), EXHAUSTED);
+    assert_eq!(letters, ['d', 'b', 'c', 'a']);
+    assert_eq!(script.drawn(), 129);
+}
+
+#[test]
+fn nothing_to_shuffle() {
+    let mut rng = zeros();
+    let mut none: [char; 0] = [];
+    assert_eq!(rng.shuffle(&mut none), Ok(()));
+    assert_eq!(shuffle_full(&mut rng, &mut none), Ok(()));
+    for count in [0, 1, usize::MAX] {
+        assert_eq!(partial_shuffle(&mut rng, &mut none, count), Ok(()));
+    }
+    let mut letters = LETTERS;
+    assert_eq!(partial_shuffle(&mut rng, &mut letters, 0), Ok(()));
+    assert_eq!(letters, LETTERS);
+    assert_eq!(rng.drawn(), 0);
+}
+
+/// 0, 1, .., n - 1, n and the greatest count, of four items.
+#[test]
+fn each_count() {
+    let rows = [
+        (0, ['a', 'b', 'c', 'd'], 0),
+        (1, ['d', 'b', 'c', 'a'], 1),
+        (2, ['d', 'c', 'b', 'a'], 2),
+        (3, ['d', 'c', 'a', 'b'], 3),
+        (4, ['d', 'c', 'a', 'b'], 4),
+        (5, ['d', 'c', 'a', 'b'], 4),
+        (usize::MAX, ['d', 'c', 'a', 'b'], 4),
+    ];
+    for (count, shuffled, drawn) in rows {
+        let mut script = Script::new(&[200, 100, 255]);
+        let mut letters = ['a', 'b', 'c', 'd'];
+        assert_eq!(partial_shuffle(&mut script, &mut letters, count), Ok(()));
+        assert_eq!(letters, shuffled, "{count}");
+        assert_eq!(script.drawn(), drawn, "{count}");
+    }
+}
+
+/// Words of ones, each of which draws the last index, and then zeros, which are rejected for 7, 6, 5
+/// and 3 indices. Counts up to the refused index succeed.
+#[test]
+fn refused_at_each_step() {
+    let rows = [
+        (0, 0, [0, 1, 2, 3, 4, 5, 6]),
+        (1, 1, [6, 1, 2, 3, 4, 5, 0]),
+        (2, 2, [6, 0, 2, 3, 4, 5, 1]),
+        (3, 4, [6, 0, 1, 3, 4, 5, 2]),
+    ];
+    for (words, steps, items) in rows {
+        for count in 0..9 {
+            let mut script = Script::new(&[255; 3][..words]);
+            let mut numbers = [0, 1, 2, 3, 4, 5, 6];
+            let answer = partial_shuffle(&mut script, &mut numbers, count);
+            if count > steps {
+                assert_eq!(answer, EXHAUSTED, "{words} {count}");
+                assert_eq!(numbers, items, "{words} {count}");
+                assert_eq!(script.drawn(), steps + 128, "{words} {count}");
+            } else {
+                assert_eq!(answer, Ok(()), "{words} {count}");
+                assert_eq!(script.drawn(), count, "{words} {count}");
+            }
+        }
+    }
+}
+
+/// The steps one by one: each draws a partner from its index to the last one.
+fn by_steps<G: Rng<OUTPUT>, const OUTPUT: usize>(
+    rng: &mut G,
+    items: &mut [usize],
+    count: usize,
+) -> Result<(), RangeError> {
+    for index in 0..count.min(items.len()) {
+        let partner = rng.generate_range(index..items.len())?;
+        items.swap(index, partner);
+    }
+    Ok(())
+}
+
+/// It does what the steps do one by one, and its first items are those of a whole shuffle.
+fn begins_alike<G: Rng<OUTPUT> + Clone, const OUTPUT: usize>(fresh: &G, length: usize) {
+    for count in [0, 1, 2, 3, 4, 49, 50, 51] {
+        let (mut rng, mut other) = (fresh.clone(), fresh.clone());
+        let (mut items, mut others) = (rising(length), rising(length));
+        let answer = partial_shuffle(&mut rng, &mut items, count);
+        assert_eq!(answer, by_steps(&mut other, &mut others, count));
+        assert_eq!(items, others);
+        assert_eq!(rng.generate::<u64>(), other.generate::<u64>());
+        if answer.is_ok() {
+            let mut whole = rising(length);
+            let _ = fresh.clone().shuffle(&mut whole);
+            let same = count.min(length);
+            assert_eq!(items[..same], whole[..same]);
+        }
+    }
+}
+
+fn lengths_alike<G: Rng<OUTPUT> + Clone, const OUTPUT: usize>(fresh: &G) {
+    for length in [0, 1, 2, 3, 50] {
+        begins_alike(fresh, length);
+    }
+}
+
+#[test]
+fn the_beginning_of_a_shuffle() {
+    lengths_alike(&WyRand::new_seed(42));
+    lengths_alike(&Pcg64::new_seed(42));
+    lengths_alike(&ChaCha8::new_key([7; 32], [9; 8]));
+    lengths_alike(&BufferedRng::new(WyRand::new_seed(42)));
+    lengths_alike(&Steps::new());
+    lengths_alike(&Waste::new());
+    lengths_alike(&zeros());
+    lengths_alike(&Constant::new(255));
+    lengths_alike(&Script::new(&[255, 128, 1, 77, 200]));
+}
+
+/// Both shuffles succeed, and their results are permutations of the items.
+fn check_permutations<G: Rng<OUTPUT>, const OUTPUT: usize>(mut rng: G) {
+    for count in [0, 1, 2, 1000] {
+        let sorted = rising(count);
+        let mut items = sorted.clone();
+        assert_eq!(rng.shuffle(&mut items), Ok(()));
+        assert!(count < 1000 || items != sorted);
+        assert_eq!(shuffle_full(&mut rng, &mut items), Ok(()));
+        items.sort_unstable();
+        assert_eq!(items, sorted);
+    }
+}
+
+#[test]
+fn shuffles_of_many_items() {
+    for byte in [0, 0xff] {
+        check_permutations(WyRand::new_seed(u64::from_le_bytes([byte; 8])));
+        check_permutations(Pcg64::new_seed(u128::from_le_bytes([byte; 16])));
+        check_permutations(ChaCha8::new_key([byte; 32], [byte; 8]));
+        check_permutations(ChaCha12::new_key([byte; 32], [byte; 8]));
+        check_permutations(ChaCha20::new_key([byte; 32], [byte; 8]));
+    }
+}
+
+/// Items of any type are moved as their indices are, also those that own memory or have no size.
+#[test]
+fn shuffles_move_any_items() {
+    for count in 0..100 {
+        let mut texts: Vec<String> = (0..count).map(|n: usize| n.to_string()).collect();
+        let mut wide: Vec<[usize; 5]> = (0..count).map(|n| [n; 5]).collect();
+        let mut indices = rising(count);
+        let mut nothing = vec![(); count];
+        let fresh = WyRand::new_seed(5);
+        let (mut rng, mut same) = (fresh.clone(), fresh.clone());
+        assert_eq!(rng.shuffle(&mut texts), Ok(()));
+        assert_eq!(same.shuffle(&mut indices), Ok(()));
+        assert_eq!(rng, same);
+        assert_eq!(fresh.clone().shuffle(&mut wide), Ok(()));
+        assert_eq!(fresh.clone().shuffle(&mut nothing), Ok(()));
+        let moved: Vec<String> = indices.iter().map(usize::to_string).collect();
+        assert_eq!(texts, moved);
+        assert!(indices.iter().map(|n| [*n; 5]).eq(wide));
+        indices.sort_unstable();
+        assert_eq!(indices, rising(count));
+    }
+}
+
+/// A byte, a byte of a small range, a full shuffle and a `bool`, drawn one by one.
+fn one_by_one<G: Rng<OUTPUT>, const OUTPUT: usize>(rng: &mut G) {
+    let mut items = [7, 8, 9];
+    assert_eq!(rng.generate::<u8>(), 0);
+    assert_eq!(rng.generate_range::<u8>(10..=12), Ok(10));
+    assert_eq!(shuffle_full(rng, &mut items), Ok(()));
+    assert!(rng.generate::<bool>());
+    assert_eq!(items, [9, 7, 8]);
+}
+
+#[test]
+fn calls_one_by_one() {
+    let mut steps = Steps::new();
+    one_by_one(&mut steps);
+    assert_eq!(steps.drawn(), 6);
+
+    let mut buffered = BufferedRng::new(Steps::new());
+    one_by_one(&mut buffered);
+    assert_eq!(buffered.buffered(), 5);
+    assert_eq!(buffered.into_inner().drawn(), 4);
+}
