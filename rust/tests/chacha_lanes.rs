@@ -174,15 +174,23 @@ fn single_blocks_of_other_rounds() {
     }
 }
 
+fn check_back<const ROUNDS: u8>(state: [u32; 16]) {
+    let mixed = chacha_rounds::<ROUNDS>(state);
+    assert_eq!(mixed, plain_rounds(ROUNDS, state));
+    assert_eq!(chacha_unrounds::<ROUNDS>(mixed), state);
+}
+
 #[test]
 fn rounds_and_back() {
     let mut words = Words::new();
-    for _ in 0..20_000 {
+    for _ in 0..5000 {
         let state = words.state();
-        let mixed = chacha_rounds::<20>(state);
-        assert_eq!(mixed, plain_rounds(20, state));
-        assert_eq!(chacha_unrounds::<20>(mixed), state);
+        check_back::<0>(state);
+        check_back::<2>(state);
+        check_back::<8>(state);
+        check_back::<20>(state);
     }
+    check_back::<254>(words.state());
 }
 
 #[test]

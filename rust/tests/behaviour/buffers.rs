@@ -29,60 +29,6 @@ fn requests_go_on() {
 }
 
 #[test]
-fn unused_bytes_stay_buffered() {
-    let mut wyrand = BufferedRng::new(WyRand::new_seed(42));
-    wyrand.fill(&mut [0_u8; 5]);
-    assert_eq!(wyrand.buffered(), 3);
-
-    let mut steps = BufferedRng::new(Steps::new());
-    let mut eight = [9; 8];
-    steps.fill_bytes(&mut eight);
-    assert_eq!(eight, [0, 1, 2, 3, 4, 5, 6, 7]);
-    assert_eq!(steps.buffered(), 0);
-    assert_eq!(steps.into_inner().drawn(), 1);
-}
-
-#[test]
-fn requests_and_buffered_bytes() {
-    let mut buffer = BufferedRng::new(Steps::new());
-    assert_eq!(buffer.buffered(), 0);
-    assert_eq!(buffer.generate::<u8>(), 0);
-
-    let mut bytes = [0; 20];
-    buffer.fill_bytes(&mut bytes);
-    assert!(bytes.into_iter().eq(1..=20));
-    assert_eq!(buffer.buffered(), 3);
-    assert_eq!(buffer.inner().drawn(), 3);
-
-    assert_eq!(buffer.generate::<u8>(), 21);
-    assert_eq!(buffer.buffered(), 2);
-    buffer.fill_bytes(&mut []);
-    assert_eq!(buffer.buffered(), 2);
-    assert_eq!(buffer.inner().drawn(), 3);
-
-    let mut rest = Vec::new();
-    assert_eq!(buffer.read_to_end(&mut rest), Ok(2));
-    assert_eq!(rest, [22, 23]);
-    assert_eq!(buffer.buffered(), 0);
-    assert_eq!(buffer.into_inner().drawn(), 3);
-}
-
-/// A request that ends with its last block leaves no buffered bytes. A request of 0 bytes draws no
-/// block.
-#[test]
-fn whole_blocks_leave_nothing_buffered() {
-    let mut buffer = BufferedRng::new(Steps::new());
-    let mut bytes = [0; 16];
-    buffer.fill_bytes(&mut bytes);
-    assert!(bytes.into_iter().eq(0..16));
-    assert_eq!(buffer.buffered(), 0);
-    buffer.fill_bytes(&mut []);
-    assert_eq!(buffer.generate::<u64>(), 0x1716_1514_1312_1110);
-    assert_eq!(buffer.buffered(), 0);
-    assert_eq!(buffer.into_inner().drawn(), 3);
-}
-
-#[test]
 fn read_to_its_end() {
     let mut rng = after_five();
     let mut out = Vec::new();
@@ -214,38 +160,6 @@ fn requests_join() {
     rng.fill_bytes(&mut second);
     assert_eq!(first, [218, 40, 180, 160, 209]);
     assert_eq!(second, [126, 3, 231]);
-}
-
-/// A clone made after five bytes continues as its original does.
-fn clone_goes_on<G: Rng<OUTPUT> + Clone, const OUTPUT: usize>(fresh: G) {
-    let mut rng = BufferedRng::new(fresh);
-    rng.fill(&mut [0_u8; 5]);
-    let mut copy = rng.clone();
-    let (mut next, mut again) = ([0; 20], [1; 20]);
-    rng.fill_bytes(&mut next);
-    copy.fill_bytes(&mut again);
-    assert_eq!(next, again);
-    assert_eq!(rng.buffered(), copy.buffered());
-}
-
-#[test]
-fn clones_go_on() {
-    clone_goes_on(Steps::new());
-    clone_goes_on(WyRand::new_seed(42));
-    clone_goes_on(Pcg64::new_seed(42));
-    clone_goes_on(ChaCha8::new_key([7; 32], [1; 8]));
-}
-
-#[test]
-fn a_clone_gives_the_next_stream() {
-    let mut original = Forking::new(7);
-    assert_eq!(original.rand(), [7, 0, 7, 0, 7, 0, 7, 0]);
-    let mut copy = original.clone();
-    assert_eq!(copy.rand(), [8, 1, 8, 1, 8, 1, 8, 1]);
-    assert_eq!(original.rand(), [7, 1, 7, 1, 7, 1, 7, 1]);
-    assert_eq!(copy.generate::<u16>(), 0x0208);
-    assert_eq!(original.generate::<u16>(), 0x0207);
-    assert_eq!(copy.clone().stream, 9);
 }
 
 /// A clone of a buffer has the buffered bytes of the original, and the inner generator that the

@@ -1,8 +1,8 @@
 //! Entropy readers, and the generators made from them.
 
-use crate::common::{array_of, Pieces};
+use crate::common::Pieces;
 use nanorand_proved::entropy::{backup, rdseed, system, EntropyError};
-use nanorand_proved::{ChaCha12, ChaCha20, ChaCha8, Pcg64, Rng, WyRand};
+use nanorand_proved::{ChaCha12, ChaCha20, ChaCha8, Pcg64, WyRand};
 use std::io::ErrorKind;
 
 /// The kinds of errors with which the readers fail. `Interrupted` is one of them.
@@ -30,49 +30,11 @@ fn counted() -> Vec<u8> {
 }
 
 #[test]
-fn next_bytes_in_pieces() {
-    let bytes = counted();
-    for piece in 1..12 {
-        let mut source = Pieces::of(&bytes, piece);
-        let mut out = [0; 11];
-        assert_eq!(system(&mut source, &mut out), Ok(()));
-        assert_eq!(out, [1, 2, 3, 4, 5, 6, 7, 8, 9, 10, 11], "{piece}");
-        assert_eq!(system(&mut source, &mut out[..3]), Ok(()));
-        assert_eq!(out, [12, 13, 14, 4, 5, 6, 7, 8, 9, 10, 11], "{piece}");
-        assert_eq!(source.left(), 36);
-    }
-}
-
-#[test]
 fn an_empty_slice_reads_nothing() {
     let mut source = Pieces::failing(&[1], 1, 0, ErrorKind::BrokenPipe);
     assert_eq!(system(&mut source, &mut []), Ok(()));
     assert_eq!(source.reads(), 0);
     assert_eq!(source.left(), 1);
-}
-
-#[test]
-fn generators_of_the_next_bytes() {
-    let mut source = Pieces::of(&[0x2a, 0, 0, 0, 0, 0, 0, 0], 1);
-    assert_eq!(WyRand::new(&mut source), Ok(WyRand::new_seed(42)));
-
-    let mut bytes = [0; 16];
-    bytes[0] = 1;
-    let made = Pcg64::new(&mut Pieces::of(&bytes, 1));
-    assert_eq!(made, Ok(Pcg64::new_seed(1)));
-
-    let bytes: [u8; 40] = array_of(
-        "000102030405060708090a0b0c0d0e0f101112131415161718191a1b1c1d1e1f0001020304050607",
-    );
-    let first: [u8; 64] = array_of(
-        "f798a189f195e66982105ffb640bb7757f579da31602fc93ec01ac56f85ac3c134a4547b733b46413042c9440049176905d3be59ea1c53f15916155c2be8241a",
-    );
-    for piece in [1, 7, 40] {
-        let mut source = Pieces::of(&bytes, piece);
-        let mut made = ChaCha20::new(&mut source).expect("40 bytes");
-        assert_eq!(made.rand(), first);
-        assert_eq!(source.left(), 0);
-    }
 }
 
 /// Exactly the bytes that are needed are taken from the reader.

@@ -1,5 +1,6 @@
-//! Known answers. The values come from the rules of behaviour, from published test vectors and from
-//! other programs, not from this crate.
+//! What the table of answers (`tests/answers.rs`) cannot show: generators and types of a user's own, rejected
+//! words, buffers, replays, weights, entropy and texts. The values come from the rules of behaviour, not from this
+//! crate.
 
 #[path = "../common/mod.rs"]
 mod common;
@@ -8,22 +9,19 @@ mod common;
 mod buffers;
 mod chacha;
 mod choices;
+mod cycles;
 mod draws;
 #[cfg(feature = "std")]
 mod entropy;
 mod equality;
 mod own_types;
-mod pcg64;
 mod ranges;
 mod replays;
 #[cfg(feature = "std")]
 mod requests;
 mod samples;
 mod shuffles;
-mod signed;
 mod stored;
 #[cfg(feature = "std")]
 mod texts;
-mod users;
 mod weights;
-mod wyrand;

@@ -1,54 +1,11 @@
 //! Ranges of unsigned numbers, and the numbers that words name.
 
-use crate::common::{zeros, Constant, Script, Steps};
+use crate::common::{zeros, Constant, Script};
 use nanorand_proved::values::pick_word;
 use nanorand_proved::RangeError::{self, Empty, Exhausted};
 use nanorand_proved::{RandomRange, Rng};
 use std::fmt::Debug;
 use std::ops::Bound::{self, Excluded, Included, Unbounded};
-
-/// A size, the bits of a word, a word, and the number that it names.
-const WORDS: [(u128, u32, u64, Option<u64>); 21] = [
-    (3, 8, 0, None),
-    (3, 8, 1, Some(0)),
-    (3, 8, 85, Some(0)),
-    (3, 8, 86, Some(1)),
-    (3, 8, 170, Some(1)),
-    (3, 8, 171, Some(2)),
-    (3, 8, 255, Some(2)),
-    (171, 8, 0, None),
-    (171, 8, 1, Some(0)),
-    (171, 8, 2, Some(1)),
-    (171, 8, 3, None),
-    (171, 8, 4, Some(2)),
-    (171, 8, 255, Some(170)),
-    (256, 8, 0, Some(0)),
-    (256, 8, 255, Some(255)),
-    ((1 << 63) + 1, 64, 0, None),
-    ((1 << 63) + 1, 64, 1, Some(0)),
-    ((1 << 63) + 1, 64, 2, None),
-    ((1 << 63) + 1, 64, 3, Some(1)),
-    ((1 << 63) + 1, 64, u64::MAX, Some(1 << 63)),
-    (1 << 64, 64, u64::MAX, Some(u64::MAX)),
-];
-
-#[test]
-fn words_name_numbers() {
-    for (size, bits, word, number) in WORDS {
-        assert_eq!(pick_word(size, bits, word), number, "{size} {bits} {word}");
-    }
-}
-
-#[test]
-fn the_first_accepted_word_decides() {
-    let mut refused = zeros();
-    assert_eq!(refused.generate_range::<u8>(10..=12), Err(Exhausted));
-    assert_eq!(refused.drawn(), 128);
-    assert_eq!(zeros().generate_range::<u8>(10..=13), Ok(10));
-    let mut steps = Steps::new();
-    assert_eq!(steps.generate_range::<u8>(10..=12), Ok(10));
-    assert_eq!(steps.drawn(), 2);
-}
 
 #[test]
 fn the_last_of_128_words_may_decide() {
@@ -65,36 +22,6 @@ fn the_last_of_128_words_may_decide() {
     assert_eq!(late.drawn(), 128);
     assert_eq!(late.generate_range::<u8>(10..=12), Ok(10));
     assert_eq!(late.drawn(), 129);
-}
-
-#[test]
-fn whole_types_and_single_numbers() {
-    assert_eq!(Constant::new(255).generate_range::<u8>(..), Ok(255));
-    for byte in [0, 255] {
-        let mut any = Constant::new(byte);
-        assert_eq!(any.generate_range::<u64>(7..=7), Ok(7));
-        assert_eq!(any.drawn(), 1);
-    }
-}
-
-#[test]
-fn empty_ranges_draw_nothing() {
-    let rows: [(Bound<u8>, Bound<u8>); 9] = [
-        (Included(5), Excluded(5)),
-        (Included(10), Included(9)),
-        (Included(10), Included(5)),
-        (Included(10), Excluded(5)),
-        (Excluded(5), Included(5)),
-        (Excluded(5), Excluded(6)),
-        (Excluded(255), Unbounded),
-        (Excluded(255), Included(255)),
-        (Unbounded, Excluded(0)),
-    ];
-    let mut steps = Steps::new();
-    for range in rows {
-        assert_eq!(steps.generate_range(range), Err(Empty), "{range:?}");
-    }
-    assert_eq!(steps.drawn(), 0);
 }
 
 /// The number that a word of 8 bits names, by a search: number k has the `quota` words from

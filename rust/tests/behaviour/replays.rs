@@ -183,61 +183,6 @@ fn values_of_each_kind() {
     assert_eq!(given, expected);
 }
 
-/// Known runs of `WyRand`: the seed's bytes, the calls and the answers.
-#[test]
-fn runs_of_wyrand() {
-    let i8_of = |low, high| Call::Range(Span::I8(low, high));
-    let rows: [(&str, Call, Answer); 12] = [
-        (
-            "d29b42879be2895f",
-            Call::Gen(Kind::U64),
-            Unsigned(16_646_288_086_500_911_322),
-        ),
-        (
-            "d29b42879be2895f",
-            Call::Gen(Kind::I64),
-            Signed(-1_800_455_987_208_640_294),
-        ),
-        ("d29b42879be2895f", Call::Gen(Kind::Bool), Truth(false)),
-        ("d19b42879be2895f", Call::Gen(Kind::Bool), Truth(true)),
-        ("d29b42879be2895f", Call::Gen(Kind::I8), Signed(-38)),
-        ("d29b42879be2895f", small_range(), Unsigned(12)),
-        (
-            "d29b42879be2895f",
-            Call::Range(Span::U8(Unbounded, Unbounded)),
-            Unsigned(218),
-        ),
-        (
-            "d29b42879be2895f",
-            Call::Range(Span::U8(Included(200), Unbounded)),
-            Unsigned(247),
-        ),
-        (
-            "d29b42879be2895f",
-            Call::Range(Span::U16(Included(0), Excluded(1000))),
-            Unsigned(159),
-        ),
-        (
-            "d29b42879be2895f",
-            i8_of(Included(-1), Included(1)),
-            Signed(1),
-        ),
-        ("d29b42879be2895f", i8_of(Unbounded, Unbounded), Signed(90)),
-        (
-            "d29b42879be2895f",
-            Call::Range(Span::I16(Included(-300), Excluded(300))),
-            Signed(-205),
-        ),
-    ];
-    for (seed, call, answer) in rows {
-        let mut rng = WyRand::from_seed(array_of(seed));
-        assert_eq!(answers(&mut rng, &[call], &mut []), [answer], "{seed}");
-    }
-    let mut rng = WyRand::from_seed(array_of("d29b42879be2895f"));
-    let calls = [i8_of(Included(-128), Excluded(-128)), Call::Shuffle];
-    assert_eq!(answers(&mut rng, &calls, &mut [0]), [Empty, Shuffled]);
-}
-
 #[test]
 fn buffered_runs() {
     let seed = array_of("d29b42879be2895f");
@@ -279,37 +224,6 @@ fn shuffles_of_chacha() {
     assert_eq!(others, [2, 1, 0]);
     assert_eq!(answers(&mut rng, &[Call::Shuffle], &mut items), [Shuffled]);
     assert_eq!(items, [1, 0, 2]);
-}
-
-/// A 64-bit value, a number of a small range, a shuffle and a `bool`, from the seed 42: the run is
-/// the same from a copy, and stopped and resumed at each call.
-#[test]
-fn a_run_stops_and_resumes() {
-    let calls = [
-        Call::Gen(Kind::U64),
-        small_range(),
-        Call::Shuffle,
-        Call::Gen(Kind::Bool),
-    ];
-    let expected = [
-        Unsigned(12_558_987_674_375_533_620),
-        Unsigned(12),
-        Shuffled,
-        Truth(true),
-    ];
-    for place in 0..=calls.len() {
-        let mut rng = WyRand::new_seed(42);
-        let mut copy = rng.clone();
-        let (mut items, mut others) = ([7, 8, 9], [7, 8, 9]);
-        let mut given = answers(&mut rng, &calls[..place], &mut items);
-        given.extend(answers(&mut rng, &calls[place..], &mut items));
-        assert_eq!(given, expected, "{place}");
-        assert_eq!(answers(&mut copy, &calls, &mut others), expected);
-        assert_eq!(items, [9, 7, 8]);
-        assert_eq!(others, items);
-        assert_eq!(rng.seed(), 0xc2c4_b05a_d470_5944);
-        assert_eq!(rng, copy);
-    }
 }
 
 const MANY: usize = 20_000;

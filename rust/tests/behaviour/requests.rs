@@ -1,69 +1,10 @@
 //! Values, and which bytes and blocks a request takes.
 
 use crate::common::{zeros, Rising, Script, Steps, Waste};
-use nanorand_proved::rand::fill_by_blocks;
 use nanorand_proved::values::fill_with;
-use nanorand_proved::{
-    BufferedRng, ChaCha12, ChaCha20, ChaCha8, Pcg64, RandomGen, Rng, SeedableRng, WyRand,
-};
+use nanorand_proved::{BufferedRng, ChaCha12, ChaCha20, ChaCha8, Pcg64, RandomGen, Rng, WyRand};
 use std::fmt::Debug;
 use std::io::Read;
-
-#[test]
-fn each_request_begins_a_block() {
-    let mut steps = Steps::new();
-    assert_eq!(steps.generate::<u8>(), 0);
-    assert_eq!(steps.generate::<u8>(), 8);
-    assert_eq!(steps.generate::<u16>(), 0x1110);
-    assert_eq!(steps.drawn(), 3);
-}
-
-#[test]
-fn a_value_of_16_bytes_takes_two_blocks() {
-    let mut steps = Steps::new();
-    assert_eq!(
-        steps.generate::<u128>(),
-        0x0f0e_0d0c_0b0a_0908_0706_0504_0302_0100
-    );
-    assert_eq!(steps.drawn(), 2);
-}
-
-#[test]
-fn bytes_of_requests() {
-    let mut three = [9; 3];
-    Steps::new().fill_bytes(&mut three);
-    assert_eq!(three, [0, 1, 2]);
-
-    let mut steps = Steps::new();
-    let mut nine = [9; 9];
-    steps.fill_bytes(&mut nine);
-    assert_eq!(nine, [0, 1, 2, 3, 4, 5, 6, 7, 8]);
-    assert_eq!(steps.generate::<u8>(), 16);
-
-    let mut untouched = Steps::new();
-    untouched.fill_bytes(&mut []);
-    assert_eq!(untouched.drawn(), 0);
-}
-
-#[test]
-fn each_type_once() {
-    let mut steps = Steps::new();
-    assert_eq!(steps.rand(), [0, 1, 2, 3, 4, 5, 6, 7]);
-    assert_eq!(steps.generate::<i8>(), 8);
-    assert_eq!(steps.generate::<i16>(), 0x1110);
-    assert_eq!(steps.generate::<i32>(), 0x1b1a_1918);
-    assert_eq!(steps.generate::<i64>(), 0x2726_2524_2322_2120);
-    assert_eq!(
-        steps.generate::<i128>(),
-        0x3736_3534_3332_3130_2f2e_2d2c_2b2a_2928
-    );
-    assert_eq!(steps.generate::<isize>(), 0x3f3e_3d3c_3b3a_3938);
-    assert_eq!(steps.generate::<u32>(), 0x4342_4140);
-    assert_eq!(steps.generate::<u64>(), 0x4f4e_4d4c_4b4a_4948);
-    assert_eq!(steps.generate::<usize>(), 0x5756_5554_5352_5150);
-    assert!(steps.generate::<bool>());
-    assert_eq!(steps.drawn(), 12);
-}
 
 /// The value of each type by bytes that are all equal: signed types are in two's complement.
 #[test]
@@ -100,30 +41,6 @@ fn one_value_an_item() {
     let mut none: [u64; 0] = [];
     steps.fill(&mut none);
     assert_eq!(steps.drawn(), 3);
-}
-
-#[test]
-fn blocks_of_one_byte() {
-    let mut plain = Rising::<1>::new();
-    assert_eq!(plain.generate::<u16>(), 0x0100);
-    assert_eq!(plain.drawn(), 2);
-    let mut buffered = BufferedRng::new(Rising::<1>::new());
-    assert_eq!(buffered.generate::<u16>(), 0x0100);
-    assert_eq!(buffered.buffered(), 0);
-    assert_eq!(buffered.into_inner().drawn(), 2);
-}
-
-#[test]
-fn blocks_of_64_bytes() {
-    let mut plain = Rising::<64>::new();
-    assert_eq!(plain.generate::<u8>(), 0);
-    assert_eq!(plain.generate::<u8>(), 64);
-    assert_eq!(plain.drawn(), 2);
-    let mut buffered = BufferedRng::new(Rising::<64>::new());
-    assert_eq!(buffered.generate::<u8>(), 0);
-    assert_eq!(buffered.generate::<u8>(), 1);
-    assert_eq!(buffered.buffered(), 62);
-    assert_eq!(buffered.into_inner().drawn(), 1);
 }
 
 #[test]
@@ -185,17 +102,6 @@ fn ranges_and_pairs() {
 }
 
 #[test]
-fn a_fill_is_its_calls() {
-    let mut some = [0_u8; 5];
-    let mut again = [9_u8; 5];
-    fill_with(&mut WyRand::new_seed(7), &mut some, |rng: &mut WyRand| {
-        rng.generate()
-    });
-    WyRand::new_seed(7).fill(&mut again);
-    assert_eq!(some, again);
-}
-
-#[test]
 fn arrays_of_bytes() {
     let mut steps = Steps::new();
     assert_eq!(steps.generate::<[u8; 4]>(), [0, 1, 2, 3]);
@@ -215,17 +121,6 @@ fn arrays_of_bytes() {
     let mut pieces = [[9_u8; 4]; 2];
     Steps::new().fill(&mut pieces);
     assert_eq!(pieces, [[0, 1, 2, 3], [8, 9, 10, 11]]);
-}
-
-/// Two fills are one fill of both lengths.
-#[test]
-fn fills_join() {
-    let (mut low, mut high) = ([0_u16; 2], [0_u16; 1]);
-    let mut steps = Steps::new();
-    steps.fill(&mut low);
-    steps.fill(&mut high);
-    assert_eq!(low, [0x0100, 0x0908]);
-    assert_eq!(high, [0x1110]);
 }
 
 const LENGTHS: [usize; 13] = [0, 1, 7, 8, 9, 63, 64, 65, 255, 256, 257, 4096, 70_000];
@@ -293,30 +188,6 @@ fn requests_give_the_blocks() {
     }
 }
 
-/// A fill of ChaCha, which computes several blocks side by side, is that of its blocks one by one,
-/// also where the counter carries or begins again.
-#[test]
-fn fills_of_chacha_are_those_block_by_block() {
-    for start in [0, 0xffff_fffd, 0xffff_ffff, u64::MAX - 2, u64::MAX] {
-        for length in [0, 1, 64, 255, 256, 257, 511, 512, 600, 1024, 4000] {
-            let mut wide = ChaCha20::at([1; 32], [2; 8], start);
-            let mut narrow = wide.clone();
-            let mut some = vec![7; length];
-            let mut again = vec![8; length];
-            wide.fill_bytes(&mut some);
-            fill_by_blocks(&mut narrow, &mut again);
-            assert_eq!(some, again, "{start} {length}");
-            assert_eq!(wide, narrow, "{start} {length}");
-        }
-    }
-    let mut wide = ChaCha8::new_key([3; 32], [4; 8]);
-    let mut narrow = wide.clone();
-    let (mut some, mut again) = ([0; 300], [1; 300]);
-    wide.fill_bytes(&mut some);
-    fill_by_blocks(&mut narrow, &mut again);
-    assert_eq!(some, again);
-}
-
 /// The values of every type are read from the bytes of one request.
 fn check_values<G: Rng<OUTPUT> + Clone, const OUTPUT: usize>(fresh: &G) {
     fn drawn<T: RandomGen<G, OUTPUT>, G: Rng<OUTPUT> + Clone, const OUTPUT: usize>(fresh: &G) -> T {
@@ -367,56 +238,5 @@ fn values_are_read_from_requests() {
     for _ in 0..20 {
         check_values(&buffered);
         let _ = buffered.generate::<u8>();
-    }
-}
-
-/// A generator reseeded by the bytes of a seed equals the one made from it, and its clone, and their
-/// first numbers are known.
-fn check_seed<G, const SEED: usize, const OUTPUT: usize>(
-    mut made: G,
-    mut other: G,
-    seed: [u8; SEED],
-) where
-    G: SeedableRng<SEED, OUTPUT> + Clone + PartialEq + Debug,
-{
-    other.reseed(seed);
-    let mut copy = made.clone();
-    for _ in 0..5 {
-        let block = made.rand();
-        assert_eq!(other.rand(), block);
-        assert_eq!(copy.rand(), block);
-        assert_eq!(copy, made);
-    }
-}
-
-#[test]
-fn equal_seeds_give_equal_numbers() {
-    let mut seed = 0x5f89_e29b_8742_9bd2_u64.to_le_bytes();
-    let wyrand = WyRand::new_seed(0x5f89_e29b_8742_9bd2);
-    assert_eq!(wyrand.clone().generate::<u64>(), 16_646_288_086_500_911_322);
-    check_seed(wyrand, WyRand::new_seed(42), seed);
-    seed.reverse();
-    check_seed(
-        WyRand::new_seed(u64::from_le_bytes(seed)),
-        WyRand::new_seed(0),
-        seed,
-    );
-
-    let pcg64 = Pcg64::new_seed(0);
-    assert_eq!(pcg64.clone().generate::<u64>(), 0xad39_692f_3f82_753f);
-    check_seed(pcg64, Pcg64::new_seed(1), [0; 16]);
-
-    let mut seed = [0; 40];
-    Steps::new().fill_bytes(&mut seed[..32]);
-    Steps::new().fill_bytes(&mut seed[32..]);
-    let (mut key, mut nonce) = ([0; 32], [0; 8]);
-    key.copy_from_slice(&seed[..32]);
-    nonce.copy_from_slice(&seed[32..]);
-    let mut other = ChaCha20::new_key([7; 32], [7; 8]);
-    let _ = other.rand();
-    check_seed(ChaCha20::new_key(key, nonce), other, seed);
-    let mut rng = ChaCha20::new_key(key, nonce);
-    for number in [247, 56, 157, 14] {
-        assert_eq!(rng.generate::<u8>(), number);
     }
 }

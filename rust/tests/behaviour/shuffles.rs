@@ -2,58 +2,11 @@
 
 use crate::common::{rising, zeros, Constant, Script, Steps, Waste};
 use nanorand_proved::shuffles::{partial_shuffle, shuffle_full};
-use nanorand_proved::{BufferedRng, ChaCha12, ChaCha20, ChaCha8, Pcg64, RangeError, Rng, WyRand};
+use nanorand_proved::{BufferedRng, ChaCha8, Pcg64, RangeError, Rng, WyRand};
 
 const LETTERS: [char; 3] = ['a', 'b', 'c'];
 
 const EXHAUSTED: Result<(), RangeError> = Err(RangeError::Exhausted);
-
-#[test]
-fn chosen_from_the_rest() {
-    let rows: [(&[u8], [char; 3]); 2] =
-        [(&[255], ['c', 'b', 'a']), (&[128, 1, 255], ['b', 'a', 'c'])];
-    for (bytes, shuffled) in rows {
-        let mut script = Script::new(bytes);
-        let mut letters = LETTERS;
-        assert_eq!(script.shuffle(&mut letters), Ok(()));
-        assert_eq!(letters, shuffled);
-        assert_eq!(script.drawn(), 3);
-    }
-    let mut steps = Steps::new();
-    let mut letters = LETTERS;
-    assert_eq!(steps.shuffle(&mut letters), Ok(()));
-    assert_eq!(letters, LETTERS);
-    assert_eq!(steps.drawn(), 3);
-}
-
-#[test]
-fn chosen_from_all() {
-    let mut steps = Steps::new();
-    let mut letters = LETTERS;
-    assert_eq!(shuffle_full(&mut steps, &mut letters), Ok(()));
-    assert_eq!(letters, ['c', 'a', 'b']);
-    assert_eq!(steps.drawn(), 3);
-
-    let mut letters = LETTERS;
-    let mut script = Script::new(&[128, 1, 255]);
-    assert_eq!(shuffle_full(&mut script, &mut letters), Ok(()));
-    assert_eq!(letters, LETTERS);
-
-    let mut four = ['a', 'b', 'c', 'd'];
-    let mut script = Script::new(&[255; 4]);
-    assert_eq!(shuffle_full(&mut script, &mut four), Ok(()));
-    assert_eq!(four, ['d', 'a', 'b', 'c']);
-}
-
-/// Of two items no word is rejected.
-#[test]
-fn two_items_by_zeros() {
-    let mut pair = ['a', 'b'];
-    assert_eq!(zeros().shuffle(&mut pair), Ok(()));
-    assert_eq!(pair, ['a', 'b']);
-    assert_eq!(shuffle_full(&mut zeros(), &mut pair), Ok(()));
-    assert_eq!(pair, ['b', 'a']);
-}
 
 #[test]
 fn refused_by_zeros() {
@@ -198,30 +151,6 @@ fn the_beginning_of_a_shuffle() {
     lengths_alike(&Script::new(&[255, 128, 1, 77, 200]));
 }
 
-/// Both shuffles succeed, and their results are permutations of the items.
-fn check_permutations<G: Rng<OUTPUT>, const OUTPUT: usize>(mut rng: G) {
-    for count in [0, 1, 2, 1000] {
-        let sorted = rising(count);
-        let mut items = sorted.clone();
-        assert_eq!(rng.shuffle(&mut items), Ok(()));
-        assert!(count < 1000 || items != sorted);
-        assert_eq!(shuffle_full(&mut rng, &mut items), Ok(()));
-        items.sort_unstable();
-        assert_eq!(items, sorted);
-    }
-}
-
-#[test]
-fn shuffles_of_many_items() {
-    for byte in [0, 0xff] {
-        check_permutations(WyRand::new_seed(u64::from_le_bytes([byte; 8])));
-        check_permutations(Pcg64::new_seed(u128::from_le_bytes([byte; 16])));
-        check_permutations(ChaCha8::new_key([byte; 32], [byte; 8]));
-        check_permutations(ChaCha12::new_key([byte; 32], [byte; 8]));
-        check_permutations(ChaCha20::new_key([byte; 32], [byte; 8]));
-    }
-}
-
 /// Items of any type are moved as their indices are, also those that own memory or have no size.
 #[test]
 fn shuffles_move_any_items() {
@@ -243,26 +172,4 @@ fn shuffles_move_any_items() {
         indices.sort_unstable();
         assert_eq!(indices, rising(count));
     }
-}
-
-/// A byte, a byte of a small range, a full shuffle and a `bool`, drawn one by one.
-fn one_by_one<G: Rng<OUTPUT>, const OUTPUT: usize>(rng: &mut G) {
-    let mut items = [7, 8, 9];
-    assert_eq!(rng.generate::<u8>(), 0);
-    assert_eq!(rng.generate_range::<u8>(10..=12), Ok(10));
-    assert_eq!(shuffle_full(rng, &mut items), Ok(()));
-    assert!(rng.generate::<bool>());
-    assert_eq!(items, [9, 7, 8]);
-}
-
-#[test]
-fn calls_one_by_one() {
-    let mut steps = Steps::new();
-    one_by_one(&mut steps);
-    assert_eq!(steps.drawn(), 6);
-
-    let mut buffered = BufferedRng::new(Steps::new());
-    one_by_one(&mut buffered);
-    assert_eq!(buffered.buffered(), 5);
-    assert_eq!(buffered.into_inner().drawn(), 4);
 }

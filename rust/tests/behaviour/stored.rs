@@ -1,21 +1,8 @@
 //! Stored choices of a shuffle, and the permutations that they make.
 
 use crate::common::{rising, zeros, Constant, Script, Steps};
-use nanorand_proved::shuffles::{apply_choices, choices_of, shuffle_and_record, NotArrangement};
+use nanorand_proved::shuffles::{apply_choices, choices_of, shuffle_and_record};
 use nanorand_proved::{BufferedRng, ChaCha8, Pcg64, RangeError, Rng, WyRand};
-
-#[test]
-fn lists_and_their_choices() {
-    let (mut choices, mut scratch) = ([9; 3], [9; 3]);
-    let found = choices_of(&[2, 0, 1], &mut choices, &mut scratch);
-    assert_eq!(found, Ok(()));
-    assert_eq!(choices, [2, 2, 2]);
-    for order in [[0, 0, 1], [3, 0, 1], [0, 1, usize::MAX]] {
-        let found = choices_of(&order, &mut choices, &mut scratch);
-        assert_eq!(found, Err(NotArrangement), "{order:?}");
-    }
-    assert_eq!(choices_of(&[], &mut [], &mut []), Ok(()));
-}
 
 /// The six valid lists of three choices, and the permutations of 0, 1, 2 that they make.
 #[test]
@@ -78,24 +65,6 @@ fn each_undoes_the_other() {
             }
         }
         assert_eq!(found, permutations);
-    }
-}
-
-#[test]
-fn recorded_choices() {
-    let rows: [(&[u8], [usize; 3], [char; 3]); 2] = [
-        (&[255], [2, 1, 2], ['c', 'b', 'a']),
-        (&[128, 1, 255], [1, 1, 2], ['b', 'a', 'c']),
-    ];
-    for (bytes, recorded, shuffled) in rows {
-        let mut script = Script::new(bytes);
-        let mut letters = ['a', 'b', 'c'];
-        let mut choices = [9; 3];
-        let answer = shuffle_and_record(&mut script, &mut letters, &mut choices);
-        assert_eq!(answer, Ok(()));
-        assert_eq!(choices, recorded);
-        assert_eq!(letters, shuffled);
-        assert_eq!(script.drawn(), 3);
     }
 }
 

@@ -1,6 +1,6 @@
 //! Choices by weight.
 
-use crate::common::{zeros, ByteScript, Constant, Script, Steps, Waste};
+use crate::common::{zeros, ByteScript, Script, Steps, Waste};
 use nanorand_proved::choices::choose_weighted;
 use nanorand_proved::choices::weighted::WeightError;
 use nanorand_proved::{BufferedRng, ChaCha8, Pcg64, Rng, WyRand};
@@ -25,26 +25,6 @@ fn ends_of_shares() {
             assert_eq!(choose_weighted(&mut script, &weights), Ok(item));
         }
         assert_eq!(script.drawn(), 6);
-    }
-}
-
-/// Of weights that add up to 256, a word's greatest byte is the number.
-#[test]
-fn a_sum_of_256() {
-    let rows = [
-        ([100, 0, 155, 1], 99, 0),
-        ([100, 0, 155, 1], 100, 2),
-        ([100, 0, 155, 1], 254, 2),
-        ([100, 0, 155, 1], 255, 3),
-        ([255, 1, 0, 0], 254, 0),
-        ([255, 1, 0, 0], 255, 1),
-        ([1, 255, 0, 0], 0, 0),
-        ([1, 255, 0, 0], 1, 1),
-    ];
-    for (weights, byte, item) in rows {
-        let mut rng = Constant::new(byte);
-        assert_eq!(choose_weighted(&mut rng, &weights), Ok(item));
-        assert_eq!(rng.drawn(), 1);
     }
 }
 
@@ -138,15 +118,4 @@ fn by_each_generator() {
     chosen_by_number(BufferedRng::new(WyRand::new_seed(42)));
     chosen_by_number(Steps::new());
     chosen_by_number(Waste::new());
-}
-
-/// Servers by their strengths.
-#[test]
-fn stronger_servers_get_more_requests() {
-    let mut rng = WyRand::new_seed(42);
-    let chosen = [3, 3, 3, 3, 2, 3, 0, 0, 3, 3, 0, 3, 0, 3, 0, 3];
-    for item in chosen {
-        assert_eq!(choose_weighted(&mut rng, &[5, 0, 1, 10]), Ok(item));
-    }
-    assert_eq!(rng.seed(), 531_941_833_783_526_170);
 }
