@@ -1,7 +1,8 @@
-//! Choices by one drawn number: compared with the number that the word names.
+//! Choices by one drawn number: compared with the number that the word names. And refused samples.
 
-use crate::common::{zeros, ByteScript, Steps};
+use crate::common::{zeros, ByteScript, Script, Steps};
 use nanorand_proved::choices::{below, choose, choose_mut, ratio};
+use nanorand_proved::samples::sample;
 use nanorand_proved::values::pick_word;
 use nanorand_proved::RangeError;
 
@@ -118,5 +119,25 @@ fn a_ratio_is_true_below_its_numerator() {
                 }
             }
         }
+    }
+}
+
+/// A sample of three of 7 draws below 5, 6 and 7, which all reject zeros. The slots from the refused
+/// draw on stay as they were.
+#[test]
+fn a_sample_refused_at_each_draw() {
+    let refused = Err(RangeError::Exhausted);
+    let rows = [
+        (0, refused, [99, 98, 97], 128),
+        (1, refused, [1, 98, 97], 129),
+        (2, refused, [1, 4, 97], 130),
+        (3, Ok(()), [1, 4, 0], 3),
+    ];
+    for (draws, answer, left, drawn) in rows {
+        let mut script = Script::new(&[76, 192, 18][..draws]);
+        let mut places = [99, 98, 97];
+        assert_eq!(sample(&mut script, 7, &mut places), answer);
+        assert_eq!(places, left);
+        assert_eq!(script.drawn(), drawn);
     }
 }

@@ -19,7 +19,6 @@ mod ranges;
 mod replays;
 #[cfg(feature = "std")]
 mod requests;
-mod samples;
 mod shuffles;
 mod stored;
 #[cfg(feature = "std")]
