@@ -1,10 +1,9 @@
 //! Replays of lists of calls.
 
-use crate::common::{array_of, bytes_of, zeros, Script, Steps};
+use crate::common::{zeros, Constant, Script, Steps};
 use nanorand_proved::replay::Answer::{Empty, Exhausted, Shuffled, Signed, Truth, Unsigned};
 use nanorand_proved::replay::{replay, Answer, Call, Kind, Span};
-use nanorand_proved::shuffles::shuffle_full;
-use nanorand_proved::{BufferedRng, ChaCha20, ChaCha8, Pcg64, Rng, SeedableRng, WyRand};
+use nanorand_proved::{BufferedRng, ChaCha8, Pcg64, Rng, WyRand};
 use std::fmt::Debug;
 use std::ops::Bound::{Excluded, Included, Unbounded};
 
@@ -88,31 +87,41 @@ fn a_refusal_does_not_end_a_replay() {
     assert_eq!(steps.drawn(), 3);
 }
 
+/// Two numbers are between the bounds of each span: zeros name the one, and ones the other.
 #[test]
-fn spans_by_zeros() {
-    let mut rng = zeros();
+fn spans_of_each_kind() {
     let calls = [
-        small_range(),
-        Call::Range(Span::U16(Unbounded, Unbounded)),
-        Call::Range(Span::U32(Included(1), Included(1))),
-        Call::Range(Span::U64(Included(2), Unbounded)),
-        Call::Range(Span::Usize(Excluded(2), Excluded(4))),
-    ];
-    let expected = [Exhausted, Unsigned(0), Unsigned(1), Exhausted, Unsigned(3)];
-    assert_eq!(answers(&mut rng, &calls, &mut []), expected);
-    assert_eq!(rng.drawn(), 259);
+        Span::I8(Excluded(2), Excluded(5)),
+        Span::I16(Excluded(2), Excluded(5)),
+        Span::I32(Excluded(2), Excluded(5)),
+        Span::I64(Excluded(2), Excluded(5)),
+        Span::Isize(Excluded(2), Excluded(5)),
+        Span::U8(Excluded(2), Excluded(5)),
+        Span::U16(Excluded(2), Excluded(5)),
+        Span::U32(Excluded(2), Excluded(5)),
+        Span::U64(Excluded(2), Excluded(5)),
+        Span::Usize(Excluded(2), Excluded(5)),
+    ]
+    .map(Call::Range);
+    for (byte, signed, unsigned) in [(0, Signed(3), Unsigned(3)), (255, Signed(4), Unsigned(4))] {
+        let given = answers(&mut Constant::new(byte), &calls, &mut []);
+        assert_eq!(given, [[signed; 5], [unsigned; 5]].concat());
+    }
+}
 
+#[test]
+fn refused_spans() {
     let mut rng = zeros();
     let calls = [
-        Call::Range(Span::I8(Included(-1), Included(1))),
-        Call::Range(Span::I16(Unbounded, Unbounded)),
-        Call::Range(Span::I32(Included(-1), Included(-1))),
-        Call::Range(Span::I64(Included(2), Excluded(2))),
-        Call::Range(Span::Isize(Excluded(-2), Excluded(3))),
-    ];
-    let expected = [Exhausted, Signed(-32768), Signed(-1), Empty, Signed(-1)];
+        Span::U64(Included(2), Unbounded),
+        Span::I8(Included(-1), Included(1)),
+        Span::Usize(Unbounded, Excluded(0)),
+        Span::I64(Included(2), Excluded(2)),
+    ]
+    .map(Call::Range);
+    let expected = [Exhausted, Exhausted, Empty, Empty];
     assert_eq!(answers(&mut rng, &calls, &mut []), expected);
-    assert_eq!(rng.drawn(), 131);
+    assert_eq!(rng.drawn(), 256);
 }
 
 #[test]
@@ -181,49 +190,14 @@ fn values_of_each_kind() {
     ];
     let given = answers(&mut Script::new(&[255; 15]), &calls, &mut []);
     assert_eq!(given, expected);
-}
 
-#[test]
-fn buffered_runs() {
-    let seed = array_of("d29b42879be2895f");
-    let mut rng = BufferedRng::new(WyRand::from_seed(seed));
-    let calls = [Kind::U8, Kind::U8, Kind::U16].map(Call::Gen);
-    let expected = [Unsigned(218), Unsigned(40), Unsigned(41140)];
-    assert_eq!(answers(&mut rng, &calls, &mut []), expected);
-
-    let mut rng = BufferedRng::new(ChaCha20::new_key([0; 32], [0; 8]));
-    let calls = [
-        Call::Gen(Kind::U8),
-        small_range(),
-        Call::Gen(Kind::U16),
-        Call::Gen(Kind::Bool),
+    let calls = [Kind::U128, Kind::I128, Kind::U32].map(Call::Gen);
+    let expected = [
+        Unsigned(0x0f0e_0d0c_0b0a_0908_0706_0504_0302_0100),
+        Signed(0x1f1e_1d1c_1b1a_1918_1716_1514_1312_1110),
+        Unsigned(0x2322_2120),
     ];
-    let expected = [Unsigned(118), Unsigned(12), Unsigned(44512), Truth(false)];
-    assert_eq!(answers(&mut rng, &calls, &mut []), expected);
-
-    let mut pcg64 = Pcg64::new_seed(0);
-    let calls = [Call::Gen(Kind::U8)];
-    assert_eq!(answers(&mut pcg64, &calls, &mut []), [Unsigned(63)]);
-}
-
-#[test]
-fn shuffles_of_chacha() {
-    let mut seed = bytes_of("000102030405060708090a0b0c0d0e0f101112131415161718191a1b1c1d1e1f");
-    seed.extend(0..8);
-    let mut rng = ChaCha20::new_key([0; 32], [0; 8]);
-    rng.reseed(seed.try_into().expect("40 bytes"));
-    let (mut items, mut others) = ([0, 1, 2], [0, 1, 2]);
-    assert_eq!(shuffle_full(&mut rng.clone(), &mut others), Ok(()));
-    assert_eq!(others, [2, 0, 1]);
-    assert_eq!(answers(&mut rng, &[Call::Shuffle], &mut items), [Shuffled]);
-    assert_eq!(items, [1, 2, 0]);
-
-    let mut rng = BufferedRng::new(ChaCha20::new_key([0; 32], [0; 8]));
-    let (mut items, mut others) = ([0, 1, 2], [0, 1, 2]);
-    assert_eq!(shuffle_full(&mut rng.clone(), &mut others), Ok(()));
-    assert_eq!(others, [2, 1, 0]);
-    assert_eq!(answers(&mut rng, &[Call::Shuffle], &mut items), [Shuffled]);
-    assert_eq!(items, [1, 0, 2]);
+    assert_eq!(answers(&mut Steps::new(), &calls, &mut []), expected);
 }
 
 const MANY: usize = 20_000;
