@@ -1,4 +1,4 @@
-//! The generators of `nanorand-proved` behind the traits of `rand_core` 0.6, which is that of `rand` 0.8.
+//! The generators of `nanorand-proved` behind the traits of `rand_core` 0.6, which `rand` 0.8 takes.
 //!
 //! ```
 //! use nanorand_proved::WyRand;
@@ -20,8 +20,8 @@ use rand_core::{Error, RngCore, SeedableRng};
 
 /// A generator for what takes an `RngCore`.
 ///
-/// `OUTPUT` is the size of the generator's blocks, which the compiler finds: 64 for `ChaCha`, 8 for `WyRand` and
-/// `Pcg64`.
+/// `OUTPUT` is the size of the generator's blocks, which the compiler finds: 64 for `ChaCha`, 8 for
+/// `WyRand` and `Pcg64`.
 #[derive(Clone, Debug, PartialEq, Eq)]
 pub struct Core<G, const OUTPUT: usize>(pub G);
 
@@ -65,8 +65,8 @@ impl SeedableRng for Core<Pcg64, 8> {
     }
 }
 
-/// The seed of a `ChaCha`, 32 bytes of key and 8 of nonce. An array of that length has no `Default`, which
-/// `rand_core` asks for.
+/// The seed of a `ChaCha`, 32 bytes of key and 8 of nonce. An array of that length has no `Default`,
+/// which `rand_core` asks for.
 #[derive(Clone, Copy)]
 pub struct ChaChaSeed(pub [u8; 40]);
 

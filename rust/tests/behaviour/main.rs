@@ -1,6 +1,6 @@
-//! What the table of answers (`tests/answers.rs`) cannot show: generators and types of a user's own, rejected
-//! words, buffers, replays, weights, entropy and texts. The values come from the rules of behaviour, not from this
-//! crate.
+//! What the table of answers (`tests/answers.rs`) cannot show: generators and types of a user's own,
+//! rejected words, buffers, replays, weights, entropy and texts. The values come from the rules of
+//! behaviour, not from this crate.
 
 #[path = "../common/mod.rs"]
 mod common;
