@@ -114,7 +114,7 @@ def layers():
     for x in (140, 303, 503, 721, 926):
         parts.append(arrow(f"M{x} {programs + 54} V{line - 9}", (x, line - 1), "down"))
     parts.append(text(MARGIN, line + 20, "crates/nanorand_core: for every generator", "quiet"))
-    parts.append(text(378, line + 20, "crates/nanorand_streams: over any generator", "quiet"))
+    parts.append(text(378, line + 20, "crates/nanorand_replay: over any generator", "quiet"))
     parts.append(rect(370, line + 6, 340, 116, "frame", 8))
     parts.append(text(734, line + 20, "crates/nanorand: the generators, and their laws", "quiet"))
     parts.append(f'<path d="M726 {line} V{specs - 14}" class="frame"/>')
@@ -156,7 +156,7 @@ def layers():
         "The layers",
         "The programs use the public contracts alone. replay and shuffles both use values and rand, "
         "which call each other. The generators and the buffer implement the traits of rand. The crates "
-        "nanorand_core and nanorand_streams name no generator; nanorand has the generators, entropy and crypto.",
+        "nanorand_core and nanorand_replay name no generator; nanorand has the generators, entropy and crypto.",
         1040,
         specs + 44 + MARGIN,
         parts,

@@ -19,7 +19,7 @@ TARGET = ROOT / "rust" / "src"
 LAYER = ROOT / "rust" / "erase" / "layer"
 
 # The proved crates, in the order in which the files of one module follow one another.
-CRATES = ("nanorand", "nanorand_core", "nanorand_streams")
+CRATES = ("nanorand", "nanorand_core", "nanorand_replay")
 
 # Not written: the root of a crate, which is written by hand in Rust; laws, which are contracts alone;
 # and the swap, whose body in Rattle is not safe Rust.

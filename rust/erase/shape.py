@@ -29,7 +29,7 @@ PATHS = {
 WITH_STD = 'cfg(feature = "std")'
 
 # The proved crates, which are one crate in Rust.
-CRATES = ("nanorand_core", "nanorand_streams", "nanorand_fairness")
+CRATES = ("nanorand_core", "nanorand_replay", "nanorand_fairness")
 
 ATTRIBUTES = ("cold", "inline", "inline(always)", "inline(never)", "repr(C)")
 

@@ -197,7 +197,7 @@ class Differences(Same):
         )
 
     def test_crates_are_one(self):
-        self.same("use nanorand_core::rand::{Blocks, Rng};\npub use nanorand_streams::buffer;",
+        self.same("use nanorand_core::rand::{Blocks, Rng};\npub use nanorand_replay::buffer;",
                   "pub use crate::buffer; use crate::rand::Rng;")
         self.same("pub use nanorand_core::x::{A, B};", "")
 
@@ -423,7 +423,7 @@ class Whole(unittest.TestCase):
     @classmethod
     def setUpClass(cls):
         cls.proved, cls.written = {}, {}
-        for crate in ("nanorand_core", "nanorand_streams", "nanorand"):
+        for crate in ("nanorand_core", "nanorand_replay", "nanorand"):
             for path in sorted((ROOT / "crates" / crate / "src").rglob("*.rt")):
                 if path.name not in ("lib.rt", "laws.rt", "swap.rt"):
                     key = path.relative_to(ROOT / "crates" / crate / "src").with_suffix("")

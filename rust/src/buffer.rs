@@ -1,5 +1,5 @@
 // Written by `python3 rust/erase` from:
-// crates/nanorand_streams/src/buffer.rt
+// crates/nanorand_replay/src/buffer.rt
 // rust/erase/layer/buffer.rs
 
 //! A generator that buffers unused bytes, so that its requests join into one unbroken stream.

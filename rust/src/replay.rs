@@ -1,5 +1,5 @@
 // Written by `python3 rust/erase` from:
-// crates/nanorand_streams/src/replay.rt
+// crates/nanorand_replay/src/replay.rt
 
 //! Lists of calls on a generator, made in order, with one answer each.
 

@@ -1,7 +1,7 @@
 -- What the arguments of the command line ask for.
 use Rattle.std.specs.Prelude.{◌≡◌, ℕ, zero, suc, ◌+◌, ◌-◌, ◌<◌, ◌≤◌, max, List, [], ◌∷◌, length, drop, map, codes, Ok, slice_index_or, String, string_bytes}
 use Rattle.hex.specs.Hex.{decode_sized}
-use Rattle.nanorand_streams.specs.declared.replay.Call.{Call}
+use Rattle.nanorand_replay.specs.declared.replay.Call.{Call}
 use Rattle.draw_core.specs.declared.command.SeededGenerator.{SeededGenerator}
 use Rattle.draw_core.specs.declared.command.SeededGenerator.TheVariants.{WyRand, Pcg64, ChaCha8, ChaCha12, ChaCha20}
 use Rattle.draw_core.specs.declared.command.Generator.{Generator}

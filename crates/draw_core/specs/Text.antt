@@ -2,16 +2,16 @@
 use Rattle.std.specs.Prelude.{ℕ, if◌then◌else◌, List, [], ◌∷◌, ◌++◌, codes, decimal, Result, Ok, Err}
 use Rattle.std.specs.Fmt.{signed_decimal}
 use Rattle.std.specs.List.{flat_map, range_with_len}
-use Rattle.nanorand_streams.specs.declared.replay.Answer.{Answer}
-use Rattle.nanorand_streams.specs.declared.replay.Answer.TheVariants.{Unsigned, Signed, Truth, Empty, Exhausted, Shuffled}
-use Rattle.nanorand_streams.specs.declared.replay.Call.{Call}
+use Rattle.nanorand_replay.specs.declared.replay.Answer.{Answer}
+use Rattle.nanorand_replay.specs.declared.replay.Answer.TheVariants.{Unsigned, Signed, Truth, Empty, Exhausted, Shuffled}
+use Rattle.nanorand_replay.specs.declared.replay.Call.{Call}
 use Rattle.nanorand_core.specs.generators.Blocks.{plain}
-use Rattle.nanorand_streams.specs.generators.Buffered.{buffer_of, buffered}
+use Rattle.nanorand_replay.specs.generators.Buffered.{buffer_of, buffered}
 use Rattle.nanorand_core.specs.values.Values.{number_of}
 use Rattle.nanorand.specs.generators.ChaCha.{chacha_block, next_state, seeded_state}
 use Rattle.nanorand.specs.generators.Pcg64.{next, pcg64_block, seeded_generator}
 use Rattle.nanorand.specs.generators.WyRand.{next_seed, wyrand_block}
-use Rattle.nanorand_streams.specs.replay.Replay.{replayed}
+use Rattle.nanorand_replay.specs.replay.Replay.{replayed}
 use Rattle.draw_core.specs.declared.command.Mode.{Mode}
 use Rattle.draw_core.specs.declared.command.Mode.TheVariants.{Plain, Buffered}
 use Rattle.draw_core.specs.declared.command.SeededGenerator.{SeededGenerator}

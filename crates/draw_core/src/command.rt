@@ -2,7 +2,7 @@
 
 ghost use Rattle.std.specs.Prelude.{◌≡◌, ◌≢◌, ℕ, ◌<◌, ◌≤◌, ◌+◌, IfOk, IfErr, IfSome, OnOk, Some, List, drop, IsTrue, ◌↔◌, slice_index_or, [], length};
 ghost use Rattle.draw_core.specs.Arguments.{IsSeed, generator_of, name_of_generator, IsCount, IsFirstUnreadable, AreRequests, Asked, AsksFor, asked_by, name_of_mode, FirstBadRequest, texts, argument_at};
-ghost use Rattle.nanorand_streams.specs.declared.replay.Call.{Call as ACall};
+ghost use Rattle.nanorand_replay.specs.declared.replay.Call.{Call as ACall};
 ghost use Rattle.draw_core.specs.declared.command.Generator.{Generator as AGenerator};
 ghost use Rattle.draw_core.specs.declared.command.Mode.{Mode as AMode};
 ghost use Rattle.draw_core.specs.declared.command.SeededGenerator.{SeededGenerator as ASeededGenerator};

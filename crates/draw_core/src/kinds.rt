@@ -1,7 +1,7 @@
 //! The names of the number types.
 
 ghost use Rattle.std.specs.Prelude.{◌≡◌, IfSome, Some};
-ghost use Rattle.nanorand_streams.specs.declared.replay.Kind.{Kind as AKind};
+ghost use Rattle.nanorand_replay.specs.declared.replay.Kind.{Kind as AKind};
 ghost use Rattle.draw_core.specs.Requests.{name_of};
 
 use nanorand::replay::Kind;

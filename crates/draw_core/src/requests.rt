@@ -1,8 +1,8 @@
 //! Requests: a type, a range of a type, or a shuffle.
 
 ghost use Rattle.std.specs.Prelude.{◌≡◌, IfSome, Some};
-ghost use Rattle.nanorand_streams.specs.declared.replay.Call.{Call as ACall};
-ghost use Rattle.nanorand_streams.specs.declared.replay.Span.{Span as ASpan};
+ghost use Rattle.nanorand_replay.specs.declared.replay.Call.{Call as ACall};
+ghost use Rattle.nanorand_replay.specs.declared.replay.Span.{Span as ASpan};
 ghost use Rattle.draw_core.specs.Requests.{kind_of_span, IsBounds, IsRequest};
 
 use crate::bounds::bounds;

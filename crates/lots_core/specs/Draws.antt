@@ -4,7 +4,7 @@ use Rattle.sha2.specs.Sha256.{sha256}
 use Rattle.nanorand_core.specs.generators.Blocks.{Requests}
 use Rattle.nanorand_core.specs.shuffles.Arrangements.{rising}
 use Rattle.nanorand_core.specs.shuffles.Shuffles.{Shuffle, from_itself, partly_shuffled}
-use Rattle.nanorand_streams.specs.generators.Buffered.{Buffered, buffer_of, buffered}
+use Rattle.nanorand_replay.specs.generators.Buffered.{Buffered, buffer_of, buffered}
 use Rattle.nanorand.specs.generators.ChaCha.{chacha_block, initial_state, next_state}
 
 -- The key of a seed: SHA-256 of its text.

@@ -27,7 +27,7 @@ pub use nanorand_fairness::laws::{
     sampled_sets_are_fair, samples_draw_in_turn, shuffles_are_fair, shuffles_draw_in_turn,
     words_of_a_draw,
 };
-pub use nanorand_streams::laws::{equal_buffers, fresh_delivery, replays_join, unbroken_delivery};
+pub use nanorand_replay::laws::{equal_buffers, fresh_delivery, replays_join, unbroken_delivery};
 
 /// The three generators implement the traits by the definitions that the laws below speak of: their
 /// blocks, the states that draws leave, and their requests.

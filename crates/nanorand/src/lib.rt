@@ -6,7 +6,7 @@
 //! leaves.
 //!
 //! The traits, values, ranges, choices, samples and shuffles are those of `nanorand_core`, and the
-//! buffers and replays those of `nanorand_streams`. These two crates name no generator; what they
+//! buffers and replays those of `nanorand_replay`. These two crates name no generator; what they
 //! have is passed on here under the same paths.
 //!
 //! `WyRand` and `Pcg64` are not cryptographically secure. `ChaCha` says what it is and is not for.
@@ -18,7 +18,7 @@ pub mod laws;
 pub mod rand;
 
 pub use nanorand_core::{RandomGen, RandomRange, RangeError, choices, samples, shuffles, values};
-pub use nanorand_streams::{BufferedRng, buffer, replay};
+pub use nanorand_replay::{BufferedRng, buffer, replay};
 pub use rand::chacha::{ChaCha, ChaCha8, ChaCha12, ChaCha20};
 pub use rand::pcg64::Pcg64;
 pub use rand::wyrand::WyRand;

@@ -1,7 +1,7 @@
 -- The states of ChaCha and of its stream, as they lie in the caller's memory.
 use Rattle.std.specs.Prelude.{ℕ, ◌-◌, List, drop, min}
 use Rattle.nanorand_core.specs.generators.Blocks.{Requests}
-use Rattle.nanorand_streams.specs.generators.Buffered.{Buffered, buffer_of, buffered}
+use Rattle.nanorand_replay.specs.generators.Buffered.{Buffered, buffer_of, buffered}
 use Rattle.nanorand.specs.generators.ChaCha.{chacha_block, next_state, state_at}
 use Rattle.nanorand_c.specs.declared.chacha.ChaChaState.{ChaChaState}
 use Rattle.nanorand_c.specs.declared.stream.Stream.{Stream}

@@ -1,6 +1,6 @@
 //! What holds for every generator: the traits, values and ranges, choices, samples and shuffles.
 //!
-//! No generator stands here. The crate `nanorand_streams` has buffers and replays over any
+//! No generator stands here. The crate `nanorand_replay` has buffers and replays over any
 //! generator. The crate `nanorand` has the generators, and everything of both under the same paths.
 #![tactic(auto)]
 

@@ -3,11 +3,11 @@
 ghost use Rattle.std.specs.Prelude.{◌≡◌, ◌≢◌, ◌≤◌, ◌<◌, ◌+◌, ◌++◌, [], All, length, Contains, OnOk, IfOk, IfErr, MatchResult, IsPermutation};
 ghost use Rattle.std.specs.List.{AllPairs};
 ghost use Rattle.std.specs.declared.ops.Bound.TheVariants.{Included};
-ghost use Rattle.nanorand_streams.specs.generators.Buffered.{buffered_taken};
+ghost use Rattle.nanorand_replay.specs.generators.Buffered.{buffered_taken};
 ghost use Rattle.nanorand_core.specs.values.Draws.{unsigned_outcome};
 ghost use Rattle.nanorand.specs.generators.ChaCha.{chacha_requests};
 ghost use Rattle.nanorand.specs.generators.Pcg64.{pcg64_after};
-ghost use Rattle.nanorand_streams.specs.replay.Replay.{replayed};
+ghost use Rattle.nanorand_replay.specs.replay.Replay.{replayed};
 ghost use Rattle.nanorand_core.specs.shuffles.Shuffles.{from_itself, shuffled};
 ghost use Rattle.nanorand_core.specs.values.Values.{number_of};
 ghost use Rattle.nanorand.specs.generators.WyRand.{wyrand_requests};

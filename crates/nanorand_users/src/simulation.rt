@@ -4,7 +4,7 @@
 //! A simulation is a list of calls of a generator, and the items that its shuffles permute.
 ghost use Rattle.std.specs.Prelude.{◌≡◌, ◌≤◌, length, OnOk, OnErr, IfOk, IsOk};
 ghost use Rattle.nanorand.specs.generators.WyRand.{wyrand_requests};
-ghost use Rattle.nanorand_streams.specs.replay.Replay.{replayed};
+ghost use Rattle.nanorand_replay.specs.replay.Replay.{replayed};
 
 use nanorand::laws::replays_join;
 use nanorand::replay::{Answer, Call, replay};

@@ -2,7 +2,7 @@
 use Rattle.std.proofs.Common.{◌≡◌, ℕ, ◌+◌, ◌<◌, ◌≤◌, ◌-◌, take, take_all, length-drop, Some, List, [], ◌∷◌, ◌++◌, length, drop, get_or, sym, ap, subst, ◌∙◌, append_assoc, drop-cons, add-one, arith, append-nil}
 use Rattle.std.proofs.lemmas.List.{get_or-map, drop_all, drop-map}
 use Rattle.std.specs.Prelude.{String, string_bytes}
-use Rattle.nanorand_streams.specs.declared.replay.Call.{Call}
+use Rattle.nanorand_replay.specs.declared.replay.Call.{Call}
 use Rattle.draw_core.specs.Requests.{IsRequest}
 use Rattle.draw_core.specs.Arguments.{AreRequests, argument_at, texts}
 

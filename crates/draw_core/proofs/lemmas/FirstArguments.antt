@@ -1,6 +1,6 @@
 -- From the requests to all arguments.
 use Rattle.std.proofs.Common.{◌≡◌, ℕ, zero, suc, ◌+◌, ◌-◌, ◌<◌, ◌≤◌, List, [], drop, sym, subst, arith, get_or-drop, length-drop}
-use Rattle.nanorand_streams.specs.declared.replay.Call.{Call}
+use Rattle.nanorand_replay.specs.declared.replay.Call.{Call}
 use Rattle.draw_core.specs.Requests.{IsRequest}
 use Rattle.draw_core.specs.Arguments.{Asked, IsReadable, IsFirstUnreadable, FirstBadRequest, argument_at}
 

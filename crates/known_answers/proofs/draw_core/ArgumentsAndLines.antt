@@ -6,12 +6,12 @@ use Rattle.std.proofs.lemmas.Fmt.{decimal_digit}
 use Rattle.hex.specs.Hex.{decode_pairs}
 use Rattle.std.specs.declared.ops.Bound.TheVariants.{Included, Unbounded}
 use Rattle.nanorand_core.specs.generators.Blocks.{taken}
-use Rattle.nanorand_streams.specs.declared.replay.Answer.{Answer}
-use Rattle.nanorand_streams.specs.declared.replay.Answer.TheVariants.{Unsigned, Signed, Truth, Empty, Exhausted, Shuffled}
-use Rattle.nanorand_streams.specs.declared.replay.Kind.{Kind}
-use Rattle.nanorand_streams.specs.declared.replay.Kind.TheVariants as kinds
-use Rattle.nanorand_streams.specs.declared.replay.Span.TheVariants as spans
-use Rattle.nanorand_streams.specs.declared.replay.Call.TheVariants.{Gen, Range}
+use Rattle.nanorand_replay.specs.declared.replay.Answer.{Answer}
+use Rattle.nanorand_replay.specs.declared.replay.Answer.TheVariants.{Unsigned, Signed, Truth, Empty, Exhausted, Shuffled}
+use Rattle.nanorand_replay.specs.declared.replay.Kind.{Kind}
+use Rattle.nanorand_replay.specs.declared.replay.Kind.TheVariants as kinds
+use Rattle.nanorand_replay.specs.declared.replay.Span.TheVariants as spans
+use Rattle.nanorand_replay.specs.declared.replay.Call.TheVariants.{Gen, Range}
 use Rattle.draw_core.specs.declared.command.Mode.TheVariants.{Plain}
 use Rattle.draw_core.specs.declared.command.SeededGenerator.TheVariants.{WyRand}
 use Rattle.draw_core.specs.declared.error.DrawError.TheVariants.{BadWord, Memory, Write}

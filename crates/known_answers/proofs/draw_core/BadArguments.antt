@@ -7,9 +7,9 @@ use Rattle.draw_core.specs.declared.command.SeededGenerator.{SeededGenerator}
 use Rattle.draw_core.specs.declared.command.SeededGenerator.TheVariants.{WyRand, Pcg64, ChaCha8, ChaCha12, ChaCha20}
 use Rattle.draw_core.specs.declared.command.Generator.{Generator}
 use Rattle.draw_core.specs.declared.command.Generator.TheVariants as generators
-use Rattle.nanorand_streams.specs.declared.replay.Call.{Call}
-use Rattle.nanorand_streams.specs.declared.replay.Call.TheVariants.{Gen}
-use Rattle.nanorand_streams.specs.declared.replay.Kind.TheVariants as kinds
+use Rattle.nanorand_replay.specs.declared.replay.Call.{Call}
+use Rattle.nanorand_replay.specs.declared.replay.Call.TheVariants.{Gen}
+use Rattle.nanorand_replay.specs.declared.replay.Kind.TheVariants as kinds
 use Rattle.draw_core.specs.Requests.{IsRequest}
 use Rattle.draw_core.specs.Arguments.{IsReadable, IsFirstUnreadable, IsSeed, IsCount, name_of_generator, generator_of}
 use Rattle.known_answers.proofs.draw_core.BadRequests.{no_u9, no_range_of_u128, no_u8_to_300, no_u8_to_nothing}

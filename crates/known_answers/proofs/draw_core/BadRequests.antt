@@ -4,10 +4,10 @@ use Rattle.std.specs.Prelude.{◌≡◌, ◌≢◌, ℕ, ◌<◌, List, [], ◌�
 use Rattle.std.proofs.Common.{ap, arith, subst, sym}
 use Rattle.std.specs.declared.ops.Bound.{Bound}
 use Rattle.std.specs.declared.ops.Bound.TheVariants.{Included, Excluded, Unbounded}
-use Rattle.nanorand_streams.specs.declared.replay.Kind.TheVariants as kinds
-use Rattle.nanorand_streams.specs.declared.replay.Span.TheVariants as spans
-use Rattle.nanorand_streams.specs.declared.replay.Call.{Call}
-use Rattle.nanorand_streams.specs.declared.replay.Call.TheVariants.{Gen, Range, Shuffle}
+use Rattle.nanorand_replay.specs.declared.replay.Kind.TheVariants as kinds
+use Rattle.nanorand_replay.specs.declared.replay.Span.TheVariants as spans
+use Rattle.nanorand_replay.specs.declared.replay.Call.{Call}
+use Rattle.nanorand_replay.specs.declared.replay.Call.TheVariants.{Gen, Range, Shuffle}
 use Rattle.draw_core.specs.Numbers.{IsUnsigned}
 use Rattle.draw_core.specs.support.PlainTexts.{unsigned_plain}
 use Rattle.draw_core.specs.Requests.{IsLow, IsHigh, IsRange, IsRequest}

@@ -6,15 +6,15 @@ use Rattle.std.proofs.Common.{arith}
 use Rattle.hex.specs.Hex.{decode_pairs}
 use Rattle.std.specs.declared.ops.Bound.TheVariants.{Included, Excluded}
 use Rattle.nanorand_core.specs.generators.Blocks.{taken}
-use Rattle.nanorand_streams.specs.generators.Buffered.{buffered_taken, buffered_after}
+use Rattle.nanorand_replay.specs.generators.Buffered.{buffered_taken, buffered_after}
 use Rattle.nanorand.specs.generators.ChaChaRounds.{quarter_round, on_columns, on_diagonals, rounds, block}
 use Rattle.nanorand.specs.generators.ChaCha.{initial_state}
 use Rattle.nanorand_core.specs.values.Runs.{named}
 use Rattle.nanorand_core.specs.values.Range.{range_within}
 use Rattle.nanorand_core.specs.values.Draws.{words_from, value_drawn, left_by, left_after}
-use Rattle.nanorand_streams.specs.declared.replay.Kind.TheVariants as kinds
-use Rattle.nanorand_streams.specs.declared.replay.Span.TheVariants as spans
-use Rattle.nanorand_streams.specs.declared.replay.Call.TheVariants.{Gen, Range, Shuffle}
+use Rattle.nanorand_replay.specs.declared.replay.Kind.TheVariants as kinds
+use Rattle.nanorand_replay.specs.declared.replay.Span.TheVariants as spans
+use Rattle.nanorand_replay.specs.declared.replay.Call.TheVariants.{Gen, Range, Shuffle}
 use Rattle.draw_core.specs.declared.command.Mode.TheVariants.{Plain, Buffered}
 use Rattle.draw_core.specs.declared.command.SeededGenerator.TheVariants.{WyRand, Pcg64, ChaCha20}
 use Rattle.draw_core.specs.Arguments.{Asked, AsksFor, IsCount}

@@ -4,8 +4,8 @@ use Rattle.std.proofs.Common.{arith}
 use Rattle.std.specs.List.{range_with_len}
 use Rattle.hex.specs.Hex.{decode_pairs}
 use Rattle.std.specs.declared.ops.Bound.TheVariants.{Included, Excluded, Unbounded}
-use Rattle.nanorand_streams.specs.declared.replay.Span.TheVariants as spans
-use Rattle.nanorand_streams.specs.declared.replay.Call.TheVariants.{Range, Shuffle}
+use Rattle.nanorand_replay.specs.declared.replay.Span.TheVariants as spans
+use Rattle.nanorand_replay.specs.declared.replay.Call.TheVariants.{Range, Shuffle}
 use Rattle.draw_core.specs.declared.command.SeededGenerator.TheVariants.{Pcg64, ChaCha20}
 use Rattle.draw_core.specs.Requests.{IsRequest}
 use Rattle.draw_core.specs.Arguments.{IsSeed}

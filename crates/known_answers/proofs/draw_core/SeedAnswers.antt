@@ -3,19 +3,19 @@ use Rattle.std.specs.Prelude.{◌≡◌, ℕ, List, [], ◌∷◌, ◌++◌, rep
 use Rattle.std.specs.List.{range_with_len}
 use Rattle.std.specs.declared.ops.Bound.TheVariants.{Included, Excluded, Unbounded}
 use Rattle.nanorand_core.specs.generators.Blocks.{taken}
-use Rattle.nanorand_streams.specs.generators.Buffered.{buffered_taken, buffered_after}
+use Rattle.nanorand_replay.specs.generators.Buffered.{buffered_taken, buffered_after}
 use Rattle.nanorand.specs.generators.ChaChaRounds.{quarter_round, on_columns, on_diagonals, rounds, block}
 use Rattle.nanorand.specs.generators.ChaCha.{initial_state}
 use Rattle.nanorand_core.specs.values.Runs.{named}
 use Rattle.nanorand_core.specs.values.Range.{range_within}
 use Rattle.nanorand_core.specs.values.Draws.{words_from, value_drawn, left_by, left_after}
-use Rattle.nanorand_streams.specs.declared.replay.Answer.{Answer}
-use Rattle.nanorand_streams.specs.declared.replay.Answer.TheVariants.{Unsigned, Signed, Truth, Empty}
-use Rattle.nanorand_streams.specs.declared.replay.Kind.TheVariants as kinds
-use Rattle.nanorand_streams.specs.declared.replay.Span.{Span}
-use Rattle.nanorand_streams.specs.declared.replay.Span.TheVariants as spans
-use Rattle.nanorand_streams.specs.declared.replay.Call.{Call}
-use Rattle.nanorand_streams.specs.declared.replay.Call.TheVariants.{Gen, Range}
+use Rattle.nanorand_replay.specs.declared.replay.Answer.{Answer}
+use Rattle.nanorand_replay.specs.declared.replay.Answer.TheVariants.{Unsigned, Signed, Truth, Empty}
+use Rattle.nanorand_replay.specs.declared.replay.Kind.TheVariants as kinds
+use Rattle.nanorand_replay.specs.declared.replay.Span.{Span}
+use Rattle.nanorand_replay.specs.declared.replay.Span.TheVariants as spans
+use Rattle.nanorand_replay.specs.declared.replay.Call.{Call}
+use Rattle.nanorand_replay.specs.declared.replay.Call.TheVariants.{Gen, Range}
 use Rattle.draw_core.specs.declared.command.Mode.{Mode}
 use Rattle.draw_core.specs.declared.command.Mode.TheVariants.{Plain, Buffered}
 use Rattle.draw_core.specs.declared.command.SeededGenerator.{SeededGenerator}

@@ -6,7 +6,7 @@ use Rattle.std.specs.List.{range_with_len}
 use Rattle.std.proofs.lemmas.Bool.{le-ltb, and_right}
 use Rattle.std.specs.declared.ops.Bound.TheVariants.{Included, Excluded}
 use Rattle.nanorand_core.specs.generators.Blocks.{taken, plain_after, Requests}
-use Rattle.nanorand_streams.specs.generators.Buffered.{buffered, Buffered, buffer_of, buffered_taken, buffered_after}
+use Rattle.nanorand_replay.specs.generators.Buffered.{buffered, Buffered, buffer_of, buffered_taken, buffered_after}
 use Rattle.nanorand.specs.generators.ChaChaRounds.{quarter_round, on_columns, on_diagonals, rounds, block}
 use Rattle.nanorand.specs.generators.ChaCha.{chacha_requests, chacha_block, next_state, initial_state, seeded_state}
 use Rattle.nanorand.specs.generators.WyRand.{next_seed, wyrand_block}
@@ -14,8 +14,8 @@ use Rattle.nanorand_core.specs.values.Runs.{named}
 use Rattle.nanorand_core.specs.values.Range.{unsigned_number, unsigned_range, range_within}
 use Rattle.nanorand_core.specs.values.Draws.{range_outcome, words_from, value_drawn, left_by, left_after}
 use Rattle.nanorand_core.specs.shuffles.Shuffles.{arranged, from_itself, partner_drawn, choices_from, shuffle_choices, shuffle_answer}
-use Rattle.nanorand_streams.specs.replay.Replay.{shuffle_call_answer}
-use Rattle.nanorand_streams.specs.declared.replay.Answer.TheVariants.{Empty}
+use Rattle.nanorand_replay.specs.replay.Replay.{shuffle_call_answer}
+use Rattle.nanorand_replay.specs.declared.replay.Answer.TheVariants.{Empty}
 use Rattle.draw_core.specs.Text.{text_of, text_asked}
 use Rattle.known_answers.proofs.draw_core.CommandLines.{empty_and_shuffle, shuffle_in_order, shuffle_of_zeros, in_order}
 

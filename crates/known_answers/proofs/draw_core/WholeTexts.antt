@@ -5,14 +5,14 @@ use Rattle.std.proofs.Common.{arith}
 use Rattle.hex.specs.Hex.{decode_pairs}
 use Rattle.std.specs.declared.ops.Bound.TheVariants.{Included}
 use Rattle.nanorand_core.specs.generators.Blocks.{taken}
-use Rattle.nanorand_streams.specs.generators.Buffered.{buffered_taken, buffered_after}
+use Rattle.nanorand_replay.specs.generators.Buffered.{buffered_taken, buffered_after}
 use Rattle.nanorand_core.specs.values.Runs.{named}
 use Rattle.nanorand_core.specs.values.Range.{range_within}
 use Rattle.nanorand_core.specs.values.Draws.{words_from, value_drawn, left_by, left_after}
-use Rattle.nanorand_streams.specs.declared.replay.Kind.TheVariants as kinds
-use Rattle.nanorand_streams.specs.declared.replay.Span.TheVariants as spans
-use Rattle.nanorand_streams.specs.declared.replay.Call.{Call}
-use Rattle.nanorand_streams.specs.declared.replay.Call.TheVariants.{Gen, Range}
+use Rattle.nanorand_replay.specs.declared.replay.Kind.TheVariants as kinds
+use Rattle.nanorand_replay.specs.declared.replay.Span.TheVariants as spans
+use Rattle.nanorand_replay.specs.declared.replay.Call.{Call}
+use Rattle.nanorand_replay.specs.declared.replay.Call.TheVariants.{Gen, Range}
 use Rattle.draw_core.specs.declared.command.Mode.{Mode}
 use Rattle.draw_core.specs.declared.command.Mode.TheVariants.{Plain, Buffered}
 use Rattle.draw_core.specs.declared.command.SeededGenerator.TheVariants.{WyRand}

@@ -1,7 +1,7 @@
 -- Known answers: ChaCha's counter after jumps and draws, from the zero key and nonce.
 use Rattle.std.specs.Prelude.{◌≡◌, ℕ, ◌-◌, ◌^◌, List, [], ◌∷◌, ◌++◌, codes, drop, replicate, refl}
 use Rattle.std.proofs.Common.{ap}
-use Rattle.nanorand_streams.specs.generators.Buffered.{buffer_of, buffered_taken, buffered_after}
+use Rattle.nanorand_replay.specs.generators.Buffered.{buffer_of, buffered_taken, buffered_after}
 use Rattle.nanorand.specs.generators.ChaChaRounds.{block}
 use Rattle.nanorand.specs.generators.ChaCha.{words, counter, next_state, chacha_block, chacha_after, initial_state}
 

@@ -4,7 +4,7 @@ use Rattle.std.proofs.Common.{◌≡◌, ℕ, ◌+◌, List, [], ◌∷◌, Ok, 
 use Rattle.std.specs.Prelude.{replicate}
 use Rattle.std.specs.List.{range_with_len}
 use Rattle.nanorand_core.specs.generators.Blocks.{taken, Requests}
-use Rattle.nanorand_streams.specs.generators.Buffered.{Buffered, buffered, buffer_of, buffered_taken, buffered_after}
+use Rattle.nanorand_replay.specs.generators.Buffered.{Buffered, buffered, buffer_of, buffered_taken, buffered_after}
 use Rattle.nanorand.specs.generators.ChaChaRounds.{quarter_round, on_columns, on_diagonals, rounds, block}
 use Rattle.nanorand.specs.generators.ChaCha.{chacha_requests, chacha_block, chacha_after, next_state, initial_state}
 use Rattle.nanorand.specs.generators.WyRand.{wyrand_requests, next_seed}
@@ -14,12 +14,12 @@ use Rattle.nanorand_core.specs.values.Range.{range_within}
 use Rattle.nanorand_core.specs.values.Draws.{words_from, value_drawn, left_by, left_after}
 use Rattle.nanorand_core.specs.shuffles.Shuffles.{arranged, from_all, from_itself, partner_drawn, choices_from, shuffle_choices, shuffle_answer, shuffle_state, state_after_places}
 use Rattle.nanorand_core.specs.shuffles.Arrangements.{rising}
-use Rattle.nanorand_streams.specs.replay.Replay.{replayed, shuffle_call_answer}
-use Rattle.nanorand_streams.specs.declared.replay.Span.TheVariants as spans
-use Rattle.nanorand_streams.specs.declared.replay.Call.TheVariants.{Range, Shuffle}
-use Rattle.nanorand_streams.specs.declared.replay.Answer.TheVariants.{Empty, Shuffled}
+use Rattle.nanorand_replay.specs.replay.Replay.{replayed, shuffle_call_answer}
+use Rattle.nanorand_replay.specs.declared.replay.Span.TheVariants as spans
+use Rattle.nanorand_replay.specs.declared.replay.Call.TheVariants.{Range, Shuffle}
+use Rattle.nanorand_replay.specs.declared.replay.Answer.TheVariants.{Empty, Shuffled}
 use Rattle.nanorand_core.proofs.lemmas.shuffles.PartnerLemmas.{Makes, partner_between, three_partners}
-use Rattle.known_answers.proofs.nanorand_streams.Replays.{goes_on, whole_shuffle}
+use Rattle.known_answers.proofs.nanorand_replay.Replays.{goes_on, whole_shuffle}
 
 abbrev plain_requests : Requests (List ℕ)
 plain_requests = chacha_requests 20

@@ -1,7 +1,7 @@
 -- Known answers: WyRand's words, jumps and buffered bytes, computed from the definitions alone.
 use Rattle.std.specs.Prelude.{◌≡◌, ℕ, ◌-◌, ◌^◌, [], ◌∷◌, length, refl}
 use Rattle.std.specs.Fn.{iterate}
-use Rattle.nanorand_streams.specs.generators.Buffered.{buffer_of, buffered_taken, buffered_after}
+use Rattle.nanorand_replay.specs.generators.Buffered.{buffer_of, buffered_taken, buffered_after}
 use Rattle.nanorand_core.specs.values.Values.{number_of}
 use Rattle.nanorand.specs.generators.WyRand.{next_seed, word, wyrand_block, wyrand_after}
 

@@ -3,15 +3,15 @@ use Rattle.std.specs.Prelude.{◌≡◌, ℕ, ◌-◌, ◌^◌, List, [], ◌∷
 use Rattle.std.specs.List.{range_with_len}
 use Rattle.std.specs.declared.ops.Bound.TheVariants.{Included}
 use Rattle.nanorand_core.specs.generators.Blocks.{taken, plain}
-use Rattle.nanorand_streams.specs.generators.Buffered.{buffered, buffer_of, buffered_taken, buffered_after}
+use Rattle.nanorand_replay.specs.generators.Buffered.{buffered, buffer_of, buffered_taken, buffered_after}
 use Rattle.nanorand_core.specs.values.Runs.{named}
 use Rattle.nanorand_core.specs.values.Range.{range_within}
 use Rattle.nanorand_core.specs.values.Draws.{words_from, value_drawn, left_by, left_after}
-use Rattle.nanorand_streams.specs.replay.Replay.{replayed}
-use Rattle.nanorand_streams.specs.declared.replay.Kind.TheVariants as kinds
-use Rattle.nanorand_streams.specs.declared.replay.Span.TheVariants as spans
-use Rattle.nanorand_streams.specs.declared.replay.Call.TheVariants.{Gen, Range}
-use Rattle.nanorand_streams.specs.declared.replay.Answer.TheVariants.{Unsigned, Exhausted}
+use Rattle.nanorand_replay.specs.replay.Replay.{replayed}
+use Rattle.nanorand_replay.specs.declared.replay.Kind.TheVariants as kinds
+use Rattle.nanorand_replay.specs.declared.replay.Span.TheVariants as spans
+use Rattle.nanorand_replay.specs.declared.replay.Call.TheVariants.{Gen, Range}
+use Rattle.nanorand_replay.specs.declared.replay.Answer.TheVariants.{Unsigned, Exhausted}
 use Rattle.nanorand_rows.specs.Steps.{next_count, steps_block}
 use Rattle.nanorand_rows.specs.Script.{script_block, script_step}
 use Rattle.nanorand_rows.specs.Waste.{waste_after, waste_requests}

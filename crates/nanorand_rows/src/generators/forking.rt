@@ -2,7 +2,7 @@
 ghost use Rattle.std.specs.Prelude.{◌≡◌, ◌<◌, refl, length, OnOk, IfOk, IsOk};
 ghost use Rattle.std.proofs.Common.{rules};
 ghost use Rattle.nanorand_core.specs.generators.Blocks.{plain};
-ghost use Rattle.nanorand_streams.specs.generators.Buffered.{buffer_of, buffered_taken};
+ghost use Rattle.nanorand_replay.specs.generators.Buffered.{buffer_of, buffered_taken};
 ghost use Rattle.nanorand_rows.specs.Forking.{forked, forking_block, forking_step};
 
 use nanorand::rand::fill_by_blocks;

@@ -1,7 +1,7 @@
 use Rattle.std.proofs.Common.{◌≡◌, ℕ, ◌+◌, ◌<◌, Result, Err, length, sym, subst, ◌∙◌, arith, below_more}
 use Rattle.std.proofs.lemmas.List.{length-map}
 use Rattle.std.specs.Prelude.{string_bytes}
-use Rattle.nanorand_streams.specs.declared.replay.Call.{Call}
+use Rattle.nanorand_replay.specs.declared.replay.Call.{Call}
 use Rattle.draw_core.specs.declared.error.DrawError.{DrawError}
 use Rattle.draw_core.specs.declared.error.DrawError.TheVariants.{BadWord}
 use Rattle.draw_core.specs.Requests.{IsRequest}

@@ -1,0 +1,118 @@
+-- Known answers: requests and the bytes that stay buffered, computed from the definitions alone.
+use Rattle.std.specs.Prelude.{◌≡◌, ℕ, List, [], ◌∷◌, refl}
+use Rattle.std.specs.List.{range_with_len}
+use Rattle.nanorand_core.specs.generators.Blocks.{taken, plain_after}
+use Rattle.nanorand_replay.specs.generators.Buffered.{Buffered, buffer_of, buffered_block, buffered_step, buffered_taken, buffered_after}
+use Rattle.nanorand_core.specs.values.Values.{number_of, values_from}
+use Rattle.known_answers.proofs.nanorand_core.SmallGenerators.{next_count, rising_block, steps}
+
+abbrev kept_taken : ℕ → Buffered ℕ → ℕ → List ℕ
+kept_taken size = buffered_taken (rising_block size) next_count size
+
+abbrev kept_after : ℕ → Buffered ℕ → ℕ → Buffered ℕ
+kept_after size = buffered_after (rising_block size) next_count size
+
+abbrev bytes_and : ℕ → ℕ → ℕ → Buffered ℕ
+bytes_and from count drawn = buffer_of (range_with_len from count) drawn
+
+-- three values of one byte each start a block each, and three bytes of one request come from one
+-- block
+three_values : values_from (λ g. number_of (steps.bytes g 1)) (λ g. steps.after g 1) 3 0 ≡ 0 ∷ 8 ∷ 16 ∷ []
+unfolding taken
+three_values = refl
+
+three_bytes : steps.bytes 0 3 ≡ 0 ∷ 1 ∷ 2 ∷ []
+unfolding taken
+three_bytes = refl
+
+byte_after_nine : steps.bytes (steps.after 0 9) 1 ≡ 16 ∷ []
+unfolding taken
+byte_after_nine = refl
+
+-- five bytes take one block and leave three bytes buffered, and a whole block leaves none
+five_to_seven_kept : kept_after 8 (buffer_of [] 0) 5 ≡ buffer_of (5 ∷ 6 ∷ 7 ∷ []) 1
+unfolding buffered_after
+five_to_seven_kept = refl
+
+none_kept : kept_after 8 (buffer_of [] 0) 8 ≡ buffer_of [] 1
+unfolding buffered_after
+none_kept = refl
+
+-- four buffered bytes come before those of the next block
+wide_value_goes_on : number_of (kept_taken 8 (bytes_and 4 4 1) 8) ≡ 0x0b0a090807060504
+unfolding buffered_taken
+wide_value_goes_on = refl
+
+four_kept_again : kept_after 8 (bytes_and 4 4 1) 8 ≡ bytes_and 12 4 2
+unfolding buffered_after
+four_kept_again = refl
+
+-- requests of one byte, of twenty, of one, and of none
+first_byte : kept_taken 8 (buffer_of [] 0) 1 ≡ 0 ∷ []
+unfolding buffered_taken
+first_byte = refl
+
+seven_kept : kept_after 8 (buffer_of [] 0) 1 ≡ bytes_and 1 7 1
+unfolding buffered_after
+seven_kept = refl
+
+twenty_bytes : kept_taken 8 (bytes_and 1 7 1) 20 ≡ range_with_len 1 20
+unfolding buffered_taken
+twenty_bytes = refl
+
+three_kept_of_three_blocks : kept_after 8 (bytes_and 1 7 1) 20 ≡ bytes_and 21 3 3
+unfolding buffered_after
+three_kept_of_three_blocks = refl
+
+next_byte : kept_taken 8 (bytes_and 21 3 3) 1 ≡ 21 ∷ []
+unfolding buffered_taken
+next_byte = refl
+
+two_kept : kept_after 8 (bytes_and 21 3 3) 1 ≡ buffer_of (22 ∷ 23 ∷ []) 3
+unfolding buffered_after
+two_kept = refl
+
+nothing_asked : kept_after 8 (bytes_and 22 2 3) 0 ≡ bytes_and 22 2 3
+unfolding buffered_after
+nothing_asked = refl
+
+-- a buffer around a buffer with seven buffered bytes draws one block from it: eight bytes
+abbrev inner_block : Buffered ℕ → List ℕ
+inner_block = buffered_block (rising_block 8) next_count 8
+
+abbrev inner_step : Buffered ℕ → Buffered ℕ
+inner_step = buffered_step (rising_block 8) next_count 8
+
+byte_of_two_buffers : buffered_taken inner_block inner_step 8 (buffer_of [] (bytes_and 1 7 1)) 1 ≡ 1 ∷ []
+unfolding buffered_taken buffered_after
+byte_of_two_buffers = refl
+
+seven_kept_twice : buffered_after inner_block inner_step 8 (buffer_of [] (bytes_and 1 7 1)) 1 ≡ buffer_of (range_with_len 2 7) (bytes_and 9 7 2)
+unfolding buffered_taken buffered_after
+seven_kept_twice = refl
+
+-- blocks of one byte, plain and buffered
+two_blocks_of_one : number_of (taken (rising_block 1) next_count 0 2) ≡ 0x0100
+unfolding taken
+two_blocks_of_one = refl
+
+two_kept_blocks_of_one : number_of (kept_taken 1 (buffer_of [] 0) 2) ≡ 0x0100
+unfolding buffered_taken
+two_kept_blocks_of_one = refl
+
+none_kept_of_one : kept_after 1 (buffer_of [] 0) 2 ≡ buffer_of [] 2
+unfolding buffered_after
+none_kept_of_one = refl
+
+-- blocks of 64 bytes, plain and buffered
+second_of_64 : taken (rising_block 64) next_count (plain_after next_count 64 0 1) 1 ≡ 64 ∷ []
+unfolding taken
+second_of_64 = refl
+
+second_kept_of_64 : kept_taken 64 (kept_after 64 (buffer_of [] 0) 1) 1 ≡ 1 ∷ []
+unfolding buffered_taken buffered_after
+second_kept_of_64 = refl
+
+rest_of_64 : kept_after 64 (kept_after 64 (buffer_of [] 0) 1) 1 ≡ bytes_and 2 62 1
+unfolding buffered_after
+rest_of_64 = refl
