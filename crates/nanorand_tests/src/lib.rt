@@ -5,7 +5,7 @@
 #[cfg(test)]
 mod comparing;
 #[cfg(test)]
-mod drawing;
+mod draw_helpers;
 #[cfg(test)]
 mod spread;
 #[cfg(test)]

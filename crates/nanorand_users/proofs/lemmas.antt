@@ -2,6 +2,7 @@ pub mod DeckLemmas
 pub mod WordCountLemmas
 pub mod HandLemmas
 pub mod PartLemmas
+pub mod ResultLemmas
 pub mod RetryLemmas
 pub mod SampleCountLemmas
 pub mod SampleLemmas

@@ -1,9 +1,11 @@
 //! Programs for typical users of `nanorand`, proved through its public contracts alone.
 //!
 //! No proof here cites a lemma of `nanorand`, only the clauses of its public functions, its laws
-//! and the definitions in its `specs/`.
+//! and the definitions in its `specs/`. `callers` has short ones, one for each use; `CALLING.md` quotes
+//! them.
 #![tactic(auto)]
 
+pub mod callers;
 pub mod cases;
 pub mod choice;
 pub mod deals;

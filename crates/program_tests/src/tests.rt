@@ -1,5 +1,6 @@
 //! What each program returns and writes, also where memory, a reader or a writer fails.
 
+mod callers;
 mod draw;
 mod lots;
 mod programs;

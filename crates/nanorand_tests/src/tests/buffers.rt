@@ -1,14 +1,14 @@
 //! Buffered generators: each method once, buffers that are restored, and a buffer in a buffer.
 
 use crate::comparing::equal;
-use crate::drawing::{buffered_byte, buffered_bytes, each_byte};
+use crate::draw_helpers::{buffered_byte, buffered_bytes, each_byte};
 use nanorand::buffer::{RestTooLong, TextRefused};
 use nanorand::{Blocks, BufferedRng, ChaCha8, Rng, SeedableRng, WyRand};
-use nanorand_rows::{Steps, Waste};
 use std::alloc::AllocError;
 use std::io::Read;
 use std::process::Abort;
 use std::test::Fail;
+use test_support::{Steps, Waste};
 
 // Text is refused, and the string is left as it was.
 fn gives_no_text<G: Rng<OUTPUT>, const OUTPUT: usize>(

@@ -4,9 +4,9 @@ use crate::comparing::{equal, equal_at};
 use nanorand::choices::{WeightError, below, choose, choose_mut, choose_weighted, ratio};
 use nanorand::samples::sample;
 use nanorand::{RangeError, WyRand};
-use nanorand_rows::{Script, Steps};
 use std::process::Abort;
 use std::test::Fail;
+use test_support::{Script, Steps};
 
 // Words, and which of five items each names.
 const WORDS: [(u64, usize); 5] = [

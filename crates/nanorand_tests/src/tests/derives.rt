@@ -1,7 +1,7 @@
 //! The derived `Clone`, `Copy`, `PartialEq` and `Debug` of the small types, and the texts of errors.
 
 use crate::comparing::{debug_is, display_is, equal, equal_at};
-use crate::tests::everywhere::has_texts;
+use crate::tests::sweeps::has_texts;
 use nanorand::WyRand;
 use nanorand::buffer::{RestTooLong, TextRefused};
 use nanorand::choices::weighted::WeightError;

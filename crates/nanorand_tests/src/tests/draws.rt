@@ -7,8 +7,8 @@ use crate::comparing::equal_at;
 use nanorand::Rng;
 use nanorand::values::pick_word;
 use nanorand::values::word::draw_below;
-use nanorand_rows::Script;
 use std::process::Abort;
+use test_support::Script;
 
 // The last `bits` bits of a number.
 fn last_bits(number: u64, bits: u32) -> u64

@@ -3,11 +3,11 @@
 use crate::comparing::{equal, equal_at};
 use nanorand::entropy::{EntropyError, backup, rdseed, system};
 use nanorand::{ChaCha20, Pcg64, RandomGen, WyRand};
-use nanorand_rows::generators::readers::Pieces;
 use std::alloc::AllocError;
 use std::io::ErrorKind;
 use std::process::Abort;
 use std::test::Fail;
+use test_support::Pieces;
 
 // The bytes 1 to 50: those of a key, those of a nonce, and ten more.
 const BYTES: [u8; 50] = [

@@ -1,11 +1,11 @@
 //! Clones that are not equal to their original, and a buffer around such a generator.
 
 use crate::comparing::{equal, equal_at};
-use crate::drawing::{buffered_byte, buffered_bytes};
+use crate::draw_helpers::{buffered_byte, buffered_bytes};
 use nanorand::BufferedRng;
-use nanorand_rows::Forking;
-use nanorand_rows::generators::forking::{fill_from_clone, parts_of_clone};
 use std::test::Fail;
+use test_support::Forking;
+use test_support::generators::forking::{fill_from_clone, parts_of_clone};
 
 // `clone` fails for the last stream, and for a buffer around it with any number of buffered bytes.
 // It succeeds for all other streams.

@@ -1,15 +1,12 @@
 //! The generators: seeds, clones and equality, and a value of each type.
 
 use crate::comparing::equal;
-use crate::drawing::{between, byte, bytes, each_byte, value};
+use crate::draw_helpers::{byte, bytes, each_byte, value};
 use nanorand::values::fill_with;
 use nanorand::{Blocks, BufferedRng, ChaCha20, Pcg64, Rng, SeedableRng, WyRand};
-use nanorand_rows::callers::examples::{byte_after_byte, deal, number, percent, seeded};
-use nanorand_rows::callers::loops::letters;
-use nanorand_rows::{Card, SplitMix64, Steps, Waste};
-use std::ops::Bound;
 use std::process::Abort;
 use std::test::Fail;
+use test_support::{Steps, Waste};
 
 // The first number of a generator, of its clone, and of one that is reseeded with its seed.
 fn begins_with<G: SeedableRng<SEED, OUTPUT> + Eq + Drop, const SEED: usize, const OUTPUT: usize>(
@@ -78,35 +75,4 @@ fn wasted_blocks(rt: HostRuntime) {
     equal(&rt, byte(&mut waste), 24);
     equal(&rt, waste.drawn(), 5);
     equal(&rt, each_byte(&mut BufferedRng::new(waste)), [40, 41]);
-}
-
-// The generator and the value type of a user.
-#[test]
-fn of_a_user(rt: HostRuntime) {
-    let mut rng = SplitMix64::new(1_234_567);
-    equal(&rt, value::<u64, _, 8>(&mut rng), 6_457_827_717_110_365_317);
-    let (low, high) = (Card::new(1, 0), Card::new(2, 0));
-    let card = between(&mut rng, Bound::Included(low), Bound::Excluded(high));
-    equal(&rt, card.map(|card| card.suit()), Ok(1));
-}
-
-// What no clause of the callers says.
-#[test]
-fn callers(rt: HostRuntime) -> Result<(), Fail> {
-    equal(&rt, number(0x5f89e29b87429bd2), 16646288086500911322);
-    let mut source = [0xd2u8, 0x9b, 0x42, 0x87, 0x9b, 0xe2, 0x89, 0x5f].as_slice();
-    let mut wyrand = seeded(&mut source).or(Err("short"))?;
-    equal(&rt, percent(&mut wyrand).is_ok(), true);
-    let mut bytes = [0; 8];
-    byte_after_byte(0x5f89e29b87429bd2, &mut bytes);
-    equal(&rt, bytes, [218, 40, 180, 160, 209, 126, 3, 231]);
-    let mut deck = [1, 2, 3];
-    equal(&rt, deal(&mut wyrand, &mut deck), Ok(()));
-    let mut token = [0; 16];
-    equal(
-        &rt,
-        letters(&mut ChaCha20::new_key([7; 32], [9; 8]), b"abc", &mut token),
-        Ok(()),
-    );
-    Ok(())
 }

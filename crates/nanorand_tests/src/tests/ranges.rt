@@ -3,9 +3,9 @@
 use crate::comparing::{equal, equal_at};
 use nanorand::RangeError::{Empty, Exhausted};
 use nanorand::{RandomRange, RangeError};
-use nanorand_rows::{Script, Steps};
 use std::ops::Bound::{self, Excluded, Included, Unbounded};
 use std::process::Abort;
+use test_support::{Script, Steps};
 
 // The types by whose own functions ranges are drawn. A bound by `RandomRange` would be proved of each type
 // with all that the trait promises, which takes ten times as long.

@@ -1,13 +1,12 @@
 //! `read_to_end` with each request for memory refused in turn.
 
 use crate::comparing::equal;
-use crate::drawing::buffered_bytes;
+use crate::draw_helpers::buffered_bytes;
 use nanorand::{BufferedRng, ChaCha20, Rng};
-use nanorand_rows::Steps;
-use refusing::Refusing;
 use std::alloc::{AllocError, Allocator};
 use std::process::Abort;
 use std::test::Fail;
+use test_support::{Refusing, Steps};
 
 // A vector of this many sevens and no spare capacity.
 fn full<A: Allocator>(alloc: A, count: usize) -> Result<Vec<u8, A>, AllocError> {

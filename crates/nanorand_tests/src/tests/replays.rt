@@ -5,9 +5,9 @@ use nanorand::replay::Kind::{
     Bool, I8, I16, I32, I64, I128, Isize, U8, U16, U32, U64, U128, Usize,
 };
 use nanorand::replay::{Answer, Call, Span, replay};
-use nanorand_rows::{Script, Steps};
 use std::ops::Bound::{Excluded, Included, Unbounded};
 use std::test::Fail;
+use test_support::{Script, Steps};
 
 // Each call. An empty range draws nothing, and does not end the replay.
 const CALLS: [Call; 24] = [

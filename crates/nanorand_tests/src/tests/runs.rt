@@ -4,9 +4,9 @@ use crate::comparing::equal_at;
 use nanorand::RandomRange;
 use nanorand::RangeError::Exhausted;
 use nanorand::values::pick_word;
-use nanorand_rows::Script;
 use std::ops::Bound::Included;
 use std::process::Abort;
+use test_support::Script;
 
 // How often the size fits in 256: the length of a run.
 fn length_of_run(size: u32) -> u32 {

@@ -2,15 +2,15 @@
 ghost use Rattle.std.specs.Prelude.{◌≤◌};
 
 use crate::comparing::equal;
-use crate::drawing::bytes;
+use crate::draw_helpers::bytes;
 use nanorand::shuffles::{
     NotArrangement, apply_choices, choices_of, partial_shuffle, shuffle_and_record, shuffle_full,
 };
 use nanorand::{BufferedRng, ChaCha8, Pcg64, RangeError, Rng, WyRand};
-use nanorand_rows::{Script, Waste};
 use std::alloc::AllocError;
 use std::process::Abort;
 use std::test::Fail;
+use test_support::{Script, Waste};
 
 // 0, 1, 2, ..
 fn identity<const N: usize>() -> [usize; N] {

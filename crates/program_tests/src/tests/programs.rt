@@ -4,11 +4,11 @@
 use super::writers::Pieces;
 use crate::comparing::{equal_at, holds};
 use linked_list_allocator::LocalHeap;
-use refusing::Refusing;
 use std::alloc::{AllocError, Allocator, Global};
 use std::io::{ErrorKind, Write};
 use std::process::Abort;
 use std::test::Fail;
+use test_support::Refusing;
 
 /// A program with its arguments and its input.
 pub trait Program {

@@ -1,7 +1,0 @@
-use Rattle.std.proofs.Common.{ℕ, ◌<◌, get_or}
-use Rattle.std.specs.List.{Contains}
-use Rattle.nanorand_rows.proofs.callers.loops.letters.Given as goal
-
--- the letters so far are of the alphabet
-abbrev pub invariant-loop-place : goal.invariant-loop-place
-invariant-loop-place l = (k : ℕ) → k < l.place → Contains l.fn.alphabet (get_or l.out k 0)

@@ -1,0 +1,11 @@
+use Rattle.std.proofs.Common.{length, ◌∙◌, arith}
+use Rattle.std.proofs.lemmas.List.{map-id}
+use Rattle.std.proofs.lemmas.List.FromFn.{fill_by_all}
+use Rattle.nanorand_core.specs.shuffles.Arrangements.{rising}
+use Rattle.nanorand_users.proofs.callers.loops.write_deck.Goals as goal
+
+pub returns : goal.returns
+returns c =
+    let count = length c.args.deck.now in
+    fill_by_all (λ k. k) c.loop-card.deck count 0 (omega arith)
+    (λ k low. c.loop-card.invariant k (omega arith)) ∙ map-id (rising count)

@@ -1,0 +1,55 @@
+//! The callers of `nanorand_users`: what no clause says of them.
+
+use crate::comparing::equal;
+use nanorand::{ChaCha20, RandomGen, RandomRange, RangeError, Rng};
+use nanorand_users::callers::card::Card;
+use nanorand_users::callers::examples::{byte_after_byte, deal, number, percent, seeded};
+use nanorand_users::callers::loops::letters;
+use nanorand_users::callers::split_mix::SplitMix64;
+use std::ops::Bound;
+use std::test::Fail;
+
+// The next value. A provided method of `Rng` is proved here once, and not again at the type of each generator.
+fn value<T: RandomGen<G, OUTPUT>, G: Rng<OUTPUT>, const OUTPUT: usize>(rng: &mut G) -> T {
+    rng.generate()
+}
+
+// A value between two bounds.
+fn between<T: RandomRange<G, OUTPUT>, G: Rng<OUTPUT>, const OUTPUT: usize>(
+    rng: &mut G,
+    low: Bound<T>,
+    high: Bound<T>,
+) -> Result<T, RangeError> {
+    rng.generate_range(low, high)
+}
+
+// The generator and the value type of a user.
+#[test]
+fn of_a_user(rt: HostRuntime) {
+    let mut rng = SplitMix64::new(1_234_567);
+    equal(&rt, value::<u64, _, 8>(&mut rng), 6_457_827_717_110_365_317);
+    let (low, high) = (Card::new(1, 0), Card::new(2, 0));
+    let card = between(&mut rng, Bound::Included(low), Bound::Excluded(high));
+    equal(&rt, card.map(|card| card.suit()), Ok(1));
+}
+
+// The examples of the README, and a loop.
+#[test]
+fn examples(rt: HostRuntime) -> Result<(), Fail> {
+    equal(&rt, number(0x5f89e29b87429bd2), 16646288086500911322);
+    let mut source = [0xd2u8, 0x9b, 0x42, 0x87, 0x9b, 0xe2, 0x89, 0x5f].as_slice();
+    let mut wyrand = seeded(&mut source).or(Err("short"))?;
+    equal(&rt, percent(&mut wyrand).is_ok(), true);
+    let mut bytes = [0; 8];
+    byte_after_byte(0x5f89e29b87429bd2, &mut bytes);
+    equal(&rt, bytes, [218, 40, 180, 160, 209, 126, 3, 231]);
+    let mut deck = [1, 2, 3];
+    equal(&rt, deal(&mut wyrand, &mut deck), Ok(()));
+    let mut token = [0; 16];
+    equal(
+        &rt,
+        letters(&mut ChaCha20::new_key([7; 32], [9; 8]), b"abc", &mut token),
+        Ok(()),
+    );
+    Ok(())
+}

@@ -1,0 +1,4 @@
+pub mod Steps
+pub mod Script
+pub mod Waste
+pub mod Forking
