@@ -74,7 +74,7 @@ fn a_refused_choice_leaves_the_items(rt: HostRuntime) {
 #[test]
 fn by_weight(rt: HostRuntime) {
     let half = 1 << 63;
-    let rows: [(&[u64], Result<usize, WeightError>); 8] = [
+    let cases: [(&[u64], Result<usize, WeightError>); 8] = [
         (&[0, 3, 0], Err(WeightError::Exhausted)),
         (&[0, 0, 4, 0], Ok(2)),
         (&[half, half - 1, 1], Err(WeightError::TooHeavy)),
@@ -84,7 +84,7 @@ fn by_weight(rt: HostRuntime) {
         (&[0, 0], Err(WeightError::NoWeight)),
         (&[], Err(WeightError::NoWeight)),
     ];
-    for (weights, item) in rows {
+    for (weights, item) in cases {
         equal(&rt, choose_weighted(&mut Script::new(&[]), weights), item);
     }
 }

@@ -107,7 +107,7 @@ const NOT_ARRANGEMENT: [(NotArrangement, &str, &str); 1] = [(
     "the list is no arrangement",
 )];
 
-// A copy and a clone equal the value, its `Debug` text is this, and it equals the value of another row
+// A copy and a clone equal the value, its `Debug` text is this, and it equals the value of another case
 // only where `same` says so.
 fn check<T: Copy + Eq + Debug + Drop>(
     rt: &(impl Abort + AllocGlobal),
@@ -124,13 +124,13 @@ fn check<T: Copy + Eq + Debug + Drop>(
     Ok(())
 }
 
-// Each two rows, the value of the first with its text.
+// Each two cases, the value of the first with its text.
 fn check_values<T: Copy + Eq + Debug + Drop>(
     rt: &(impl Abort + AllocGlobal),
-    rows: &[(T, &str)],
+    cases: &[(T, &str)],
 ) -> Result<(), AllocError> {
-    for (index, (value, text)) in rows.iter().enumerate() {
-        for (other_index, (other, _)) in rows.iter().enumerate() {
+    for (index, (value, text)) in cases.iter().enumerate() {
+        for (other_index, (other, _)) in cases.iter().enumerate() {
             check(rt, *value, *text, *other, index == other_index)?;
         }
     }
@@ -139,15 +139,15 @@ fn check_values<T: Copy + Eq + Debug + Drop>(
 
 fn check_errors<T: Copy + Eq + Debug + Display + Drop>(
     rt: &(impl Abort + AllocGlobal),
-    rows: &[(T, &str, &str)],
+    cases: &[(T, &str, &str)],
 ) -> Result<(), AllocError> {
     let mut rng = WyRand::new_seed(6);
-    for (index, (value, debug, display)) in rows.iter().enumerate() {
+    for (index, (value, debug, display)) in cases.iter().enumerate() {
         display_is(rt, value, *display)?;
         for _ in 0..400 {
             has_texts(rt, &mut rng, value, *debug, *display)?;
         }
-        for (other_index, (other, _, _)) in rows.iter().enumerate() {
+        for (other_index, (other, _, _)) in cases.iter().enumerate() {
             check(rt, *value, *debug, *other, index == other_index)?;
         }
     }

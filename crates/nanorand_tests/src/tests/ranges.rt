@@ -88,7 +88,7 @@ fn draws<T: Drawn + Drop>(
 // all numbers but one.
 fn all_draw<T: Drawn + Drop>(rt: &impl Abort, least: T, second: T, before: T, last: T) {
     let (none, rejected) = (Err(Empty), Err(Exhausted));
-    let rows = [
+    let cases = [
         draws(Unbounded, Unbounded, Ok(least), Ok(last)),
         draws(Included(least), Excluded(second), Ok(least), Ok(least)),
         draws(Excluded(least), Unbounded, rejected, Ok(last)),
@@ -98,7 +98,7 @@ fn all_draw<T: Drawn + Drop>(rt: &impl Abort, least: T, second: T, before: T, la
         draws(Unbounded, Excluded(last), rejected, Ok(before)),
         draws(Excluded(last), Unbounded, none, none),
     ];
-    equal(rt, rows, [true; 8]);
+    equal(rt, cases, [true; 8]);
 }
 
 #[test]

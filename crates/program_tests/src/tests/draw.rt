@@ -86,9 +86,9 @@ const LONGEST_TEXT: &str = "118\n12\n44512\nfalse\n";
 
 #[test]
 fn ends(rt: HostRuntime) -> Result<(), Fail> {
-    let mut rows = 0u64;
-    for row in ENDS.lines() {
-        let (line, text) = row.split_once("> ").unwrap_or_default();
+    let mut cases = 0u64;
+    for case in ENDS.lines() {
+        let (line, text) = case.split_once("> ").unwrap_or_default();
         let text = text.replace(rt.alloc(), "|", "\n")?;
         let end = if text.starts_with("draw: ") {
             refused(2, text.as_str())
@@ -96,9 +96,9 @@ fn ends(rt: HostRuntime) -> Result<(), Fail> {
             writes(text.as_str())
         };
         check_end(&rt, rt.alloc(), &draw_of(rt.alloc(), line)?, end);
-        rows = rows.wrapping_add(1);
+        cases = cases.wrapping_add(1);
     }
-    equal(&rt, rows, 31);
+    equal(&rt, cases, 31);
     Ok(())
 }
 

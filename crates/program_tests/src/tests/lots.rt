@@ -75,9 +75,9 @@ seed,18446744073709551615> Ada> 3> lots: 1 entrants, 18446744073709551615 asked 
 
 #[test]
 fn ends(rt: HostRuntime) -> Result<(), Fail> {
-    let mut rows = 0u64;
-    for row in ENDS.lines() {
-        let (arguments, rest) = row.split_once("> ").unwrap_or_default();
+    let mut cases = 0u64;
+    for case in ENDS.lines() {
+        let (arguments, rest) = case.split_once("> ").unwrap_or_default();
         let (list, rest) = rest.split_once("> ").unwrap_or_default();
         let (status, text) = rest.split_once("> ").unwrap_or_default();
         let arguments = arguments.split(',').collect::<Vec<&str>>(rt.alloc())?;
@@ -89,9 +89,9 @@ fn ends(rt: HostRuntime) -> Result<(), Fail> {
         };
         let program = lots_of(rt.alloc(), arguments.as_slice(), list.as_str())?;
         check_end(&rt, rt.alloc(), &program, end);
-        rows = rows.wrapping_add(1);
+        cases = cases.wrapping_add(1);
     }
-    equal(&rt, rows, 18);
+    equal(&rt, cases, 18);
     Ok(())
 }
 
