@@ -1,5 +1,5 @@
-//! Streams over any generator: buffered, so that requests join without a break, and replayed from
-//! lists of calls.
+//! Buffers and replays over any generator: the requests of a buffer join without a break, and a list
+//! of calls can be replayed.
 //!
 //! The traits, values and shuffles are those of `nanorand_core`. The crate `nanorand` has the
 //! generators, and everything of this crate under the same paths.
