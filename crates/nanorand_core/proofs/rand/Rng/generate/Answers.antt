@@ -1,8 +1,0 @@
-use Rattle.std.proofs.Common.{rules}
-use Rattle.nanorand_core.proofs.rand.Rng.generate.Goals as goal
-
-pub returns-clause-value : goal.returns-clause-value
-returns-clause-value g c = search rules
-
-pub returns-clause-state : goal.returns-clause-state
-returns-clause-state g c = search rules
