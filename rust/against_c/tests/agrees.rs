@@ -1,7 +1,6 @@
 //! The crate and the proved static library give the same results, and leave the same states, on calls
 //! that a seed chooses: `tests/against_c`. No seed is known that has 128 rejected words in a row.
 
-use nanorand_proved::shuffles;
 use nanorand_proved::{self as proved, BufferedRng, ChaCha20, Pcg64, RangeError, Rng};
 
 // The states, and below the functions, are those of `include/nanorand.h`: see `tests/declarations`.
@@ -43,7 +42,6 @@ impl PartialEq for Stream {
     }
 }
 
-#[link(name = "nanorand_c", kind = "static")]
 extern "C" {
     fn nanorand_v1_wyrand_jump(rng: &mut WyRand, draws: u64);
     fn nanorand_v1_pcg64_jump(seed: &mut Wide, draws: &Wide);
@@ -128,7 +126,7 @@ macro_rules! compare {
                 assert_eq!(rng.shuffle(&mut some), answer(status, ()));
                 assert_eq!(some, others);
                 let status = unsafe { shuffle_full(&mut state, others.as_mut_ptr(), count) };
-                let done = shuffles::shuffle_full(&mut rng, &mut some);
+                let done = proved::shuffles::shuffle_full(&mut rng, &mut some);
                 assert_eq!(done, answer(status, ()));
                 assert_eq!(some, others);
                 assert_eq!(state_of(&rng), state, "{count} items");
