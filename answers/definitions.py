@@ -1,4 +1,4 @@
-"""The generators, their calls and the draw by lot, from their definitions in docs/RULES.md and docs/LOTS.md.
+"""The generators, their calls and the draw by lot, from their definitions in docs/REFERENCE.md and docs/LOTS.md.
 
 It shares no code with the library, and takes no care to be fast. Python's standard library alone.
 """

@@ -25,7 +25,7 @@ BYTES = [
 
 
 class Script:
-    """A generator of blocks of one repeated byte each, for the examples of docs/RULES.md."""
+    """A generator of blocks of one repeated byte each, for the examples of docs/REFERENCE.md."""
 
     def __init__(self, *values):
         self.values = list(values)
@@ -67,7 +67,7 @@ def refused(rng, size, bits=64):
 
 
 def numbers_and_words():
-    """Examples of docs/RULES.md, of the crates' tests and of the interface's known values."""
+    """Examples of docs/REFERENCE.md, of the crates' tests and of the interface's known values."""
     rng = wyrand()
     yield "WyRand 1..=100", rules.number_in(rng, 1, 100, 64), 69
     yield "WyRand 1..=100 again", rules.number_in(rng, 1, 100, 64), 92
