@@ -1,9 +1,6 @@
 pub mod Pcg64Words
 pub mod WyRandWords
-pub mod WordCounts
-pub mod Distances
-pub mod ChaChaVectors
+pub mod Cycles
 pub mod ChaChaBlocks
-pub mod ChaChaCounters
 pub mod ChaChaStates
 pub mod ShufflesByKeys

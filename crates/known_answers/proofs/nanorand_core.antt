@@ -1,13 +1,8 @@
 pub mod SmallGenerators
-pub mod BlocksAndValues
-pub mod RangeNumbers
+pub mod Values
+pub mod Ranges
 pub mod DecidingWords
-pub mod RangeBounds
-pub mod RunsOfWords
-pub mod WholeTypes
 pub mod ShuffledItems
 pub mod ShufflePartners
-pub mod PartialShuffles
 pub mod WeightedChoices
-pub mod ChoicesOfThree
 pub mod SampledNumbers

@@ -1,6 +1,4 @@
 pub mod SmallGenerators
 pub mod BufferedRequests
-pub mod ReplayedValues
 pub mod Replays
-pub mod ReplayRefusals
 pub mod AskedBytes

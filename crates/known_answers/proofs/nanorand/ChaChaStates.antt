@@ -1,7 +1,11 @@
--- Known answers: states of ChaCha at a counter, and their key, nonce and counter.
-use Rattle.std.specs.Prelude.{◌≡◌, ℕ, ◌+◌, ◌-◌, ◌^◌, List, [], ◌∷◌, refl}
+-- Known answers: states of ChaCha at a counter, their key, nonce and counter, and the counter after jumps
+-- and draws.
+use Rattle.std.specs.Prelude.{◌≡◌, ℕ, ◌+◌, ◌-◌, ◌^◌, List, [], ◌∷◌, refl, ◌++◌, codes, drop, replicate}
 use Rattle.std.specs.List.{range_with_len}
-use Rattle.nanorand.specs.generators.ChaCha.{constants, initial_state, state_at, key_of, nonce_of, counter}
+use Rattle.nanorand.specs.generators.ChaCha.{constants, initial_state, state_at, key_of, nonce_of, counter, words, next_state, chacha_block, chacha_after}
+use Rattle.std.proofs.Common.{ap}
+use Rattle.nanorand_replay.specs.generators.Buffered.{buffer_of, buffered_taken, buffered_after}
+use Rattle.nanorand.specs.generators.ChaChaRounds.{block}
 
 -- the ASCII text as four words
 the_constants : constants ≡ 0x61707865 ∷ 0x3320646e ∷ 0x79622d32 ∷ 0x6b206574 ∷ []
@@ -33,3 +37,48 @@ the_nonce = refl
 the_greatest_counter : counter (rising (2 ^ 64 - 1)) ≡ 2 ^ 64 - 1
 unfolding state_at initial_state
 the_greatest_counter = refl
+
+abbrev of_zeros : List ℕ
+of_zeros = initial_state (replicate 32 0) (replicate 8 0)
+
+abbrev counting_from : ℕ → ℕ → List ℕ
+counting_from low high = words (codes "expand 32-byte k") ++ replicate 8 0 ++ low ∷ high ∷ 0 ∷ 0 ∷ []
+
+first_state : of_zeros ≡ counting_from 0 0
+unfolding initial_state
+first_state = refl
+
+-- a jump of 2^32 - 1 draws, and then one draw
+into_the_high_half : next_state (chacha_after (2 ^ 32 - 1) of_zeros) ≡ counting_from 0 1
+unfolding initial_state
+into_the_high_half = refl
+
+counter_in_the_high_half : counter (next_state (chacha_after (2 ^ 32 - 1) of_zeros)) ≡ 4294967296
+unfolding initial_state
+counter_in_the_high_half = refl
+
+-- a jump of 2^64 - 1 draws reaches the greatest counter, and one more draw the first state
+at_the_greatest : chacha_after (2 ^ 64 - 1) of_zeros ≡ counting_from 0xffffffff 0xffffffff
+unfolding initial_state
+at_the_greatest = refl
+
+round_to_the_first : next_state (chacha_after (2 ^ 64 - 1) of_zeros) ≡ of_zeros
+unfolding initial_state
+round_to_the_first = refl
+
+counter_of_the_first : counter (next_state (chacha_after (2 ^ 64 - 1) of_zeros)) ≡ 0
+unfolding initial_state
+counter_of_the_first = refl
+
+-- so the block after that of the greatest counter is the first block of the zero key and nonce
+second_is_the_first : chacha_block 20 (next_state (chacha_after (2 ^ 64 - 1) of_zeros)) ≡ chacha_block 20 of_zeros
+second_is_the_first = ap (chacha_block 20) round_to_the_first
+
+-- and a buffer delivers it after the block of the greatest counter, and buffers nothing
+behind_the_greatest : drop 64 (buffered_taken (chacha_block 20) next_state 64 (buffer_of [] (chacha_after (2 ^ 64 - 1) of_zeros)) 128) ≡ chacha_block 20 of_zeros
+unfolding buffered_taken block initial_state
+behind_the_greatest = refl
+
+nothing_kept : buffered_after (chacha_block 20) next_state 64 (buffer_of [] (chacha_after (2 ^ 64 - 1) of_zeros)) 128 ≡ buffer_of [] (chacha_after 1 of_zeros)
+unfolding buffered_after block initial_state
+nothing_kept = refl

@@ -1,17 +1,44 @@
--- Known answers: ranges decided by their first word, by a word after rejected ones, and by none.
-use Rattle.std.specs.Prelude.{◌≡◌, ℕ, ◌+◌, ◌-◌, ◌^◌, ℤ, List, [], ◌∷◌, ◌++◌, Some, None, Result, Ok, Err, replicate, pos, negsuc, map, refl}
-use Rattle.std.proofs.Common.{arith}
+-- Known answers: where runs begin and how many words they have; ranges decided by their first word, by a
+-- word after rejected ones, and by none.
+use Rattle.std.specs.Prelude.{◌≡◌, ◌%◌, ◌==◌, [], ◌∷◌, is_none, map, refl, ℕ, ◌+◌, ◌-◌, ◌^◌, ℤ, List, ◌++◌, Some, None, Result, Ok, Err, replicate, pos, negsuc}
 use Rattle.std.specs.List.{range_with_len}
+use Rattle.nanorand_core.specs.values.Runs.{named, quota, rejected, first_word, words_that}
+use Rattle.nanorand_core.specs.values.Fairness.{passes}
+use Rattle.std.proofs.Common.{arith}
 use Rattle.std.specs.declared.ops.Bound.{Bound}
 use Rattle.std.specs.declared.ops.Bound.TheVariants.{Included, Excluded, Unbounded}
 use Rattle.nanorand_core.specs.generators.Blocks.{taken}
-use Rattle.nanorand_core.specs.values.Runs.{named}
 use Rattle.nanorand_core.specs.values.Range.{range_within}
 use Rattle.nanorand_core.specs.values.Draws.{unsigned_outcome, signed_outcome, value_drawn, left_by, left_after, words_from}
 use Rattle.nanorand_core.specs.declared.values.range.RangeError.{RangeError}
 use Rattle.nanorand_core.specs.declared.values.range.RangeError.TheVariants.{Empty, Exhausted}
 use Rattle.nanorand_core.proofs.lemmas.ranges.RunLemmas.{picks, rejects, names-itself}
 use Rattle.known_answers.proofs.nanorand_core.SmallGenerators.{script}
+
+-- for the size 3 each number has 85 bytes, and one byte is rejected
+runs_of_three : map (first_word 8 3) (0 ∷ 1 ∷ 2 ∷ []) ≡ 1 ∷ 86 ∷ 171 ∷ []
+runs_of_three = refl
+
+shares_of_three : (quota 8 3 ≡ 85) × (rejected 8 3 ≡ 1)
+shares_of_three = (refl, refl)
+
+words_of_three : map (λ k. words_that 8 (λ word. passes (λ j. j == k) (named 8 3 word))) (0 ∷ 1 ∷ 2 ∷ []) ≡ 85 ∷ 85 ∷ 85 ∷ []
+unfolding named words_that
+words_of_three = refl
+
+-- for the size 6, a die, each number has 42 bytes, and four bytes are rejected
+words_of_six : map (λ k. words_that 8 (λ word. passes (λ j. j == k) (named 8 6 word))) (range_with_len 0 6) ≡ 42 ∷ 42 ∷ 42 ∷ 42 ∷ 42 ∷ 42 ∷ []
+unfolding named words_that
+words_of_six = refl
+
+-- for each size up to 16, and for 171, 256 modulo the size bytes are rejected
+rejected_bytes : map (λ size. words_that 8 (λ word. is_none (named 8 size word))) (range_with_len 1 16) ≡ map (λ size. 256 % size) (range_with_len 1 16)
+unfolding named words_that
+rejected_bytes = refl
+
+rejected_of_171 : words_that 8 (λ word. is_none (named 8 171 word)) ≡ 85
+unfolding named words_that
+rejected_of_171 = refl
 
 -- the outcome of a range, drawn from a list of bytes, each a block of eight equal bytes, with zeros
 -- after the list; the state is the number of blocks drawn

@@ -1,18 +1,54 @@
--- Known answers: whole types as ranges, how many numbers they have, the least and the greatest.
-use Rattle.std.proofs.Common.{◌≡◌, ℕ, ◌+◌, ◌-◌, ◌^◌, [], ◌∷◌, Ok, length, map, nat_le, nat_lt, refl, ap, ◌∙◌, inl, inr, arith, sym}
-use Rattle.std.specs.Prelude.{pos, negsuc, int_le, int_lt}
+-- Known answers: blocks, the values of bytes, and ranges of whole types.
+use Rattle.std.specs.Prelude.{◌≡◌, [], ◌∷◌, refl, negsuc, true, false, pos, int_le, int_lt}
+use Rattle.std.specs.Int.{w8}
+use Rattle.nanorand_core.specs.generators.Blocks.{taken}
+use Rattle.nanorand_core.specs.values.Values.{number_of, signed_number_of, truth_of}
+use Rattle.known_answers.proofs.nanorand_core.SmallGenerators.{steps, script}
+use Rattle.std.proofs.Common.{ℕ, ◌+◌, ◌-◌, ◌^◌, Ok, length, map, nat_le, nat_lt, ap, ◌∙◌, inl, inr, arith, sym}
 use Rattle.std.specs.List.{range_with_len}
 use Rattle.std.specs.declared.ops.Bound.TheVariants.{Included, Excluded, Unbounded}
 use Rattle.std.proofs.lemmas.Bool.{cases_lt, le-leb, lt-leb, lt-ltb, le-ltb}
 use Rattle.std.proofs.lemmas.List.FromFn.{length-map-range_with_len}
 use Rattle.std.proofs.lemmas.Nat.{pow_pos}
-use Rattle.nanorand_core.specs.generators.Blocks.{taken}
 use Rattle.nanorand_core.specs.values.Runs.{named}
 use Rattle.nanorand_core.specs.values.Range.{unsigned_number, signed_number, unsigned_range, signed_range}
 use Rattle.nanorand_core.specs.support.NumberOrderLemmas.{int_le-signed, int_lt-signed}
 use Rattle.nanorand_core.specs.values.Draws.{unsigned_outcome, range_outcome, words_from, value_drawn, left_by, left_after}
 use Rattle.nanorand_core.proofs.lemmas.ranges.RangeLemmas.{range-empty, range-places}
-use Rattle.known_answers.proofs.nanorand_core.SmallGenerators.{script}
+
+-- sixteen bytes take two blocks
+two_blocks_drawn : steps.after 0 16 ≡ 2
+two_blocks_drawn = refl
+
+-- nine bytes take two blocks, and zero bytes take none
+nine_bytes : steps.bytes 0 9 ≡ 0 ∷ 1 ∷ 2 ∷ 3 ∷ 4 ∷ 5 ∷ 6 ∷ 7 ∷ 8 ∷ []
+unfolding taken
+nine_bytes = refl
+
+blocks_of_nine_bytes : steps.after 0 9 ≡ 2
+blocks_of_nine_bytes = refl
+
+blocks_of_nothing : steps.after 0 0 ≡ 0
+blocks_of_nothing = refl
+
+-- numbers and truth values from bytes
+signed_byte : signed_number_of w8 (218 ∷ []) ≡ negsuc 37
+signed_byte = refl
+
+low_byte_first : number_of (0x10 ∷ 0x11 ∷ []) ≡ 0x1110
+low_byte_first = refl
+
+seed_of_8_bytes : number_of (0x2a ∷ 0 ∷ 0 ∷ 0 ∷ 0 ∷ 0 ∷ 0 ∷ 0 ∷ []) ≡ 42
+seed_of_8_bytes = refl
+
+seed_of_16_bytes : number_of (1 ∷ 0 ∷ 0 ∷ 0 ∷ 0 ∷ 0 ∷ 0 ∷ 0 ∷ 0 ∷ 0 ∷ 0 ∷ 0 ∷ 0 ∷ 0 ∷ 0 ∷ 0 ∷ []) ≡ 1
+seed_of_16_bytes = refl
+
+truth_below_half : truth_of (127 ∷ []) ≡ true
+truth_below_half = refl
+
+no_truth_from_half : truth_of (128 ∷ []) ≡ false
+no_truth_from_half = refl
 
 -- the unsigned and the signed type of `bits` bits have 2^bits numbers, in order of rank
 all_unsigned : (bits : ℕ) → unsigned_range bits Unbounded Unbounded ≡ map unsigned_number (range_with_len 0 (2 ^ bits))

@@ -1,14 +1,48 @@
--- Known answers: how many draws lead from one seed to another, and seeds that none lead to.
-use Rattle.std.specs.Prelude.{◌≡◌, ◌⊎◌, ◌↔◌, ℕ, ◌+◌, ◌-◌, ◌%◌, ◌^◌, ◌<◌, refl}
+-- Known answers: how often a word comes among a few draws, and distances between seeds.
+use Rattle.std.specs.Prelude.{◌≡◌, refl, ◌⊎◌, ◌↔◌, ℕ, ◌+◌, ◌-◌, ◌%◌, ◌^◌, ◌<◌}
+use Rattle.nanorand.specs.generators.Pcg64.{geometric_sum, affine_after, Generator, seed_after, pcg64_after}
+use Rattle.nanorand.specs.generators.Frequencies.{pcg64_word_count, wyrand_word_count}
 use Rattle.std.proofs.Common.{ap, inl, inr, sym, ◌∙◌, arith}
 use Rattle.nanorand_core.specs.generators.Cycles.{Reaches, ReachesOnceBelow}
 use Rattle.nanorand.specs.generators.WyRand.{wyrand_after}
-use Rattle.nanorand.specs.generators.WyRand as wyrand
-use Rattle.nanorand.specs.generators.Pcg64.{Generator, seed_after, pcg64_after}
 use Rattle.nanorand.specs.support.Pcg64DrawLemmas.{seed_after-zero, seed_after-one, seed_after-add, pcg64_steps}
 use Rattle.nanorand.proofs.lemmas.cycles.DoublingLemmas.{walk_mod_8}
 use Rattle.nanorand.proofs.lemmas.cycles.Pcg64Lemmas.{u, v, seed_after-agree}
 use Rattle.nanorand.proofs.lemmas.cycles.ReachLemmas.{reached-class, reached_once}
+use Rattle.nanorand.specs.generators.WyRand as wyrand
+
+-- the first word from the seed 0
+pcg64_first : pcg64_word_count 1 0 0xad39692f3f82753f ≡ 1
+unfolding pcg64_word_count affine_after geometric_sum
+pcg64_first = refl
+
+pcg64_first_is_no_other : pcg64_word_count 1 0 0xad39692f3f82753e ≡ 0
+unfolding pcg64_word_count affine_after geometric_sum
+pcg64_first_is_no_other = refl
+
+-- the seed itself gives no word: its own word, 0, comes only from a draw
+pcg64_seed_is_not_counted : pcg64_word_count 3 0 0 ≡ 0
+unfolding pcg64_word_count affine_after geometric_sum
+pcg64_seed_is_not_counted = refl
+
+-- among no draws, nothing
+pcg64_none : pcg64_word_count 0 0 0xad39692f3f82753f ≡ 0
+unfolding pcg64_word_count
+pcg64_none = refl
+
+-- the first words from the seeds whose new seeds are 0 and 0xe7037ed1a0b428db
+wyrand_zero : wyrand_word_count 1 0x5f89e29b87429bd1 0 ≡ 1
+unfolding wyrand_word_count
+wyrand_zero = refl
+
+wyrand_zero_again : wyrand_word_count 1 0x468d616d27f6c4ac 0 ≡ 1
+unfolding wyrand_word_count
+wyrand_zero_again = refl
+
+-- the second word after the first of these is another
+wyrand_two : wyrand_word_count 2 0x5f89e29b87429bd1 0 ≡ 1
+unfolding wyrand_word_count
+wyrand_two = refl
 
 -- WyRand: one draw, back by 2^64 - 1 draws, half a cycle, and zero draws
 wyrand_one : wyrand.seed_after 1 0 ≡ 0xa0761d6478bd642f
