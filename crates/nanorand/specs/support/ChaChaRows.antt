@@ -1,4 +1,4 @@
--- A matrix as four rows of four words, and four matrices as sixteen vectors of four lanes. Nobody
+-- A matrix as four rows of four words, and several as sixteen vectors. Nobody
 -- has to believe this file: only clauses of private functions use its words.
 use Rattle.std.specs.Prelude.{ℕ, List, [], ◌∷◌, ◌++◌, slice_index, slice_index_or}
 
@@ -12,14 +12,18 @@ matrix rows =
     lanes (slice_index_or rows 0 []) ++ lanes (slice_index_or rows 1 [])
     ++ lanes (slice_index_or rows 2 []) ++ lanes (slice_index_or rows 3 [])
 
--- The word in lane j of vector k.
-abbrev pub lane_at : List (List ℕ) → ℕ → ℕ → ℕ
-lane_at x k j = slice_index (slice_index_or x k []) j
+-- Four of a kind: the four vectors of a row, or the four rows of a matrix.
+abbrev pub Four : Type 0 → Type 0
+Four V = V × V × V × V
 
--- The matrix in lane j of sixteen vectors: vector k holds word k of each of the four matrices.
-abbrev pub lane : ℕ → List (List ℕ) → List ℕ
-lane j x =
-    lane_at x 0 j ∷ lane_at x 1 j ∷ lane_at x 2 j ∷ lane_at x 3 j
-    ∷ lane_at x 4 j ∷ lane_at x 5 j ∷ lane_at x 6 j ∷ lane_at x 7 j
-    ∷ lane_at x 8 j ∷ lane_at x 9 j ∷ lane_at x 10 j ∷ lane_at x 11 j
-    ∷ lane_at x 12 j ∷ lane_at x 13 j ∷ lane_at x 14 j ∷ lane_at x 15 j ∷ []
+-- Of four vectors, the list of one word each: the one that `word` reads.
+abbrev pub row_of : {V : Type 0} → (V → ℕ) → Four V → List ℕ
+row_of word (a, b, c, d) = word a ∷ word b ∷ word c ∷ word d ∷ []
+
+-- The same of four times four vectors: with the word in lane j, the matrix in lane j.
+abbrev pub matrix_of : {V : Type 0} → (V → ℕ) → Four (Four V) → List ℕ
+matrix_of word (p, q, r, s) = row_of word p ++ row_of word q ++ row_of word r ++ row_of word s
+
+-- The matrix in lane j of sixteen vectors.
+abbrev pub lane : ℕ → Four (Four (List ℕ)) → List ℕ
+lane j = matrix_of (λ v. slice_index v j)

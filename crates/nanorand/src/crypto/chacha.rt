@@ -6,12 +6,16 @@
 //! first.
 
 mod block;
+mod eight_blocks;
 mod four_blocks;
 mod inverse;
 mod lanes;
+mod side_by_side;
 mod state;
+mod vectors;
 
 pub use block::{chacha_block, chacha_rounds};
+pub(crate) use eight_blocks::eight_blocks;
 pub(crate) use four_blocks::four_blocks;
 pub use inverse::chacha_unrounds;
 pub(crate) use state::{counter, set_counter};

@@ -1,13 +1,12 @@
 -- Matrices in vectors: rows of four lanes, and four blocks at once.
-use Rattle.std.proofs.Common.{◌≡◌, ℕ, zero, suc, ◌+◌, ◌<◌, ◌-◌, ◌*◌, ◌/◌, ◌%◌, ◌^◌, List, [], ◌∷◌, ◌++◌, length, slice_index, slice_index_or, map, bit_or, bit_xor, arith, lit<, refl, sym, ap, ◌∙◌}
+use Rattle.std.proofs.Common.{◌≡◌, ℕ, zero, suc, ◌+◌, ◌<◌, ◌-◌, ◌*◌, ◌/◌, ◌%◌, ◌^◌, List, [], ◌∷◌, ◌++◌, length, slice_index, slice_index_or, map, replicate, bit_or, bit_xor, arith, lit<, refl, sym, ap, ◌∙◌}
 use Rattle.std.specs.List.{range_with_len}
 use Rattle.std.specs.Fn.{iterate}
 use Rattle.std.specs.Simd.Lanes.{zip2}
 use Rattle.nanorand.specs.generators.ChaCha.{next_state, chacha_after}
 use Rattle.nanorand.specs.support.ChaChaDrawLemmas.{chacha_steps}
 use Rattle.nanorand.specs.generators.ChaChaRounds.{Words, add, xor_rotate, on_columns, on_diagonals, rounds, block}
-use Rattle.nanorand.specs.support.ChaChaRows.{matrix, lane}
-use Rattle.nanorand.proofs.lemmas.chacha.MatrixLemmas.{four_more, no_more}
+use Rattle.nanorand.specs.support.ChaChaRows.{Four, matrix, row_of, matrix_of}
 
 -- a property of each of the four lanes holds of every lane
 pub below_four : (P : ℕ → Type 0) → P 0 → P 1 → P 2 → P 3 → (j : ℕ) → j < 4 → P j
@@ -17,9 +16,14 @@ below_four P p0 p1 p2 p3 (suc (suc zero)) h = p2
 below_four P p0 p1 p2 p3 (suc (suc (suc zero))) h = p3
 below_four P p0 p1 p2 p3 (suc (suc (suc (suc n)))) h = absurd (omega arith)
 
--- a property of all rows of four variables holds of each row of four
-pub four_lanes : (P : List ℕ → Type 0) → ((a b c d : ℕ) → P (a ∷ b ∷ c ∷ d ∷ [])) → (x : List ℕ) → length x ≡ 4 → P x
-four_lanes P all = four_more 0 P (λ a b c d. no_more _ (all a b c d))
+-- a property of each of the eight lanes holds of every lane
+pub below_eight : (P : ℕ → Type 0) → P 0 → P 1 → P 2 → P 3 → P 4 → P 5 → P 6 → P 7 → (j : ℕ) → j < 8 → P j
+below_eight P p0 p1 p2 p3 p4 p5 p6 p7 (suc (suc (suc (suc j)))) h =
+    below_four (λ k. P (suc (suc (suc (suc k))))) p4 p5 p6 p7 j (omega (arith, h))
+below_eight P p0 p1 p2 p3 p4 p5 p6 p7 zero h = p0
+below_eight P p0 p1 p2 p3 p4 p5 p6 p7 (suc zero) h = p1
+below_eight P p0 p1 p2 p3 p4 p5 p6 p7 (suc (suc zero)) h = p2
+below_eight P p0 p1 p2 p3 p4 p5 p6 p7 (suc (suc (suc zero))) h = p3
 
 -- four rows that are the same as four others, one after another
 pub same_rows : {a b c d p q r s : List ℕ} → a ≡ p → b ≡ q → c ≡ r → d ≡ s → a ++ b ++ c ++ d ≡ p ++ q ++ r ++ s
@@ -30,21 +34,21 @@ pub same_words : {a0 a1 a2 a3 a4 a5 a6 a7 a8 a9 a10 a11 a12 a13 a14 a15 b0 b1 b2
     → a0 ∷ a1 ∷ a2 ∷ a3 ∷ a4 ∷ a5 ∷ a6 ∷ a7 ∷ a8 ∷ a9 ∷ a10 ∷ a11 ∷ a12 ∷ a13 ∷ a14 ∷ a15 ∷ [] ≡ b0 ∷ b1 ∷ b2 ∷ b3 ∷ b4 ∷ b5 ∷ b6 ∷ b7 ∷ b8 ∷ b9 ∷ b10 ∷ b11 ∷ b12 ∷ b13 ∷ b14 ∷ b15 ∷ []
 same_words e0 e1 e2 e3 e4 e5 e6 e7 e8 e9 e10 e11 e12 e13 e14 e15 = cc
 
--- two shifts and an or of each lane rotate each lane
-abbrev Rotates : ℕ → List ℕ → List ℕ → Type 0
-Rotates n d a = (j : ℕ) → j < 4
+-- two shifts and an or of each lane rotate each lane, of k lanes
+pub shifts_rotate : (n : ℕ) → 0 < n → n < 32 → (k : ℕ) (d a : List ℕ) → length d ≡ k → length a ≡ k → (j : ℕ) → j < k
     → slice_index (zip2 bit_or
-    (zip2 (λ x k. x * 2 ^ k % 2 ^ 32) (zip2 bit_xor d a) (n ∷ n ∷ n ∷ n ∷ []))
-    (zip2 (λ x k. x / 2 ^ k) (zip2 bit_xor d a) ((32 - n) ∷ (32 - n) ∷ (32 - n) ∷ (32 - n) ∷ []))) j
+    (zip2 (λ x m. x * 2 ^ m % 2 ^ 32) (zip2 bit_xor d a) (replicate k n))
+    (zip2 (λ x m. x / 2 ^ m) (zip2 bit_xor d a) (replicate k (32 - n)))) j
     ≡ xor_rotate (slice_index d j) (slice_index a j) n
-
-pub shifts_rotate : (n : ℕ) → 0 < n → n < 32 → (d : List ℕ) → length d ≡ 4 → (a : List ℕ) → length a ≡ 4 → Rotates n d a
-shifts_rotate n low high =
+shifts_rotate n low high (suc k) (x ∷ d) (y ∷ a) long_d long_a zero h =
     let left : n % 32 ≡ n = omega arith in
     let right : (32 - n) % 32 ≡ 32 - n = omega arith in
-    four_lanes (λ d. (a : List ℕ) → length a ≡ 4 → Rotates n d a) (λ d0 d1 d2 d3.
-    four_lanes (Rotates n (d0 ∷ d1 ∷ d2 ∷ d3 ∷ [])) (λ a0 a1 a2 a3.
-    below_four _ (rw (left, right) refl) (rw (left, right) refl) (rw (left, right) refl) (rw (left, right) refl)))
+    rw (left, right) refl
+shifts_rotate n low high (suc k) (x ∷ d) (y ∷ a) long_d long_a (suc j) h =
+    shifts_rotate n low high k d a (omega (arith, long_d)) (omega (arith, long_a)) j (omega (arith, h))
+shifts_rotate n low high zero d a long_d long_a j h = absurd (omega (arith, h))
+shifts_rotate n low high (suc k) [] a long_d long_a j h = absurd (omega (arith, long_d))
+shifts_rotate n low high (suc k) (x ∷ d) [] long_d long_a j h = absurd (omega (arith, long_a))
 
 -- each lane of one row is the sum of that lane in two others
 abbrev pub Sums : List ℕ → List ℕ → List ℕ → Type 0
@@ -137,11 +141,19 @@ pub upright-columns : (f : Words → Words) (x m : List ℕ) → m ≡ on_column
 unfolding on_columns on_diagonals
 upright-columns f x m h = ap upright h
 
--- lane j, after R rounds plus itself, is the block of the state after j draws
-pub lane_block : (R j : ℕ) (x : List ℕ) (s m a : List (List ℕ))
-    → lane j s ≡ map (λ k. add (slice_index (lane j m) k) (slice_index (lane j a) k)) (range_with_len 0 16)
-    → lane j m ≡ rounds R (lane j a) → lane j a ≡ chacha_after j x → lane j s ≡ block R (iterate next_state j x)
+-- The rows of a matrix after R rounds plus its own rows are its block.
+pub rows_summed_block : {V : Type 0} (word : V → ℕ) (R : ℕ) (m x : Four (Four V)) {p q r s : List ℕ}
+    → matrix_of word m ≡ rounds R (matrix_of word x)
+    → p ≡ zip2 add (row_of word m.0) (row_of word x.0)
+    → q ≡ zip2 add (row_of word m.1) (row_of word x.1)
+    → r ≡ zip2 add (row_of word m.2) (row_of word x.2)
+    → s ≡ zip2 add (row_of word m.3) (row_of word x.3)
+    → p ++ q ++ r ++ s ≡ block R (matrix_of word x)
 unfolding block
-lane_block R j x s m a sums mixed drawn =
-    sums ∙ ap (λ r. map (λ k. add (slice_index r k) (slice_index (lane j a) k)) (range_with_len 0 16)) mixed
-    ∙ ap (block R) (drawn ∙ sym (chacha_steps j x))
+rows_summed_block word R m x mixed first second third fourth =
+    same_rows first second third fourth
+    ∙ ap (λ (y : List ℕ). map (λ k. add (slice_index y k) (slice_index (matrix_of word x) k)) (range_with_len 0 16)) mixed
+
+-- lane j, if it is the block of the state after j draws
+pub lane_block : (R j : ℕ) (x m a : List ℕ) → m ≡ block R a → a ≡ chacha_after j x → m ≡ block R (iterate next_state j x)
+lane_block R j x m a made drawn = made ∙ ap (block R) (drawn ∙ sym (chacha_steps j x))

@@ -1,8 +1,9 @@
 //! The rounds on four vectors of four lanes, one vector for each row of the matrix.
 ghost use Rattle.std.specs.Prelude.{◌≡◌, ℕ, ◌+◌, ◌%◌, ◌<◌, slice_index};
-ghost use Rattle.nanorand.specs.generators.ChaChaRounds.{add, xor_rotate, quarter_round, on_columns, on_diagonals, rounds};
+ghost use Rattle.nanorand.specs.generators.ChaChaRounds.{quarter_round, on_columns, on_diagonals, rounds};
 ghost use Rattle.nanorand.specs.support.ChaChaRows.{matrix};
 
+use super::side_by_side::quarter_round;
 use std::simd::u32x4;
 
 pub(crate) type Rows = [u32x4; 4];
@@ -40,47 +41,6 @@ fn mix_diagonals(rows: Rows) -> Rows
     let c = from_lane(2, c);
     let d = from_lane(1, d);
     [a, b, c, d]
-}
-
-#[inline(always)]
-pub(crate) fn quarter_round(a: u32x4, b: u32x4, c: u32x4, d: u32x4) -> (u32x4, u32x4, u32x4, u32x4)
-    ensures { (j : ℕ) → j < 4
-        → (
-          slice_index result.0 j,
-          slice_index result.1 j,
-          slice_index result.2 j,
-          slice_index result.3 j,
-        )
-        ≡ quarter_round (slice_index a j, slice_index b j, slice_index c j, slice_index d j) }
-{
-    let a1 = add(a, b);
-    let d1 = xor_rotate(d, a1, 16);
-    let c1 = add(c, d1);
-    let b1 = xor_rotate(b, c1, 12);
-    let a2 = add(a1, b1);
-    let d2 = xor_rotate(d1, a2, 8);
-    let c2 = add(c1, d2);
-    let b2 = xor_rotate(b1, c2, 7);
-    (a2, b2, c2, d2)
-}
-
-// `+` of vectors wraps in each lane.
-#[inline(always)]
-pub(crate) fn add(a: u32x4, b: u32x4) -> u32x4
-    ensures { (j : ℕ) → j < 4 → slice_index result j ≡ add (slice_index a j) (slice_index b j) }
-{
-    a + b
-}
-
-// Each lane of `d` xor that of `a`, rotated left by `n` bits.
-#[inline(always)]
-fn xor_rotate(d: u32x4, a: u32x4, n: u32) -> u32x4
-    requires { (0 < n) × (n < 32) }
-    ensures { (j : ℕ) → j < 4
-        → slice_index result j ≡ xor_rotate (slice_index d j) (slice_index a j) n }
-{
-    let x = d ^ a;
-    (x << u32x4::splat(n)) | (x >> u32x4::splat(32 - n))
 }
 
 // The row rotated so that lane `n` comes first.

@@ -1,5 +1,5 @@
 //! The initial state, and the counter in a state.
-ghost use Rattle.std.specs.Prelude.{◌≡◌, ◌+◌, ◌^◌, ◌<◌, ◌≤◌, ◌↔◌, length, drop, IsTrue};
+ghost use Rattle.std.specs.Prelude.{◌≡◌, ◌+◌, ◌/◌, ◌%◌, ◌^◌, ◌<◌, ◌≤◌, ◌↔◌, length, drop, IsTrue};
 ghost use Rattle.std.specs.Bool.{OnTrue, OnFalse};
 ghost use Rattle.std.specs.Int.{w32, from_le_bytes};
 ghost use Rattle.nanorand.specs.generators.ChaCha.{initial_state, counter, with_counter};
@@ -71,4 +71,18 @@ pub(crate) fn set_counter(state: &mut [u32; 16], counter: u64)
 {
     state[12] = (counter & 0xffff_ffff) as u32;
     state[13] = (counter >> 32) as u32;
+}
+
+#[inline(always)]
+pub(crate) fn low(n: u64) -> u32
+    ensures { result ≡ n % 2 ^ 32 }
+{
+    (n & 0xffff_ffff) as u32
+}
+
+#[inline(always)]
+pub(crate) fn high(n: u64) -> u32
+    ensures { result ≡ n / 2 ^ 32 }
+{
+    (n >> 32) as u32
 }

@@ -1,7 +1,7 @@
 use Rattle.std.proofs.Common.{◌≡◌, ◌/◌, arith, ap, ◌∙◌, rules}
 use Rattle.nanorand.specs.generators.ChaChaRounds.{quarter_round, on_diagonals, rounds}
 use Rattle.nanorand_core.specs.support.IterateLemmas.{iterate-more}
-use Rattle.nanorand.proofs.crypto.chacha.four_blocks.mix.Goals as goal
+use Rattle.nanorand.proofs.crypto.chacha.side_by_side.mix.Goals as goal
 
 pub pairs-preserved : goal.pairs-preserved
 pairs-preserved g c j h =

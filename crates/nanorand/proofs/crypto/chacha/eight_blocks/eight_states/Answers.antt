@@ -1,0 +1,22 @@
+use Rattle.std.proofs.Common.{◌≡◌, ℕ, ◌+◌, ◌%◌, ◌^◌, ap, sym, ◌∙◌, rules, arith}
+use Rattle.nanorand.specs.generators.ChaCha.{counter, with_counter}
+use Rattle.nanorand.proofs.lemmas.chacha.RowLemmas.{below_eight}
+use Rattle.nanorand.proofs.lemmas.chacha.ChaChaStateLemmas.{with_counter-halves}
+use Rattle.nanorand.specs.generators.ChaChaRounds.{IsMatrix}
+use Rattle.nanorand.specs.support.ChaChaDrawLemmas.{chacha_closed}
+use Rattle.nanorand.proofs.crypto.chacha.eight_blocks.eight_states.Goals as goal
+
+pub returns : goal.returns
+returns c =
+    let x = c.args.x.now in
+    let matrix : IsMatrix c.args.x.now = record { sixteen = c.told-x; words = search rules } in
+    let is_first : c.counter-first.result ≡ (counter c.args.x.now + 0) % 2 ^ 64 = omega (arith, c.counter-first.ensures, c.counter-first.type_inv) in
+    below_eight _
+    (with_counter-halves x _ _ _ c.told-x c.low.ensures c.high.ensures ∙ ap (with_counter x) is_first ∙ sym (chacha_closed 0 x matrix))
+    (with_counter-halves x _ _ _ c.told-x c.low-2.ensures c.high-2.ensures ∙ ap (λ (n : ℕ). with_counter x ((n + 1) % 2 ^ 64)) c.counter-first.ensures)
+    (with_counter-halves x _ _ _ c.told-x c.low-3.ensures c.high-3.ensures ∙ ap (λ (n : ℕ). with_counter x ((n + 2) % 2 ^ 64)) c.counter-first.ensures)
+    (with_counter-halves x _ _ _ c.told-x c.low-4.ensures c.high-4.ensures ∙ ap (λ (n : ℕ). with_counter x ((n + 3) % 2 ^ 64)) c.counter-first.ensures)
+    (with_counter-halves x _ _ _ c.told-x c.low-5.ensures c.high-5.ensures ∙ ap (λ (n : ℕ). with_counter x ((n + 4) % 2 ^ 64)) c.counter-first.ensures)
+    (with_counter-halves x _ _ _ c.told-x c.low-6.ensures c.high-6.ensures ∙ ap (λ (n : ℕ). with_counter x ((n + 5) % 2 ^ 64)) c.counter-first.ensures)
+    (with_counter-halves x _ _ _ c.told-x c.low-7.ensures c.high-7.ensures ∙ ap (λ (n : ℕ). with_counter x ((n + 6) % 2 ^ 64)) c.counter-first.ensures)
+    (with_counter-halves x _ _ _ c.told-x c.low-8.ensures c.high-8.ensures ∙ ap (λ (n : ℕ). with_counter x ((n + 7) % 2 ^ 64)) c.counter-first.ensures)

@@ -1,0 +1,57 @@
+//! Vectors of 32-bit words, four or eight lanes wide.
+ghost use Rattle.std.specs.Prelude.{◌≡◌, ℕ, ◌<◌, slice_index};
+ghost use Rattle.nanorand.specs.generators.ChaChaRounds.{add, xor_rotate};
+
+use std::simd::{u32x4, u32x8};
+
+// What the rounds ask of a vector, in the same way in each lane.
+pub(crate) trait Vector: Copy {
+    ghost width: { ℕ };
+
+    // The word in lane j.
+    ghost lane: { ℕ → Self → ℕ };
+
+    // The sum, which wraps in each lane.
+    fn add(self, other: Self) -> Self
+        ensures { (j : ℕ) → j < width → lane j result ≡ add (lane j self) (lane j other) };
+
+    // Each lane xor that of `other`, rotated left by `n` bits.
+    fn xor_rotate(self, other: Self, n: u32) -> Self
+        requires { (0 < n) × (n < 32) }
+        ensures { (j : ℕ) → j < width
+            → lane j result ≡ xor_rotate (lane j self) (lane j other) n };
+}
+
+impl Vector for u32x4 {
+    ghost width = { 4 };
+
+    ghost lane = { λ j v. slice_index v j };
+
+    #[inline(always)]
+    fn add(self, other: Self) -> Self {
+        self + other
+    }
+
+    #[inline(always)]
+    fn xor_rotate(self, other: Self, n: u32) -> Self {
+        let x = self ^ other;
+        (x << u32x4::splat(n)) | (x >> u32x4::splat(32 - n))
+    }
+}
+
+impl Vector for u32x8 {
+    ghost width = { 8 };
+
+    ghost lane = { λ j v. slice_index v j };
+
+    #[inline(always)]
+    fn add(self, other: Self) -> Self {
+        self + other
+    }
+
+    #[inline(always)]
+    fn xor_rotate(self, other: Self, n: u32) -> Self {
+        let x = self ^ other;
+        (x << u32x8::splat(n)) | (x >> u32x8::splat(32 - n))
+    }
+}
