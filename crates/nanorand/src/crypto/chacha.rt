@@ -13,10 +13,12 @@ mod lanes;
 mod side_by_side;
 mod state;
 mod vectors;
+mod wide;
 
 pub use block::{chacha_block, chacha_rounds};
 pub(crate) use eight_blocks::eight_blocks;
-pub(crate) use four_blocks::four_blocks;
+pub(crate) use four_blocks::{FourBlocks, four_blocks};
 pub use inverse::chacha_unrounds;
 pub(crate) use state::{counter, set_counter};
 pub use state::{chacha_increment_counter, chacha_init};
+pub(crate) use wide::EightLanes;

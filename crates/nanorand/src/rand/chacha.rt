@@ -1,5 +1,5 @@
 //! ChaCha as a generator: a block of 64 bytes per draw, from a 256-bit key.
-ghost use Rattle.std.specs.Prelude.{◌≡◌, ◌==◌, ◌↔◌, ℕ, ◌%◌, ◌⊎◌, List, ◌++◌, length, take, drop, ⊤, refl, Some, IfOk, IfErr, OnErr, IsTrue, codes};
+ghost use Rattle.std.specs.Prelude.{◌≡◌, ◌==◌, ◌↔◌, ℕ, ◌-◌, ◌%◌, ◌≤◌, ◌⊎◌, List, ◌++◌, length, take, drop, ⊤, refl, Some, IfOk, IfErr, OnErr, IsTrue, codes};
 ghost use Rattle.std.specs.Cmp.Lexicographic.{pointwise};
 ghost use Rattle.std.specs.Cmp.Rules.{comparing};
 ghost use Rattle.std.specs.Fmt.{decimal};
@@ -13,7 +13,8 @@ ghost use Rattle.nanorand.specs.generators.DebugTexts.{chacha_debug};
 ghost use Rattle.nanorand.specs.declared.entropy.EntropyError.TheVariants.{Short, Fault};
 
 use crate::crypto::chacha::{
-    chacha_block, chacha_increment_counter, chacha_init, counter, four_blocks, set_counter,
+    EightLanes, FourBlocks, chacha_block, chacha_increment_counter, chacha_init, counter,
+    eight_blocks, four_blocks, set_counter,
 };
 use crate::entropy::{EntropyError, system};
 use nanorand_core::rand::{Blocks, Rng, SeedableRng, fill_by_blocks};
@@ -162,17 +163,48 @@ impl<const ROUNDS: u8> ChaCha<ROUNDS> {
     }
 
     // The next four blocks, as one request of 256 bytes.
-    fn fill_group(&mut self, out: &mut [u8])
+    fn fill_four(&mut self, out: &mut [u8])
         requires { length out.old ≡ 256 }
         ensures bytes { out.new ≡ (chacha_requests ROUNDS).bytes self.old 256 }
         ensures state { self.new ≡ iterate next_state 4 self.old }
     {
-        let (first, second, third, fourth) = four_blocks::<ROUNDS>(&self.state);
+        let blocks = four_blocks::<ROUNDS>(&self.state);
         self.jump(4);
-        out[0..64].copy_from_slice(&bytes_of(&first));
-        out[64..128].copy_from_slice(&bytes_of(&second));
-        out[128..192].copy_from_slice(&bytes_of(&third));
-        out[192..].copy_from_slice(&bytes_of(&fourth));
+        write_four(out, blocks);
+    }
+
+    // The next eight blocks, as one request of 512 bytes.
+    fn fill_eight(&mut self, lanes: EightLanes, out: &mut [u8])
+        requires { length out.old ≡ 512 }
+        ensures bytes { out.new ≡ (chacha_requests ROUNDS).bytes self.old 512 }
+        ensures state { self.new ≡ iterate next_state 8 self.old }
+    {
+        let (front, back) = eight_blocks::<ROUNDS>(lanes, &self.state);
+        self.jump(8);
+        write_four(&mut out[0..256], front);
+        write_four(&mut out[256..], back);
+    }
+
+    // Fills as many bytes as whole groups of eight blocks have, where eight lanes are faster, and
+    // returns their count. What is left is a request of its own.
+    #[inline]
+    fn fill_wide(&mut self, buffer: &mut [u8]) -> usize
+        ensures within { result ≤ length buffer.new }
+        ensures length { length buffer.new ≡ length buffer.old }
+        ensures bytes { let all = (chacha_requests ROUNDS).bytes self.old (length buffer.new) in
+            take result buffer.new
+            ++ (chacha_requests ROUNDS).bytes self.new (length buffer.new - result) ≡ all }
+        ensures state { let all = (chacha_requests ROUNDS).after self.old (length buffer.new) in
+            (chacha_requests ROUNDS).after self.new (length buffer.new - result) ≡ all }
+    {
+        let mut filled = 0;
+        if let Some(lanes) = EightLanes::find() {
+            'groups: while 512 <= buffer.len() - filled {
+                self.fill_eight(lanes, &mut buffer[filled..filled + 512]);
+                filled += 512;
+            }
+        }
+        filled
     }
 }
 
@@ -248,11 +280,12 @@ impl<const ROUNDS: u8> Blocks<64> for ChaCha<ROUNDS> {
 impl<const ROUNDS: u8> Rng<64> for ChaCha<ROUNDS> {
     ghost requests = { chacha_requests ROUNDS };
 
-    /// Computes whole groups of 256 bytes four blocks side by side.
+    /// Computes whole groups of 256 bytes four blocks side by side, and where that is faster those of
+    /// 512 bytes eight.
     fn fill_bytes(&mut self, buffer: &mut [u8]) {
-        let mut filled = 0;
+        let mut filled = self.fill_wide(buffer);
         'groups: while 256 <= buffer.len() - filled {
-            self.fill_group(&mut buffer[filled..filled + 256]);
+            self.fill_four(&mut buffer[filled..filled + 256]);
             filled += 256;
         }
         fill_by_blocks(self, &mut buffer[filled..])
@@ -287,6 +320,18 @@ fn split_seed(seed: &[u8; 40]) -> ([u8; 32], [u8; 8])
     key.copy_from_slice(&seed[..32]);
     nonce.copy_from_slice(&seed[32..]);
     (key, nonce)
+}
+
+#[inline]
+fn write_four(out: &mut [u8], blocks: FourBlocks)
+    requires { length out.old ≡ 256 }
+    ensures { out.new ≡ bytes blocks.0 ++ bytes blocks.1 ++ bytes blocks.2 ++ bytes blocks.3 }
+{
+    let (first, second, third, fourth) = blocks;
+    out[0..64].copy_from_slice(&bytes_of(&first));
+    out[64..128].copy_from_slice(&bytes_of(&second));
+    out[128..192].copy_from_slice(&bytes_of(&third));
+    out[192..].copy_from_slice(&bytes_of(&fourth));
 }
 
 // The words as bytes, each least byte first.

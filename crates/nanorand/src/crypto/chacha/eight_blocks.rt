@@ -5,14 +5,15 @@ ghost use Rattle.nanorand.specs.generators.ChaChaRounds.{block};
 ghost use Rattle.nanorand.specs.generators.ChaCha.{next_state, chacha_after};
 ghost use Rattle.nanorand.specs.support.ChaChaRows.{row_of, lane};
 
-use super::four_blocks::matrices;
+use super::four_blocks::{FourBlocks, matrices};
 use super::side_by_side::{Matrices, Row, blocks_of};
 use super::state::{counter, high, low};
+use super::wide::{EightLanes, halves};
 use std::simd::{u32x4, u32x8};
 
 // A state and the seven after it. The counter may wrap within the eight.
 #[inline(always)]
-fn eight_states(x: &[u32; 16]) -> Matrices<u32x8>
+fn eight_states(lanes: EightLanes, x: &[u32; 16]) -> Matrices<u32x8>
     ensures { (j : ℕ) → j < 8 → lane j result ≡ chacha_after j x.now }
 {
     let first = counter(x);
@@ -25,25 +26,25 @@ fn eight_states(x: &[u32; 16]) -> Matrices<u32x8>
     let eighth = first.wrapping_add(7);
     (
         (
-            u32x8::splat(x[0]),
-            u32x8::splat(x[1]),
-            u32x8::splat(x[2]),
-            u32x8::splat(x[3]),
+            lanes.splat(x[0]),
+            lanes.splat(x[1]),
+            lanes.splat(x[2]),
+            lanes.splat(x[3]),
         ),
         (
-            u32x8::splat(x[4]),
-            u32x8::splat(x[5]),
-            u32x8::splat(x[6]),
-            u32x8::splat(x[7]),
+            lanes.splat(x[4]),
+            lanes.splat(x[5]),
+            lanes.splat(x[6]),
+            lanes.splat(x[7]),
         ),
         (
-            u32x8::splat(x[8]),
-            u32x8::splat(x[9]),
-            u32x8::splat(x[10]),
-            u32x8::splat(x[11]),
+            lanes.splat(x[8]),
+            lanes.splat(x[9]),
+            lanes.splat(x[10]),
+            lanes.splat(x[11]),
         ),
         (
-            u32x8::from_array([
+            lanes.from_array([
                 low(first),
                 low(second),
                 low(third),
@@ -53,7 +54,7 @@ fn eight_states(x: &[u32; 16]) -> Matrices<u32x8>
                 low(seventh),
                 low(eighth),
             ]),
-            u32x8::from_array([
+            lanes.from_array([
                 high(first),
                 high(second),
                 high(third),
@@ -63,22 +64,9 @@ fn eight_states(x: &[u32; 16]) -> Matrices<u32x8>
                 high(seventh),
                 high(eighth),
             ]),
-            u32x8::splat(x[14]),
-            u32x8::splat(x[15]),
+            lanes.splat(x[14]),
+            lanes.splat(x[15]),
         ),
-    )
-}
-
-// The lanes 0 to 3, and the lanes 4 to 7.
-#[inline(always)]
-fn halves(v: u32x8) -> (u32x4, u32x4)
-    ensures front { (j : ℕ) → j < 4 → slice_index result.0 j ≡ slice_index v j }
-    ensures back { (j : ℕ) → j < 4 → slice_index result.1 j ≡ slice_index v (4 + j) }
-{
-    let [v0, v1, v2, v3, v4, v5, v6, v7] = v.to_array();
-    (
-        u32x4::from_array([v0, v1, v2, v3]),
-        u32x4::from_array([v4, v5, v6, v7]),
     )
 }
 
@@ -109,11 +97,12 @@ fn matrix_halves(x: Matrices<u32x8>) -> (Matrices<u32x4>, Matrices<u32x4>)
     ((a, c, e, g), (b, d, f, h))
 }
 
-type FourBlocks = ([u32; 16], [u32; 16], [u32; 16], [u32; 16]);
-
 // The blocks of a state and of the seven after it.
 #[inline(always)]
-pub(crate) fn eight_blocks<const ROUNDS: u8>(x: &[u32; 16]) -> (FourBlocks, FourBlocks)
+pub(crate) fn eight_blocks<const ROUNDS: u8>(
+    lanes: EightLanes,
+    x: &[u32; 16],
+) -> (FourBlocks, FourBlocks)
     requires { ROUNDS % 2 ≡ 0 }
     ensures first { result.0.0 ≡ block ROUNDS (iterate next_state 0 x.now) }
     ensures second { result.0.1 ≡ block ROUNDS (iterate next_state 1 x.now) }
@@ -124,6 +113,6 @@ pub(crate) fn eight_blocks<const ROUNDS: u8>(x: &[u32; 16]) -> (FourBlocks, Four
     ensures seventh { result.1.2 ≡ block ROUNDS (iterate next_state 6 x.now) }
     ensures eighth { result.1.3 ≡ block ROUNDS (iterate next_state 7 x.now) }
 {
-    let (front, back) = matrix_halves(blocks_of::<u32x8, ROUNDS>(eight_states(x)));
+    let (front, back) = matrix_halves(blocks_of::<u32x8, ROUNDS>(eight_states(lanes, x)));
     (matrices(front), matrices(back))
 }

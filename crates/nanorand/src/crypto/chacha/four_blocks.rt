@@ -10,6 +10,8 @@ use super::side_by_side::{Matrices, Row, blocks_of};
 use super::state::{counter, high, low};
 use std::simd::u32x4;
 
+pub(crate) type FourBlocks = ([u32; 16], [u32; 16], [u32; 16], [u32; 16]);
+
 // A state and the three after it. The counter may wrap within the four.
 #[inline(always)]
 fn four_states(x: &[u32; 16]) -> Matrices<u32x4>
@@ -67,7 +69,7 @@ fn transposed(row: Row<u32x4>) -> Rows
 }
 
 #[inline(always)]
-pub(crate) fn matrices(x: Matrices<u32x4>) -> ([u32; 16], [u32; 16], [u32; 16], [u32; 16])
+pub(crate) fn matrices(x: Matrices<u32x4>) -> FourBlocks
     ensures { (result.0 ≡ lane 0 x) × (result.1 ≡ lane 1 x) × (result.2 ≡ lane 2 x)
         × (result.3 ≡ lane 3 x) }
 {
@@ -85,9 +87,7 @@ pub(crate) fn matrices(x: Matrices<u32x4>) -> ([u32; 16], [u32; 16], [u32; 16], 
 
 // The blocks of a state and of the three after it.
 #[inline(always)]
-pub(crate) fn four_blocks<const ROUNDS: u8>(
-    x: &[u32; 16],
-) -> ([u32; 16], [u32; 16], [u32; 16], [u32; 16])
+pub(crate) fn four_blocks<const ROUNDS: u8>(x: &[u32; 16]) -> FourBlocks
     requires { ROUNDS % 2 ≡ 0 }
     ensures first { result.0 ≡ block ROUNDS (iterate next_state 0 x.now) }
     ensures second { result.1 ≡ block ROUNDS (iterate next_state 1 x.now) }

@@ -1,8 +1,8 @@
-//! Vectors of 32-bit words, four or eight lanes wide.
+//! Vectors of 32-bit words, and those of four lanes.
 ghost use Rattle.std.specs.Prelude.{◌≡◌, ℕ, ◌<◌, slice_index};
 ghost use Rattle.nanorand.specs.generators.ChaChaRounds.{add, xor_rotate};
 
-use std::simd::{u32x4, u32x8};
+use std::simd::u32x4;
 
 // What the rounds ask of a vector, in the same way in each lane.
 pub(crate) trait Vector: Copy {
@@ -36,22 +36,5 @@ impl Vector for u32x4 {
     fn xor_rotate(self, other: Self, n: u32) -> Self {
         let x = self ^ other;
         (x << u32x4::splat(n)) | (x >> u32x4::splat(32 - n))
-    }
-}
-
-impl Vector for u32x8 {
-    ghost width = { 8 };
-
-    ghost lane = { λ j v. slice_index v j };
-
-    #[inline(always)]
-    fn add(self, other: Self) -> Self {
-        self + other
-    }
-
-    #[inline(always)]
-    fn xor_rotate(self, other: Self, n: u32) -> Self {
-        let x = self ^ other;
-        (x << u32x8::splat(n)) | (x >> u32x8::splat(32 - n))
     }
 }
