@@ -22,6 +22,7 @@ PATHS = {
     "std::marker::Model": None,
     "std::ops::Bound": "core::ops::Bound",
     "std::simd::u32x4": "crate::simd::U32x4",
+    "std::simd::u32x8": "crate::simd::U32x8",
     "thiserror::Error": None,
 }
 
@@ -49,6 +50,8 @@ TRAITS = (
     "Read",
     "Rng",
     "SeedableRng",
+    "Vector",
+    "Wide",
     "fmt::Debug",
     "fmt::Display",
 )
@@ -59,7 +62,7 @@ SIZED = ("RandomRange",)
 MACROS = ("unreachable", "write")
 
 # Names that Rust spells otherwise, in types and bodies.
-NAMES = {"u32x4": "U32x4"}
+NAMES = {"u32x4": "U32x4", "u32x8": "U32x8"}
 
 # Types that allocate. They, and readers, are there with the feature std alone.
 ALLOCATING = {
@@ -103,6 +106,9 @@ INLINED = {
     "shuffle": "inline",
     "shuffle_full": "inline",
 }
+
+# Calls of what computes on eight lanes: in Rust it is compiled for them apart.
+WIDE = {"self.fill_eight(lanes, ": "lanes.run(self, "}
 
 # The preconditions of public functions, and how Rust refuses a caller that breaks one. None: no
 # caller can break it, or the function says what it does then.
@@ -150,7 +156,7 @@ used = set()
 
 def unused():
     """Rows of the tables above that nothing in the proved source has."""
-    rows = (*PATHS, *DERIVED, *NAMES, *ALLOCATING, *GROWTH, *CONSTANT, *INLINED, *PRECONDITIONS, *CHECKED_LAWS)
+    rows = (*PATHS, *DERIVED, *NAMES, *ALLOCATING, *GROWTH, *CONSTANT, *INLINED, *WIDE, *PRECONDITIONS, *CHECKED_LAWS)
     return [row for row in (*rows, *SIZED) if row not in used]
 
 
@@ -341,6 +347,7 @@ def implementation_in_rust(source, implementation, _):
     trait = implementation.trait
     if trait and head_of(trait) not in (*TRAITS, "Blocks"):
         raise source.unknown(f"an implementation of '{trait}'", implementation.place)
+    implementation.type = renamed(implementation.type)
     implementation.generics = [
         bound_in_rust(source, implementation, text) for text in implementation.generics
     ]
@@ -432,7 +439,7 @@ def body_in_rust(source, function):
                 raise source.unknown(f"a macro '{token.text}!'", function.place)
         if token.text in ("ghost", "proof", "unsafe", "await"):
             raise source.unknown(f"'{token.text}' in a body", function.place)
-    for old, new in GROWTH.items():
+    for old, new in (*GROWTH.items(), *WIDE.items()):
         body = replaced(body, old, new)
     return ranges_as_pairs(without_labels(body))
 
@@ -464,7 +471,8 @@ def ranges_as_pairs(body):
 
 def refuse_broken_preconditions(source, function, owner):
     """A public function checks what its contract requires; a proof does so in Rattle."""
-    if function.visibility != "pub" and not isinstance(owner, Trait):
+    in_public_trait = isinstance(owner, Trait) and owner.visibility == "pub"
+    if function.visibility != "pub" and not in_public_trait:
         function.requires = []
         return
     checks = []

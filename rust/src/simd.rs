@@ -1,9 +1,10 @@
-//! Four words of 32 bits side by side: what the proved code uses of `std::simd::u32x4`, which is not
-//! stable.
+//! Four and eight words of 32 bits side by side: what the proved code uses of `std::simd::u32x4` and
+//! `u32x8`, which are not stable.
 //!
-//! SSE2 computes on x86-64, NEON on `AArch64` with the least byte first, and plain words elsewhere. Both
-//! belong to every processor of these targets, so nothing is asked of the processor at run time. The
-//! words are the same everywhere: the tests compare with plain words.
+//! On four words SSE2 computes on x86-64, NEON on `AArch64` with the least byte first, and plain words
+//! elsewhere. Both belong to every processor of these targets, so nothing is asked of the processor. On
+//! eight words AVX2 computes, where the processor has it, and elsewhere nothing: [`EightLanes::find`]
+//! asks. The words are the same everywhere: the tests compare with plain words.
 //!
 //! This is the only file with unsafe code.
 
@@ -110,6 +111,267 @@ impl Shr for U32x4 {
     #[inline(always)]
     fn shr(self, other: Self) -> Self {
         Self(lanes::right(self.0, other.shift()))
+    }
+}
+
+#[cfg(not(all(target_arch = "x86_64", target_feature = "sse2")))]
+use plain_eight as eight;
+
+#[cfg(all(target_arch = "x86_64", target_feature = "sse2"))]
+use avx2 as eight;
+
+/// Leave to compute on eight words. `find` alone gives it, where the processor has AVX2.
+#[derive(Clone, Copy)]
+pub(crate) struct EightLanes(());
+
+impl EightLanes {
+    #[inline]
+    pub(crate) fn find() -> Option<Self> {
+        eight::is_here().then(|| Self(()))
+    }
+
+    #[inline(always)]
+    pub(crate) fn splat(self, word: u32) -> U32x8 {
+        self.from_array([word; 8])
+    }
+
+    #[inline(always)]
+    pub(crate) fn from_array(self, words: [u32; 8]) -> U32x8 {
+        U32x8(eight::from_array(words))
+    }
+
+    /// Calls `fill_eight`, compiled for AVX2.
+    #[inline(always)]
+    pub(crate) fn run<W: Wide>(self, work: &mut W, out: &mut [u8]) {
+        eight::run(self, work, out);
+    }
+}
+
+/// What computes on eight words. `EightLanes::run` calls it, compiled for them, and it has to be inlined
+/// there with all that it calls: elsewhere each operation on eight words is a call.
+pub(crate) trait Wide {
+    fn fill_eight(&mut self, lanes: EightLanes, out: &mut [u8]);
+}
+
+/// Eight words of 32 bits. `+` wraps in each. `EightLanes` alone makes one.
+#[derive(Clone, Copy)]
+pub(crate) struct U32x8(eight::Words);
+
+impl U32x8 {
+    /// Rotates each word by 1 to 31 bits.
+    #[inline(always)]
+    pub(crate) fn rotate_left(self, bits: u32) -> Self {
+        debug_assert!(0 < bits && bits < 32, "a word is rotated by 1 to 31 bits");
+        Self(eight::rotate_left(self.0, bits))
+    }
+
+    #[inline(always)]
+    pub(crate) fn to_array(self) -> [u32; 8] {
+        eight::to_array(self.0)
+    }
+
+    /// Words of both by turns: the words 0, 1, 4 and 5 of each, and the others.
+    #[inline(always)]
+    pub(crate) fn woven(self, other: Self) -> (Self, Self) {
+        let (front, back) = eight::woven(self.0, other.0);
+        (Self(front), Self(back))
+    }
+
+    /// The same with pairs of words for words.
+    #[inline(always)]
+    pub(crate) fn woven_pairs(self, other: Self) -> (Self, Self) {
+        let (front, back) = eight::woven_pairs(self.0, other.0);
+        (Self(front), Self(back))
+    }
+
+    /// The first halves of both, and the second halves.
+    #[inline(always)]
+    pub(crate) fn joined(self, other: Self) -> (Self, Self) {
+        let (front, back) = eight::joined(self.0, other.0);
+        (Self(front), Self(back))
+    }
+}
+
+impl Add for U32x8 {
+    type Output = Self;
+
+    #[inline(always)]
+    fn add(self, other: Self) -> Self {
+        Self(eight::add(self.0, other.0))
+    }
+}
+
+impl BitXor for U32x8 {
+    type Output = Self;
+
+    #[inline(always)]
+    fn bitxor(self, other: Self) -> Self {
+        Self(eight::xor(self.0, other.0))
+    }
+}
+
+// All but `is_here` are called only by who has leave for eight lanes.
+#[cfg(all(target_arch = "x86_64", target_feature = "sse2"))]
+mod avx2 {
+    use super::{EightLanes, Wide};
+    use core::arch::x86_64::{
+        __m256i, _mm256_add_epi32, _mm256_or_si256, _mm256_permute2x128_si256, _mm256_sll_epi32,
+        _mm256_srl_epi32, _mm256_unpackhi_epi32, _mm256_unpackhi_epi64, _mm256_unpacklo_epi32,
+        _mm256_unpacklo_epi64, _mm256_xor_si256, _mm_cvtsi64_si128,
+    };
+    use core::mem::transmute;
+
+    pub(super) type Words = __m256i;
+
+    #[cfg(feature = "std")]
+    #[inline]
+    pub(super) fn is_here() -> bool {
+        std::is_x86_feature_detected!("avx2")
+    }
+
+    // Without std nothing asks the processor.
+    #[cfg(not(feature = "std"))]
+    #[inline]
+    pub(super) fn is_here() -> bool {
+        cfg!(target_feature = "avx2")
+    }
+
+    #[inline(always)]
+    pub(super) fn run<W: Wide>(lanes: EightLanes, work: &mut W, out: &mut [u8]) {
+        // SAFETY: the processor has AVX2, or there would be no leave for eight lanes.
+        unsafe { with_avx2(lanes, work, out) }
+    }
+
+    #[target_feature(enable = "avx2")]
+    unsafe fn with_avx2<W: Wide>(lanes: EightLanes, work: &mut W, out: &mut [u8]) {
+        work.fill_eight(lanes, out);
+    }
+
+    #[inline(always)]
+    pub(super) fn from_array(words: [u32; 8]) -> Words {
+        // SAFETY: both types are 32 bytes, and every 32 bytes are a value of both.
+        unsafe { transmute(words) }
+    }
+
+    #[inline(always)]
+    pub(super) fn to_array(words: Words) -> [u32; 8] {
+        // SAFETY: both types are 32 bytes, and every 32 bytes are a value of both.
+        unsafe { transmute(words) }
+    }
+
+    #[inline(always)]
+    pub(super) fn woven(a: Words, b: Words) -> (Words, Words) {
+        // SAFETY: the processor has AVX2, or there would be no leave for eight lanes.
+        unsafe { (_mm256_unpacklo_epi32(a, b), _mm256_unpackhi_epi32(a, b)) }
+    }
+
+    #[inline(always)]
+    pub(super) fn woven_pairs(a: Words, b: Words) -> (Words, Words) {
+        // SAFETY: the processor has AVX2, or there would be no leave for eight lanes.
+        unsafe { (_mm256_unpacklo_epi64(a, b), _mm256_unpackhi_epi64(a, b)) }
+    }
+
+    #[inline(always)]
+    pub(super) fn joined(a: Words, b: Words) -> (Words, Words) {
+        // SAFETY: the processor has AVX2, or there would be no leave for eight lanes.
+        unsafe { (_mm256_permute2x128_si256::<0x20>(a, b), _mm256_permute2x128_si256::<0x31>(a, b)) }
+    }
+
+    #[inline(always)]
+    pub(super) fn add(a: Words, b: Words) -> Words {
+        // SAFETY: the processor has AVX2, or there would be no leave for eight lanes.
+        unsafe { _mm256_add_epi32(a, b) }
+    }
+
+    #[inline(always)]
+    pub(super) fn xor(a: Words, b: Words) -> Words {
+        // SAFETY: the processor has AVX2, or there would be no leave for eight lanes.
+        unsafe { _mm256_xor_si256(a, b) }
+    }
+
+    #[inline(always)]
+    pub(super) fn rotate_left(words: Words, bits: u32) -> Words {
+        // SAFETY: the processor has AVX2, or there would be no leave for eight lanes.
+        unsafe {
+            let left = _mm256_sll_epi32(words, _mm_cvtsi64_si128(i64::from(bits)));
+            let right = _mm256_srl_epi32(words, _mm_cvtsi64_si128(i64::from(32 - bits)));
+            _mm256_or_si256(left, right)
+        }
+    }
+}
+
+// Compiled in tests too, where AVX2 is compared with it.
+#[cfg(any(test, not(all(target_arch = "x86_64", target_feature = "sse2"))))]
+mod plain_eight {
+    use super::{EightLanes, Wide};
+
+    pub(super) type Words = [u32; 8];
+
+    // Four words side by side are as fast.
+    #[inline]
+    #[cfg_attr(test, allow(dead_code))]
+    pub(super) fn is_here() -> bool {
+        false
+    }
+
+    #[inline(always)]
+    #[cfg_attr(test, allow(dead_code))]
+    pub(super) fn run<W: Wide>(lanes: EightLanes, work: &mut W, out: &mut [u8]) {
+        work.fill_eight(lanes, out);
+    }
+
+    #[inline(always)]
+    pub(super) fn from_array(words: [u32; 8]) -> Words {
+        words
+    }
+
+    #[inline(always)]
+    pub(super) fn to_array(words: Words) -> [u32; 8] {
+        words
+    }
+
+    #[inline(always)]
+    pub(super) fn woven(a: Words, b: Words) -> (Words, Words) {
+        (
+            [a[0], b[0], a[1], b[1], a[4], b[4], a[5], b[5]],
+            [a[2], b[2], a[3], b[3], a[6], b[6], a[7], b[7]],
+        )
+    }
+
+    #[inline(always)]
+    pub(super) fn woven_pairs(a: Words, b: Words) -> (Words, Words) {
+        (
+            [a[0], a[1], b[0], b[1], a[4], a[5], b[4], b[5]],
+            [a[2], a[3], b[2], b[3], a[6], a[7], b[6], b[7]],
+        )
+    }
+
+    #[inline(always)]
+    pub(super) fn joined(a: Words, b: Words) -> (Words, Words) {
+        (
+            [a[0], a[1], a[2], a[3], b[0], b[1], b[2], b[3]],
+            [a[4], a[5], a[6], a[7], b[4], b[5], b[6], b[7]],
+        )
+    }
+
+    #[inline(always)]
+    pub(super) fn add(a: Words, b: Words) -> Words {
+        by_lane(|lane| a[lane].wrapping_add(b[lane]))
+    }
+
+    #[inline(always)]
+    pub(super) fn xor(a: Words, b: Words) -> Words {
+        by_lane(|lane| a[lane] ^ b[lane])
+    }
+
+    #[inline(always)]
+    pub(super) fn rotate_left(words: Words, bits: u32) -> Words {
+        words.map(|word| word.rotate_left(bits))
+    }
+
+    #[inline(always)]
+    fn by_lane(word: impl Fn(usize) -> u32) -> Words {
+        [0, 1, 2, 3, 4, 5, 6, 7].map(word)
     }
 }
 

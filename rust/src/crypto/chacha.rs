@@ -9,13 +9,19 @@
 //! first.
 
 mod block;
+mod eight_blocks;
 mod four_blocks;
 mod inverse;
 mod lanes;
+mod side_by_side;
 mod state;
+mod vectors;
+mod wide;
 
 pub use block::{chacha_block, chacha_rounds};
-pub(crate) use four_blocks::four_blocks;
+pub(crate) use eight_blocks::eight_blocks;
+pub(crate) use four_blocks::{four_blocks, FourBlocks};
 pub use inverse::chacha_unrounds;
 pub use state::{chacha_increment_counter, chacha_init};
 pub(crate) use state::{counter, set_counter};
+pub(crate) use wide::{EightLanes, Wide};

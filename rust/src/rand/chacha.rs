@@ -4,7 +4,8 @@
 //! ChaCha as a generator: a block of 64 bytes per draw, from a 256-bit key.
 
 use crate::crypto::chacha::{
-    chacha_block, chacha_increment_counter, chacha_init, counter, four_blocks, set_counter,
+    chacha_block, chacha_increment_counter, chacha_init, counter, eight_blocks, four_blocks,
+    set_counter, EightLanes, FourBlocks, Wide,
 };
 #[cfg(feature = "std")]
 use crate::entropy::{system, EntropyError};
@@ -122,13 +123,35 @@ impl<const ROUNDS: u8> ChaCha<ROUNDS> {
     }
 
     // The next four blocks, as one request of 256 bytes.
-    fn fill_group(&mut self, out: &mut [u8]) {
-        let (first, second, third, fourth) = four_blocks::<ROUNDS>(&self.state);
+    fn fill_four(&mut self, out: &mut [u8]) {
+        let blocks = four_blocks::<ROUNDS>(&self.state);
         self.jump(4);
-        out[0..64].copy_from_slice(&bytes_of(&first));
-        out[64..128].copy_from_slice(&bytes_of(&second));
-        out[128..192].copy_from_slice(&bytes_of(&third));
-        out[192..].copy_from_slice(&bytes_of(&fourth));
+        write_four(out, blocks);
+    }
+
+    // Fills as many bytes as whole groups of eight blocks have, where eight lanes are faster, and
+    // returns their count. What is left is a request of its own.
+    #[inline]
+    fn fill_wide(&mut self, buffer: &mut [u8]) -> usize {
+        let mut filled = 0;
+        if let Some(lanes) = EightLanes::find() {
+            while 512 <= buffer.len() - filled {
+                lanes.run(self, &mut buffer[filled..filled + 512]);
+                filled += 512;
+            }
+        }
+        filled
+    }
+}
+
+impl<const ROUNDS: u8> Wide for ChaCha<ROUNDS> {
+    // The next eight blocks, as one request of 512 bytes.
+    #[inline(always)]
+    fn fill_eight(&mut self, lanes: EightLanes, out: &mut [u8]) {
+        let (front, back) = eight_blocks::<ROUNDS>(lanes, &self.state);
+        self.jump(8);
+        write_four(&mut out[0..256], front);
+        write_four(&mut out[256..], back);
     }
 }
 
@@ -173,11 +196,12 @@ impl<const ROUNDS: u8> Rng<64> for ChaCha<ROUNDS> {
         bytes_of(&block)
     }
 
-    /// Computes whole groups of 256 bytes four blocks side by side.
+    /// Computes whole groups of 256 bytes four blocks side by side, and where that is faster those of
+    /// 512 bytes eight.
     fn fill_bytes(&mut self, buffer: &mut [u8]) {
-        let mut filled = 0;
+        let mut filled = self.fill_wide(buffer);
         while 256 <= buffer.len() - filled {
-            self.fill_group(&mut buffer[filled..filled + 256]);
+            self.fill_four(&mut buffer[filled..filled + 256]);
             filled += 256;
         }
         fill_by_blocks(self, &mut buffer[filled..])
@@ -199,6 +223,15 @@ fn split_seed(seed: &[u8; 40]) -> ([u8; 32], [u8; 8]) {
     key.copy_from_slice(&seed[..32]);
     nonce.copy_from_slice(&seed[32..]);
     (key, nonce)
+}
+
+#[inline]
+fn write_four(out: &mut [u8], blocks: FourBlocks) {
+    let (first, second, third, fourth) = blocks;
+    out[0..64].copy_from_slice(&bytes_of(&first));
+    out[64..128].copy_from_slice(&bytes_of(&second));
+    out[128..192].copy_from_slice(&bytes_of(&third));
+    out[192..].copy_from_slice(&bytes_of(&fourth));
 }
 
 // The words as bytes, each least byte first.

@@ -6,6 +6,10 @@ use Rattle.std.specs.Prelude.{ℕ, List, [], ◌∷◌, ◌++◌, slice_index, s
 abbrev pub lanes : List ℕ → List ℕ
 lanes row = slice_index row 0 ∷ slice_index row 1 ∷ slice_index row 2 ∷ slice_index row 3 ∷ []
 
+-- The last four words of eight.
+abbrev pub last_lanes : List ℕ → List ℕ
+last_lanes v = slice_index v 4 ∷ slice_index v 5 ∷ slice_index v 6 ∷ slice_index v 7 ∷ []
+
 -- The matrix with these four rows.
 abbrev pub matrix : List (List ℕ) → List ℕ
 matrix rows =

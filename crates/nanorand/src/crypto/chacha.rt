@@ -21,4 +21,4 @@ pub(crate) use four_blocks::{FourBlocks, four_blocks};
 pub use inverse::chacha_unrounds;
 pub(crate) use state::{counter, set_counter};
 pub use state::{chacha_increment_counter, chacha_init};
-pub(crate) use wide::EightLanes;
+pub(crate) use wide::{EightLanes, Wide};

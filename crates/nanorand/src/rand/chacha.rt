@@ -13,7 +13,7 @@ ghost use Rattle.nanorand.specs.generators.DebugTexts.{chacha_debug};
 ghost use Rattle.nanorand.specs.declared.entropy.EntropyError.TheVariants.{Short, Fault};
 
 use crate::crypto::chacha::{
-    EightLanes, FourBlocks, chacha_block, chacha_increment_counter, chacha_init, counter,
+    EightLanes, FourBlocks, Wide, chacha_block, chacha_increment_counter, chacha_init, counter,
     eight_blocks, four_blocks, set_counter,
 };
 use crate::entropy::{EntropyError, system};
@@ -173,18 +173,6 @@ impl<const ROUNDS: u8> ChaCha<ROUNDS> {
         write_four(out, blocks);
     }
 
-    // The next eight blocks, as one request of 512 bytes.
-    fn fill_eight(&mut self, lanes: EightLanes, out: &mut [u8])
-        requires { length out.old ≡ 512 }
-        ensures bytes { out.new ≡ (chacha_requests ROUNDS).bytes self.old 512 }
-        ensures state { self.new ≡ iterate next_state 8 self.old }
-    {
-        let (front, back) = eight_blocks::<ROUNDS>(lanes, &self.state);
-        self.jump(8);
-        write_four(&mut out[0..256], front);
-        write_four(&mut out[256..], back);
-    }
-
     // Fills as many bytes as whole groups of eight blocks have, where eight lanes are faster, and
     // returns their count. What is left is a request of its own.
     #[inline]
@@ -205,6 +193,21 @@ impl<const ROUNDS: u8> ChaCha<ROUNDS> {
             }
         }
         filled
+    }
+}
+
+impl<const ROUNDS: u8> Wide for ChaCha<ROUNDS> {
+    // The next eight blocks, as one request of 512 bytes.
+    #[inline(always)]
+    fn fill_eight(&mut self, lanes: EightLanes, out: &mut [u8])
+        requires { length out.old ≡ 512 }
+        ensures bytes { out.new ≡ (chacha_requests ROUNDS).bytes self.old 512 }
+        ensures state { self.new ≡ iterate next_state 8 self.old }
+    {
+        let (front, back) = eight_blocks::<ROUNDS>(lanes, &self.state);
+        self.jump(8);
+        write_four(&mut out[0..256], front);
+        write_four(&mut out[256..], back);
     }
 }
 

@@ -3,7 +3,8 @@
 
 //! The rounds and the block.
 
-use super::lanes::{add, matrix_of, mix, rows_of};
+use super::lanes::{matrix_of, mix, rows_of};
+use super::vectors::Vector;
 
 /// The matrix after the rounds alone, without the final addition of the input.
 ///
@@ -26,5 +27,5 @@ pub fn chacha_block<const ROUNDS: u8>(input: [u32; 16]) -> [u32; 16] {
     let rows = rows_of(&input);
     let [a, b, c, d] = rows;
     let [p, q, r, s] = mix::<ROUNDS>(rows);
-    matrix_of([add(p, a), add(q, b), add(r, c), add(s, d)])
+    matrix_of([p.add(a), q.add(b), r.add(c), s.add(d)])
 }

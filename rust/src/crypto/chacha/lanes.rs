@@ -3,6 +3,7 @@
 
 //! The rounds on four vectors of four lanes, one vector for each row of the matrix.
 
+use super::side_by_side::quarter_round;
 use crate::simd::U32x4;
 
 pub(crate) type Rows = [U32x4; 4];
@@ -33,37 +34,6 @@ fn mix_diagonals(rows: Rows) -> Rows {
     let c = from_lane(2, c);
     let d = from_lane(1, d);
     [a, b, c, d]
-}
-
-#[inline(always)]
-pub(crate) fn quarter_round(
-    a: U32x4,
-    b: U32x4,
-    c: U32x4,
-    d: U32x4,
-) -> (U32x4, U32x4, U32x4, U32x4) {
-    let a1 = add(a, b);
-    let d1 = xor_rotate(d, a1, 16);
-    let c1 = add(c, d1);
-    let b1 = xor_rotate(b, c1, 12);
-    let a2 = add(a1, b1);
-    let d2 = xor_rotate(d1, a2, 8);
-    let c2 = add(c1, d2);
-    let b2 = xor_rotate(b1, c2, 7);
-    (a2, b2, c2, d2)
-}
-
-// `+` of vectors wraps in each lane.
-#[inline(always)]
-pub(crate) fn add(a: U32x4, b: U32x4) -> U32x4 {
-    a + b
-}
-
-// Each lane of `d` xor that of `a`, rotated left by `n` bits.
-#[inline(always)]
-fn xor_rotate(d: U32x4, a: U32x4, n: u32) -> U32x4 {
-    let x = d ^ a;
-    (x << U32x4::splat(n)) | (x >> U32x4::splat(32 - n))
 }
 
 // The row rotated so that lane `n` comes first.

@@ -59,3 +59,13 @@ pub(crate) fn set_counter(state: &mut [u32; 16], counter: u64) {
     state[12] = (counter & 0xffff_ffff) as u32;
     state[13] = (counter >> 32) as u32;
 }
+
+#[inline(always)]
+pub(crate) fn low(n: u64) -> u32 {
+    (n & 0xffff_ffff) as u32
+}
+
+#[inline(always)]
+pub(crate) fn high(n: u64) -> u32 {
+    (n >> 32) as u32
+}

@@ -1,15 +1,15 @@
 //! Eight blocks side by side.
-ghost use Rattle.std.specs.Prelude.{◌≡◌, ℕ, ◌+◌, ◌%◌, ◌<◌, slice_index};
+ghost use Rattle.std.specs.Prelude.{◌≡◌, ℕ, ◌%◌, ◌<◌, ◌++◌, slice_index};
 ghost use Rattle.std.specs.Fn.{iterate};
 ghost use Rattle.nanorand.specs.generators.ChaChaRounds.{block};
 ghost use Rattle.nanorand.specs.generators.ChaCha.{next_state, chacha_after};
-ghost use Rattle.nanorand.specs.support.ChaChaRows.{row_of, lane};
+ghost use Rattle.nanorand.specs.support.ChaChaRows.{lanes, last_lanes, row_of, lane};
 
-use super::four_blocks::{FourBlocks, matrices};
+use super::four_blocks::FourBlocks;
 use super::side_by_side::{Matrices, Row, blocks_of};
 use super::state::{counter, high, low};
-use super::wide::{EightLanes, halves};
-use std::simd::{u32x4, u32x8};
+use super::wide::{EightLanes, joined, woven, woven_pairs};
+use std::simd::u32x8;
 
 // A state and the seven after it. The counter may wrap within the eight.
 #[inline(always)]
@@ -70,31 +70,65 @@ fn eight_states(lanes: EightLanes, x: &[u32; 16]) -> Matrices<u32x8>
     )
 }
 
+// Vector k of the result has the lanes k of the four vectors, and then their lanes 4 + k.
 #[inline(always)]
-fn row_halves(row: Row<u32x8>) -> (Row<u32x4>, Row<u32x4>)
-    ensures front { (j : ℕ) → j < 4
-        → row_of (λ v. slice_index v j) result.0 ≡ row_of (λ v. slice_index v j) row }
-    ensures back { (j : ℕ) → j < 4
-        → row_of (λ v. slice_index v j) result.1 ≡ row_of (λ v. slice_index v (4 + j)) row }
+fn woven_row(row: Row<u32x8>) -> Row<u32x8>
+    ensures first { result.0
+        ≡ row_of (λ v. slice_index v 0) row ++ row_of (λ v. slice_index v 4) row }
+    ensures second { result.1
+        ≡ row_of (λ v. slice_index v 1) row ++ row_of (λ v. slice_index v 5) row }
+    ensures third { result.2
+        ≡ row_of (λ v. slice_index v 2) row ++ row_of (λ v. slice_index v 6) row }
+    ensures fourth { result.3
+        ≡ row_of (λ v. slice_index v 3) row ++ row_of (λ v. slice_index v 7) row }
 {
-    let (a, b) = halves(row.0);
-    let (c, d) = halves(row.1);
-    let (e, f) = halves(row.2);
-    let (g, h) = halves(row.3);
-    ((a, c, e, g), (b, d, f, h))
+    let (a, b, c, d) = row;
+    let (p, r) = woven(a, b);
+    let (q, s) = woven(c, d);
+    let (first, second) = woven_pairs(p, q);
+    let (third, fourth) = woven_pairs(r, s);
+    (first, second, third, fourth)
 }
 
-// The matrices in the lanes 0 to 3, and those in the lanes 4 to 7.
+// The words of two vectors, one after the other.
 #[inline(always)]
-fn matrix_halves(x: Matrices<u32x8>) -> (Matrices<u32x4>, Matrices<u32x4>)
-    ensures front { (j : ℕ) → j < 4 → lane j result.0 ≡ lane j x }
-    ensures back { (j : ℕ) → j < 4 → lane j result.1 ≡ lane (4 + j) x }
+fn sixteen_of(a: u32x8, b: u32x8) -> [u32; 16]
+    ensures { result ≡ lanes a ++ last_lanes a ++ lanes b ++ last_lanes b }
 {
-    let (a, b) = row_halves(x.0);
-    let (c, d) = row_halves(x.1);
-    let (e, f) = row_halves(x.2);
-    let (g, h) = row_halves(x.3);
-    ((a, c, e, g), (b, d, f, h))
+    let [a0, a1, a2, a3, a4, a5, a6, a7] = a.to_array();
+    let [b0, b1, b2, b3, b4, b5, b6, b7] = b.to_array();
+    [
+        a0, a1, a2, a3, a4, a5, a6, a7, b0, b1, b2, b3, b4, b5, b6, b7,
+    ]
+}
+
+// Of four vectors with a row of one matrix and then one of another: the two matrices.
+#[inline(always)]
+fn two_matrices(p: u32x8, q: u32x8, r: u32x8, s: u32x8) -> ([u32; 16], [u32; 16])
+    ensures front { result.0 ≡ lanes p ++ lanes q ++ lanes r ++ lanes s }
+    ensures back { result.1 ≡ last_lanes p ++ last_lanes q ++ last_lanes r ++ last_lanes s }
+{
+    let (a, c) = joined(p, q);
+    let (b, d) = joined(r, s);
+    (sixteen_of(a, b), sixteen_of(c, d))
+}
+
+#[inline(always)]
+fn eight_matrices(x: Matrices<u32x8>) -> (FourBlocks, FourBlocks)
+    ensures front { (result.0.0 ≡ lane 0 x) × (result.0.1 ≡ lane 1 x) × (result.0.2 ≡ lane 2 x)
+        × (result.0.3 ≡ lane 3 x) }
+    ensures back { (result.1.0 ≡ lane 4 x) × (result.1.1 ≡ lane 5 x) × (result.1.2 ≡ lane 6 x)
+        × (result.1.3 ≡ lane 7 x) }
+{
+    let (p0, p1, p2, p3) = woven_row(x.0);
+    let (q0, q1, q2, q3) = woven_row(x.1);
+    let (r0, r1, r2, r3) = woven_row(x.2);
+    let (s0, s1, s2, s3) = woven_row(x.3);
+    let (first, fifth) = two_matrices(p0, q0, r0, s0);
+    let (second, sixth) = two_matrices(p1, q1, r1, s1);
+    let (third, seventh) = two_matrices(p2, q2, r2, s2);
+    let (fourth, eighth) = two_matrices(p3, q3, r3, s3);
+    ((first, second, third, fourth), (fifth, sixth, seventh, eighth))
 }
 
 // The blocks of a state and of the seven after it.
@@ -113,6 +147,5 @@ pub(crate) fn eight_blocks<const ROUNDS: u8>(
     ensures seventh { result.1.2 ≡ block ROUNDS (iterate next_state 6 x.now) }
     ensures eighth { result.1.3 ≡ block ROUNDS (iterate next_state 7 x.now) }
 {
-    let (front, back) = matrix_halves(blocks_of::<u32x8, ROUNDS>(eight_states(lanes, x)));
-    (matrices(front), matrices(back))
+    eight_matrices(blocks_of::<u32x8, ROUNDS>(eight_states(lanes, x)))
 }

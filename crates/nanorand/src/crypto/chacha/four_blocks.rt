@@ -69,7 +69,7 @@ fn transposed(row: Row<u32x4>) -> Rows
 }
 
 #[inline(always)]
-pub(crate) fn matrices(x: Matrices<u32x4>) -> FourBlocks
+fn matrices(x: Matrices<u32x4>) -> FourBlocks
     ensures { (result.0 ≡ lane 0 x) × (result.1 ≡ lane 1 x) × (result.2 ≡ lane 2 x)
         × (result.3 ≡ lane 3 x) }
 {

@@ -1,8 +1,9 @@
 //! Vectors of eight lanes.
-ghost use Rattle.std.specs.Prelude.{◌≡◌, ℕ, ◌+◌, ◌<◌, replicate, slice_index};
+ghost use Rattle.std.specs.Prelude.{◌≡◌, ℕ, ◌<◌, [], ◌∷◌, ◌++◌, length, replicate, slice_index};
+ghost use Rattle.nanorand.specs.support.ChaChaRows.{lanes, last_lanes};
 
 use super::vectors::Vector;
-use std::simd::{u32x4, u32x8};
+use std::simd::u32x8;
 
 // Leave to compute on eight lanes: who has it has vectors of eight lanes, made by its functions.
 #[derive(Clone, Copy, Drop)]
@@ -30,6 +31,13 @@ impl EightLanes {
     }
 }
 
+// What computes eight blocks side by side.
+pub(crate) trait Wide {
+    // Fills with the next eight blocks.
+    fn fill_eight(&mut self, lanes: EightLanes, out: &mut [u8])
+        requires { length out.old ≡ 512 };
+}
+
 impl Vector for u32x8 {
     ghost width = { 8 };
 
@@ -47,15 +55,52 @@ impl Vector for u32x8 {
     }
 }
 
-// The lanes 0 to 3, and the lanes 4 to 7.
+// Words of two vectors by turns: those of the lanes 0, 1, 4 and 5, and those of the others.
 #[inline(always)]
-pub(crate) fn halves(v: u32x8) -> (u32x4, u32x4)
-    ensures front { (j : ℕ) → j < 4 → slice_index result.0 j ≡ slice_index v j }
-    ensures back { (j : ℕ) → j < 4 → slice_index result.1 j ≡ slice_index v (4 + j) }
+pub(crate) fn woven(a: u32x8, b: u32x8) -> (u32x8, u32x8)
+    ensures front { result.0
+        ≡ slice_index a 0 ∷ slice_index b 0 ∷ slice_index a 1 ∷ slice_index b 1
+        ∷ slice_index a 4 ∷ slice_index b 4 ∷ slice_index a 5 ∷ slice_index b 5 ∷ [] }
+    ensures back { result.1
+        ≡ slice_index a 2 ∷ slice_index b 2 ∷ slice_index a 3 ∷ slice_index b 3
+        ∷ slice_index a 6 ∷ slice_index b 6 ∷ slice_index a 7 ∷ slice_index b 7 ∷ [] }
 {
-    let [v0, v1, v2, v3, v4, v5, v6, v7] = v.to_array();
+    let [a0, a1, a2, a3, a4, a5, a6, a7] = a.to_array();
+    let [b0, b1, b2, b3, b4, b5, b6, b7] = b.to_array();
     (
-        u32x4::from_array([v0, v1, v2, v3]),
-        u32x4::from_array([v4, v5, v6, v7]),
+        u32x8::from_array([a0, b0, a1, b1, a4, b4, a5, b5]),
+        u32x8::from_array([a2, b2, a3, b3, a6, b6, a7, b7]),
+    )
+}
+
+// The same with pairs of words for words.
+#[inline(always)]
+pub(crate) fn woven_pairs(a: u32x8, b: u32x8) -> (u32x8, u32x8)
+    ensures front { result.0
+        ≡ slice_index a 0 ∷ slice_index a 1 ∷ slice_index b 0 ∷ slice_index b 1
+        ∷ slice_index a 4 ∷ slice_index a 5 ∷ slice_index b 4 ∷ slice_index b 5 ∷ [] }
+    ensures back { result.1
+        ≡ slice_index a 2 ∷ slice_index a 3 ∷ slice_index b 2 ∷ slice_index b 3
+        ∷ slice_index a 6 ∷ slice_index a 7 ∷ slice_index b 6 ∷ slice_index b 7 ∷ [] }
+{
+    let [a0, a1, a2, a3, a4, a5, a6, a7] = a.to_array();
+    let [b0, b1, b2, b3, b4, b5, b6, b7] = b.to_array();
+    (
+        u32x8::from_array([a0, a1, b0, b1, a4, a5, b4, b5]),
+        u32x8::from_array([a2, a3, b2, b3, a6, a7, b6, b7]),
+    )
+}
+
+// The first halves of two vectors, and their second halves.
+#[inline(always)]
+pub(crate) fn joined(a: u32x8, b: u32x8) -> (u32x8, u32x8)
+    ensures front { result.0 ≡ lanes a ++ lanes b }
+    ensures back { result.1 ≡ last_lanes a ++ last_lanes b }
+{
+    let [a0, a1, a2, a3, a4, a5, a6, a7] = a.to_array();
+    let [b0, b1, b2, b3, b4, b5, b6, b7] = b.to_array();
+    (
+        u32x8::from_array([a0, a1, a2, a3, b0, b1, b2, b3]),
+        u32x8::from_array([a4, a5, a6, a7, b4, b5, b6, b7]),
     )
 }

@@ -4,7 +4,7 @@ use Rattle.nanorand.specs.generators.ChaCha.{bytes, chacha_block, next_state}
 use Rattle.nanorand.specs.support.ChaChaDrawLemmas.{length-chacha_block, chacha_steps}
 use Rattle.nanorand.proofs.lemmas.chacha.GroupLemmas.{two_written, taken_eight}
 use Rattle.nanorand.proofs.lemmas.chacha.RowLemmas.{same_rows}
-use Rattle.nanorand.proofs.rand.chacha.ChaCha.fill_eight.Goals as goal
+use Rattle.nanorand.proofs.rand.chacha.ChaChaWide.fill_eight.Goals as goal
 
 pub returns-clause-bytes : goal.returns-clause-bytes
 returns-clause-bytes g c =
