@@ -127,16 +127,17 @@ pub(crate) struct EightLanes(());
 impl EightLanes {
     #[inline]
     pub(crate) fn find() -> Option<Self> {
-        eight::is_here().then(|| Self(()))
+        eight::is_here().then_some(Self(()))
     }
 
     #[inline(always)]
     pub(crate) fn splat(self, word: u32) -> U32x8 {
-        self.from_array([word; 8])
+        self.vector([word; 8])
     }
 
     #[inline(always)]
-    pub(crate) fn from_array(self, words: [u32; 8]) -> U32x8 {
+    pub(crate) fn vector(self, words: [u32; 8]) -> U32x8 {
+        let Self(()) = self;
         U32x8(eight::from_array(words))
     }
 
@@ -215,13 +216,33 @@ impl BitXor for U32x8 {
 mod avx2 {
     use super::{EightLanes, Wide};
     use core::arch::x86_64::{
-        __m256i, _mm256_add_epi32, _mm256_or_si256, _mm256_permute2x128_si256, _mm256_sll_epi32,
-        _mm256_srl_epi32, _mm256_unpackhi_epi32, _mm256_unpackhi_epi64, _mm256_unpacklo_epi32,
-        _mm256_unpacklo_epi64, _mm256_xor_si256, _mm_cvtsi64_si128,
+        __m256i, _mm256_add_epi32, _mm256_or_si256, _mm256_permute2x128_si256, _mm256_shuffle_epi8,
+        _mm256_sll_epi32, _mm256_srl_epi32, _mm256_unpackhi_epi32, _mm256_unpackhi_epi64,
+        _mm256_unpacklo_epi32, _mm256_unpacklo_epi64, _mm256_xor_si256, _mm_cvtsi64_si128,
     };
     use core::mem::transmute;
+    use core::ptr::read_volatile;
 
     pub(super) type Words = __m256i;
+
+    // Which byte of 16 comes to each place. It is read as if it could change: where the compiler sees which
+    // bytes move, it draws a rotation by 8 bits together with the one by 16 before it, and then moves the
+    // bytes of twice as many vectors.
+    static ROTATED_BY_A_BYTE: Words = from_words([
+        0x0201_0003,
+        0x0605_0407,
+        0x0a09_080b,
+        0x0e0d_0c0f,
+        0x0201_0003,
+        0x0605_0407,
+        0x0a09_080b,
+        0x0e0d_0c0f,
+    ]);
+
+    const fn from_words(words: [u32; 8]) -> Words {
+        // SAFETY: both types are 32 bytes, and every 32 bytes are a value of both.
+        unsafe { transmute(words) }
+    }
 
     #[cfg(feature = "std")]
     #[inline]
@@ -249,8 +270,7 @@ mod avx2 {
 
     #[inline(always)]
     pub(super) fn from_array(words: [u32; 8]) -> Words {
-        // SAFETY: both types are 32 bytes, and every 32 bytes are a value of both.
-        unsafe { transmute(words) }
+        from_words(words)
     }
 
     #[inline(always)]
@@ -274,7 +294,12 @@ mod avx2 {
     #[inline(always)]
     pub(super) fn joined(a: Words, b: Words) -> (Words, Words) {
         // SAFETY: the processor has AVX2, or there would be no leave for eight lanes.
-        unsafe { (_mm256_permute2x128_si256::<0x20>(a, b), _mm256_permute2x128_si256::<0x31>(a, b)) }
+        unsafe {
+            (
+                _mm256_permute2x128_si256::<0x20>(a, b),
+                _mm256_permute2x128_si256::<0x31>(a, b),
+            )
+        }
     }
 
     #[inline(always)]
@@ -293,6 +318,9 @@ mod avx2 {
     pub(super) fn rotate_left(words: Words, bits: u32) -> Words {
         // SAFETY: the processor has AVX2, or there would be no leave for eight lanes.
         unsafe {
+            if bits == 8 {
+                return _mm256_shuffle_epi8(words, read_volatile(&ROTATED_BY_A_BYTE));
+            }
             let left = _mm256_sll_epi32(words, _mm_cvtsi64_si128(i64::from(bits)));
             let right = _mm256_srl_epi32(words, _mm_cvtsi64_si128(i64::from(32 - bits)));
             _mm256_or_si256(left, right)
@@ -555,7 +583,7 @@ mod plain {
 
 #[cfg(test)]
 mod tests {
-    use super::{lanes, plain, U32x4};
+    use super::{lanes, plain, plain_eight, EightLanes, U32x4, U32x8};
 
     const CASES: usize = 250_000;
 
@@ -709,6 +737,61 @@ mod tests {
             assert_eq!(words(neon::left(x, bits)), plain::left(a, bits));
             assert_eq!(words(neon::right(x, bits)), plain::right(a, bits));
         });
+    }
+
+    fn for_eight(check: impl Fn([u32; 8], [u32; 8])) {
+        for_cases(|a, b| {
+            let [a0, a1, a2, a3] = a;
+            let [b0, b1, b2, b3] = b;
+            check(
+                [a0, b0, a1, b1, a2, b2, a3, b3],
+                [b3, a3, b2, a2, b1, a1, b0, a0],
+            );
+        });
+    }
+
+    // Where the processor has AVX2. Elsewhere nothing calls these operations.
+    #[test]
+    fn eight_words_are_plain_words() {
+        let lanes = match EightLanes::find() {
+            Some(lanes) => lanes,
+            None => return,
+        };
+        for_eight(|a, b| {
+            let (x, y) = (lanes.vector(a), lanes.vector(b));
+            assert_eq!(x.to_array(), a);
+            assert_eq!(lanes.splat(b[0]).to_array(), [b[0]; 8]);
+            assert_eq!((x + y).to_array(), plain_eight::add(a, b));
+            assert_eq!((x ^ y).to_array(), plain_eight::xor(a, b));
+            for bits in [7, 8, 12, 16, 1 + b[3] % 31] {
+                let rotated = plain_eight::rotate_left(a, bits);
+                assert_eq!(x.rotate_left(bits).to_array(), rotated);
+            }
+            let both = |(front, back): (U32x8, U32x8)| (front.to_array(), back.to_array());
+            assert_eq!(both(x.woven(y)), plain_eight::woven(a, b));
+            assert_eq!(both(x.woven_pairs(y)), plain_eight::woven_pairs(a, b));
+            assert_eq!(both(x.joined(y)), plain_eight::joined(a, b));
+        });
+    }
+
+    #[test]
+    fn plain_eight_are_those_of_each_lane() {
+        for_eight(|a, b| {
+            assert_eq!(plain_eight::to_array(plain_eight::from_array(a)), a);
+            for lane in 0..8 {
+                assert_eq!(plain_eight::add(a, b)[lane], a[lane].wrapping_add(b[lane]));
+                assert_eq!(plain_eight::xor(a, b)[lane], a[lane] ^ b[lane]);
+                let rotated = a[lane].rotate_left(b[0] % 32);
+                assert_eq!(plain_eight::rotate_left(a, b[0] % 32)[lane], rotated);
+            }
+        });
+        let (a, b) = ([0, 1, 2, 3, 4, 5, 6, 7], [10, 11, 12, 13, 14, 15, 16, 17]);
+        let turns = ([0, 10, 1, 11, 4, 14, 5, 15], [2, 12, 3, 13, 6, 16, 7, 17]);
+        let pairs = ([0, 1, 10, 11, 4, 5, 14, 15], [2, 3, 12, 13, 6, 7, 16, 17]);
+        let halves = ([0, 1, 2, 3, 10, 11, 12, 13], [4, 5, 6, 7, 14, 15, 16, 17]);
+        assert_eq!(plain_eight::woven(a, b), turns);
+        assert_eq!(plain_eight::woven_pairs(a, b), pairs);
+        assert_eq!(plain_eight::joined(a, b), halves);
     }
 
     #[cfg(debug_assertions)]

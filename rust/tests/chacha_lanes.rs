@@ -1,5 +1,6 @@
 //! `ChaCha` by vectors beside `ChaCha` by plain words, which is written here from the cipher's description:
-//! single blocks, and four side by side, as fills of 256 bytes and more make them.
+//! single blocks, four side by side, as fills of 256 bytes and more make them, and eight, as those of 512
+//! bytes and more do where the processor has AVX2 and the crate its feature std.
 
 use nanorand_proved::crypto::chacha::{chacha_block, chacha_rounds, chacha_unrounds};
 use nanorand_proved::{ChaCha, Rng};
@@ -129,27 +130,32 @@ fn generator<const ROUNDS: u8>(words: &mut Words) -> ChaCha<ROUNDS> {
     ChaCha::at(key, nonce, words.counter())
 }
 
-// Fills of all lengths up to 16 blocks, most of them of whole groups of four: each block of each fill.
+// A fill: each block of it, and the counter after it.
+fn check_fill<const ROUNDS: u8>(mut rng: ChaCha<ROUNDS>, length: usize) -> usize {
+    let first = rng.counter();
+    let mut bytes = vec![0; length];
+    rng.fill_bytes(&mut bytes);
+    let mut counter = first;
+    for filled in bytes.chunks(64) {
+        let expected = plain_block(ROUNDS, state_of(&rng, counter));
+        let expected: Vec<u8> = expected.iter().flat_map(|x| x.to_le_bytes()).collect();
+        assert_eq!(filled, &expected[..filled.len()], "from {first} on");
+        counter = counter.wrapping_add(1);
+    }
+    assert_eq!(rng.counter(), counter);
+    bytes.chunks(64).count()
+}
+
+// Fills of all lengths up to 32 blocks, most of them of whole groups of four.
 fn check_fills<const ROUNDS: u8>(words: &mut Words, blocks: usize) {
     let mut checked = 0;
     while checked < blocks {
-        let mut rng = generator::<ROUNDS>(words);
-        let first = rng.counter();
+        let rng = generator::<ROUNDS>(words);
         let length = match words.next() % 4 {
-            0 => words.next() as usize % 1024,
-            _ => 256 * (1 + words.next() as usize % 4),
+            0 => words.next() as usize % 2048,
+            _ => 256 * (1 + words.next() as usize % 8),
         };
-        let mut bytes = vec![0; length];
-        rng.fill_bytes(&mut bytes);
-        let mut counter = first;
-        for filled in bytes.chunks(64) {
-            let expected = plain_block(ROUNDS, state_of(&rng, counter));
-            let expected: Vec<u8> = expected.iter().flat_map(|x| x.to_le_bytes()).collect();
-            assert_eq!(filled, &expected[..filled.len()], "from {first} on");
-            counter = counter.wrapping_add(1);
-            checked += 1;
-        }
-        assert_eq!(rng.counter(), counter);
+        checked += check_fill(rng, length);
     }
 }
 
@@ -206,4 +212,24 @@ fn fills_with_12_rounds() {
 #[test]
 fn fills_with_20_rounds() {
     check_fills::<20>(&mut Words::new(), FILLED / 3);
+}
+
+#[test]
+fn fills_of_every_length() {
+    let mut words = Words::new();
+    for length in 0..=2000 {
+        check_fill(generator::<8>(&mut words), length);
+    }
+}
+
+// Each counter at which a carry, or the wrap to 0, falls inside a group or at one of its ends.
+#[test]
+fn counters_that_wrap_inside_a_group() {
+    let carries = (1 << 32) - 9..=1_u64 << 32;
+    for counter in carries.chain(u64::MAX - 8..=u64::MAX) {
+        for length in [256, 512, 768, 1024] {
+            check_fill(ChaCha::<8>::at([7; 32], [1; 8], counter), length);
+            check_fill(ChaCha::<20>::at([7; 32], [1; 8], counter), length);
+        }
+    }
 }

@@ -225,7 +225,7 @@ fn split_seed(seed: &[u8; 40]) -> ([u8; 32], [u8; 8]) {
     (key, nonce)
 }
 
-#[inline]
+#[inline(always)]
 fn write_four(out: &mut [u8], blocks: FourBlocks) {
     let (first, second, third, fourth) = blocks;
     out[0..64].copy_from_slice(&bytes_of(&first));
@@ -235,7 +235,7 @@ fn write_four(out: &mut [u8], blocks: FourBlocks) {
 }
 
 // The words as bytes, each least byte first.
-#[inline]
+#[inline(always)]
 fn bytes_of(words: &[u32; 16]) -> [u8; 64] {
     let mut bytes = [0; 64];
     for i in 0..16 {

@@ -325,7 +325,7 @@ fn split_seed(seed: &[u8; 40]) -> ([u8; 32], [u8; 8])
     (key, nonce)
 }
 
-#[inline]
+#[inline(always)]
 fn write_four(out: &mut [u8], blocks: FourBlocks)
     requires { length out.old ≡ 256 }
     ensures { out.new ≡ bytes blocks.0 ++ bytes blocks.1 ++ bytes blocks.2 ++ bytes blocks.3 }
@@ -338,7 +338,7 @@ fn write_four(out: &mut [u8], blocks: FourBlocks)
 }
 
 // The words as bytes, each least byte first.
-#[inline]
+#[inline(always)]
 fn bytes_of(words: &[u32; 16]) -> [u8; 64]
     ensures { result ≡ bytes words.now }
 {

@@ -40,7 +40,7 @@ fn eight_states(lanes: EightLanes, x: &[u32; 16]) -> Matrices<U32x8> {
             lanes.splat(x[11]),
         ),
         (
-            lanes.from_array([
+            lanes.vector([
                 low(first),
                 low(second),
                 low(third),
@@ -50,7 +50,7 @@ fn eight_states(lanes: EightLanes, x: &[u32; 16]) -> Matrices<U32x8> {
                 low(seventh),
                 low(eighth),
             ]),
-            lanes.from_array([
+            lanes.vector([
                 high(first),
                 high(second),
                 high(third),

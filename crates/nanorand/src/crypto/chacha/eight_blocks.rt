@@ -44,7 +44,7 @@ fn eight_states(lanes: EightLanes, x: &[u32; 16]) -> Matrices<u32x8>
             lanes.splat(x[11]),
         ),
         (
-            lanes.from_array([
+            lanes.vector([
                 low(first),
                 low(second),
                 low(third),
@@ -54,7 +54,7 @@ fn eight_states(lanes: EightLanes, x: &[u32; 16]) -> Matrices<u32x8>
                 low(seventh),
                 low(eighth),
             ]),
-            lanes.from_array([
+            lanes.vector([
                 high(first),
                 high(second),
                 high(third),
@@ -128,7 +128,10 @@ fn eight_matrices(x: Matrices<u32x8>) -> (FourBlocks, FourBlocks)
     let (second, sixth) = two_matrices(p1, q1, r1, s1);
     let (third, seventh) = two_matrices(p2, q2, r2, s2);
     let (fourth, eighth) = two_matrices(p3, q3, r3, s3);
-    ((first, second, third, fourth), (fifth, sixth, seventh, eighth))
+    (
+        (first, second, third, fourth),
+        (fifth, sixth, seventh, eighth),
+    )
 }
 
 // The blocks of a state and of the seven after it.

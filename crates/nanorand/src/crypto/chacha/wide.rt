@@ -24,7 +24,7 @@ impl EightLanes {
     }
 
     #[inline(always)]
-    pub(crate) fn from_array(self, words: [u32; 8]) -> u32x8
+    pub(crate) fn vector(self, words: [u32; 8]) -> u32x8
         ensures { result ≡ words }
     {
         u32x8::from_array(words)

@@ -11,7 +11,7 @@ returns c =
     let x = c.args.x.now in
     let matrix : IsMatrix c.args.x.now = record { sixteen = c.told-x; words = search rules } in
     let is_first : c.counter-first.result ≡ (counter c.args.x.now + 0) % 2 ^ 64 = omega (arith, c.counter-first.ensures, c.counter-first.type_inv) in
-    rw (c.splat.ensures, c.splat-2.ensures, c.splat-3.ensures, c.splat-4.ensures, c.splat-5.ensures, c.splat-6.ensures, c.splat-7.ensures, c.splat-8.ensures, c.splat-9.ensures, c.splat-10.ensures, c.splat-11.ensures, c.splat-12.ensures, c.splat-13.ensures, c.splat-14.ensures, c.from_array.ensures, c.from_array-2.ensures)
+    rw (c.splat.ensures, c.splat-2.ensures, c.splat-3.ensures, c.splat-4.ensures, c.splat-5.ensures, c.splat-6.ensures, c.splat-7.ensures, c.splat-8.ensures, c.splat-9.ensures, c.splat-10.ensures, c.splat-11.ensures, c.splat-12.ensures, c.splat-13.ensures, c.splat-14.ensures, c.vector.ensures, c.vector-2.ensures)
     (below_eight _
     (with_counter-halves x _ _ _ c.told-x c.low.ensures c.high.ensures ∙ ap (with_counter x) is_first ∙ sym (chacha_closed 0 x matrix))
     (with_counter-halves x _ _ _ c.told-x c.low-2.ensures c.high-2.ensures ∙ ap (λ (n : ℕ). with_counter x ((n + 1) % 2 ^ 64)) c.counter-first.ensures)
