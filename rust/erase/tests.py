@@ -189,6 +189,19 @@ class Differences(Same):
             "use std::simd::u32x4;\ntype R = [u32x4; 4];\nfn f(x: u32x4) -> u32x4 { u32x4::splat(1) + x }",
             "use crate::simd::U32x4; type R = [U32x4; 4]; fn f(x: U32x4) -> U32x4 { U32x4::splat(1) + x }",
         )
+        self.same(
+            "use std::simd::{u32x4, u32x8};\npub(crate) trait Vector: Copy { ghost width: { ℕ };\n"
+            " fn f(self, n: u32) -> Self\n requires { n < 32 }; }\nimpl Vector for u32x8 { ghost width = { 8 }; }\n"
+            "fn f<V: Vector>(x: V) { g::<u32x4>(x); }",
+            "use crate::simd::{U32x4, U32x8}; pub(crate) trait Vector: Copy { fn f(self, n: u32) -> Self; }"
+            " impl Vector for U32x8 { } fn f<V: Vector>(x: V) { g::<U32x4>(x); }",
+        )
+
+    def test_what_is_compiled_for_eight_lanes(self):
+        self.same(
+            "impl Wide for X { fn f(&mut self) { self.fill_eight(lanes, &mut b[0..4]); } }",
+            "impl Wide for X { fn f(&mut self) { lanes.run(self, &mut b[0..4]); } }",
+        )
 
     def test_ranged_draws_take_a_range(self):
         self.same(
@@ -388,7 +401,7 @@ class Command(unittest.TestCase):
         tables = [
             (shape.PATHS, {"std::gone": None}), (shape.PRECONDITIONS, {"a < b": None}), (shape.NAMES, {"gone": "x"}),
             (shape.DERIVED, {"Gone": ()}), (shape.GROWTH, {"gone();": ""}), (shape.ALLOCATING, {"Gone<A>": "Gone"}),
-            (shape.CHECKED_LAWS, {"gone": ""}), (documents.SENTENCES, {"Gone.": ""}),
+            (shape.CHECKED_LAWS, {"gone": ""}), (shape.WIDE, {"gone(": "("}), (documents.SENTENCES, {"Gone.": ""}),
         ]
         for table, row in tables:
             with self.subTest(row), mock.patch.dict(table, row):
@@ -411,7 +424,7 @@ class Whole(unittest.TestCase):
     """What is written for the library, compared with the proved source by other means."""
 
     # Functions whose bodies the tables change.
-    CHANGED = {"clone", "generate_range", "read_to_end"}
+    CHANGED = {"clone", "fill_wide", "generate_range", "read_to_end"}
 
     # Functions that check a precondition first, and then do what the proved body does.
     CHECKED = {
@@ -425,7 +438,7 @@ class Whole(unittest.TestCase):
         cls.proved, cls.written = {}, {}
         for crate in ("nanorand_core", "nanorand_replay", "nanorand"):
             for path in sorted((ROOT / "crates" / crate / "src").rglob("*.rt")):
-                if path.name not in ("lib.rt", "laws.rt", "swap.rt"):
+                if path.name not in ("lib.rt", "laws.rt", "swap.rt", "wide.rt"):
                     key = path.relative_to(ROOT / "crates" / crate / "src").with_suffix("")
                     cls.proved.setdefault(str(key), []).append(path.read_text(encoding="utf-8"))
         for key in cls.proved:
@@ -459,7 +472,7 @@ class Whole(unittest.TestCase):
 
     @staticmethod
     def plain(body):
-        body = re.sub(r"'\w+: ", "", body.replace("u32x4", "U32x4"))
+        body = re.sub(r"'\w+: ", "", body.replace("u32x4", "U32x4").replace("u32x8", "U32x8"))
         body = re.sub(r"\.generate_range(::<\w+>)?\(\((.*?)\)\)", r".generate_range\1(\2)", "".join(body.split()))
         body = re.sub(r"=>\{([^{};]*)\}", r"=>\1,", body)
         return body.replace(",)", ")").replace(",}", "}").replace(",]", "]")
@@ -544,6 +557,10 @@ class Whole(unittest.TestCase):
             (sse2, "modsse2{"),
             (f'any(all(test,target_arch="x86_64"),{neon})', "modneon{"),
             (f"any(test,{neither})", "modplain{"),
+            (sse2, "useavx2aseight;"),
+            (f"not({sse2})", "useplain_eightaseight;"),
+            (sse2, "modavx2{"),
+            (f"any(test,not({sse2}))", "modplain_eight{"),
         ]:
             self.assertIn(f"#[cfg({condition})]{item}", text)
 

@@ -103,9 +103,9 @@
 //! let rng = nanorand_proved::ChaCha::<7>::new_key([0; 32], [0; 8]);
 //! ```
 //!
-//! Features: `std` (on by default) has readers, vectors, `std::error::Error` and seeds from the system;
-//! without it the crate is `no_std` and allocates nothing. The crate `nanorand-proved-rand-core` has the traits
-//! of `rand_core` 0.6.
+//! Features: `std` (on by default) has readers, vectors, `std::error::Error` and seeds from the system, and
+//! asks the processor for AVX2, for fills of `ChaCha`; without it the crate is `no_std` and allocates
+//! nothing. The crate `nanorand-proved-rand-core` has the traits of `rand_core` 0.6.
 #![no_std]
 #![deny(missing_docs)]
 // The proved source has the form of Rattle, and its proofs say that no cast loses a bit that counts.

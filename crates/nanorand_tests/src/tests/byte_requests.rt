@@ -8,11 +8,19 @@ use std::process::Abort;
 use std::test::Fail;
 use test_support::Steps;
 
-// The last ones are above the four blocks that ChaCha computes at once, and above a page.
-const LENGTHS: [usize; 12] = [0, 1, 7, 8, 9, 63, 64, 255, 256, 257, 600, 5000];
+// The last ones are about the four and the eight blocks that ChaCha computes at once, and above a page.
+const LENGTHS: [usize; 14] = [0, 1, 7, 8, 9, 63, 64, 255, 256, 257, 511, 513, 600, 5000];
 
-// Counters from which four blocks have no carry, a carry into the high half, or an overflow.
-const COUNTERS: [u64; 5] = [0, 0xffff_fffd, 0xffff_ffff, u64::MAX - 2, u64::MAX];
+// Counters from which four or eight blocks have no carry, a carry into the high half, or an overflow.
+const COUNTERS: [u64; 7] = [
+    0,
+    0xffff_fff9,
+    0xffff_fffd,
+    0xffff_ffff,
+    u64::MAX - 6,
+    u64::MAX - 2,
+    u64::MAX,
+];
 
 // The first bytes of a plain generator, by single blocks.
 fn blocks_of<G: Rng<OUTPUT>, const OUTPUT: usize>(
