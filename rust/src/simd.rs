@@ -225,19 +225,15 @@ mod avx2 {
 
     pub(super) type Words = __m256i;
 
-    // Which byte of 16 comes to each place. It is read as if it could change: where the compiler sees which
-    // bytes move, it draws a rotation by 8 bits together with the one by 16 before it, and then moves the
-    // bytes of twice as many vectors.
-    static ROTATED_BY_A_BYTE: Words = from_words([
-        0x0201_0003,
-        0x0605_0407,
-        0x0a09_080b,
-        0x0e0d_0c0f,
-        0x0201_0003,
-        0x0605_0407,
-        0x0a09_080b,
-        0x0e0d_0c0f,
-    ]);
+    // Which byte of 16 comes to each place, for rotations by 8 and by 16 bits. They are read as if they could
+    // change: where the compiler sees which bytes move, it draws two rotations together, and then moves the
+    // bytes of nearly twice as many vectors.
+    static BY_8: Words = in_both_halves([0x0201_0003, 0x0605_0407, 0x0a09_080b, 0x0e0d_0c0f]);
+    static BY_16: Words = in_both_halves([0x0100_0302, 0x0504_0706, 0x0908_0b0a, 0x0d0c_0f0e]);
+
+    const fn in_both_halves([a, b, c, d]: [u32; 4]) -> Words {
+        from_words([a, b, c, d, a, b, c, d])
+    }
 
     const fn from_words(words: [u32; 8]) -> Words {
         // SAFETY: both types are 32 bytes, and every 32 bytes are a value of both.
@@ -318,8 +314,10 @@ mod avx2 {
     pub(super) fn rotate_left(words: Words, bits: u32) -> Words {
         // SAFETY: the processor has AVX2, or there would be no leave for eight lanes.
         unsafe {
-            if bits == 8 {
-                return _mm256_shuffle_epi8(words, read_volatile(&ROTATED_BY_A_BYTE));
+            match bits {
+                8 => return _mm256_shuffle_epi8(words, read_volatile(&BY_8)),
+                16 => return _mm256_shuffle_epi8(words, read_volatile(&BY_16)),
+                _ => {}
             }
             let left = _mm256_sll_epi32(words, _mm_cvtsi64_si128(i64::from(bits)));
             let right = _mm256_srl_epi32(words, _mm_cvtsi64_si128(i64::from(32 - bits)));
