@@ -283,8 +283,8 @@ impl<const ROUNDS: u8> Blocks<64> for ChaCha<ROUNDS> {
 impl<const ROUNDS: u8> Rng<64> for ChaCha<ROUNDS> {
     ghost requests = { chacha_requests ROUNDS };
 
-    /// Computes whole groups of 256 bytes four blocks side by side, and where that is faster those of
-    /// 512 bytes eight.
+    /// Computes whole groups of 256 bytes four blocks side by side, and those of 512 bytes eight
+    /// where that is faster.
     fn fill_bytes(&mut self, buffer: &mut [u8]) {
         let mut filled = self.fill_wide(buffer);
         'groups: while 256 <= buffer.len() - filled {
