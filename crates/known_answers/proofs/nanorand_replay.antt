@@ -1,4 +1,2 @@
-pub mod SmallGenerators
 pub mod BufferedRequests
 pub mod Replays
-pub mod AskedBytes

@@ -1,5 +1,8 @@
 pub mod ranges
 pub mod shuffles
-pub mod samples
-pub mod choices
-pub mod values
+pub mod SampleLemmas
+pub mod FairSampleLemmas
+pub mod FairSetLemmas
+pub mod ShareLemmas
+pub mod FillLemmas
+pub mod ValueLemmas

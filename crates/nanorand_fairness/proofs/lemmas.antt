@@ -5,7 +5,9 @@ pub mod WordCounts
 pub mod FirstWords
 pub mod EventCounts
 pub mod NumberSums
-pub mod turns
-pub mod samples
+pub mod TurnCounts
+pub mod TurnSwaps
+pub mod EvenLists
+pub mod SampleLists
 pub mod deals
 pub mod streams

@@ -1,2 +1,4 @@
-pub mod generators
-pub mod replay
+pub mod EqualityLemmas
+pub mod WordLemmas
+pub mod ReplayLemmas
+pub mod UnbrokenLemmas

@@ -2,6 +2,7 @@
 use Rattle.std.specs.Prelude.{ℕ, ◌+◌, ◌*◌, ◌%◌, List, map, replicate, slice_index_or}
 use Rattle.std.specs.List.{range_with_len}
 use Rattle.nanorand_core.specs.generators.Blocks.{Requests, plain}
+use Rattle.nanorand_replay.specs.generators.Buffered.{Buffered, buffered}
 
 abbrev pub next_count : ℕ → ℕ
 next_count n = n + 1
@@ -19,3 +20,10 @@ script_block bytes n = replicate 8 (slice_index_or bytes n 0)
 
 abbrev pub script : List ℕ → Requests ℕ
 script bytes = plain (script_block bytes) next_count 8
+
+-- the same, buffered
+abbrev pub steps_buffered : Requests (Buffered ℕ)
+steps_buffered = buffered (rising_block 8) next_count 8
+
+abbrev pub script_buffered : List ℕ → Requests (Buffered ℕ)
+script_buffered bytes = buffered (script_block bytes) next_count 8

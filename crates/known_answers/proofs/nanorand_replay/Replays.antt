@@ -6,13 +6,12 @@ use Rattle.nanorand_core.specs.generators.Blocks.{taken, Requests}
 use Rattle.nanorand_core.specs.values.Runs.{named}
 use Rattle.nanorand_core.specs.values.Range.{range_within}
 use Rattle.nanorand_core.specs.values.Draws.{value_drawn, left_by, left_after, words_from}
-use Rattle.known_answers.proofs.nanorand_core.SmallGenerators.{steps, script}
 use Rattle.nanorand_replay.specs.generators.Buffered.{Buffered, buffer_of, buffered_taken, buffered_after}
 use Rattle.nanorand_replay.specs.replay.Replay.{Replay, replayed, Outcome, outcome, shuffle_call_answer}
 use Rattle.nanorand_replay.specs.declared.replay.Call.{Call}
 use Rattle.nanorand_replay.specs.declared.replay.Call.TheVariants.{Gen, Range, Shuffle}
 use Rattle.nanorand_replay.specs.declared.replay.Answer.TheVariants.{Unsigned, Truth, Empty, Exhausted, Shuffled}
-use Rattle.known_answers.proofs.nanorand_replay.SmallGenerators.{steps_buffered, script_buffered}
+use Rattle.known_answers.proofs.nanorand_core.SmallGenerators.{steps, script, steps_buffered, script_buffered}
 use Rattle.std.proofs.Common.{◌++◌, Ok, Err, ap, ◌∙◌, arith}
 use Rattle.std.specs.List.{range_with_len}
 use Rattle.nanorand_core.specs.shuffles.Shuffles.{arranged, from_all, from_itself}

@@ -1,5 +1,5 @@
 use Rattle.nanorand_core.specs.support.IterateLemmas.{iterate-add, iterate-more}
-use Rattle.nanorand_core.proofs.lemmas.values.ValueLemmas.{values_from-add, values_from-more}
+use Rattle.nanorand_core.proofs.lemmas.ValueLemmas.{values_from-add, values_from-more}
 use Rattle.nanorand_core.proofs.laws.values_join.Goals as goal
 
 pub returns : goal.returns

@@ -1,6 +1,6 @@
 use Rattle.nanorand_core.proofs.lemmas.ranges.FairnessLemmas.{shares}
 use Rattle.nanorand_core.proofs.lemmas.ranges.EventLemmas.{event_words}
-use Rattle.nanorand_core.proofs.lemmas.choices.ShareLemmas.{choices_are_fair}
+use Rattle.nanorand_core.proofs.lemmas.ShareLemmas.{choices_are_fair}
 use Rattle.nanorand_core.proofs.laws.weighted_choices_are_fair.Goals as goal
 
 pub returns : goal.returns

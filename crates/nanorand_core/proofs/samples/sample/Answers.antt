@@ -3,7 +3,7 @@ use Rattle.std.proofs.lemmas.List.{take_all, take_more_set}
 use Rattle.std.proofs.lemmas.Result.{err_from_is_err_and}
 use Rattle.nanorand_core.specs.values.Draws.{after_word, word_limit}
 use Rattle.nanorand_core.specs.samples.Samples.{Sample, joining}
-use Rattle.nanorand_core.proofs.lemmas.samples.SampleLemmas.{joined_below, joined_apart, sampling_goes_on, sampling_ends, slots_filled, slots_left, words_more}
+use Rattle.nanorand_core.proofs.lemmas.SampleLemmas.{joined_below, joined_apart, sampling_goes_on, sampling_ends, slots_filled, slots_left, words_more}
 use Rattle.nanorand_core.proofs.samples.sample.Goals as goal
 
 pub returns-in_err-drawn : goal.returns-in_err-drawn

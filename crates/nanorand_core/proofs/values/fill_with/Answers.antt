@@ -4,7 +4,7 @@ use Rattle.std.proofs.RetainMut.{Called-Mut}
 use Rattle.std.specs.Fn.{CalledAtMut, iterate}
 use Rattle.nanorand_core.specs.values.Fills.{CallsReturn}
 use Rattle.nanorand_core.specs.values.Values.{values_from}
-use Rattle.nanorand_core.proofs.lemmas.values.FillLemmas.{values_drawn, state_left, all_pass}
+use Rattle.nanorand_core.proofs.lemmas.FillLemmas.{values_drawn, state_left, all_pass}
 use Rattle.nanorand_core.proofs.values.fill_with.Goals as goal
 
 pub loop-item-preserved : goal.loop-item-preserved

@@ -1,8 +1,8 @@
 use Rattle.std.proofs.Common.{ℕ, ◌*◌, length, true, ap, ◌∙◌, arith}
 use Rattle.nanorand_core.specs.values.Draws.{word_limit}
 use Rattle.nanorand_fairness.specs.InTurn.{number_lists_that}
-use Rattle.nanorand_fairness.proofs.lemmas.turns.TurnCounts.{equally_many, quotas_of_each}
-use Rattle.nanorand_fairness.proofs.lemmas.turns.TurnSwaps.{swaps_in_turn}
+use Rattle.nanorand_fairness.proofs.lemmas.TurnCounts.{equally_many, quotas_of_each}
+use Rattle.nanorand_fairness.proofs.lemmas.TurnSwaps.{swaps_in_turn}
 use Rattle.nanorand_fairness.proofs.laws.numbers_in_turn_are_fair.Goals as goal
 
 pub returns-clause-numbers : goal.returns-clause-numbers

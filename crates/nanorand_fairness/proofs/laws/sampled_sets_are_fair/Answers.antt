@@ -4,8 +4,8 @@ use Rattle.std.proofs.lemmas.List.FromFn.{length-range_with_len}
 use Rattle.nanorand_core.specs.values.Runs.{IsWordWidth}
 use Rattle.nanorand_fairness.specs.InTurn.{quotas, word_lists_that}
 use Rattle.nanorand_fairness.specs.Samples.{sample_by, sample_sizes}
-use Rattle.nanorand_fairness.proofs.lemmas.turns.EvenLists.{even-lists}
-use Rattle.nanorand_fairness.proofs.lemmas.samples.SampleLists.{sample-rows, sample-sizes}
+use Rattle.nanorand_fairness.proofs.lemmas.EvenLists.{even-lists}
+use Rattle.nanorand_fairness.proofs.lemmas.SampleLists.{sample-rows, sample-sizes}
 use Rattle.nanorand_fairness.proofs.laws.sampled_sets_are_fair.Goals as goal
 
 pub returns-clause-sets : goal.returns-clause-sets

@@ -11,7 +11,7 @@ use Rattle.nanorand_fairness.proofs.lemmas.deals.DealLists.{test-same}
 use Rattle.nanorand_fairness.proofs.lemmas.NamedSums.{named-below}
 use Rattle.nanorand_fairness.proofs.lemmas.deals.ExchangeDeals.{exchanges-deals}
 use Rattle.nanorand_fairness.proofs.lemmas.deals.ShareLemmas.{index-share, whole-deals}
-use Rattle.nanorand_fairness.proofs.lemmas.turns.EvenLists.{share-lists}
+use Rattle.nanorand_fairness.proofs.lemmas.EvenLists.{share-lists}
 use Rattle.nanorand_fairness.proofs.laws.shuffles_are_fair.Goals as goal
 
 pub returns-clause-deals : goal.returns-clause-deals

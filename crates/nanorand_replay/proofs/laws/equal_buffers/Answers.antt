@@ -1,4 +1,4 @@
-use Rattle.nanorand_replay.proofs.lemmas.generators.EqualityLemmas.{buffer_equality}
+use Rattle.nanorand_replay.proofs.lemmas.EqualityLemmas.{buffer_equality}
 use Rattle.nanorand_replay.proofs.laws.equal_buffers.Goals as goal
 
 pub returns : goal.returns

@@ -1,7 +1,7 @@
 use Rattle.std.proofs.Common.{[], sum, sym, refl, ◌∙◌}
 use Rattle.nanorand_replay.specs.generators.Buffered.{buffer_of, buffered, buffered_taken}
 use Rattle.nanorand_replay.specs.support.BufferedLemmas.{after_nothing, after_add, taken_add, taken_fresh}
-use Rattle.nanorand_replay.proofs.lemmas.replay.UnbrokenLemmas.{unbroken}
+use Rattle.nanorand_replay.proofs.lemmas.UnbrokenLemmas.{unbroken}
 use Rattle.nanorand_replay.proofs.laws.fresh_delivery.Goals as goal
 
 pub returns-clause-one : goal.returns-clause-one

@@ -1,4 +1,4 @@
-use Rattle.nanorand_replay.proofs.lemmas.replay.ReplayLemmas.{joined}
+use Rattle.nanorand_replay.proofs.lemmas.ReplayLemmas.{joined}
 use Rattle.nanorand_replay.proofs.laws.replays_join.Goals as goal
 
 pub returns : goal.returns

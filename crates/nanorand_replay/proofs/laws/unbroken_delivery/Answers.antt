@@ -1,8 +1,8 @@
 use Rattle.std.proofs.Common.{sym, refl}
 use Rattle.nanorand_replay.specs.generators.Buffered.{buffered, buffered_taken}
 use Rattle.nanorand_replay.specs.support.BufferedLemmas.{length-buffered_taken, after_nothing, after_add, taken_add, taken_unbroken, rest_below}
-use Rattle.nanorand_replay.proofs.lemmas.generators.WordLemmas.{words-in-turn}
-use Rattle.nanorand_replay.proofs.lemmas.replay.UnbrokenLemmas.{unbroken}
+use Rattle.nanorand_replay.proofs.lemmas.WordLemmas.{words-in-turn}
+use Rattle.nanorand_replay.proofs.lemmas.UnbrokenLemmas.{unbroken}
 use Rattle.nanorand_replay.proofs.laws.unbroken_delivery.Goals as goal
 
 pub returns-clause-unbroken : goal.returns-clause-unbroken

@@ -6,7 +6,7 @@ use Rattle.nanorand_core.specs.shuffles.Shuffles.{from_itself}
 use Rattle.nanorand_core.proofs.lemmas.ranges.DrawLemmas.{Ended, first_word, first_decides, next_word, last_word}
 use Rattle.nanorand_core.proofs.lemmas.shuffles.PartnerLemmas.{partner-number, partner-exhausted, partner-state}
 use Rattle.nanorand_core.proofs.lemmas.shuffles.ShuffleLemmas.{Shuffling, shuffling-start, shuffling-step, refused, done, count-done, choices-valid}
-use Rattle.nanorand_core.proofs.lemmas.values.ValueLemmas.{number_of_8}
+use Rattle.nanorand_core.proofs.lemmas.ValueLemmas.{number_of_8}
 use Rattle.nanorand_core.proofs.rand.Rng.shuffle.Given as Given
 use Rattle.nanorand_core.proofs.rand.Rng.shuffle.Goals as goal
 use Rattle.nanorand_core.proofs.rand.Rng.shuffle.Goals.{then-is_none+else-others-test, else-is_none}

@@ -7,7 +7,7 @@ use Rattle.std.proofs.lemmas.Bool.{cases_Bool, false≢true, both_ways, and_part
 use Rattle.std.proofs.lemmas.List.Folds.{list_all-append}
 use Rattle.nanorand_core.specs.samples.Samples.{SetsAreFair, factorial, holds, joining, joined, rows_that}
 use Rattle.nanorand_core.proofs.lemmas.ranges.CountLemmas.{count_by-add}
-use Rattle.nanorand_core.proofs.lemmas.samples.FairSampleLemmas.{Sampling, sampling_more, sampling_none, count-held, count_by-more, sum_split}
+use Rattle.nanorand_core.proofs.lemmas.FairSampleLemmas.{Sampling, sampling_more, sampling_none, count-held, count_by-more, sum_split}
 
 some_factorial : (n : ℕ) → 1 ≤ factorial n
 some_factorial zero = omega arith

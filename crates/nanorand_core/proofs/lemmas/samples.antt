@@ -1,3 +1,0 @@
-pub mod SampleLemmas
-pub mod FairSampleLemmas
-pub mod FairSetLemmas

@@ -1,3 +1,0 @@
-pub mod TurnCounts
-pub mod TurnSwaps
-pub mod EvenLists
