@@ -3,6 +3,7 @@ pub mod Halves
 pub mod WyRand
 pub mod ChaChaRounds
 pub mod ChaCha
+pub mod ChaChaGroups
 pub mod Pcg64
 pub mod Frequencies
 pub mod Entropy

@@ -5,4 +5,5 @@ pub mod ChaChaLines
 pub mod ChaChaRows
 pub mod ChaChaInverse
 pub mod ChaChaDrawLemmas
+pub mod ChaChaGroupLemmas
 pub mod Pcg64DrawLemmas

@@ -1,12 +1,15 @@
 //! Laws of the three generators, beside those of every generator. Each contract states a law. The
 //! functions do nothing; a proof calls one to use its law.
-ghost use Rattle.std.specs.Prelude.{◌≡◌, ◌<◌, ◌≤◌, Bool, ℕ, ◌+◌, ◌*◌, ◌^◌, bit_xor, ◌≢◌, ◌%◌, ◌↔◌, List, slice_index};
+ghost use Rattle.std.specs.Prelude.{◌≡◌, ◌<◌, ◌≤◌, Bool, ℕ, ◌+◌, ◌*◌, ◌^◌, bit_xor, ◌≢◌, ◌%◌, ◌↔◌, List, [], slice_index};
 ghost use Rattle.std.specs.Fn.{iterate};
 ghost use Rattle.std.specs.Int.{w64, to_le_bytes, ◌∣◌};
 ghost use Rattle.nanorand_core.specs.generators.Cycles.{AgreeModulo, DrawsAdd, DrawsLeave, OneMoreDraw, PeriodsAreMultiplesOf, IsPeriod, Reaches, ReachesOnceBelow};
 ghost use Rattle.nanorand_core.specs.generators.Equality.{DecidesEquality};
 ghost use Rattle.nanorand_core.specs.values.Runs.{words_that};
 ghost use Rattle.nanorand_core.specs.values.Values.{number_of};
+ghost use Rattle.nanorand_replay.specs.generators.Buffered.{buffer_of};
+ghost use Rattle.nanorand_replay.specs.replay.Unbroken.{taken_all};
+ghost use Rattle.nanorand.specs.generators.ChaChaGroups.{DeliverAlike};
 ghost use Rattle.nanorand.specs.generators.Frequencies.{SomeWordNeverComes, pcg64_word_count, pcg64_words_that, wyrand_seeds_with, wyrand_word_count};
 ghost use Rattle.nanorand.specs.generators.Halves.{folded};
 ghost use Rattle.nanorand.specs.generators.ChaCha.{counter, key_of, nonce_of, advanced, next_state, chacha_after, chacha_block, chacha_requests};
@@ -16,7 +19,7 @@ ghost use Rattle.nanorand.specs.generators.Pcg64 as pcg64;
 ghost use Rattle.nanorand.specs.generators.WyRand.{wyrand_requests};
 ghost use Rattle.nanorand.specs.generators.WyRand as wyrand;
 
-use crate::rand::{Blocks, ChaCha, Pcg64, Rng, WyRand};
+use crate::rand::{Blocks, ChaCha, ChaChaGroups, Pcg64, Rng, WyRand};
 pub use nanorand_core::laws::{
     choices_and_arrangements, choices_are_fair, fairness, partial_shuffles,
     permutations_by_counting, range_limits, samples_are_fair, values_join,
@@ -27,6 +30,7 @@ pub use nanorand_fairness::laws::{
     sampled_sets_are_fair, samples_draw_in_turn, shuffles_are_fair, shuffles_draw_in_turn,
     words_of_a_draw,
 };
+use nanorand_replay::buffer::BufferedRng;
 pub use nanorand_replay::laws::{equal_buffers, fresh_delivery, replays_join, unbroken_delivery};
 
 /// The three generators implement the traits by the definitions that the laws below speak of: their
@@ -153,6 +157,27 @@ pub fn chacha_counter()
     ensures periods { (R d : ℕ) (x : List ℕ) → IsMatrix x → 2 ^ 64 ∣ d
         → IsPeriod next_state (chacha_block R) x d }
 {}
+
+/// A stream of ChaCha delivers what a buffered `ChaCha` delivers.
+///
+/// Both begin in the same state, with nothing buffered. `each`: after requests of the same sizes,
+/// the next request takes the same bytes of both. `all`: so do all requests of a list, one after
+/// another.
+pub fn streams_deliver_chacha<const ROUNDS: u8>()
+    ensures each { (x : List ℕ) →
+        let stream = ⟦<BufferedRng<ChaChaGroups<ROUNDS>, 512> as Rng<512>>⟧.requests in
+        let buffer = ⟦<BufferedRng<ChaCha<ROUNDS>, 64> as Rng<64>>⟧.requests in
+        DeliverAlike stream (buffer_of [] x) buffer (buffer_of [] x) }
+    ensures all { (x : List ℕ) (sizes : List ℕ) →
+        let stream = ⟦<BufferedRng<ChaChaGroups<ROUNDS>, 512> as Rng<512>>⟧.requests in
+        let buffer = ⟦<BufferedRng<ChaCha<ROUNDS>, 64> as Rng<64>>⟧.requests in
+        taken_all stream (buffer_of [] x) sizes ≡ taken_all buffer (buffer_of [] x) sizes }
+{
+    unbroken_delivery::<ChaChaGroups<ROUNDS>, 512>();
+    unbroken_delivery::<ChaCha<ROUNDS>, 64>();
+    fresh_delivery::<ChaChaGroups<ROUNDS>, 512>();
+    fresh_delivery::<ChaCha<ROUNDS>, 64>();
+}
 
 /// Which seeds of `Pcg64` are reached from which.
 ///

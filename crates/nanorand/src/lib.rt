@@ -20,6 +20,8 @@ pub mod rand;
 pub use nanorand_core::{RandomGen, RandomRange, RangeError, choices, samples, shuffles, values};
 pub use nanorand_replay::{BufferedRng, buffer, replay};
 pub use rand::chacha::{ChaCha, ChaCha8, ChaCha12, ChaCha20};
+pub use rand::chacha_groups::ChaChaGroups;
+pub use rand::keystream::{ChaCha8Stream, ChaCha12Stream, ChaCha20Stream, ChaChaStream, Keystream};
 pub use rand::pcg64::Pcg64;
 pub use rand::wyrand::WyRand;
 pub use rand::{Blocks, Rng, SeedableRng};

@@ -2,3 +2,4 @@ pub mod HexadecimalLemmas
 pub mod SeedLemmas
 pub mod WordLemmas
 pub mod EqualityLemmas
+pub mod StreamLemmas

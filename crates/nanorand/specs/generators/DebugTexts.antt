@@ -26,3 +26,10 @@ abbrev pub chacha_debug : ℕ → ℕ → List ℕ
 chacha_debug rounds counter =
     concat (codes "ChaCha20 { rounds: " ∷ decimal rounds ∷ codes ", counter: " ∷ decimal counter
     ∷ codes " }" ∷ [])
+
+-- The text for a generator of ChaCha's groups.
+abbrev pub chacha_groups_debug : ℕ → ℕ → List ℕ
+chacha_groups_debug rounds counter =
+    concat (codes "ChaChaGroups { rounds: " ∷ decimal rounds ∷ codes ", counter: "
+    ∷ decimal counter
+    ∷ codes " }" ∷ [])

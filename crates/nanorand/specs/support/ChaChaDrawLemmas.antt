@@ -17,7 +17,7 @@ unfolding block
 length-chacha_block R x = refl
 
 -- setting the counter twice keeps the second one
-with_counter-twice : (x : List ℕ) (m n : ℕ) → with_counter (with_counter x m) n ≡ with_counter x n
+pub with_counter-twice : (x : List ℕ) (m n : ℕ) → with_counter (with_counter x m) n ≡ with_counter x n
 with_counter-twice x m n =
     let low = n % 2 ^ 32 in
     let high = m / 2 ^ 32 in
