@@ -43,6 +43,7 @@ TRAITS = (
     "Clone",
     "Default",
     "Eq",
+    "Keystream",
     "Number",
     "PartialEq",
     "RandomGen",
@@ -142,6 +143,7 @@ PRECONDITIONS = {
         'assert!(answers.len() == calls.len(), "there is one answer for each call");'
     ),
     "F.IsAlwaysCallable draw": None,
+    "can_start": None,
     "T.has_number Unbounded (Excluded n)": None,
     "place < 2 ^ BITS": None,
 }

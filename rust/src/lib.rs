@@ -79,6 +79,18 @@
 //! # Ok::<(), nanorand_proved::entropy::EntropyError>(())
 //! ```
 //!
+//! A stream of ChaCha delivers every byte, eight blocks at once, and can be sought:
+//!
+//! ```
+//! use nanorand_proved::{ChaCha20Stream, Keystream, Rng};
+//!
+//! let mut stream = ChaCha20Stream::new_key([0; 32], [0; 8]);
+//! assert_eq!(stream.generate::<u32>(), 0xade0_b876);
+//! assert_eq!(stream.position(), 4);
+//! stream.seek(1);
+//! assert_eq!(stream.generate::<u8>(), 0xb8);
+//! ```
+//!
 //! A generator of your own is one function:
 //!
 //! ```
@@ -161,4 +173,5 @@ struct Readme;
 
 pub use buffer::BufferedRng;
 pub use rand::{ChaCha, ChaCha12, ChaCha20, ChaCha8, Pcg64, Rng, SeedableRng, WyRand};
+pub use rand::{ChaCha12Stream, ChaCha20Stream, ChaCha8Stream, ChaChaGroups, ChaChaStream, Keystream};
 pub use values::{RandomGen, RandomRange, RangeError};

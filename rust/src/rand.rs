@@ -6,8 +6,10 @@
 //! The generators, and the traits that they implement.
 
 pub mod chacha;
+pub mod chacha_groups;
 mod halves;
 mod hexadecimal;
+pub mod keystream;
 pub mod pcg64;
 pub mod wyrand;
 
@@ -15,7 +17,9 @@ use crate::swap::swap;
 use crate::values::word::{draw_below, pick_below, pick_counted, rejected, MAX_WORDS};
 use crate::values::{RandomGen, RandomRange, RangeError};
 pub use chacha::{ChaCha, ChaCha12, ChaCha20, ChaCha8};
+pub use chacha_groups::ChaChaGroups;
 use core::ops::RangeBounds;
+pub use keystream::{ChaCha12Stream, ChaCha20Stream, ChaCha8Stream, ChaChaStream, Keystream};
 pub use pcg64::Pcg64;
 pub use wyrand::WyRand;
 

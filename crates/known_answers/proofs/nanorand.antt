@@ -3,4 +3,5 @@ pub mod WyRandWords
 pub mod Cycles
 pub mod ChaChaBlocks
 pub mod ChaChaStates
+pub mod ChaChaStreams
 pub mod ShufflesByKeys

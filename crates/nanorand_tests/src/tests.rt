@@ -15,5 +15,6 @@ mod refusals;
 mod replays;
 mod runs;
 mod shuffles;
+mod streams;
 mod sweeps;
 mod texts;

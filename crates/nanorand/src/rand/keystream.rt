@@ -1,5 +1,5 @@
 //! Streams of ChaCha, which can be sought.
-ghost use Rattle.std.specs.Prelude.{◌≡◌, ℕ, ◌%◌, [], length};
+ghost use Rattle.std.specs.Prelude.{◌≡◌, ◌%◌, ◌^◌, []};
 ghost use Rattle.nanorand_replay.specs.generators.Buffered.{buffer_of};
 ghost use Rattle.nanorand.specs.generators.ChaCha.{initial_state, state_at};
 ghost use Rattle.nanorand.specs.generators.ChaChaGroups.{stream_position, stream_requests, stream_start};
@@ -20,17 +20,17 @@ pub type ChaCha12Stream = ChaChaStream<12>;
 /// The stream of ChaCha with the standard's 20 rounds.
 pub type ChaCha20Stream = ChaChaStream<20>;
 
-/// A keystream, whose bytes are numbered from 0.
+/// A stream of bytes that a key and a nonce make. The bytes are numbered from 0.
 pub trait Keystream {
     // What a new stream needs: of ChaCha an even number of rounds.
     ghost can_start: { Type 0 };
 
-    /// The stream of this key and nonce, at its byte 0. Precondition: the number of rounds is even.
+    /// The stream of this key and nonce, at its byte 0. Of a ChaCha the number of rounds is even.
     fn new_key(key: [u8; 32], nonce: [u8; 8]) -> Self
         requires { can_start };
 
-    /// The stream of this key and nonce, at the first byte of the block at this index.
-    /// Precondition: the number of rounds is even.
+    /// The stream of this key and nonce, at the first byte of the block at this index. Of a ChaCha
+    /// the number of rounds is even.
     fn at_block(key: [u8; 32], nonce: [u8; 8], index: u64) -> Self
         requires { can_start };
 
@@ -61,7 +61,8 @@ impl<const ROUNDS: u8> Keystream for BufferedRng<ChaChaGroups<ROUNDS>, 512> {
 
     /// Leaves the state that one request for `byte` bytes leaves from byte 0 on.
     fn seek(&mut self, byte: u128)
-        ensures { self.new ≡ (stream_requests ROUNDS).after (stream_start self.old) byte }
+        ensures state { self.new ≡ (stream_requests ROUNDS).after (stream_start self.old) byte }
+        ensures position { stream_position self.new ≡ byte % 2 ^ 70 }
     {
         let index = byte / 512 % (1 << 61) * 8;
         let mut stream = BufferedRng::new(self.inner().at_index(index as u64));

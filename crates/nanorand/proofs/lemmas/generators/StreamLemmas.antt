@@ -1,15 +1,18 @@
 -- Streams of ChaCha: where a seek leads, and what two streams of the same bytes deliver.
-use Rattle.std.proofs.Common.{◌≡◌, ℕ, zero, suc, ◌+◌, ◌*◌, ◌/◌, ◌%◌, ◌^◌, ◌<◌, List, [], length, drop, sum, refl, sym, ap, ◌∙◌, arith}
+use Rattle.std.proofs.Common.{◌≡◌, ℕ, zero, suc, ◌+◌, ◌-◌, ◌*◌, ◌/◌, ◌%◌, ◌^◌, ◌<◌, List, [], length, drop, sum, refl, sym, ap, ◌∙◌, arith}
 use Rattle.std.proofs.lemmas.Grind.{div_ceil_times}
 use Rattle.std.proofs.lemmas.List.{drop_at}
 use Rattle.std.specs.Fn.{iterate}
 use Rattle.std.specs.Int.{div_ceil}
-use Rattle.nanorand_core.specs.generators.Blocks.{Requests, plain_after}
+use Rattle.nanorand_core.specs.generators.Blocks.{Requests, blocks, plain_after}
+use Rattle.nanorand_core.specs.support.BlockLemmas.{length-blocks}
+use Rattle.std.proofs.Math.Nat.{sub-zero}
+use Rattle.std.proofs.lemmas.List.{length-drop}
 use Rattle.nanorand_replay.specs.generators.Buffered.{buffer_of, buffered_after}
 use Rattle.nanorand_replay.specs.support.BufferedLemmas.{after_add, after_fresh}
 use Rattle.nanorand_replay.specs.replay.Unbroken.{IsUnbroken, taken_all}
-use Rattle.nanorand.specs.generators.ChaCha.{with_counter, chacha_after}
-use Rattle.nanorand.specs.generators.ChaChaGroups.{chacha_group, next_group, DeliverAlike}
+use Rattle.nanorand.specs.generators.ChaCha.{counter, with_counter, chacha_after}
+use Rattle.nanorand.specs.generators.ChaChaGroups.{chacha_group, next_group, stream_position, DeliverAlike}
 use Rattle.nanorand.specs.support.ChaChaDrawLemmas.{with_counter-twice, counter-with_counter, chacha_steps}
 use Rattle.nanorand.specs.support.ChaChaGroupLemmas.{length-chacha_group, steps_of_groups}
 
@@ -46,6 +49,21 @@ module _ (x : List ℕ) (long : 13 < length x) where
       ap (λ b. buffered_after (chacha_group R) next_group 512 b (byte % 512)) (sym group)
       ∙ after_add (chacha_group R) next_group 512 positive size start (q * 512) (byte % 512)
       ∙ ap (buffered_after (chacha_group R) next_group 512 start) split
+
+  -- the byte after a request of n bytes is byte n
+  pub position_after : (R n : ℕ) → stream_position (buffered_after (chacha_group R) next_group 512 (buffer_of [] (with_counter x 0)) n) ≡ n % 2 ^ 70
+  unfolding buffered_after
+  position_after R n =
+      let q : ℕ = div_ceil n 512 in
+      let y = with_counter x 0 in
+      let positive : 0 < 512 = omega arith in
+      let counts : counter (iterate next_group q y) ≡ q * 8 % 2 ^ 64 =
+      ap counter (steps_of_groups q y ∙ chacha_steps (q * 8) y ∙ blocks_after_start (q * 8))
+      ∙ counter-with_counter x (q * 8 % 2 ^ 64) long in
+      let left : length (drop n (blocks (chacha_group R) next_group y q)) ≡ q * 512 - n =
+      length-drop n (blocks (chacha_group R) next_group y q)
+      ∙ ap (λ (m : ℕ). m - n) (length-blocks (chacha_group R) next_group 512 positive (length-chacha_group R) y q) in
+      rw (sub-zero, counts, left) (omega (arith, div_ceil_times n 512 positive))
 
 -- Two unbroken generators whose single requests take the same bytes deliver alike.
 module _ {G H : Type 0} (requests : Requests G) (others : Requests H) (unbroken : IsUnbroken requests) (also : IsUnbroken others)
