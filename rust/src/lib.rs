@@ -173,5 +173,7 @@ struct Readme;
 
 pub use buffer::BufferedRng;
 pub use rand::{ChaCha, ChaCha12, ChaCha20, ChaCha8, Pcg64, Rng, SeedableRng, WyRand};
-pub use rand::{ChaCha12Stream, ChaCha20Stream, ChaCha8Stream, ChaChaGroups, ChaChaStream, Keystream};
+pub use rand::{
+    ChaCha12Stream, ChaCha20Stream, ChaCha8Stream, ChaChaGroups, ChaChaStream, Keystream,
+};
 pub use values::{RandomGen, RandomRange, RangeError};

@@ -1,5 +1,5 @@
 -- Known answers: the first bytes of a stream of ChaCha20, the bytes that stay buffered, and positions.
-use Rattle.std.specs.Prelude.{◌≡◌, ℕ, List, [], ◌∷◌, ◌^◌, ◌-◌, length, replicate, refl}
+use Rattle.std.specs.Prelude.{◌≡◌, ℕ, List, [], ◌∷◌, ◌^◌, ◌-◌, replicate, refl}
 use Rattle.nanorand_replay.specs.generators.Buffered.{Buffered, buffer_of, buffered_taken, buffered_after}
 use Rattle.nanorand.specs.generators.ChaChaRounds.{quarter_round, on_columns, on_diagonals, rounds, block}
 use Rattle.nanorand.specs.generators.ChaCha.{initial_state, with_counter}
