@@ -1,15 +1,15 @@
 //! Laws of the three generators, beside those of every generator. Each contract states a law. The
 //! functions do nothing; a proof calls one to use its law.
-ghost use Rattle.std.specs.Prelude.{◌≡◌, ◌<◌, ◌≤◌, Bool, ℕ, ◌+◌, ◌*◌, ◌^◌, bit_xor, ◌≢◌, ◌%◌, ◌↔◌, List, [], slice_index};
+ghost use Rattle.std.specs.Prelude.{◌≡◌, ◌<◌, ◌≤◌, Bool, ℕ, ◌+◌, ◌*◌, ◌^◌, bit_xor, ◌≢◌, ◌%◌, ◌↔◌, List, [], length, slice_index};
 ghost use Rattle.std.specs.Fn.{iterate};
 ghost use Rattle.std.specs.Int.{w64, to_le_bytes, ◌∣◌};
 ghost use Rattle.nanorand_core.specs.generators.Cycles.{AgreeModulo, DrawsAdd, DrawsLeave, OneMoreDraw, PeriodsAreMultiplesOf, IsPeriod, Reaches, ReachesOnceBelow};
 ghost use Rattle.nanorand_core.specs.generators.Equality.{DecidesEquality};
 ghost use Rattle.nanorand_core.specs.values.Runs.{words_that};
 ghost use Rattle.nanorand_core.specs.values.Values.{number_of};
-ghost use Rattle.nanorand_replay.specs.generators.Buffered.{buffer_of};
+ghost use Rattle.nanorand_replay.specs.generators.Buffered.{Buffered, buffer_of};
 ghost use Rattle.nanorand_replay.specs.replay.Unbroken.{taken_all};
-ghost use Rattle.nanorand.specs.generators.ChaChaGroups.{DeliverAlike};
+ghost use Rattle.nanorand.specs.generators.ChaChaGroups.{DeliverAlike, stream_position, stream_requests};
 ghost use Rattle.nanorand.specs.generators.Frequencies.{SomeWordNeverComes, pcg64_word_count, pcg64_words_that, wyrand_seeds_with, wyrand_word_count};
 ghost use Rattle.nanorand.specs.generators.Halves.{folded};
 ghost use Rattle.nanorand.specs.generators.ChaCha.{counter, key_of, nonce_of, advanced, next_state, chacha_after, chacha_block, chacha_requests};
@@ -162,7 +162,8 @@ pub fn chacha_counter()
 ///
 /// Both begin in the same state, with nothing buffered. `each`: after requests of the same sizes,
 /// the next request takes the same bytes of both. `all`: so do all requests of a list, one after
-/// another.
+/// another. `positions`: a request of n bytes of a stream adds n to the number of the next byte,
+/// modulo 2^70.
 pub fn streams_deliver_chacha<const ROUNDS: u8>()
     ensures each { (x : List ℕ) →
         let stream = ⟦<BufferedRng<ChaChaGroups<ROUNDS>, 512> as Rng<512>>⟧.requests in
@@ -172,6 +173,9 @@ pub fn streams_deliver_chacha<const ROUNDS: u8>()
         let stream = ⟦<BufferedRng<ChaChaGroups<ROUNDS>, 512> as Rng<512>>⟧.requests in
         let buffer = ⟦<BufferedRng<ChaCha<ROUNDS>, 64> as Rng<64>>⟧.requests in
         taken_all stream (buffer_of [] x) sizes ≡ taken_all buffer (buffer_of [] x) sizes }
+    ensures positions { (b : Buffered (List ℕ)) (n : ℕ) → IsMatrix b.inner → length b.rest < 512
+        → stream_position ((stream_requests ROUNDS).after b n)
+        ≡ (stream_position b + n) % 2 ^ 70 }
 {
     unbroken_delivery::<ChaChaGroups<ROUNDS>, 512>();
     unbroken_delivery::<ChaCha<ROUNDS>, 64>();

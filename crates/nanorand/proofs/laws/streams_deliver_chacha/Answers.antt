@@ -4,7 +4,7 @@ use Rattle.nanorand_replay.specs.support.BufferedLemmas.{length-buffered_taken}
 use Rattle.nanorand.specs.generators.ChaCha.{chacha_block, next_state}
 use Rattle.nanorand.specs.generators.ChaChaGroups.{chacha_group, next_group, stream_requests}
 use Rattle.nanorand.specs.support.ChaChaGroupLemmas.{length-chacha_group, taken_chacha_groups}
-use Rattle.nanorand.proofs.lemmas.generators.StreamLemmas.{deliver_alike, all_alike}
+use Rattle.nanorand.proofs.lemmas.generators.StreamLemmas.{deliver_alike, all_alike, position_moves}
 use Rattle.nanorand.proofs.laws.streams_deliver_chacha.Goals as goal
 
 -- a stream's request takes as many bytes as it asks for
@@ -26,3 +26,6 @@ returns-clause-all g c = λ x.
     c.unbroken_delivery.ensures.unbroken c.unbroken_delivery-2.ensures.unbroken (buffer_of [] x) (buffer_of [] x)
     (length-stream R x)
     (λ n. c.fresh_delivery.ensures.one x n ∙ taken_chacha_groups R x n ∙ sym (c.fresh_delivery-2.ensures.one x n))
+
+pub returns-clause-positions : goal.returns-clause-positions
+returns-clause-positions g c = position_moves g.row.ROUNDS

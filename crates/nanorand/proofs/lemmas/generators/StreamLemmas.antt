@@ -1,5 +1,5 @@
 -- Streams of ChaCha: where a seek leads, and what two streams of the same bytes deliver.
-use Rattle.std.proofs.Common.{◌≡◌, ℕ, zero, suc, ◌+◌, ◌-◌, ◌*◌, ◌/◌, ◌%◌, ◌^◌, ◌<◌, List, [], length, drop, sum, refl, sym, ap, ◌∙◌, arith}
+use Rattle.std.proofs.Common.{◌≡◌, ℕ, zero, suc, ◌+◌, ◌-◌, ◌*◌, ◌/◌, ◌%◌, ◌^◌, ◌<◌, List, [], ◌++◌, length, length-append, drop, sum, refl, sym, ap, ◌∙◌, arith}
 use Rattle.std.proofs.lemmas.Grind.{div_ceil_times}
 use Rattle.std.proofs.lemmas.List.{drop_at}
 use Rattle.std.specs.Fn.{iterate}
@@ -8,12 +8,13 @@ use Rattle.nanorand_core.specs.generators.Blocks.{Requests, blocks, plain_after}
 use Rattle.nanorand_core.specs.support.BlockLemmas.{length-blocks}
 use Rattle.std.proofs.Math.Nat.{sub-zero}
 use Rattle.std.proofs.lemmas.List.{length-drop}
-use Rattle.nanorand_replay.specs.generators.Buffered.{buffer_of, buffered_after}
+use Rattle.nanorand_replay.specs.generators.Buffered.{Buffered, buffer_of, buffered_after}
 use Rattle.nanorand_replay.specs.support.BufferedLemmas.{after_add, after_fresh}
 use Rattle.nanorand_replay.specs.replay.Unbroken.{IsUnbroken, taken_all}
 use Rattle.nanorand.specs.generators.ChaCha.{counter, with_counter, chacha_after}
+use Rattle.nanorand.specs.generators.ChaChaRounds.{IsMatrix}
 use Rattle.nanorand.specs.generators.ChaChaGroups.{chacha_group, next_group, stream_position, DeliverAlike}
-use Rattle.nanorand.specs.support.ChaChaDrawLemmas.{with_counter-twice, counter-with_counter, chacha_steps}
+use Rattle.nanorand.specs.support.ChaChaDrawLemmas.{with_counter-twice, counter-with_counter, chacha_counts, chacha_steps}
 use Rattle.nanorand.specs.support.ChaChaGroupLemmas.{length-chacha_group, steps_of_groups}
 
 module _ (x : List ℕ) (long : 13 < length x) where
@@ -64,6 +65,21 @@ module _ (x : List ℕ) (long : 13 < length x) where
       length-drop n (blocks (chacha_group R) next_group y q)
       ∙ ap (λ (m : ℕ). m - n) (length-blocks (chacha_group R) next_group 512 positive (length-chacha_group R) y q) in
       rw (sub-zero, counts, left) (omega (arith, div_ceil_times n 512 positive))
+
+-- a request of n bytes moves the number of the next byte by n
+pub position_moves : (R : ℕ) (b : Buffered (List ℕ)) (n : ℕ) → IsMatrix b.inner → length b.rest < 512
+    → stream_position (buffered_after (chacha_group R) next_group 512 b n) ≡ (stream_position b + n) % 2 ^ 70
+unfolding buffered_after
+position_moves R b n matrix below =
+    let q : ℕ = div_ceil (n - length b.rest) 512 in
+    let positive : 0 < 512 = omega arith in
+    let counts : counter (iterate next_group q b.inner) ≡ (counter b.inner + q * 8) % 2 ^ 64 =
+    ap counter (steps_of_groups q b.inner ∙ chacha_steps (q * 8) b.inner) ∙ chacha_counts (q * 8) b.inner matrix in
+    let left : length (drop n (b.rest ++ blocks (chacha_group R) next_group b.inner q)) ≡ length b.rest + q * 512 - n =
+    length-drop n (b.rest ++ blocks (chacha_group R) next_group b.inner q)
+    ∙ ap (λ (m : ℕ). m - n) (length-append b.rest (blocks (chacha_group R) next_group b.inner q)
+    ∙ ap (λ (m : ℕ). length b.rest + m) (length-blocks (chacha_group R) next_group 512 positive (length-chacha_group R) b.inner q)) in
+    rw (counts, left) (omega (arith, div_ceil_times (n - length b.rest) 512 positive, below))
 
 -- Two unbroken generators whose single requests take the same bytes deliver alike.
 module _ {G H : Type 0} (requests : Requests G) (others : Requests H) (unbroken : IsUnbroken requests) (also : IsUnbroken others)
