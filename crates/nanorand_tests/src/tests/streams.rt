@@ -1,7 +1,7 @@
 //! Streams of ChaCha, compared with buffered generators and with blocks, and sought.
 ghost use Rattle.std.specs.Prelude.{◌≡◌, ◌%◌};
 
-use crate::comparing::{equal, equal_at};
+use crate::comparing::{debug_is, display_is, equal, equal_at};
 use nanorand::{
     BufferedRng, ChaCha, ChaCha8Stream, ChaCha12Stream, ChaCha20, ChaCha20Stream, ChaChaGroups,
     ChaChaStream, Keystream, Rng, SeedableRng,
@@ -104,6 +104,8 @@ fn groups(rt: HostRuntime) -> Result<(), Fail> {
         (groups.key(), groups.nonce(), groups.counter()),
         (KEY, NONCE, 5),
     );
+    display_is(&rt, &groups, "ChaCha (20 rounds, by groups)")?;
+    debug_is(&rt, &groups, "ChaChaGroups { rounds: 20, counter: 5 }")?;
     let mut expected = [0; 600];
     ChaCha20::at(KEY, NONCE, 5).fill_bytes(&mut expected);
     let mut found = [0; 600];
