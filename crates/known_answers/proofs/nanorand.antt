@@ -3,5 +3,4 @@ pub mod WyRandWords
 pub mod Cycles
 pub mod ChaChaBlocks
 pub mod ChaChaStates
-pub mod ChaChaStreams
 pub mod ShufflesByKeys

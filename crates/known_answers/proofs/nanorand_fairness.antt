@@ -1,2 +1,1 @@
-pub mod NumbersInTurn
-pub mod DealsAndSamples
+pub mod WholeDraws

@@ -1,11 +1,12 @@
--- Known answers: states of ChaCha at a counter, their key, nonce and counter, and the counter after jumps
--- and draws.
+-- Known answers: states of ChaCha at a counter, their key, nonce and counter, the counter after jumps and
+-- draws, and the first bytes of a stream.
 use Rattle.std.specs.Prelude.{◌≡◌, ℕ, ◌+◌, ◌-◌, ◌^◌, List, [], ◌∷◌, refl, ◌++◌, codes, drop, replicate}
 use Rattle.std.specs.List.{range_with_len}
-use Rattle.nanorand.specs.generators.ChaCha.{constants, initial_state, state_at, key_of, nonce_of, counter, words, next_state, chacha_block, chacha_after}
+use Rattle.nanorand.specs.generators.ChaCha.{constants, initial_state, state_at, key_of, nonce_of, counter, words, next_state, chacha_block, chacha_after, with_counter}
 use Rattle.std.proofs.Common.{ap}
-use Rattle.nanorand_replay.specs.generators.Buffered.{buffer_of, buffered_taken, buffered_after}
-use Rattle.nanorand.specs.generators.ChaChaRounds.{block}
+use Rattle.nanorand_replay.specs.generators.Buffered.{buffer_of, buffered_taken, buffered_after, Buffered}
+use Rattle.nanorand.specs.generators.ChaChaRounds.{block, quarter_round, on_columns, on_diagonals, rounds}
+use Rattle.nanorand.specs.generators.ChaChaGroups.{chacha_group, next_group, stream_position, stream_requests, stream_start}
 
 -- the ASCII text as four words
 the_constants : constants ≡ 0x61707865 ∷ 0x3320646e ∷ 0x79622d32 ∷ 0x6b206574 ∷ []
@@ -82,3 +83,30 @@ behind_the_greatest = refl
 nothing_kept : buffered_after (chacha_block 20) next_state 64 (buffer_of [] (chacha_after (2 ^ 64 - 1) of_zeros)) 128 ≡ buffer_of [] (chacha_after 1 of_zeros)
 unfolding buffered_after block initial_state
 nothing_kept = refl
+
+-- the stream of the zero key and nonce
+abbrev zeros : Buffered (List ℕ)
+zeros = buffer_of [] (initial_state (replicate 32 0) (replicate 8 0))
+
+first_bytes : (stream_requests 20).bytes zeros 8
+    ≡ 0x76 ∷ 0xb8 ∷ 0xe0 ∷ 0xad ∷ 0xa0 ∷ 0xf1 ∷ 0x3d ∷ 0x90 ∷ []
+unfolding quarter_round on_columns on_diagonals rounds block initial_state chacha_group next_group buffered_taken
+first_bytes = refl
+
+-- a group of eight blocks is drawn, and five bytes of it are gone
+group_drawn : ((stream_requests 20).after zeros 5).inner ≡ with_counter (zeros.inner) 8
+unfolding quarter_round on_columns on_diagonals rounds block initial_state chacha_group next_group buffered_after
+group_drawn = refl
+
+fifth : stream_position ((stream_requests 20).after zeros 5) ≡ 5
+unfolding quarter_round on_columns on_diagonals rounds block initial_state chacha_group next_group buffered_after
+fifth = refl
+
+-- a buffered byte before counter 0 is the last byte of the stream
+last : stream_position (buffer_of (7 ∷ []) (with_counter zeros.inner 0)) ≡ 2 ^ 70 - 1
+unfolding initial_state
+last = refl
+
+start : stream_start (buffer_of (7 ∷ []) (with_counter zeros.inner 3)) ≡ zeros
+unfolding initial_state
+start = refl
