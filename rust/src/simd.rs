@@ -772,6 +772,14 @@ mod tests {
         });
     }
 
+    // Without std nothing asks the processor, so the target alone gives leave.
+    #[cfg(not(feature = "std"))]
+    #[test]
+    fn leave_of_the_target_alone() {
+        let target = cfg!(target_feature = "avx2");
+        assert_eq!(EightLanes::find().is_some(), target);
+    }
+
     #[test]
     fn plain_eight_are_those_of_each_lane() {
         for_eight(|a, b| {
