@@ -27,6 +27,10 @@ HOLDS(stream_size, sizeof(nanorand_stream) == 120);
 HOLDS(stream_chacha, offsetof(nanorand_stream, chacha) == 0);
 HOLDS(stream_block, offsetof(nanorand_stream, block) == 48);
 HOLDS(stream_buffered, offsetof(nanorand_stream, buffered) == 112);
+HOLDS(keystream_size, sizeof(nanorand_keystream) == 568);
+HOLDS(keystream_chacha, offsetof(nanorand_keystream, chacha) == 0);
+HOLDS(keystream_group, offsetof(nanorand_keystream, group) == 48);
+HOLDS(keystream_buffered, offsetof(nanorand_keystream, buffered) == 560);
 HOLDS(size_t_size, sizeof(size_t) == 8);
 
 static const uint64_t GUARD = 0x5a5a5a5a5a5a5a5a;

@@ -134,4 +134,25 @@ static int same_stream(const nanorand_stream *one, const nanorand_stream *other)
                   (size_t)one->buffered) == 0;
 }
 
+static nanorand_keystream keystream_of(const uint8_t *from, size_t length)
+{
+    nanorand_keystream state;
+    memset(&state, GUARD, sizeof state);
+    state.chacha = chacha_of(from, length);
+    state.buffered = length - 48;
+    memcpy(state.group + 512 - (length - 48), from + 48, length - 48);
+    return state;
+}
+
+/* The same next bytes: whole blocks that one has buffered, the counter of the other has before it. */
+static int same_keystream(const nanorand_keystream *one, const nanorand_keystream *other)
+{
+    nanorand_chacha mine = one->chacha, its = other->chacha;
+    mine.counter -= one->buffered / 64;
+    its.counter -= other->buffered / 64;
+    return same_chacha(&mine, &its) && one->buffered % 64 == other->buffered % 64
+        && memcmp(one->group + 512 - one->buffered, other->group + 512 - other->buffered,
+                  (size_t)(one->buffered % 64)) == 0;
+}
+
 #endif

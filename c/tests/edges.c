@@ -188,6 +188,7 @@ TESTS(chacha8, nanorand_chacha)
 TESTS(chacha12, nanorand_chacha)
 TESTS(chacha20, nanorand_chacha)
 TESTS(stream, nanorand_stream)
+TESTS(keystream, nanorand_keystream)
 
 static const uint8_t *text_of(const char *text)
 {
@@ -235,10 +236,27 @@ static void draws(void)
     check("lots", "each once", is_permutation(places, 3));
 }
 
+/* Requests of all sizes, up to more than two groups: a keystream delivers what the stream does. */
+static void one_keystream(nanorand_stream stream, nanorand_keystream keystream)
+{
+    uint8_t some[1100], same[1100];
+    int holds = 1;
+    keystream.chacha = stream.chacha;
+    for (size_t length = 0; length < sizeof some; length++) {
+        nanorand_stream_fill_bytes(&stream, some, length);
+        nanorand_keystream_fill_bytes(&keystream, same, length);
+        holds = holds && memcmp(some, same, length) == 0 && keystream.buffered < 512;
+    }
+    check("keystream", "the stream's bytes", holds);
+}
+
 int main(void)
 {
     nanorand_pcg64 pcg64 = {5, 1};
     nanorand_stream stream;
+    nanorand_keystream keystream;
+    memset(&keystream, 0x5a, sizeof keystream);
+    keystream.buffered = 0;
     memset(&stream, 0x5a, sizeof stream);
     stream.chacha.counter = 3;
     stream.buffered = 0;
@@ -249,6 +267,8 @@ int main(void)
     all_chacha12(stream.chacha);
     all_chacha20(stream.chacha);
     all_stream(stream);
+    all_keystream(keystream);
+    one_keystream(stream, keystream);
     digests();
     lists();
     draws();

@@ -78,6 +78,7 @@ TESTS(chacha8, nanorand_chacha)
 TESTS(chacha12, nanorand_chacha)
 TESTS(chacha20, nanorand_chacha)
 TESTS(stream, nanorand_stream)
+TESTS(keystream, nanorand_keystream)
 
 /* A list, a seed and a digest at the edge, and draws of as many as a size_t can say. */
 static void lots(int at_end)
@@ -106,29 +107,36 @@ static void lots(int at_end)
     check("lots: places", holds);
 }
 
-/* A number of buffered bytes that no call leaves counts as 63. */
-static void too_many_buffered(void)
-{
-    nanorand_stream stream, other;
-    uint8_t some[100], same[100];
-    memset(&stream, 0x5a, sizeof stream);
-    other = stream;
-    stream.buffered = UINT64_MAX;
-    other.buffered = 63;
-    nanorand_stream_fill_bytes(&stream, some, sizeof some);
-    nanorand_stream_fill_bytes(&other, same, sizeof same);
-    check("stream: too many buffered", memcmp(some, same, sizeof some) == 0);
-}
+/* A number of buffered bytes that no call leaves counts as the greatest that one leaves. */
+#define TOO_MANY_BUFFERED(G, MOST)                                                                 \
+    static void too_many_buffered_##G(uint64_t buffered)                                           \
+    {                                                                                              \
+        nanorand_##G state, other;                                                                 \
+        uint8_t some[600], same[600];                                                              \
+        memset(&state, 0x5a, sizeof state);                                                        \
+        other = state;                                                                             \
+        state.buffered = buffered;                                                                 \
+        other.buffered = MOST;                                                                     \
+        nanorand_##G##_fill_bytes(&state, some, sizeof some);                                      \
+        nanorand_##G##_fill_bytes(&other, same, sizeof same);                                      \
+        check(#G ": too many buffered", memcmp(some, same, sizeof some) == 0);                     \
+    }
+
+TOO_MANY_BUFFERED(stream, 63)
+TOO_MANY_BUFFERED(keystream, 511)
 
 int main(void)
 {
     nanorand_pcg64 pcg64 = {5, 1};
     nanorand_stream stream;
+    nanorand_keystream keystream;
     uint8_t *pages =
         (uint8_t *)mmap(NULL, (size_t)3 * PAGE, PROT_NONE, MAP_PRIVATE | MAP_ANONYMOUS, -1, 0);
     int at_end;
     memset(&stream, 0x5a, sizeof stream);
     stream.buffered = 0;
+    memset(&keystream, 0x5a, sizeof keystream);
+    keystream.buffered = 0;
     page = pages + PAGE;
     if (pages == (uint8_t *)MAP_FAILED || mprotect(page, PAGE, PROT_READ | PROT_WRITE) != 0) {
         puts("no pages\n0 passed, 1 failed");
@@ -141,9 +149,13 @@ int main(void)
         arrays_chacha12(stream.chacha, at_end);
         arrays_chacha20(stream.chacha, at_end);
         arrays_stream(stream, at_end);
+        arrays_keystream(keystream, at_end);
         lots(at_end);
     }
-    too_many_buffered();
+    too_many_buffered_stream(64);
+    too_many_buffered_stream(UINT64_MAX);
+    too_many_buffered_keystream(512);
+    too_many_buffered_keystream(UINT64_MAX);
     printf("%u passed, %u failed\n", passed, failed);
     return failed == 0 ? 0 : 1;
 }

@@ -28,8 +28,8 @@ class ChaChaState(ctypes.Structure):
     _fields_ = [("key", c_uint8 * 32), ("nonce", c_uint8 * 8), ("counter", c_uint64)]
 
 
-class StreamState(ctypes.Structure):
-    _fields_ = [("chacha", ChaChaState), ("block", c_uint8 * 64), ("buffered", c_uint64)]
+class KeystreamState(ctypes.Structure):
+    _fields_ = [("chacha", ChaChaState), ("group", c_uint8 * 512), ("buffered", c_uint64)]
 
 
 Function = Callable[..., Any]
@@ -106,7 +106,7 @@ PCG64 = Calls("pcg64", Pcg64State)
 CHACHA8 = Calls("chacha8", ChaChaState)
 CHACHA12 = Calls("chacha12", ChaChaState)
 CHACHA20 = Calls("chacha20", ChaChaState)
-STREAM = Calls("stream", StreamState)
+KEYSTREAM = Calls("keystream", KeystreamState)
 
 wyrand_jump = function("wyrand_jump", None, POINTER(WyRandState), c_uint64)
 pcg64_jump = function("pcg64_jump", None, POINTER(Pcg64State), POINTER(Pcg64State))

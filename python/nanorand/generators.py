@@ -477,8 +477,8 @@ class Stream(_Keyed):
     True
     """
 
-    _calls = _library.STREAM
-    _structure = _library.StreamState
+    _calls = _library.KEYSTREAM
+    _structure = _library.KeystreamState
 
     def __init__(
         self, key: Buffer, nonce: Buffer = bytes(8), counter: SupportsIndex = 0, rest: Buffer = b""
@@ -502,14 +502,14 @@ class Stream(_Keyed):
         if not 48 <= len(given) < 48 + 64:
             raise WrongLength(f"state has {len(given)} bytes, not 48 to 111")
         rest = given[48:]
-        block = bytes(64 - len(rest)) + rest
-        self._c = _library.StreamState.from_buffer_copy(
-            given[:48] + block + len(rest).to_bytes(8, "little")
+        group = bytes(512 - len(rest)) + rest
+        self._c = _library.KeystreamState.from_buffer_copy(
+            given[:48] + group + len(rest).to_bytes(8, "little")
         )
 
     @property
     def _chacha(self) -> Any:
-        return self._c.chacha
+        return _library.ChaChaState.from_buffer_copy(self._parts()[0])
 
     @property
     def rest(self) -> Octets:
@@ -523,10 +523,16 @@ class Stream(_Keyed):
         return self._parts()[1]
 
     def _parts(self) -> "tuple[Octets, Octets]":
-        """Key, nonce and counter, and the buffered bytes: of one moment, also if threads draw."""
+        """Key, nonce and counter, and the bytes left of one block: of one moment, also if threads draw.
+
+        The library computes eight blocks at once. A whole block that it holds is one not yet drawn.
+        """
         whole = bytes(self._c)
-        generator, block, buffered = whole[:48], whole[48:112], int.from_bytes(whole[112:], "little")
-        return generator, block[64 - buffered :]
+        named, counter, buffered = whole[:40], whole[40:48], int.from_bytes(whole[560:], "little")
+        blocks, begun = divmod(buffered, 64)
+        first = (int.from_bytes(counter, "little") - blocks) % 2**64
+        rest = whole[560 - buffered :][:begun]
+        return named + first.to_bytes(8, "little"), rest
 
     def __repr__(self) -> str:
         """It shows no key and no byte."""

@@ -196,11 +196,26 @@ class States(unittest.TestCase):
             self.assertEqual(WyRand.from_state(other), WyRand.from_state(nonce))
 
     def test_a_stream_with_too_many_buffered_bytes(self):
-        """No state that can be set has them; the library reads more than 63 as 63."""
-        rng = Stream(KEY, rest=bytes(range(63)))
+        """No state that can be set has them; the library reads more than 511 as 511."""
+        rng = Stream(KEY)
+        rng._c.group[1:9] = list(range(8))
         rng._c.buffered = LAST
         self.assertEqual(rng._calls.u64(rng._c), int.from_bytes(bytes(range(8)), "little"))
-        self.assertEqual(rng._c.buffered, 55)
+        self.assertEqual(rng._c.buffered, 503)
+
+    def test_the_state_of_a_stream(self):
+        """After any number of bytes it is that of blocks drawn one by one, and goes on with the same bytes."""
+        whole = Stream(KEY, NONCE, LAST - 3).bytes(1200)
+        blocks = [ChaCha20(KEY, NONCE, counter % 2**64).block() for counter in range(LAST - 3, LAST + 17)]
+        self.assertEqual(whole, b"".join(blocks)[:1200])
+        for taken in range(1000):
+            rng = Stream(KEY, NONCE, LAST - 3)
+            rng.bytes(taken)
+            drawn = -(-taken // 64)
+            self.assertEqual(rng.counter, (LAST - 3 + drawn) % 2**64)
+            self.assertEqual(rng.rest, whole[taken : drawn * 64])
+            self.assertEqual(rng.copy().bytes(200), whole[taken : taken + 200])
+            self.assertEqual(rng.bytes(200), whole[taken : taken + 200])
 
     def test_subclasses(self):
         class Own(WyRand):

@@ -68,7 +68,7 @@ class Loading(unittest.TestCase):
 
     def test_no_number_is_cut(self):
         """ctypes would cut a number to its bits: all that crosses has its own type."""
-        for calls in (_library.WYRAND, _library.PCG64, _library.CHACHA8, _library.STREAM):
+        for calls in (_library.WYRAND, _library.PCG64, _library.CHACHA8, _library.KEYSTREAM):
             for call in vars(calls).values():
                 self.assertIsNotNone(call.argtypes)
 

@@ -9,7 +9,7 @@ ghost use Rattle.nanorand_core.specs.values.Runs.{words_that};
 ghost use Rattle.nanorand_core.specs.values.Values.{number_of};
 ghost use Rattle.nanorand_replay.specs.generators.Buffered.{Buffered, buffer_of};
 ghost use Rattle.nanorand_replay.specs.replay.Unbroken.{taken_all};
-ghost use Rattle.nanorand.specs.generators.ChaChaGroups.{DeliverAlike, stream_position, stream_requests};
+ghost use Rattle.nanorand.specs.generators.ChaChaGroups.{DeliverAlike, chacha_group, group_requests, next_group, stream_position, stream_requests};
 ghost use Rattle.nanorand.specs.generators.Frequencies.{SomeWordNeverComes, pcg64_word_count, pcg64_words_that, wyrand_seeds_with, wyrand_word_count};
 ghost use Rattle.nanorand.specs.generators.Halves.{folded};
 ghost use Rattle.nanorand.specs.generators.ChaCha.{counter, key_of, nonce_of, advanced, next_state, chacha_after, chacha_block, chacha_requests};
@@ -33,8 +33,9 @@ pub use nanorand_fairness::laws::{
 use nanorand_replay::buffer::BufferedRng;
 pub use nanorand_replay::laws::{equal_buffers, fresh_delivery, replays_join, unbroken_delivery};
 
-/// The three generators implement the traits by the definitions that the laws below speak of: their
-/// blocks, the states that draws leave, and their requests.
+/// The generators implement the traits by the definitions that the laws below speak of: their
+/// blocks, the states that draws leave, and their requests. `ChaChaGroups` draws ChaCha's blocks by
+/// groups of eight.
 pub fn generators_as_defined<const ROUNDS: u8>()
     ensures wyrand_blocks { ⟦<WyRand as Blocks<8>>⟧.block ≡ wyrand.wyrand_block }
     ensures wyrand_steps { ⟦<WyRand as Blocks<8>>⟧.step ≡ wyrand.next_seed }
@@ -45,6 +46,9 @@ pub fn generators_as_defined<const ROUNDS: u8>()
     ensures chacha_blocks { ⟦<ChaCha<ROUNDS> as Blocks<64>>⟧.block ≡ chacha_block ROUNDS }
     ensures chacha_steps { ⟦<ChaCha<ROUNDS> as Blocks<64>>⟧.step ≡ next_state }
     ensures chacha_requests { ⟦<ChaCha<ROUNDS> as Rng<64>>⟧.requests ≡ chacha_requests ROUNDS }
+    ensures groups_blocks { ⟦<ChaChaGroups<ROUNDS> as Blocks<512>>⟧.block ≡ chacha_group ROUNDS }
+    ensures groups_steps { ⟦<ChaChaGroups<ROUNDS> as Blocks<512>>⟧.step ≡ next_group }
+    ensures groups_requests { ⟦<ChaChaGroups<ROUNDS> as Rng<512>>⟧.requests ≡ group_requests ROUNDS }
 {}
 
 /// `==` of two generators is true exactly if their states are equal.
@@ -52,6 +56,7 @@ pub fn equal_generators<const ROUNDS: u8>()
     ensures wyrand { DecidesEquality ⟦<WyRand as PartialEq>⟧.eq }
     ensures pcg64 { DecidesEquality ⟦<Pcg64 as PartialEq>⟧.eq }
     ensures chacha { DecidesEquality ⟦<ChaCha<ROUNDS> as PartialEq>⟧.eq }
+    ensures groups { DecidesEquality ⟦<ChaChaGroups<ROUNDS> as PartialEq>⟧.eq }
 {}
 
 /// ChaCha's rounds are injective on matrices, for every even number of rounds.

@@ -11,6 +11,7 @@ pub mod chacha;
 pub mod chacha12;
 pub mod chacha20;
 pub mod chacha8;
+pub mod keystream;
 pub mod lots;
 pub mod pcg64;
 mod status;

@@ -1,7 +1,9 @@
 //! The crate and the proved static library give the same results, and leave the same states, on calls
 //! that a seed chooses: `tests/against_c`. No seed is known that has 128 rejected words in a row.
 
-use nanorand_proved::{self as proved, BufferedRng, ChaCha20, Pcg64, RangeError, Rng};
+use nanorand_proved::{
+    self as proved, BufferedRng, ChaCha20, ChaCha20Stream, ChaChaGroups, Pcg64, RangeError, Rng,
+};
 
 // The states, and below the functions, are those of `include/nanorand.h`: see `tests/declarations`.
 
@@ -38,6 +40,21 @@ pub struct Stream {
 impl PartialEq for Stream {
     fn eq(&self, other: &Self) -> bool {
         let rest = |stream: &Self| stream.block[64 - stream.buffered as usize..].to_vec();
+        self.chacha == other.chacha && rest(self) == rest(other)
+    }
+}
+
+#[derive(Debug)]
+#[repr(C)]
+pub struct GroupStream {
+    chacha: ChaChaState,
+    group: [u8; 512],
+    buffered: u64,
+}
+
+impl PartialEq for GroupStream {
+    fn eq(&self, other: &Self) -> bool {
+        let rest = |stream: &Self| stream.group[512 - stream.buffered as usize..].to_vec();
         self.chacha == other.chacha && rest(self) == rest(other)
     }
 }
@@ -226,6 +243,38 @@ fn stream() {
         Stream,
         |chooser| BufferedRng::new(chacha(chooser)),
         stream_state,
+        |_, _, _| ()
+    );
+}
+
+fn keystream_state(rng: &ChaCha20Stream) -> GroupStream {
+    let inner = rng.inner();
+    let mut group = [0; 512];
+    group[512 - rng.buffered()..].copy_from_slice(rng.rest());
+    GroupStream {
+        chacha: ChaChaState {
+            key: inner.key(),
+            nonce: inner.nonce(),
+            counter: inner.counter(),
+        },
+        group,
+        buffered: rng.buffered() as u64,
+    }
+}
+
+/// Half of them begin near a carry or the end of the counter.
+fn groups(chooser: &mut Chooser) -> ChaChaGroups<20> {
+    let rng = chacha(chooser);
+    ChaChaGroups::at(rng.key(), rng.nonce(), rng.counter())
+}
+
+#[test]
+fn keystream() {
+    compare!(
+        "keystream",
+        GroupStream,
+        |chooser| BufferedRng::new(groups(chooser)),
+        keystream_state,
         |_, _, _| ()
     );
 }

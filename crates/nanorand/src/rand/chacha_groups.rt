@@ -41,7 +41,8 @@ impl<const ROUNDS: u8> ChaChaGroups<ROUNDS> {
     /// A generator with this key and nonce and the counter 0. Precondition: `ROUNDS` is even.
     pub fn new_key(key: [u8; 32], nonce: [u8; 8]) -> Self
         requires { ROUNDS % 2 ≡ 0 }
-        ensures { result ≡ initial_state key nonce }
+        ensures state { result ≡ initial_state key nonce }
+        ensures matrix { IsMatrix result }
     {
         ChaChaGroups {
             chacha: ChaCha::new_key(key, nonce),
@@ -56,6 +57,7 @@ impl<const ROUNDS: u8> ChaChaGroups<ROUNDS> {
     pub fn at(key: [u8; 32], nonce: [u8; 8], index: u64) -> Self
         requires { ROUNDS % 2 ≡ 0 }
         ensures state { result ≡ state_at key nonce index }
+        ensures matrix { IsMatrix result }
         ensures key { key_of result ≡ key }
         ensures nonce { nonce_of result ≡ nonce }
         ensures counter { counter result ≡ index }

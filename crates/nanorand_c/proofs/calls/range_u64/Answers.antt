@@ -1,4 +1,4 @@
-use Rattle.nanorand_c.proofs.lemmas.BetweenLemmas.{drawn_within}
+use Rattle.nanorand_c.proofs.lemmas.{drawn_within}
 use Rattle.nanorand_c.proofs.calls.range_u64.Goals as goal
 
 pub returns-clause-within : goal.returns-clause-within

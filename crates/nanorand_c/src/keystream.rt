@@ -1,0 +1,254 @@
+//! The key stream of ChaCha with 20 rounds without a gap, which computes eight blocks at once.
+//!
+//! The law `nanorand::laws::streams_deliver_chacha` says that it delivers what `Stream` delivers.
+ghost use Rattle.std.specs.Prelude.{◌≡◌, ◌≢◌, ◌<◌, ◌≤◌, ◌≤ℤ◌, All, IsPermutation, length};
+ghost use Rattle.std.specs.List.{AllPairs};
+ghost use Rattle.nanorand_core.specs.shuffles.Shuffles.{from_all, from_itself, shuffled};
+ghost use Rattle.nanorand_core.specs.values.Values.{number_of};
+ghost use Rattle.nanorand_c.specs.Between.{between, between_signed};
+ghost use Rattle.nanorand_c.specs.ChaChaStates.{groups_at, by_groups};
+ghost use Rattle.nanorand_c.specs.Sampling.{sampling};
+ghost use Rattle.nanorand_c.specs.Status.{drawn_or, status};
+
+use crate::calls::{range_i64, range_u32, range_u64, range_usize, sample, shuffle, shuffle_full};
+use crate::chacha::ChaChaState;
+use nanorand::{BufferedRng, ChaCha20Stream, ChaChaGroups, Rng};
+
+/// A stream that computes eight blocks at once: its generator, and a group of blocks whose last
+/// `buffered` bytes are delivered first; the bytes before them mean nothing. At most 511 bytes are
+/// buffered; a greater number counts as 511, and no call leaves one. With 0, the stream begins at
+/// the generator's next block.
+#[derive(Clone, Copy)]
+#[repr(C)]
+pub struct GroupStream {
+    pub chacha: ChaChaState,
+    pub group: [u8; 512],
+    pub buffered: u64,
+}
+
+fn loaded(stream: &GroupStream) -> ChaCha20Stream
+    ensures { result ≡ groups_at stream.now }
+{
+    let chacha = &stream.chacha;
+    let rng = ChaChaGroups::at(chacha.key, chacha.nonce, chacha.counter);
+    let buffered = 511.min(stream.buffered) as usize;
+    let group = &stream.group[..];
+    BufferedRng::with_rest(rng, &group[512 - buffered..]).unwrap()
+}
+
+fn store(stream: &mut GroupStream, rng: &ChaCha20Stream)
+    ensures state { groups_at stream.new ≡ rng.now }
+    ensures buffered { stream.new.buffered < 512 }
+{
+    let rest = rng.rest();
+    let group = &mut stream.group[..];
+    group[512 - rest.len()..].copy_from_slice(rest);
+    stream.buffered = rest.len() as u64;
+    let rng = rng.inner();
+    stream.chacha = ChaChaState {
+        key: rng.key(),
+        nonce: rng.nonce(),
+        counter: rng.counter(),
+    };
+}
+
+/// Draws a number of 64 bits: the next 8 bytes, least byte first.
+#[unsafe(no_mangle)]
+pub extern "C" fn nanorand_v1_keystream_u64(stream: &mut GroupStream) -> u64
+    ensures value { result ≡ number_of (by_groups.bytes (groups_at stream.old) 8) }
+    ensures state { groups_at stream.new ≡ by_groups.after (groups_at stream.old) 8 }
+    ensures buffered { stream.new.buffered < 512 }
+{
+    let mut rng = loaded(stream);
+    let value = rng.generate();
+    store(stream, &rng);
+    value
+}
+
+/// Fills the slice with the next bytes, by one request.
+#[unsafe(no_mangle)]
+pub extern "C" fn nanorand_v1_keystream_fill_bytes(stream: &mut GroupStream, buffer: &mut [u8])
+    ensures bytes { buffer.new ≡ by_groups.bytes (groups_at stream.old) (length buffer.old) }
+    ensures state { let start = groups_at stream.old in
+        groups_at stream.new ≡ by_groups.after start (length buffer.old) }
+    ensures buffered { stream.new.buffered < 512 }
+{
+    let mut rng = loaded(stream);
+    rng.fill_bytes(buffer);
+    store(stream, &rng);
+}
+
+/// Draws a number from `first..=last`, by words of 32 bits, and returns a status: 0 if `number` was
+/// written, 1 if the range is empty, 2 if 128 words in a row were rejected. After 1 and 2 `number`
+/// is unchanged. After 1 nothing was drawn; after 2 the words stay drawn.
+#[unsafe(no_mangle)]
+pub extern "C" fn nanorand_v1_keystream_range_u32(
+    stream: &mut GroupStream,
+    first: u32,
+    last: u32,
+    number: &mut u32,
+) -> u8
+    ensures status { let draw = between by_groups 32 first last (groups_at stream.old) in
+        result ≡ status draw.0 }
+    ensures number { let draw = between by_groups 32 first last (groups_at stream.old) in
+        number.new ≡ drawn_or number.old draw.0 }
+    ensures within { result ≡ 0 → (first ≤ number.new) × (number.new ≤ last) }
+    ensures state { let draw = between by_groups 32 first last (groups_at stream.old) in
+        groups_at stream.new ≡ draw.1 }
+    ensures buffered { stream.new.buffered < 512 }
+{
+    let mut rng = loaded(stream);
+    let status = range_u32(&mut rng, first, last, number);
+    store(stream, &rng);
+    status
+}
+
+/// Draws a number from `first..=last`, by words of 64 bits. The status is that of a range of `u32`.
+#[unsafe(no_mangle)]
+pub extern "C" fn nanorand_v1_keystream_range_u64(
+    stream: &mut GroupStream,
+    first: u64,
+    last: u64,
+    number: &mut u64,
+) -> u8
+    ensures status { let draw = between by_groups 64 first last (groups_at stream.old) in
+        result ≡ status draw.0 }
+    ensures number { let draw = between by_groups 64 first last (groups_at stream.old) in
+        number.new ≡ drawn_or number.old draw.0 }
+    ensures within { result ≡ 0 → (first ≤ number.new) × (number.new ≤ last) }
+    ensures state { let draw = between by_groups 64 first last (groups_at stream.old) in
+        groups_at stream.new ≡ draw.1 }
+    ensures buffered { stream.new.buffered < 512 }
+{
+    let mut rng = loaded(stream);
+    let status = range_u64(&mut rng, first, last, number);
+    store(stream, &rng);
+    status
+}
+
+/// Draws a signed number from `first..=last`, by words of 64 bits. The status is that of a range of
+/// `u32`.
+#[unsafe(no_mangle)]
+pub extern "C" fn nanorand_v1_keystream_range_i64(
+    stream: &mut GroupStream,
+    first: i64,
+    last: i64,
+    number: &mut i64,
+) -> u8
+    ensures status { let start = groups_at stream.old in
+        let draw = between_signed by_groups 64 first last start in
+        result ≡ status draw.0 }
+    ensures number { let start = groups_at stream.old in
+        let draw = between_signed by_groups 64 first last start in
+        number.new ≡ drawn_or number.old draw.0 }
+    ensures within { result ≡ 0 → (first ≤ℤ number.new) × (number.new ≤ℤ last) }
+    ensures state { let start = groups_at stream.old in
+        let draw = between_signed by_groups 64 first last start in
+        groups_at stream.new ≡ draw.1 }
+    ensures buffered { stream.new.buffered < 512 }
+{
+    let mut rng = loaded(stream);
+    let status = range_i64(&mut rng, first, last, number);
+    store(stream, &rng);
+    status
+}
+
+/// Draws an index or a length from `first..=last`, by words of 64 bits. The status is that of a
+/// range of `u32`.
+#[unsafe(no_mangle)]
+pub extern "C" fn nanorand_v1_keystream_range_usize(
+    stream: &mut GroupStream,
+    first: usize,
+    last: usize,
+    number: &mut usize,
+) -> u8
+    ensures status { let draw = between by_groups 64 first last (groups_at stream.old) in
+        result ≡ status draw.0 }
+    ensures number { let draw = between by_groups 64 first last (groups_at stream.old) in
+        number.new ≡ drawn_or number.old draw.0 }
+    ensures within { result ≡ 0 → (first ≤ number.new) × (number.new ≤ last) }
+    ensures state { let draw = between by_groups 64 first last (groups_at stream.old) in
+        groups_at stream.new ≡ draw.1 }
+    ensures buffered { stream.new.buffered < 512 }
+{
+    let mut rng = loaded(stream);
+    let status = range_usize(&mut rng, first, last, number);
+    store(stream, &rng);
+    status
+}
+
+/// Shuffles the items: each, from the first on, is exchanged with one drawn from it and those after
+/// it. It returns 0, or 2 if 128 words in a row were rejected for one index; the exchanges before
+/// that stay.
+#[unsafe(no_mangle)]
+pub extern "C" fn nanorand_v1_keystream_shuffle(stream: &mut GroupStream, items: &mut [usize]) -> u8
+    ensures status { let start = groups_at stream.old in
+        let shuffle = shuffled by_groups from_itself start items.old in
+        result ≡ status shuffle.answer }
+    ensures items { let start = groups_at stream.old in
+        let shuffle = shuffled by_groups from_itself start items.old in
+        items.new ≡ shuffle.items }
+    ensures state { let start = groups_at stream.old in
+        let shuffle = shuffled by_groups from_itself start items.old in
+        groups_at stream.new ≡ shuffle.state }
+    ensures arrangement { IsPermutation items.old items.new }
+    ensures buffered { stream.new.buffered < 512 }
+{
+    let mut rng = loaded(stream);
+    let status = shuffle(&mut rng, items);
+    store(stream, &rng);
+    status
+}
+
+/// Shuffles the items as the crate nanorand 0.7.0 did: each is exchanged with one drawn from all,
+/// and the orders are not equally frequent. The status is that of `shuffle`.
+#[unsafe(no_mangle)]
+pub extern "C" fn nanorand_v1_keystream_shuffle_full(
+    stream: &mut GroupStream,
+    items: &mut [usize],
+) -> u8
+    ensures status { let start = groups_at stream.old in
+        let shuffle = shuffled by_groups from_all start items.old in
+        result ≡ status shuffle.answer }
+    ensures items { let start = groups_at stream.old in
+        let shuffle = shuffled by_groups from_all start items.old in
+        items.new ≡ shuffle.items }
+    ensures state { let start = groups_at stream.old in
+        let shuffle = shuffled by_groups from_all start items.old in
+        groups_at stream.new ≡ shuffle.state }
+    ensures arrangement { IsPermutation items.old items.new }
+    ensures buffered { stream.new.buffered < 512 }
+{
+    let mut rng = loaded(stream);
+    let status = shuffle_full(&mut rng, items);
+    store(stream, &rng);
+    status
+}
+
+/// Samples different numbers below `count`, one for each place, by Floyd's algorithm; each set of
+/// them has equally many words, their order is not uniform. It returns 0, or 1 if there are more
+/// places than numbers (nothing is drawn or written), or 2 if 128 words in a row were rejected for
+/// one place; the places before it are then written, and the draws stay.
+#[unsafe(no_mangle)]
+pub extern "C" fn nanorand_v1_keystream_sample(
+    stream: &mut GroupStream,
+    count: usize,
+    places: &mut [usize],
+) -> u8
+    ensures status { let start = groups_at stream.old in
+        let sampling = sampling by_groups count start places.old in
+        result ≡ sampling.status }
+    ensures places { let start = groups_at stream.old in
+        let sampling = sampling by_groups count start places.old in
+        places.new ≡ sampling.places }
+    ensures state { let sample = sampling by_groups count (groups_at stream.old) places.old in
+        groups_at stream.new ≡ sample.state }
+    ensures below { result ≡ 0 → All (λ number. number < count) places.new }
+    ensures apart { result ≡ 0 → AllPairs (λ number other. number ≢ other) places.new }
+    ensures buffered { stream.new.buffered < 512 }
+{
+    let mut rng = loaded(stream);
+    let status = sample(&mut rng, count, places);
+    store(stream, &rng);
+    status
+}
