@@ -1,12 +1,31 @@
 //! Streams of ChaCha deliver what buffered generators deliver, and can be sought.
 
 use nanorand_proved::{
-    BufferedRng, ChaCha, ChaCha20Stream, ChaCha8Stream, ChaChaStream, Keystream, Rng,
+    BufferedRng, ChaCha, ChaCha12Stream, ChaCha20Stream, ChaCha8Stream, ChaChaStream, Keystream, Rng,
 };
 
 const KEY: [u8; 32] = [1; 32];
 
 const NONCE: [u8; 8] = [2; 8];
+
+#[test]
+fn streams_of_seeds() {
+    let mut seed = [1; 40];
+    seed[32..].copy_from_slice(&NONCE);
+    let stream = ChaCha20Stream::from_seed(seed);
+    assert_eq!(stream, ChaCha20Stream::new_key(KEY, NONCE));
+    assert_eq!(stream.position(), 0);
+}
+
+#[cfg(unix)]
+#[test]
+fn streams_from_the_system() {
+    let made = || ChaCha12Stream::from_entropy().expect("entropy");
+    let (one, other) = (made(), made());
+    assert_ne!(one.inner().key(), other.inner().key());
+    assert_ne!(one.inner().nonce(), other.inner().nonce());
+    assert_eq!((one.position(), other.position()), (0, 0));
+}
 
 fn deliver_alike<const ROUNDS: u8>(index: u64) {
     let mut stream = ChaChaStream::<ROUNDS>::at_block(KEY, NONCE, index);

@@ -1,7 +1,7 @@
 //! Seeds as bytes, and seeds from the operating system. The latter are not proved: what the system
 //! gives is its own.
 
-use crate::rand::{ChaCha, Pcg64, WyRand};
+use crate::rand::{ChaCha, ChaChaStream, Keystream, Pcg64, WyRand};
 
 #[cfg(feature = "std")]
 use crate::entropy::EntropyError;
@@ -66,6 +66,28 @@ impl<const ROUNDS: u8> ChaCha<ROUNDS> {
     #[cfg(feature = "std")]
     pub fn from_entropy() -> Result<Self, EntropyError> {
         Self::new(&mut system_source()?)
+    }
+}
+
+impl<const ROUNDS: u8> ChaChaStream<ROUNDS> {
+    /// The stream with the first 32 of these bytes as its key and the other 8 as its nonce, at its
+    /// byte 0. `ROUNDS` is even: another number does not compile.
+    #[must_use]
+    pub fn from_seed(seed: [u8; 40]) -> Self {
+        Self::new_key(part(&seed, 0), part(&seed, 32))
+    }
+
+    /// A stream whose key and nonce are the operating system's next 40 random bytes.
+    ///
+    /// The bytes are not proved to be random. They are those of `/dev/urandom`, on Unix alone.
+    ///
+    /// # Errors
+    ///
+    /// `Unavailable` if the system has no such source; `Short` or `Fault` if it gave too few bytes.
+    #[cfg(feature = "std")]
+    pub fn from_entropy() -> Result<Self, EntropyError> {
+        let rng = ChaCha::<ROUNDS>::from_entropy()?;
+        Ok(Self::new_key(rng.key(), rng.nonce()))
     }
 }
 
