@@ -3,7 +3,8 @@ use Rattle.std.specs.Prelude.{◌≡◌, ℕ, ◌==◌, true, false, List, [], �
 use Rattle.std.specs.Cmp.Lexicographic.{pointwise}
 use Rattle.nanorand_core.specs.values.Runs.{named}
 use Rattle.nanorand_fairness.specs.Lists.{sum_over_lists, number_by_words, words_taken}
-use Rattle.nanorand_fairness.specs.InTurn.{Exchange, numbers_in_turn, deciding_in_turn, word_lists_that, quotas, number_lists_that, swapped_in_turn, swapped_numbers}
+use Rattle.nanorand_fairness.specs.InTurn.{Exchange, numbers_in_turn, deciding_in_turn, word_lists_that, quotas,
+    number_lists_that, swapped_in_turn, swapped_numbers}
 use Rattle.std.specs.List.{list_any}
 use Rattle.nanorand_fairness.specs.Deals.{choices_by, deal_sizes, dealt, deals_of}
 use Rattle.nanorand_fairness.specs.FullShuffles.{choices_making}
@@ -107,11 +108,13 @@ no_double : number_lists_that (deal_sizes 2 4) (λ numbers. pointwise ◌==◌ (
 no_double = refl
 
 -- One of three: each index is dealt by one of three lists of numbers, and no other number is.
-shares_of_one : map (λ index. number_lists_that (deal_sizes 1 3) (λ numbers. list_any (λ item. item == index) (dealt 1 3 numbers))) (0 ∷ 1 ∷ 2 ∷ 3 ∷ []) ≡ 1 ∷ 1 ∷ 1 ∷ 0 ∷ []
+shares_of_one : map (λ index. number_lists_that (deal_sizes 1 3)
+    (λ numbers. list_any (λ item. item == index) (dealt 1 3 numbers))) (0 ∷ 1 ∷ 2 ∷ 3 ∷ []) ≡ 1 ∷ 1 ∷ 1 ∷ 0 ∷ []
 shares_of_one = refl
 
 -- Two of three: by four of six.
-shares_of_two : map (λ index. number_lists_that (deal_sizes 2 3) (λ numbers. list_any (λ item. item == index) (dealt 2 3 numbers))) (0 ∷ 1 ∷ 2 ∷ 3 ∷ []) ≡ 4 ∷ 4 ∷ 4 ∷ 0 ∷ []
+shares_of_two : map (λ index. number_lists_that (deal_sizes 2 3)
+    (λ numbers. list_any (λ item. item == index) (dealt 2 3 numbers))) (0 ∷ 1 ∷ 2 ∷ 3 ∷ []) ≡ 4 ∷ 4 ∷ 4 ∷ 0 ∷ []
 shares_of_two = refl
 
 lists_of_two : number_lists_that (deal_sizes 2 3) (λ numbers. true) ≡ 6
@@ -121,7 +124,8 @@ deals_of_three : deals_of 3 5 ≡ 60
 deals_of_three = refl
 
 -- The same of lists of three words of two bits, of which some are rejected: by 40 of 60.
-shares_of_words : map (λ index. word_lists_that 2 3 (deal_sizes 2 3) (λ numbers. list_any (λ item. item == index) (dealt 2 3 numbers))) (0 ∷ 1 ∷ 2 ∷ 3 ∷ []) ≡ 40 ∷ 40 ∷ 40 ∷ 0 ∷ []
+shares_of_words : map (λ index. word_lists_that 2 3 (deal_sizes 2 3)
+    (λ numbers. list_any (λ item. item == index) (dealt 2 3 numbers))) (0 ∷ 1 ∷ 2 ∷ 3 ∷ []) ≡ 40 ∷ 40 ∷ 40 ∷ 0 ∷ []
 unfolding named sum_over_lists
 shares_of_words = refl
 

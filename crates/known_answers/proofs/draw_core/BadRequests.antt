@@ -70,7 +70,8 @@ no_range_of_u128 (Range (spans.Usize low high)) (range, text, bounds) = differ 1
 no_range_of_u128 Shuffle said = differ 0 said (omega arith)
 
 -- The text after `u8:` is a range of that type.
-range_of_u8 : (range : List ℕ) (call : Call) → IsRequest (codes "u8:" ++ range) call → (low : Bound ℕ) × (high : Bound ℕ) × IsRange (IsUnsigned 8) range low high
+range_of_u8 : (range : List ℕ) (call : Call) → IsRequest (codes "u8:" ++ range) call → (low : Bound ℕ)
+    × (high : Bound ℕ) × IsRange (IsUnsigned 8) range low high
 range_of_u8 range (Gen kinds.I8) said = absurd (differ 0 said (omega arith))
 range_of_u8 range (Gen kinds.I16) said = absurd (differ 0 said (omega arith))
 range_of_u8 range (Gen kinds.I32) said = absurd (differ 0 said (omega arith))
@@ -89,7 +90,8 @@ range_of_u8 range (Range (spans.I16 low high)) (other, text, bounds) = absurd (d
 range_of_u8 range (Range (spans.I32 low high)) (other, text, bounds) = absurd (differ 0 text (omega arith))
 range_of_u8 range (Range (spans.I64 low high)) (other, text, bounds) = absurd (differ 0 text (omega arith))
 range_of_u8 range (Range (spans.Isize low high)) (other, text, bounds) = absurd (differ 0 text (omega arith))
-range_of_u8 range (Range (spans.U8 low high)) (other, text, bounds) = let same : other ≡ range = sym (ap (drop 3) text) in (low, high, subst (λ r. IsRange (IsUnsigned 8) r low high) same bounds)
+range_of_u8 range (Range (spans.U8 low high)) (other, text, bounds) = let same : other
+    ≡ range = sym (ap (drop 3) text) in (low, high, subst (λ r. IsRange (IsUnsigned 8) r low high) same bounds)
 range_of_u8 range (Range (spans.U16 low high)) (other, text, bounds) = absurd (differ 1 text (omega arith))
 range_of_u8 range (Range (spans.U32 low high)) (other, text, bounds) = absurd (differ 1 text (omega arith))
 range_of_u8 range (Range (spans.U64 low high)) (other, text, bounds) = absurd (differ 1 text (omega arith))
@@ -114,7 +116,8 @@ no_300 Unbounded said = differ 0 said (omega arith)
 
 -- After the `=` a number is missing.
 no_end : (high : Bound ℕ) → IsHigh (IsUnsigned 8) (codes "=") high → ⊥
-no_end (Included n) (digits, text, said) = let none : [] ≡ digits = ap (drop 1) text in let some : 0 < length digits = said.digits.0 in omega (arith, some, ap length none)
+no_end (Included n) (digits, text, said) = let none : []
+    ≡ digits = ap (drop 1) text in let some : 0 < length digits = said.digits.0 in omega (arith, some, ap length none)
 no_end (Excluded n) said = (unsigned_plain 8 (codes "=") n said).no_equals refl
 no_end Unbounded said = differ 0 said (omega arith)
 

@@ -31,7 +31,9 @@ three_items : IsCount (codes "3") 3
 three_items = record { number = record { digits = (omega arith, (omega arith, tt)); value = refl; fits = omega arith }; small = omega arith }
 
 most_items : IsCount (codes "1000") 1000
-most_items = record { number = record { digits = (omega arith, (omega arith, (omega arith, (omega arith, (omega arith, tt))))); value = refl; fits = omega arith }; small = omega arith }
+most_items = record { number = record { digits = (omega arith,
+    (omega arith, (omega arith, (omega arith, (omega arith, tt))))); value = refl; fits = omega arith };
+    small = omega arith }
 
 -- `pcg64 00000000000000000000000000000000 plain 0 u8`
 abbrev u8_of_pcg64 : Asked
@@ -53,11 +55,13 @@ four_of_zeros = record {
   calls = Gen kinds.U8 ∷ Range (spans.U8 (Included 10) (Included 12)) ∷ Gen kinds.U16 ∷ Gen kinds.Bool ∷ [];
 }
 
-asks_for_four_of_zeros : AsksFor (codes "chacha20" ∷ replicate 80 48 ∷ codes "buffered" ∷ codes "0" ∷ codes "u8" ∷ codes "u8:10..=12" ∷ codes "u16" ∷ codes "bool" ∷ []) four_of_zeros
+asks_for_four_of_zeros : AsksFor (codes "chacha20" ∷ replicate 80 48 ∷ codes "buffered" ∷ codes "0" ∷ codes "u8"
+    ∷ codes "u8:10..=12" ∷ codes "u16" ∷ codes "bool" ∷ []) four_of_zeros
 asks_for_four_of_zeros = record { generator = refl; seed = seed_of_zeros; mode = refl; count = no_items; requests = (refl, (u8_10_to_12, (refl, (refl, tt)))) }
 
 text_of_zeros : text_asked four_of_zeros ≡ codes "118" ++ 10 ∷ codes "12" ++ 10 ∷ codes "44512" ++ 10 ∷ codes "false" ++ 10 ∷ []
-unfolding quarter_round on_columns on_diagonals rounds block initial_state named range_within words_from value_drawn left_by left_after taken buffered_taken buffered_after digits
+unfolding quarter_round on_columns on_diagonals rounds block initial_state named range_within words_from value_drawn
+    left_by left_after taken buffered_taken buffered_after digits
 text_of_zeros = refl
 
 -- `chacha20`, the key 00 01 .. 1f and the nonce 00 01 .. 07, `plain 0 u8 u8 u8 u8`
@@ -70,7 +74,8 @@ digits_in_order = codes "000102030405060708090a0b0c0d0e0f101112131415161718191a1
 abbrev four_in_order : Asked
 four_in_order = record { generator = ChaCha20 in_order; mode = Plain; count = 0; calls = Gen kinds.U8 ∷ Gen kinds.U8 ∷ Gen kinds.U8 ∷ Gen kinds.U8 ∷ [] }
 
-asks_for_four_in_order : AsksFor (codes "chacha20" ∷ digits_in_order ∷ codes "plain" ∷ codes "0" ∷ codes "u8" ∷ codes "u8" ∷ codes "u8" ∷ codes "u8" ∷ []) four_in_order
+asks_for_four_in_order : AsksFor (codes "chacha20" ∷ digits_in_order ∷ codes "plain" ∷ codes "0" ∷ codes "u8"
+    ∷ codes "u8" ∷ codes "u8" ∷ codes "u8" ∷ []) four_in_order
 asks_for_four_in_order = record { generator = refl; seed = seed_in_order; mode = refl; count = no_items; requests = (refl, (refl, (refl, (refl, tt)))) }
 
 text_in_order : text_asked four_in_order ≡ codes "247" ++ 10 ∷ codes "56" ++ 10 ∷ codes "157" ++ 10 ∷ codes "14" ++ 10 ∷ []
@@ -79,9 +84,11 @@ text_in_order = refl
 
 -- `wyrand d19b42879be2895f plain 1 u8:5..5 shuffle`
 abbrev pub empty_and_shuffle : Asked
-empty_and_shuffle = record { generator = WyRand (0xd1 ∷ 0x9b ∷ 0x42 ∷ 0x87 ∷ 0x9b ∷ 0xe2 ∷ 0x89 ∷ 0x5f ∷ []); mode = Plain; count = 1; calls = Range (spans.U8 (Included 5) (Excluded 5)) ∷ Shuffle ∷ [] }
+empty_and_shuffle = record { generator = WyRand (0xd1 ∷ 0x9b ∷ 0x42 ∷ 0x87 ∷ 0x9b ∷ 0xe2 ∷ 0x89 ∷ 0x5f ∷ []);
+    mode = Plain; count = 1; calls = Range (spans.U8 (Included 5) (Excluded 5)) ∷ Shuffle ∷ [] }
 
-asks_for_empty_and_shuffle : AsksFor (codes "wyrand" ∷ codes "d19b42879be2895f" ∷ codes "plain" ∷ codes "1" ∷ codes "u8:5..5" ∷ codes "shuffle" ∷ []) empty_and_shuffle
+asks_for_empty_and_shuffle : AsksFor (codes "wyrand" ∷ codes "d19b42879be2895f" ∷ codes "plain" ∷ codes "1"
+    ∷ codes "u8:5..5" ∷ codes "shuffle" ∷ []) empty_and_shuffle
 unfolding decode_pairs
 asks_for_empty_and_shuffle = record { generator = refl; seed = refl; mode = refl; count = one_item; requests = (u8_empty, (refl, tt)) }
 

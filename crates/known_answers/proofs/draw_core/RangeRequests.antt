@@ -103,6 +103,7 @@ pub seed_of_zeros : IsSeed (replicate 80 48) (ChaCha20 (replicate 40 0))
 unfolding decode_pairs
 seed_of_zeros = refl
 
-pub seed_in_order : IsSeed (codes "000102030405060708090a0b0c0d0e0f101112131415161718191a1b1c1d1e1f0001020304050607") (ChaCha20 (range_with_len 0 32 ++ range_with_len 0 8))
+pub seed_in_order : IsSeed (codes "000102030405060708090a0b0c0d0e0f101112131415161718191a1b1c1d1e1f0001020304050607")
+    (ChaCha20 (range_with_len 0 32 ++ range_with_len 0 8))
 unfolding decode_pairs
 seed_in_order = refl

@@ -73,9 +73,11 @@ unfolding taken
 u8_of_pcg64 = refl
 
 -- The zero seed of chacha20, buffered: four requests from one block.
-four_of_one_block : answers (ChaCha20 (replicate 40 0)) Buffered (Gen kinds.U8 ∷ Range (spans.U8 (Included 10) (Included 12)) ∷ Gen kinds.U16 ∷ Gen kinds.Bool ∷ [])
+four_of_one_block : answers (ChaCha20 (replicate 40 0)) Buffered
+    (Gen kinds.U8 ∷ Range (spans.U8 (Included 10) (Included 12)) ∷ Gen kinds.U16 ∷ Gen kinds.Bool ∷ [])
     ≡ Unsigned 118 ∷ Unsigned 12 ∷ Unsigned 44512 ∷ Truth false ∷ []
-unfolding quarter_round on_columns on_diagonals rounds block initial_state named range_within words_from value_drawn left_by left_after taken buffered_taken buffered_after
+unfolding quarter_round on_columns on_diagonals rounds block initial_state named range_within words_from value_drawn
+    left_by left_after taken buffered_taken buffered_after
 four_of_one_block = refl
 
 -- chacha20 with the key 00 01 .. 1f and the nonce 00 01 .. 07, plain: the first bytes of four

@@ -97,7 +97,8 @@ text_about_zero = refl
 abbrev two_bytes_and_a_word : List Call
 two_bytes_and_a_word = Gen kinds.U8 ∷ Gen kinds.U8 ∷ Gen kinds.U16 ∷ []
 
-asks_for_buffered : AsksFor (codes "wyrand" ∷ codes "d29b42879be2895f" ∷ codes "buffered" ∷ codes "0" ∷ codes "u8" ∷ codes "u8" ∷ codes "u16" ∷ []) (of_one Buffered two_bytes_and_a_word)
+asks_for_buffered : AsksFor (codes "wyrand" ∷ codes "d29b42879be2895f" ∷ codes "buffered" ∷ codes "0" ∷ codes "u8"
+    ∷ codes "u8" ∷ codes "u16" ∷ []) (of_one Buffered two_bytes_and_a_word)
 unfolding decode_pairs
 asks_for_buffered = record { generator = refl; seed = refl; mode = refl; count = no_items; requests = (refl, (refl, (refl, tt))) }
 

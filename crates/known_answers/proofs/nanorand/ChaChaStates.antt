@@ -2,7 +2,8 @@
 -- draws, and the first bytes of a stream.
 use Rattle.std.specs.Prelude.{◌≡◌, ℕ, ◌+◌, ◌-◌, ◌^◌, List, [], ◌∷◌, refl, ◌++◌, codes, drop, replicate}
 use Rattle.std.specs.List.{range_with_len}
-use Rattle.nanorand.specs.generators.ChaCha.{constants, initial_state, state_at, key_of, nonce_of, counter, words, next_state, chacha_block, chacha_after, with_counter}
+use Rattle.nanorand.specs.generators.ChaCha.{constants, initial_state, state_at, key_of, nonce_of, counter, words,
+    next_state, chacha_block, chacha_after, with_counter}
 use Rattle.std.proofs.Common.{ap}
 use Rattle.nanorand_replay.specs.generators.Buffered.{buffer_of, buffered_taken, buffered_after, Buffered}
 use Rattle.nanorand.specs.generators.ChaChaRounds.{block, quarter_round, on_columns, on_diagonals, rounds}
@@ -76,7 +77,8 @@ second_is_the_first : chacha_block 20 (next_state (chacha_after (2 ^ 64 - 1) of_
 second_is_the_first = ap (chacha_block 20) round_to_the_first
 
 -- and a buffer delivers it after the block of the greatest counter, and buffers nothing
-behind_the_greatest : drop 64 (buffered_taken (chacha_block 20) next_state 64 (buffer_of [] (chacha_after (2 ^ 64 - 1) of_zeros)) 128) ≡ chacha_block 20 of_zeros
+behind_the_greatest : drop 64 (buffered_taken (chacha_block 20) next_state 64
+    (buffer_of [] (chacha_after (2 ^ 64 - 1) of_zeros)) 128) ≡ chacha_block 20 of_zeros
 unfolding buffered_taken block initial_state
 behind_the_greatest = refl
 

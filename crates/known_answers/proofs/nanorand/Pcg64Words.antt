@@ -3,12 +3,14 @@ use Rattle.std.specs.Prelude.{◌≡◌, ℕ, ◌+◌, ◌*◌, ◌%◌, ◌^◌
 use Rattle.std.specs.Fn.{iterate}
 use Rattle.std.specs.List.{range_with_len}
 use Rattle.std.proofs.Common.{◌∙◌, arith}
-use Rattle.nanorand.specs.generators.Pcg64.{multiplier, factor, term, next_seed, Generator, next, pcg64_block, reseeded, same_generator, geometric_sum, affine_after, seed_after, pcg64_after}
+use Rattle.nanorand.specs.generators.Pcg64.{multiplier, factor, term, next_seed, Generator, next, pcg64_block,
+    reseeded, same_generator, geometric_sum, affine_after, seed_after, pcg64_after}
 use Rattle.nanorand.specs.support.Pcg64DrawLemmas.{seed_after-zero}
 use Rattle.nanorand.proofs.lemmas.cycles.Pcg64Lemmas.{seed_after-half, seed_after-agree}
 
 -- one draw, written out
-next_seed_in_full : (seed : ℕ) → next_seed seed ≡ ((3 * multiplier * multiplier + 2 * multiplier + 2) * seed + multiplier * multiplier + multiplier + 1) % 2 ^ 128
+next_seed_in_full : (seed : ℕ) → next_seed seed
+    ≡ ((3 * multiplier * multiplier + 2 * multiplier + 2) * seed + multiplier * multiplier + multiplier + 1) % 2 ^ 128
 next_seed_in_full seed = omega arith
 
 term_in_digits : term ≡ 0x3b1dd060ff2fd1e09624b94fc0ada4df
@@ -43,7 +45,8 @@ block_of_half : pcg64_block (record { seed = 2 ^ 127; state = 0; inc = 0 }) ≡ 
 block_of_half = refl
 
 -- reseeding keeps the old state and inc
-reseeded_after_a_draw : reseeded (next from_zero) (0 ∷ 0 ∷ 0 ∷ 0 ∷ 0 ∷ 0 ∷ 0 ∷ 0 ∷ 0 ∷ 0 ∷ 0 ∷ 0 ∷ 0 ∷ 0 ∷ 0 ∷ 0 ∷ []) ≡ record { seed = 0; state = 0x3b1dd060ff2fd1e09624b94fc0ada4df; inc = 1 }
+reseeded_after_a_draw : reseeded (next from_zero) (0 ∷ 0 ∷ 0 ∷ 0 ∷ 0 ∷ 0 ∷ 0 ∷ 0 ∷ 0 ∷ 0 ∷ 0 ∷ 0 ∷ 0 ∷ 0 ∷ 0 ∷ 0 ∷ [])
+    ≡ record { seed = 0; state = 0x3b1dd060ff2fd1e09624b94fc0ada4df; inc = 1 }
 reseeded_after_a_draw = refl
 
 -- jumps of 2^125 and 2^126 draws from the seed 5

@@ -12,7 +12,8 @@ use Rattle.std.specs.declared.ops.Bound.TheVariants.{Included, Excluded}
 use Rattle.nanorand_core.specs.values.Runs.{named}
 use Rattle.nanorand_core.specs.values.Range.{range_within}
 use Rattle.nanorand_core.specs.values.Draws.{words_from, value_drawn, left_by, left_after}
-use Rattle.nanorand_core.specs.shuffles.Shuffles.{arranged, from_all, from_itself, partner_drawn, choices_from, shuffle_choices, shuffle_answer, shuffle_state, state_after_places}
+use Rattle.nanorand_core.specs.shuffles.Shuffles.{arranged, from_all, from_itself, partner_drawn, choices_from,
+    shuffle_choices, shuffle_answer, shuffle_state, state_after_places}
 use Rattle.nanorand_core.specs.shuffles.Arrangements.{rising}
 use Rattle.nanorand_replay.specs.replay.Replay.{replayed, shuffle_call_answer}
 use Rattle.nanorand_replay.specs.declared.replay.Span.TheVariants as spans
@@ -88,11 +89,13 @@ zero_key_items_in_full : arranged (1 ∷ 0 ∷ 0 ∷ []) (rising 3) ≡ 2 ∷ 1 
 zero_key_items_in_full = refl
 
 -- the two shuffles as calls
-replay_of_ordered_key : replayed plain_requests (in_order 0) (rising 3) (Shuffle ∷ []) ≡ record { answers = Shuffled ∷ []; items = 1 ∷ 2 ∷ 0 ∷ []; state = in_order 3 }
+replay_of_ordered_key : replayed plain_requests (in_order 0) (rising 3) (Shuffle ∷ [])
+    ≡ record { answers = Shuffled ∷ []; items = 1 ∷ 2 ∷ 0 ∷ []; state = in_order 3 }
 replay_of_ordered_key =
     ap (goes_on plain_requests [] []) (whole_shuffle plain_requests (in_order 0) (in_order 3) (1 ∷ 2 ∷ 2 ∷ []) 0 1 2 ordered_key)
 
-replay_of_zero_key : replayed buffered_requests (buffer_of [] of_zeros) (rising 3) (Shuffle ∷ []) ≡ record { answers = Shuffled ∷ []; items = 1 ∷ 0 ∷ 2 ∷ []; state = zeros_from 24 }
+replay_of_zero_key : replayed buffered_requests (buffer_of [] of_zeros) (rising 3) (Shuffle ∷ [])
+    ≡ record { answers = Shuffled ∷ []; items = 1 ∷ 0 ∷ 2 ∷ []; state = zeros_from 24 }
 replay_of_zero_key =
     ap (goes_on buffered_requests [] []) (whole_shuffle buffered_requests (buffer_of [] of_zeros) (zeros_from 24) (1 ∷ 1 ∷ 2 ∷ []) 0 1 2 zero_key)
 

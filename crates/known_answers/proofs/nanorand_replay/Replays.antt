@@ -45,7 +45,9 @@ unfolding taken buffered_taken buffered_after
 four_bytes_left = refl
 
 -- a refused call does not end a replay
-refused_call_goes_on : (replayed steps 0 [] (Gen kinds.U8 ∷ Range (spans.U8 (Included 5) (Excluded 5)) ∷ Range (spans.U8 (Included 10) (Included 12)) ∷ Gen kinds.Bool ∷ [])).answers
+refused_call_goes_on : (replayed steps 0 []
+    (Gen kinds.U8 ∷ Range (spans.U8 (Included 5) (Excluded 5)) ∷ Range (spans.U8 (Included 10) (Included 12))
+    ∷ Gen kinds.Bool ∷ [])).answers
     ≡ Unsigned 0 ∷ Empty ∷ Unsigned 10 ∷ Truth true ∷ []
 unfolding named range_within words_from value_drawn left_by left_after taken
 refused_call_goes_on = refl

@@ -1,6 +1,7 @@
 -- Lemmas about requests, block by block. Nobody has to believe this file: it is in specs/ only
 -- because laws of impls cite its lemmas.
-use Rattle.std.proofs.Common.{◌≡◌, ℕ, zero, suc, ◌+◌, ◌-◌, ◌*◌, min, ◌<◌, ◌≤◌, List, [], ◌∷◌, ◌++◌, length, take, drop, refl, sym, ◌∙◌, ap, arith, length-append, append_assoc, ⊎_elim, zero-add}
+use Rattle.std.proofs.Common.{◌≡◌, ℕ, zero, suc, ◌+◌, ◌-◌, ◌*◌, min, ◌<◌, ◌≤◌, List, [], ◌∷◌, ◌++◌, length, take,
+    drop, refl, sym, ◌∙◌, ap, arith, length-append, append_assoc, ⊎_elim, zero-add}
 use Rattle.std.proofs.lemmas.List.{length-take-le, take_min}
 use Rattle.std.specs.Fn.{iterate}
 use Rattle.std.specs.Int.{div_ceil}
@@ -9,7 +10,8 @@ use Rattle.std.proofs.lemmas.Bool.{cases_lt}
 use Rattle.std.proofs.lemmas.Grind.{common_steps}
 use Rattle.std.proofs.lemmas.Slice.{take-put_mid}
 use borrow.Rule.Slice.PartMut.{put_mid, post_of}
-use Rattle.std.proofs.Math.Nat.{suc-add, min_comm, suc-sub-suc, zero-sub, sub-zero, div-eq_of_lt, mod-eq_of_lt, add-div_right, add-mod_right, zero-div, zero-mod, div_self, mod_self}
+use Rattle.std.proofs.Math.Nat.{suc-add, min_comm, suc-sub-suc, zero-sub, sub-zero, div-eq_of_lt, mod-eq_of_lt,
+    add-div_right, add-mod_right, zero-div, zero-mod, div_self, mod_self}
 use Rattle.nanorand_core.specs.generators.Blocks.{blocks, taken, plain_after}
 
 -- the first n elements of one list followed by another, for any n
@@ -80,7 +82,8 @@ module _ {G : Type 0} (block : G → List ℕ) (step : G → G) (output : ℕ) (
   -- the same, for the part of the block that the request takes
   pub taken_part : (g : G) (n k : ℕ) → k ≡ min output n → taken block step g n ≡ take k (block g) ++ taken block step (step g) (n - k)
   taken_part g n k part =
-      let front : take k (block g) ≡ take n (block g) = ap (λ j. take j (block g)) (part ∙ ap (λ j. min j n) (sym (size g)) ∙ min_comm (length (block g)) n) ∙ take_min n (block g) in
+      let front : take k (block g) ≡ take n (block g) = ap (λ j. take j (block g))
+          (part ∙ ap (λ j. min j n) (sym (size g)) ∙ min_comm (length (block g)) n) ∙ take_min n (block g) in
       let left : n - k ≡ n - output = omega arith in
       rw (front, left) (taken_more g n)
 
@@ -94,17 +97,21 @@ module _ {G : Type 0} (block : G → List ℕ) (step : G → G) (output : ℕ) (
   length-taken g n = length-take-le n _ (rw (length-blocks g n) (le-mul_self n output positive))
 
   -- One step of the loop that fills a buffer: it writes the front of the next block.
-  module _ (buffer piece : List ℕ) (filled count : ℕ) (g : G) (open_place : filled < length buffer) (part : count ≡ min output (length buffer - filled)) (written : piece ≡ take count (block g)) where
+  module _ (buffer piece : List ℕ) (filled count : ℕ) (g : G) (open_place : filled < length buffer)
+      (part : count ≡ min output (length buffer - filled)) (written : piece ≡ take count (block g)) where
     piece_length : length piece ≡ count
     piece_length = ap length written ∙ length-take-le count (block g) (rw (size g) (omega arith))
 
     pub filled_length : length (put_mid filled (filled + count - filled) buffer piece) ≡ length buffer
     filled_length = let long = piece_length in grind (arith, common_steps)
 
-    pub filled_bytes : take (filled + count) (put_mid filled (filled + count - filled) buffer piece) ++ taken block step (step g) (length buffer - (filled + count)) ≡ take filled buffer ++ taken block step g (length buffer - filled)
+    pub filled_bytes : take (filled + count) (put_mid filled (filled + count - filled) buffer piece)
+        ++ taken block step (step g) (length buffer - (filled + count)) ≡ take filled buffer
+        ++ taken block step g (length buffer - filled)
     filled_bytes =
         let left : length buffer - (filled + count) ≡ (length buffer - filled) - count = omega arith in
-        rw (take-put_mid filled (filled + count - filled) buffer piece (filled + count) (omega (arith, piece_length)) (omega arith), left, append_assoc, written)
+        rw (take-put_mid filled (filled + count - filled) buffer piece (filled + count) (omega (arith, piece_length))
+            (omega arith), left, append_assoc, written)
         (ap (λ rest. take filled buffer ++ rest) (sym (taken_part g (length buffer - filled) count part)))
 
     pub filled_state : plain_after step output (step g) (length buffer - (filled + count)) ≡ plain_after step output g (length buffer - filled)

@@ -6,7 +6,8 @@ use Rattle.std.specs.declared.ops.Bound.TheVariants.{Included, Excluded, Unbound
 use Rattle.std.proofs.Common.{arith, sym}
 use Rattle.std.proofs.lemmas.Bool.{le-leb, lt-ltb}
 use Rattle.std.proofs.lemmas.Int.{ints}
-use Rattle.nanorand_core.specs.values.Range.{is_above, is_below, unsigned_number, signed_number, Admits, IfBound, IsNumber, HasUnsigned, HasSigned, unsigned_first, unsigned_end, signed_first, signed_end}
+use Rattle.nanorand_core.specs.values.Range.{is_above, is_below, unsigned_number, signed_number, Admits, IfBound,
+    IsNumber, HasUnsigned, HasSigned, unsigned_first, unsigned_end, signed_first, signed_end}
 
 -- the least number that a low bound admits lies within it, and what is before a high bound's end
 -- lies within that
@@ -56,7 +57,8 @@ end_rank bits half Unbounded number = (2 ^ bits, omega arith, grind (arith, ints
 shifted_lt_back : (m j k : ℕ) → (pos j -ℤ pos m) <ℤ (pos k -ℤ pos m) → j < k
 shifted_lt_back m j k h = omega (arith, ints)
 
-pub signed_has_place : (bits : ℕ) → 2 ^ bits ≡ 2 * 2 ^ (bits - 1) → (low high : Bound ℤ) → IfBound low (IsNumber bits (signed_number bits)) → IfBound high (IsNumber bits (signed_number bits))
+pub signed_has_place : (bits : ℕ) → 2 ^ bits ≡ 2 * 2 ^ (bits - 1) → (low high : Bound ℤ)
+    → IfBound low (IsNumber bits (signed_number bits)) → IfBound high (IsNumber bits (signed_number bits))
     → HasSigned bits low high → (k : ℕ) × (k < 2 ^ bits) × Admits int_le int_lt low high (signed_number bits k)
 signed_has_place bits half low high low_number high_number has =
     let first = first_rank bits low low_number in

@@ -18,7 +18,8 @@ module _ (runs : RunsAreFair) (events : EventsAreFair) (bits size : ℕ) (width 
       → sum_over_lists bits (suc n) f ≡ rejected bits size * F None + quota bits size * sum_by (λ k. F (Some k)) (range_with_len 0 size)
   unfolding sum_over_lists
   by_first n f F is =
-      sum-terms (λ word. sum_over_lists bits n (λ words. f (word ∷ words))) (λ word. F (named bits size word)) (λ word. is word (named bits size word) refl) 0 (2 ^ bits)
+      sum-terms (λ word. sum_over_lists bits n (λ words. f (word ∷ words))) (λ word. F (named bits size word))
+          (λ word. is word (named bits size word) refl) 0 (2 ^ bits)
       ∙ sum-named runs events bits size width some fits F
 
   -- undecided lists

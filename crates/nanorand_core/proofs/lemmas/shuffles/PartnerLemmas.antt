@@ -1,5 +1,6 @@
 -- Partners as draws from their ranges, and shuffles of no items and of three.
-use Rattle.std.proofs.Common.{◌≡◌, ℕ, ◌+◌, ◌-◌, ◌^◌, ◌<◌, ◌≤◌, List, [], ◌∷◌, Some, None, Result, Ok, Err, length, map, min, nat_le, nat_lt, refl, ap, ◌∙◌, arith}
+use Rattle.std.proofs.Common.{◌≡◌, ℕ, ◌+◌, ◌-◌, ◌^◌, ◌<◌, ◌≤◌, List, [], ◌∷◌, Some, None, Result, Ok, Err, length,
+    map, min, nat_le, nat_lt, refl, ap, ◌∙◌, arith}
 use Rattle.std.specs.List.{range_with_len}
 use Rattle.nanorand_core.specs.generators.Blocks.{Requests}
 use Rattle.nanorand_core.specs.values.Range.{unsigned_number, unsigned_range}
@@ -37,7 +38,8 @@ module _ {G : Type 0} (requests : Requests G) (n i : ℕ) (g : G) (low : i < n) 
       left-drawn _ _ _ _ _ _ (omega arith) _ (numbers_between i n low within) _ h state
 
 -- what a shuffle makes: its result, its choices and the state that it leaves
-pub record Makes {G : Type 0} (requests : Requests G) (first : ℕ → ℕ) (n : ℕ) (g : G) (answer : Result (Unit {0}) RangeError) (choices : List ℕ) (left : G) : Type 0 where
+pub record Makes {G : Type 0} (requests : Requests G) (first : ℕ → ℕ) (n : ℕ) (g : G)
+    (answer : Result (Unit {0}) RangeError) (choices : List ℕ) (left : G) : Type 0 where
   pub answered : shuffle_answer requests first n g ≡ answer
   pub chosen : shuffle_choices requests first n g ≡ choices
   pub leaves : shuffle_state requests first n g ≡ left

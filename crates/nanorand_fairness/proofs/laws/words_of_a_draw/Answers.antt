@@ -6,7 +6,8 @@ use Rattle.nanorand_fairness.proofs.lemmas.FirstWords.{first-undecided, first-fe
 use Rattle.nanorand_fairness.proofs.laws.words_of_a_draw.Goals as goal
 
 pub returns-clause-undecided : goal.returns-clause-undecided
-returns-clause-undecided c = λ bits size n width some fits. first-undecided bits n word_limit c.fairness.ensures.runs c.fairness.ensures.events size width some fits
+returns-clause-undecided c = λ bits size n width some fits. first-undecided bits n word_limit c.fairness.ensures.runs
+    c.fairness.ensures.events size width some fits
 
 pub returns-clause-limit : goal.returns-clause-limit
 returns-clause-limit c = λ bits size words.

@@ -67,10 +67,12 @@ pub order-deal : (order : List ℕ) → IsArrangement order → IsDeal (length o
 order-deal order arrangement =
     let n = length order in
     let long = length-range_with_len 0 n in
-    let different = IsPermutation-keeps (rising n) AreDifferent (rising-different n) (λ xs i j i_low j_low. swap-different xs i j i_low j_low) order arrangement in
+    let different = IsPermutation-keeps (rising n) AreDifferent (rising-different n)
+        (λ xs i j i_low j_low. swap-different xs i j i_low j_low) order arrangement in
     record {
       size = refl;
-      below = All-permutation (λ index. index < n) (rising n) order arrangement (λ j d low. let at = get_or-range_with_len 0 n j d (omega (arith, long)) in omega (arith, at, long));
+      below = All-permutation (λ index. index < n) (rising n) order arrangement
+          (λ j d low. let at = get_or-range_with_len 0 n j d (omega (arith, long)) in omega (arith, at, long));
       apart = λ j k d less low same.
           let equal = different j k (omega arith) low (sym (get_or_default_zero order j d (omega arith)) ∙ same ∙ get_or_default_zero order k d low) in
           absurd (omega (arith, equal));

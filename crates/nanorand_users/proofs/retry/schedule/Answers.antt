@@ -16,10 +16,15 @@ loop-slot-preserved g c =
     let value = rw so_far.ceiling at c.delay.ensures.value in
     let state = rw so_far.ceiling at c.delay.ensures.state in
     record {
-      ceiling = c.min-ceiling-in-loop-slot.ensures ∙ next_ceiling first cap k c.loop-slot.ceiling c.saturating_mul.result c.ranges.cap.fits so_far.ceiling c.saturating_mul.ensures;
-      drawn = delays_more requests first cap tries k c.loop-slot.rng c.delay.new.rng c.loop-slot.delays _ c.delay.result c.loop-slot-test.true (omega arith) so_far.drawn value state;
+      ceiling = c.min-ceiling-in-loop-slot.ensures
+          ∙ next_ceiling first cap k c.loop-slot.ceiling c.saturating_mul.result c.ranges.cap.fits so_far.ceiling
+          c.saturating_mul.ensures;
+      drawn = delays_more requests first cap tries k c.loop-slot.rng c.delay.new.rng c.loop-slot.delays _
+          c.delay.result c.loop-slot-test.true (omega arith) so_far.drawn value state;
       state = state_more requests first cap tries k c.loop-slot.rng c.delay.new.rng _ c.loop-slot-test.true so_far.state state;
-      half = below_more _ _ (λ j h. let other : j ≢ k = omega arith in rw get_or-set_other (so_far.half j h)) (rw (get_or-set_same, ← so_far.ceiling) c.delay.ensures.half);
-      below = below_more _ _ (λ j h. let other : j ≢ k = omega arith in rw get_or-set_other (so_far.below j h)) (rw (get_or-set_same, ← so_far.ceiling) c.delay.ensures.ceiling);
+      half = below_more _ _ (λ j h. let other : j ≢ k = omega arith in rw get_or-set_other (so_far.half j h))
+          (rw (get_or-set_same, ← so_far.ceiling) c.delay.ensures.half);
+      below = below_more _ _ (λ j h. let other : j ≢ k = omega arith in rw get_or-set_other (so_far.below j h))
+          (rw (get_or-set_same, ← so_far.ceiling) c.delay.ensures.ceiling);
       words = words_more (after_word requests 64) 128 k _ _ _ so_far.words c.delay.ensures.words;
     }

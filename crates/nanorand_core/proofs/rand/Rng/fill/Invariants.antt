@@ -8,6 +8,8 @@ abbrev pub invariant-loop-item : goal.invariant-loop-item
 invariant-loop-item g l =
     let after = g.T.RandomGen.state_after in
     record {
-      values : take l.item-index l.target ++ values_from g.T.RandomGen.value after (length l.target - l.item-index) l.self ≡ values_from g.T.RandomGen.value after (length l.target) l.fn.self;
+      values : take l.item-index l.target
+          ++ values_from g.T.RandomGen.value after (length l.target - l.item-index) l.self
+          ≡ values_from g.T.RandomGen.value after (length l.target) l.fn.self;
       state : iterate after (length l.target - l.item-index) l.self ≡ iterate after (length l.target) l.fn.self;
     }

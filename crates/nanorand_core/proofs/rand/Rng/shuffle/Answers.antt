@@ -63,11 +63,14 @@ returns-in-None g c =
           rw (w.ahead-is, w.self-is, c.fill_bytes.ensures.state) (record {
             start = c.loop-place.self;
             so_far = c.loop-place.invariant;
-            draw = first_decides _ _ word_limit _ _ _ c.pick_below-ahead.result _ _ (omega arith) word (sym c.pick_below-ahead.ensures) c.is_none.ensures w.if-is_none.false;
+            draw = first_decides _ _ word_limit _ _ _ c.pick_below-ahead.result _ _ (omega arith) word
+                (sym c.pick_below-ahead.ensures) c.is_none.ensures w.if-is_none.false;
           })
     ] in
-    let partner = partner-exhausted g.Self.Rng.requests (length c.args.target.now) c.loop-place.place over.start c.loop-place-test.true (omega arith) (sym c.in-None.is ∙ over.draw.number) in
-    let state = partner-state g.Self.Rng.requests (length c.args.target.now) c.loop-place.place over.start c.loop-place-test.true (omega arith) c.if-is_none.self over.draw.state in
+    let partner = partner-exhausted g.Self.Rng.requests (length c.args.target.now) c.loop-place.place over.start
+        c.loop-place-test.true (omega arith) (sym c.in-None.is ∙ over.draw.number) in
+    let state = partner-state g.Self.Rng.requests (length c.args.target.now) c.loop-place.place over.start
+        c.loop-place-test.true (omega arith) c.if-is_none.self over.draw.state in
     let ended = refused over.so_far c.loop-place-test.true partner (omega arith) (omega arith) in
     rw state (record {
       answer = ended.answered;
@@ -96,7 +99,8 @@ some_over g c =
           rw (w.ahead-is, w.self-is, c.fill_bytes.ensures.state) (record {
             start = c.loop-place.self;
             so_far = c.loop-place.invariant;
-            draw = first_decides _ _ word_limit _ _ _ c.pick_below-ahead.result _ _ (omega arith) word (sym c.pick_below-ahead.ensures) c.is_none.ensures w.if-is_none.false;
+            draw = first_decides _ _ word_limit _ _ _ c.pick_below-ahead.result _ _ (omega arith) word
+                (sym c.pick_below-ahead.ensures) c.is_none.ensures w.if-is_none.false;
           })
     ]
 
@@ -127,12 +131,15 @@ loop-place-preserved g c =
           rw (w.ahead-is, w.self-is, c.fill_bytes.ensures.state) (record {
             start = c.loop-place.self;
             so_far = c.loop-place.invariant;
-            draw = first_decides _ _ word_limit _ _ _ c.pick_below-ahead.result _ _ (omega arith) word (sym c.pick_below-ahead.ensures) c.is_none.ensures w.if-is_none.false;
+            draw = first_decides _ _ word_limit _ _ _ c.pick_below-ahead.result _ _ (omega arith) word
+                (sym c.pick_below-ahead.ensures) c.is_none.ensures w.if-is_none.false;
           })
     ] in
     let below : c.in-Some.ahead < length c.args.target.now - c.loop-place.place = rw c.in-Some.is at over.draw.below in
-    let partner = partner-number g.Self.Rng.requests (length c.args.target.now) c.loop-place.place over.start c.loop-place-test.true (omega arith) c.in-Some.ahead below (sym c.in-Some.is ∙ over.draw.number) in
-    let state = partner-state g.Self.Rng.requests (length c.args.target.now) c.loop-place.place over.start c.loop-place-test.true (omega arith) c.if-is_none.self over.draw.state in
+    let partner = partner-number g.Self.Rng.requests (length c.args.target.now) c.loop-place.place over.start
+        c.loop-place-test.true (omega arith) c.in-Some.ahead below (sym c.in-Some.is ∙ over.draw.number) in
+    let state = partner-state g.Self.Rng.requests (length c.args.target.now) c.loop-place.place over.start
+        c.loop-place-test.true (omega arith) c.if-is_none.self over.draw.state in
     rw (state, c.swap.ensures) (shuffling-step over.so_far c.loop-place-test.true partner)
 
 pub returns : goal.returns
