@@ -2,6 +2,7 @@
 //!
 //! The law `nanorand::laws::streams_deliver_chacha` says that it delivers what `Stream` delivers.
 ghost use Rattle.std.specs.Prelude.{◌≡◌, ◌≢◌, ◌<◌, ◌≤◌, ◌≤ℤ◌, All, IsPermutation, length};
+ghost use Rattle.std.specs.Bool.{OnFalse, OnTrue};
 ghost use Rattle.std.specs.List.{AllPairs};
 ghost use Rattle.nanorand_core.specs.shuffles.Shuffles.{from_all, from_itself, shuffled};
 ghost use Rattle.nanorand_core.specs.values.Values.{number_of};
@@ -52,6 +53,44 @@ fn store(stream: &mut GroupStream, rng: &ChaCha20Stream)
     };
 }
 
+/// Fills the slice from the buffered bytes, and answers whether they suffice. If not, nothing
+/// changes.
+#[inline]
+fn served(stream: &mut GroupStream, buffer: &mut [u8]) -> bool
+    ensures bytes { OnTrue result
+        (buffer.new ≡ by_groups.bytes (groups_at stream.old) (length buffer.old)) }
+    ensures state { OnTrue result
+        (groups_at stream.new ≡ by_groups.after (groups_at stream.old) (length buffer.old)) }
+    ensures buffered { OnTrue result (stream.new.buffered < 512) }
+    ensures refused { OnFalse result ((stream.new ≡ stream.old) × (buffer.new ≡ buffer.old)) }
+{
+    let buffered = 511.min(stream.buffered) as usize;
+    let length = buffer.len();
+    if buffered < length {
+        return false;
+    }
+    let group = &stream.group[..];
+    let start = 512 - buffered;
+    buffer.copy_from_slice(&group[start..start + length]);
+    stream.buffered = (buffered - length) as u64;
+    true
+}
+
+// A request that the buffered bytes serve makes no generator, so it copies no group.
+fn fill(stream: &mut GroupStream, buffer: &mut [u8])
+    ensures bytes { buffer.new ≡ by_groups.bytes (groups_at stream.old) (length buffer.old) }
+    ensures state { let left = by_groups.after (groups_at stream.old) in
+        groups_at stream.new ≡ left (length buffer.old) }
+    ensures buffered { stream.new.buffered < 512 }
+{
+    if served(stream, buffer) {
+        return;
+    }
+    let mut rng = loaded(stream);
+    rng.fill_bytes(buffer);
+    store(stream, &rng);
+}
+
 /// Draws a number of 64 bits: the next 8 bytes, least byte first.
 #[unsafe(no_mangle)]
 pub extern "C" fn nanorand_v1_keystream_u64(stream: &mut GroupStream) -> u64
@@ -59,10 +98,9 @@ pub extern "C" fn nanorand_v1_keystream_u64(stream: &mut GroupStream) -> u64
     ensures state { groups_at stream.new ≡ by_groups.after (groups_at stream.old) 8 }
     ensures buffered { stream.new.buffered < 512 }
 {
-    let mut rng = loaded(stream);
-    let value = rng.generate();
-    store(stream, &rng);
-    value
+    let mut bytes = [0; 8];
+    fill(stream, &mut bytes[..]);
+    u64::from_le_bytes(bytes)
 }
 
 /// Fills the slice with the next bytes, by one request.
@@ -73,9 +111,7 @@ pub extern "C" fn nanorand_v1_keystream_fill_bytes(stream: &mut GroupStream, buf
         groups_at stream.new ≡ by_groups.after start (length buffer.old) }
     ensures buffered { stream.new.buffered < 512 }
 {
-    let mut rng = loaded(stream);
-    rng.fill_bytes(buffer);
-    store(stream, &rng);
+    fill(stream, buffer);
 }
 
 /// Draws a number from `first..=last`, by words of 32 bits, and returns a status: 0 if `number` was
