@@ -239,27 +239,29 @@ fn deliver<G: Rng<OUTPUT>, const OUTPUT: usize>(
     cursor: &mut usize,
     out: &mut [u8],
 ) {
-    // The cursor is never past the block. Said here, it spares a check at each slice.
-    let start = OUTPUT.min(*cursor);
-    let kept = OUTPUT - start;
+    let start = *cursor;
     let bytes = &block[..];
-    if out.len() <= kept {
+    // Asked so, a length that the compiler knows takes one comparison.
+    if out.len() <= OUTPUT && start <= OUTPUT - out.len() {
         let end = start + out.len();
         out.copy_from_slice(&bytes[start..end]);
         *cursor = end;
     } else {
+        // The cursor is never past the block. Said here, it spares a check at each slice.
+        let start = OUTPUT.min(start);
+        let kept = OUTPUT - start;
         out[..kept].copy_from_slice(&bytes[start..]);
-        deliver_blocks(inner, block, cursor, &mut out[kept..]);
+        // Stored here, and not there, the cursor of a loop of draws stays in a register.
+        *cursor = deliver_blocks(inner, block, &mut out[kept..]);
     }
 }
 
-// As `deliver` with an empty buffer: `block` and `cursor` are only written.
+// As `deliver` with an empty buffer, whose bytes mean nothing. Returns the cursor.
 fn deliver_blocks<G: Rng<OUTPUT>, const OUTPUT: usize>(
     inner: &mut G,
     block: &mut [u8; OUTPUT],
-    cursor: &mut usize,
     out: &mut [u8],
-) {
+) -> usize {
     let last = out.len() % OUTPUT;
     let whole = out.len() - last;
     fill_by_blocks(inner, &mut out[..whole]);
@@ -267,8 +269,8 @@ fn deliver_blocks<G: Rng<OUTPUT>, const OUTPUT: usize>(
         *block = inner.rand();
         let bytes = &block[..];
         out[whole..].copy_from_slice(&bytes[..last]);
-        *cursor = last;
+        last
     } else {
-        *cursor = OUTPUT;
+        OUTPUT
     }
 }
