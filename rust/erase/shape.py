@@ -109,7 +109,10 @@ INLINED = {
 }
 
 # Calls of what computes on eight lanes: in Rust it is compiled for them apart.
-WIDE = {"self.fill_eight(lanes, ": "lanes.run(self, "}
+WIDE = {
+    "self.fill_eight(lanes, ": "lanes.run(self, ",
+    "self.next_eight(lanes)": "lanes.next(self)",
+}
 
 # The preconditions of public functions, and how Rust refuses a caller that breaks one. None: no
 # caller can break it, or the function says what it does then.

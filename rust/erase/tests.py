@@ -202,6 +202,7 @@ class Differences(Same):
             "impl Wide for X { fn f(&mut self) { self.fill_eight(lanes, &mut b[0..4]); } }",
             "impl Wide for X { fn f(&mut self) { lanes.run(self, &mut b[0..4]); } }",
         )
+        self.same("fn f() { self.next_eight(lanes) }", "fn f() { lanes.next(self) }")
 
     def test_ranged_draws_take_a_range(self):
         self.same(
@@ -424,7 +425,7 @@ class Whole(unittest.TestCase):
     """What is written for the library, compared with the proved source by other means."""
 
     # Functions whose bodies the tables change.
-    CHANGED = {"clone", "fill_wide", "generate_range", "read_to_end"}
+    CHANGED = {"clone", "fill_wide", "generate_range", "next_group", "read_to_end"}
 
     # Functions that check a precondition first, and then do what the proved body does.
     CHECKED = {

@@ -146,12 +146,21 @@ impl EightLanes {
     pub(crate) fn run<W: Wide>(self, work: &mut W, out: &mut [u8]) {
         eight::run(self, work, out);
     }
+
+    /// Calls `next_eight`, compiled for AVX2.
+    #[inline(always)]
+    pub(crate) fn next<W: Wide>(self, work: &mut W) -> [u8; 512] {
+        eight::next(self, work)
+    }
 }
 
-/// What computes on eight words. `EightLanes::run` calls it, compiled for them, and it has to be inlined
-/// there with all that it calls: elsewhere each operation on eight words is a call.
+/// What computes on eight words. `EightLanes::run` and `next` call it, compiled for them, and it has to be
+/// inlined there with all that it calls: elsewhere each operation on eight words is a call.
 pub(crate) trait Wide {
     fn fill_eight(&mut self, lanes: EightLanes, out: &mut [u8]);
+
+    /// The same, as a value: it is written to its place by the vectors, with no copy between.
+    fn next_eight(&mut self, lanes: EightLanes) -> [u8; 512];
 }
 
 /// Eight words of 32 bits. `+` wraps in each. `EightLanes` alone makes one.
@@ -265,6 +274,17 @@ mod avx2 {
     }
 
     #[inline(always)]
+    pub(super) fn next<W: Wide>(lanes: EightLanes, work: &mut W) -> [u8; 512] {
+        // SAFETY: the processor has AVX2, or there would be no leave for eight lanes.
+        unsafe { next_with_avx2(lanes, work) }
+    }
+
+    #[target_feature(enable = "avx2")]
+    unsafe fn next_with_avx2<W: Wide>(lanes: EightLanes, work: &mut W) -> [u8; 512] {
+        work.next_eight(lanes)
+    }
+
+    #[inline(always)]
     pub(super) fn from_array(words: [u32; 8]) -> Words {
         from_words(words)
     }
@@ -344,6 +364,12 @@ mod plain_eight {
     #[cfg_attr(test, allow(dead_code))]
     pub(super) fn run<W: Wide>(lanes: EightLanes, work: &mut W, out: &mut [u8]) {
         work.fill_eight(lanes, out);
+    }
+
+    #[inline(always)]
+    #[cfg_attr(test, allow(dead_code))]
+    pub(super) fn next<W: Wide>(lanes: EightLanes, work: &mut W) -> [u8; 512] {
+        work.next_eight(lanes)
     }
 
     #[inline(always)]

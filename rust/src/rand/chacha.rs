@@ -142,6 +142,18 @@ impl<const ROUNDS: u8> ChaCha<ROUNDS> {
         }
         filled
     }
+
+    // The next eight blocks, by eight lanes where these are faster.
+    #[inline]
+    pub(crate) fn next_group(&mut self) -> [u8; 512] {
+        if let Some(lanes) = EightLanes::find() {
+            lanes.next(self)
+        } else {
+            let mut group = [0; 512];
+            self.fill_bytes(&mut group);
+            group
+        }
+    }
 }
 
 impl<const ROUNDS: u8> Wide for ChaCha<ROUNDS> {
@@ -152,6 +164,13 @@ impl<const ROUNDS: u8> Wide for ChaCha<ROUNDS> {
         self.jump(8);
         write_four(&mut out[0..256], front);
         write_four(&mut out[256..], back);
+    }
+
+    #[inline(always)]
+    fn next_eight(&mut self, lanes: EightLanes) -> [u8; 512] {
+        let mut group = [0; 512];
+        Wide::fill_eight(self, lanes, &mut group);
+        group
     }
 }
 

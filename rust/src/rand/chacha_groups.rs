@@ -114,9 +114,7 @@ impl<const ROUNDS: u8> fmt::Display for ChaChaGroups<ROUNDS> {
 impl<const ROUNDS: u8> Rng<512> for ChaChaGroups<ROUNDS> {
     #[inline]
     fn rand(&mut self) -> [u8; 512] {
-        let mut group = [0; 512];
-        self.chacha.fill_bytes(&mut group);
-        group
+        self.chacha.next_group()
     }
 
     fn fill_bytes(&mut self, buffer: &mut [u8]) {

@@ -170,9 +170,7 @@ impl<const ROUNDS: u8> Blocks<512> for ChaChaGroups<ROUNDS> {
 
     #[inline]
     fn rand(&mut self) -> [u8; 512] {
-        let mut group = [0; 512];
-        self.chacha.fill_bytes(&mut group);
-        group
+        self.chacha.next_group()
     }
 
     ghost positive = { Prim.search rules };

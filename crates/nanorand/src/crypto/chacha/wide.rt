@@ -36,6 +36,9 @@ pub(crate) trait Wide {
     // Fills with the next eight blocks.
     fn fill_eight(&mut self, lanes: EightLanes, out: &mut [u8])
         requires { length out.old ≡ 512 };
+
+    // Returns the next eight blocks.
+    fn next_eight(&mut self, lanes: EightLanes) -> [u8; 512];
 }
 
 impl Vector for u32x8 {

@@ -4,8 +4,8 @@ use Rattle.nanorand.proofs.rand.chacha_groups.ChaChaGroupsBlocks512.rand.Goals a
 
 pub returns-clause-bytes : goal.returns-clause-bytes
 returns-clause-bytes g c =
-    rw (← c.self.view_is) (c.fill_bytes.ensures.bytes ∙ taken_chacha_group g.row.ROUNDS c.self.inside.chacha)
+    rw (← c.self.view_is) (c.next_group.ensures.bytes ∙ taken_chacha_group g.row.ROUNDS c.self.inside.chacha)
 
 pub returns-clause-state : goal.returns-clause-state
 returns-clause-state g c =
-    rw (← c.self.view_is) (c.fill_bytes.ensures.state ∙ after_chacha_group c.self.inside.chacha)
+    rw (← c.self.view_is) (c.next_group.ensures.state ∙ after_chacha_group c.self.inside.chacha)
