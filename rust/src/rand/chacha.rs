@@ -208,11 +208,12 @@ impl<const ROUNDS: u8> fmt::Display for ChaCha<ROUNDS> {
 impl<const ROUNDS: u8> Rng<64> for ChaCha<ROUNDS> {
     #[inline]
     fn rand(&mut self) -> [u8; 64] {
-        let block = chacha_block::<ROUNDS>(self.state);
+        // The counter is stored first. The next block's load of its row waits for that store.
+        let input = self.state;
         if !chacha_increment_counter(&mut self.state) {
             set_counter(&mut self.state, 0);
         }
-        bytes_of(&block)
+        bytes_of(&chacha_block::<ROUNDS>(input))
     }
 
     /// Computes whole groups of 256 bytes four blocks side by side, and those of 512 bytes eight where

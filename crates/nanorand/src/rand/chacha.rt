@@ -291,11 +291,12 @@ impl<const ROUNDS: u8> Blocks<64> for ChaCha<ROUNDS> {
 
     #[inline]
     fn rand(&mut self) -> [u8; 64] {
-        let block = chacha_block::<ROUNDS>(self.state);
+        // The counter is stored first. The next block's load of its row waits for that store.
+        let input = self.state;
         if !chacha_increment_counter(&mut self.state) {
             set_counter(&mut self.state, 0);
         }
-        bytes_of(&block)
+        bytes_of(&chacha_block::<ROUNDS>(input))
     }
 
     ghost positive = { Prim.search rules };
