@@ -25,7 +25,7 @@ fn main() {
     println!("| Work | ns |");
     println!("|---|---|");
     for work in here::works() {
-        let mut row = Row::new(work, None);
+        let mut row = Row::new(work, None, Vec::new());
         let times = row.timed();
         println!("| {} | {:.2} |", times.name, times.here);
     }

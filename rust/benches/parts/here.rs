@@ -3,11 +3,19 @@
 use nanorand_proved as library;
 
 use library::shuffles::shuffle_full;
+use library::{ChaChaStream, Keystream};
 use std::fmt::Debug;
 
 // As a program takes a draw's number.
 fn drawn<T, E: Debug>(result: Result<T, E>) -> T {
     result.unwrap()
+}
+
+// The bytes that a stream draws at once.
+const GROUP: usize = 512;
+
+fn stream<const ROUNDS: u8>() -> ChaChaStream<ROUNDS> {
+    ChaChaStream::new_key([black_box(7); 32], [black_box(7); 8])
 }
 
 fn shuffle_from_all<R: library::Rng<8>>(rng: &mut R, items: &mut [u64]) {

@@ -20,29 +20,43 @@ pub struct Work {
 pub struct Row {
     here: Work,
     original: Option<Work>,
+    /// The same by other libraries, by whose names these works are called.
+    peers: Vec<Work>,
 }
 
 impl Row {
-    pub fn new(here: Work, original: Option<Work>) -> Self {
-        Self { here, original }
+    pub fn new(here: Work, original: Option<Work>, peers: Vec<Work>) -> Self {
+        Self {
+            here,
+            original,
+            peers,
+        }
     }
 
-    /// Times both works of the row, which take turns, so that a busy moment of the machine meets both.
+    /// Times all works of the row, which take turns, so that a busy moment of the machine meets all.
     pub fn timed(&mut self) -> Times {
         let mut here = Best::new();
         let mut original = Best::new();
+        let mut peers: Vec<_> = self.peers.iter().map(|_| Best::new()).collect();
         for _ in 0..TURNS {
             here.time(&mut self.here);
             if let Some(work) = &mut self.original {
                 original.time(work);
             }
+            for (best, work) in peers.iter_mut().zip(&mut self.peers) {
+                best.time(work);
+            }
         }
+        let names = self.peers.iter().map(|work| work.name.clone());
         Times {
             name: self.here.name.clone(),
             limit: self.here.limit,
             here: here.nanoseconds,
             original: original.nanoseconds,
             same: here.result == original.result,
+            peers: names
+                .zip(peers.iter().map(|best| best.nanoseconds))
+                .collect(),
         }
     }
 }
@@ -76,6 +90,7 @@ pub struct Times {
     pub original: f64,
     /// Whether both libraries' results are the same.
     pub same: bool,
+    pub peers: Vec<(String, f64)>,
 }
 
 impl fmt::Display for Times {
@@ -86,8 +101,13 @@ impl fmt::Display for Times {
             here,
             original,
             same,
+            peers,
         } = self;
-        write!(f, "{name}\t{limit}\t{here}\t{original}\t{same}")
+        write!(f, "{name}\t{limit}\t{here}\t{original}\t{same}")?;
+        for (peer, nanoseconds) in peers {
+            write!(f, "\t{peer}\t{nanoseconds}")?;
+        }
+        Ok(())
     }
 }
 
@@ -96,16 +116,21 @@ impl FromStr for Times {
 
     fn from_str(line: &str) -> Result<Self, String> {
         let cells: Vec<&str> = line.split('\t').collect();
-        let [name, limit, here, original, same] = cells[..] else {
-            return Err(format!("not five cells: {line}"));
+        let [name, limit, here, original, same, ref peers @ ..] = cells[..] else {
+            return Err(format!("fewer than five cells: {line}"));
         };
         let number = |cell: &str| cell.parse().map_err(|_| format!("not a number: {cell}"));
+        let peer = |cells: &[&str]| Ok((cells[0].to_string(), number(cells[1])?));
         Ok(Self {
             name: name.to_string(),
             limit: number(limit)?,
             here: number(here)?,
             original: number(original)?,
             same: same == "true",
+            peers: peers
+                .chunks_exact(2)
+                .map(peer)
+                .collect::<Result<_, String>>()?,
         })
     }
 }

@@ -9,6 +9,9 @@ impl Times {
     fn lower(&mut self, other: &Times) {
         self.here = self.here.min(other.here);
         self.original = self.original.min(other.original);
+        for ((_, least), (_, time)) in self.peers.iter_mut().zip(&other.peers) {
+            *least = least.min(*time);
+        }
     }
 }
 
@@ -38,6 +41,21 @@ fn cell([least, median]: [f64; 2]) -> String {
     format!("{least:.2} ({median:.2})")
 }
 
+// The peer whose median is the least, with its figures.
+fn best_peer(builds: &[Vec<Times>], place: usize) -> Option<(&str, [f64; 2])> {
+    let peers = builds[0][place].peers.iter().enumerate();
+    peers
+        .map(|(peer, (name, _))| {
+            let times = figures(builds, |build| build[place].peers[peer].1);
+            (name.as_str(), times)
+        })
+        .min_by(|(_, one), (_, other)| one[1].total_cmp(&other[1]))
+}
+
+fn ratio(ours: [f64; 2], theirs: [f64; 2]) -> [f64; 2] {
+    [ours[0] / theirs[0], ours[1] / theirs[1]]
+}
+
 /// Prints the table of the builds whose times the files have.
 pub fn print(paths: impl Iterator<Item = String>) -> Result<(), Box<dyn Error>> {
     let builds = paths
@@ -47,23 +65,29 @@ pub fn print(paths: impl Iterator<Item = String>) -> Result<(), Box<dyn Error>> 
     let count = builds.len();
     println!("Nanoseconds: the least of {count} builds, and (the median).");
     println!();
-    println!("| Work | nanorand_proved | nanorand 0.7.0 | ratio |");
-    println!("|---|---|---|---|");
+    println!("| Work | nanorand_proved | nanorand 0.7.0 | ratio | best peer | ratio |");
+    println!("|---|---|---|---|---|---|");
     let mut above = Vec::new();
     for (place, row) in first.iter().enumerate() {
         let here = figures(&builds, |build| build[place].here);
         let original = figures(&builds, |build| build[place].original);
-        let ratio = [here[0] / original[0], here[1] / original[1]];
+        let beside = ratio(here, original);
         let note = if row.same { "" } else { " (other results)" };
+        let peer = match best_peer(&builds, place) {
+            Some((name, times)) => {
+                format!("`{name}` {} | {}", cell(times), cell(ratio(here, times)))
+            }
+            None => "- | -".to_string(),
+        };
         println!(
-            "| {}{note} | {} | {} | {} |",
+            "| {}{note} | {} | {} | {} | {peer} |",
             row.name,
             cell(here),
             cell(original),
-            cell(ratio)
+            cell(beside)
         );
-        if ratio[0] > row.limit {
-            above.push((&row.name, row.limit, ratio));
+        if beside[0] > row.limit {
+            above.push((&row.name, row.limit, beside));
         }
     }
     println!();

@@ -1,5 +1,6 @@
 // The works. This text is compiled once for each library: the module that includes it names the
-// `library`, and says how a draw's number is taken (`drawn`) and a shuffle from all indices is made.
+// `library`, and says how a draw's number is taken (`drawn`), a shuffle from all indices is made and
+// ChaCha is buffered (`stream`).
 //
 // Each function with a loop is compiled by itself, with its generator in a variable of its own, and
 // counts and seeds are not known to it.
@@ -9,9 +10,9 @@ use crate::row::Work;
 use library::{BufferedRng, ChaCha, Pcg64, RandomGen, Rng, WyRand};
 use std::hint::black_box;
 
-const DRAWS: u32 = 1 << 18;
-const ITEMS: u32 = 100_000;
-const BYTES: u32 = 1 << 18;
+pub const DRAWS: u32 = 1 << 18;
+pub const ITEMS: u32 = 400_000;
+pub const BYTES: u32 = 1 << 18;
 
 fn wyrand() -> WyRand {
     WyRand::new_seed(black_box(42))
@@ -177,6 +178,8 @@ fn all_fills(works: &mut Vec<Work>) {
             mixed_items(&items)
         },
     ));
+    works.push(bytes_of("WyRand, fill of 4096 bytes, a byte", 4096, wyrand));
+    works.push(bytes_of("Pcg64, fill of 4096 bytes, a byte", 4096, pcg64));
 }
 
 #[inline(never)]
@@ -184,6 +187,18 @@ fn fill_bytes<R: Rng<OUTPUT>, const OUTPUT: usize>(mut rng: R, bytes: &mut [u8],
     for _ in 0..times {
         rng.fill_bytes(&mut *bytes);
     }
+}
+
+fn bytes_of<R: Rng<OUTPUT> + 'static, const OUTPUT: usize>(
+    name: &str,
+    length: u32,
+    rng: fn() -> R,
+) -> Work {
+    let mut bytes = vec![0; length as usize];
+    work(name, 1.1, BYTES, move || {
+        fill_bytes(rng(), &mut bytes, black_box(BYTES / length));
+        mixed_items(&bytes)
+    })
 }
 
 fn all_bytes_of<const ROUNDS: u8>(works: &mut Vec<Work>) {
@@ -232,6 +247,15 @@ fn all_buffered(works: &mut Vec<Work>) {
     ));
 }
 
+fn all_of_streams<const ROUNDS: u8>(works: &mut Vec<Work>) {
+    let name = format!("ChaCha{ROUNDS} stream, u64");
+    works.push(work(&name, 1.1, DRAWS, || {
+        values::<u64, _, GROUP>(stream::<ROUNDS>())
+    }));
+    let name = format!("ChaCha{ROUNDS} stream, fill of 64 bytes, a byte");
+    works.push(bytes_of(&name, 64, stream::<ROUNDS>));
+}
+
 /// All works, in the table's order.
 pub fn works() -> Vec<Work> {
     let mut works = Vec::new();
@@ -243,5 +267,8 @@ pub fn works() -> Vec<Work> {
     all_bytes_of::<12>(&mut works);
     all_bytes_of::<20>(&mut works);
     all_buffered(&mut works);
+    all_of_streams::<8>(&mut works);
+    all_of_streams::<12>(&mut works);
+    all_of_streams::<20>(&mut works);
     works
 }
