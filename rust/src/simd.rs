@@ -159,7 +159,7 @@ impl EightLanes {
 pub(crate) trait Wide {
     fn fill_eight(&mut self, lanes: EightLanes, out: &mut [u8]);
 
-    /// The same, as a value: it is written to its place by the vectors, with no copy between.
+    /// The same, as a value: the vectors write the caller's array, which is not cleared first.
     fn next_eight(&mut self, lanes: EightLanes) -> [u8; 512];
 }
 
