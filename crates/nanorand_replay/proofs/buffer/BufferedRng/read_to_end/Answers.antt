@@ -1,75 +1,66 @@
-use Rattle.std.proofs.lemmas.Grind.{common_steps}
-use Rattle.std.proofs.Common.{arith, rules}
+use Rattle.std.proofs.Common.{◌≡◌, ◌≢◌, ◌-◌, ◌++◌, ℕ, List, [], length, drop, length-drop, ap, refl, arith, ◌∙◌}
+use Rattle.std.proofs.lemmas.List.{take_rest, drop_all}
+use Rattle.std.proofs.lemmas.Result.{err_from_is_err_and}
+use Rattle.nanorand_replay.specs.generators.Buffered.{Buffered, buffer_of}
 use Rattle.nanorand_replay.proofs.buffer.BufferedRng.read_to_end.Goals as goal
 
-pub returns-clause-rest : goal.returns-clause-rest
-returns-clause-rest g c = grind (arith, common_steps)
+-- The number of the bytes from the cursor on.
+rest_length : (block rest : List ℕ) (cursor output : ℕ) → drop cursor block ≡ rest → length block ≡ output → output - cursor ≡ length rest
+rest_length block rest cursor output is told = rw (← is, length-drop, told) refl
 
-pub returns-in_err-reserve-clause-full : goal.returns-in_err-reserve-clause-full
-returns-in_err-reserve-clause-full g c = grind (arith, common_steps)
+-- If there are such bytes, the rest is not empty.
+some_rest : (block rest : List ℕ) (cursor output : ℕ) → drop cursor block ≡ rest → length block ≡ output → output - cursor ≢ 0 → rest ≢ []
+some_rest block rest cursor output is told some none = some (rest_length block rest cursor output is told ∙ ap length none)
 
-pub returns-in_err-reserve-clause-empty : goal.returns-in_err-reserve-clause-empty
-returns-in_err-reserve-clause-empty g c = grind (arith, common_steps)
-
-pub returns-in_err-extend_from_slice-clause-capacity_stays : goal.returns-in_err-extend_from_slice-clause-capacity_stays
-returns-in_err-extend_from_slice-clause-capacity_stays g c = search rules
-
-pub returns-in_err-reserve-clause-count : goal.returns-in_err-reserve-clause-count
-returns-in_err-reserve-clause-count g c = grind (arith, common_steps)
-
-pub returns-in_err-reserve-clause-appended : goal.returns-in_err-reserve-clause-appended
-returns-in_err-reserve-clause-appended g c = grind (arith, common_steps)
-
-pub returns-in_err-reserve-clause-rest : goal.returns-in_err-reserve-clause-rest
-returns-in_err-reserve-clause-rest g c = grind (arith, common_steps)
-
-pub returns-in_err-reserve-clause-vector_stays : goal.returns-in_err-reserve-clause-vector_stays
-returns-in_err-reserve-clause-vector_stays g c = grind (arith, common_steps)
-
-pub returns-in_err-reserve-clause-buffer_stays : goal.returns-in_err-reserve-clause-buffer_stays
-returns-in_err-reserve-clause-buffer_stays g c = grind (arith, common_steps)
-
-pub returns-clause-full : goal.returns-clause-full
-returns-clause-full g c = grind (arith, common_steps)
+appended : (items before out bytes rest : List ℕ) → items ≡ before ++ bytes → before ≡ out → bytes ≡ rest → items ≡ out ++ rest
+appended items before out bytes rest all old new = all ∙ (λ i. old i ++ new i)
 
 pub returns-clause-count : goal.returns-clause-count
-returns-clause-count g c = grind (arith, common_steps)
+returns-clause-count g c =
+    rest_length c.self.inside.block c.args.self.now.rest c.self.inside.cursor g.row.OUTPUT (ap (λ (b : Buffered g.row.G.Denot). b.rest) c.self.view_is) c.self.told
 
 pub returns-clause-appended : goal.returns-clause-appended
-returns-clause-appended g c = grind (arith, common_steps)
+returns-clause-appended g c =
+    appended _ _ _ _ _ c.in_ok-extend_from_slice.ensures.items c.reserve.ensures.items (take_rest c.self.inside.block c.self.inside.cursor ∙ ap (λ (b : Buffered g.row.G.Denot). b.rest) c.self.view_is)
 
-pub returns-clause-vector_stays : goal.returns-clause-vector_stays
-returns-clause-vector_stays g c = search rules
-
-pub returns-clause-capacity_stays : goal.returns-clause-capacity_stays
-returns-clause-capacity_stays g c = search rules
-
-pub returns-clause-buffer_stays : goal.returns-clause-buffer_stays
-returns-clause-buffer_stays g c = search rules
+pub returns-clause-rest : goal.returns-clause-rest
+returns-clause-rest g c =
+    let none = drop_all g.row.OUTPUT c.self.inside.block (omega (arith, c.self.told)) in
+    λ i. buffer_of (none i) (c.self.view_is i).inner
 
 pub returns-clause-empty : goal.returns-clause-empty
-returns-clause-empty g c = search rules
+returns-clause-empty g c = λ none. refl
 
-pub returns-in_err-reserve-clause-capacity_stays : goal.returns-in_err-reserve-clause-capacity_stays
-returns-in_err-reserve-clause-capacity_stays g c = search rules
+pub returns-clause-untouched : goal.returns-clause-untouched
+returns-clause-untouched g c = λ none.
+    absurd (some_rest c.self.inside.block c.args.self.now.rest c.self.inside.cursor g.row.OUTPUT (ap (λ (b : Buffered g.row.G.Denot). b.rest) c.self.view_is) c.self.told (omega arith) none)
 
-pub returns-in_err-extend_from_slice-clause-count : goal.returns-in_err-extend_from_slice-clause-count
-returns-in_err-extend_from_slice-clause-count g c = search rules
+pub returns-clause-vector_stays : goal.returns-clause-vector_stays
+returns-clause-vector_stays g c = tt
 
-pub returns-in_err-extend_from_slice-clause-appended : goal.returns-in_err-extend_from_slice-clause-appended
-returns-in_err-extend_from_slice-clause-appended g c = search rules
+pub returns-clause-capacity_stays : goal.returns-clause-capacity_stays
+returns-clause-capacity_stays g c = tt
 
-pub returns-in_err-extend_from_slice-clause-rest : goal.returns-in_err-extend_from_slice-clause-rest
-returns-in_err-extend_from_slice-clause-rest g c = search rules
+pub returns-clause-buffer_stays : goal.returns-clause-buffer_stays
+returns-clause-buffer_stays g c = tt
 
-pub returns-in_err-extend_from_slice-clause-vector_stays : goal.returns-in_err-extend_from_slice-clause-vector_stays
-returns-in_err-extend_from_slice-clause-vector_stays g c = search rules
+pub returns-clause-full : goal.returns-clause-full
+returns-clause-full g c = tt
 
-pub returns-in_err-extend_from_slice-clause-buffer_stays : goal.returns-in_err-extend_from_slice-clause-buffer_stays
-returns-in_err-extend_from_slice-clause-buffer_stays g c = search rules
-
-pub returns-in_err-extend_from_slice-clause-full : goal.returns-in_err-extend_from_slice-clause-full
-returns-in_err-extend_from_slice-clause-full g c = search rules
-
-pub returns-in_err-extend_from_slice-clause-empty : goal.returns-in_err-extend_from_slice-clause-empty
-returns-in_err-extend_from_slice-clause-empty g c = search rules
+pub returns-in_err-reserve : goal.returns-in_err-reserve
+returns-in_err-reserve g c =
+    let made = (err_from_is_err_and c.from_residual.result c.from_residual.ensures.1).1 in
+    let kept = ap (λ (b : Buffered g.row.G.Denot). b.rest) c.self.view_is in
+    let count = rest_length c.self.inside.block c.args.self.now.rest c.self.inside.cursor g.row.OUTPUT kept c.self.told in
+    let some = some_rest c.self.inside.block c.args.self.now.rest c.self.inside.cursor g.row.OUTPUT kept c.self.told (omega arith) in
+    record {
+      count = rw made tt;
+      appended = rw made tt;
+      rest = rw made tt;
+      vector_stays = rw made c.in_err-reserve.ensures.items;
+      capacity_stays = rw made c.in_err-reserve.ensures.err;
+      buffer_stays = rw made refl;
+      full = rw (made, ← count) c.in_err-reserve.ensures.full;
+      empty = λ none. absurd (some none);
+      untouched = λ none. absurd (some none);
+    }
