@@ -1,3 +1,2 @@
-pub mod AllRequests
-pub mod FirstArguments
+pub mod ReadArguments
 pub mod RangeText

@@ -6,7 +6,7 @@ use Rattle.draw_core.specs.declared.error.DrawError.{DrawError}
 use Rattle.draw_core.specs.declared.error.DrawError.TheVariants.{BadWord}
 use Rattle.draw_core.specs.Requests.{IsRequest}
 use Rattle.draw_core.specs.Arguments.{argument_at, texts}
-use Rattle.draw_core.proofs.lemmas.AllRequests.{text_at, said_all, said_more, only_more}
+use Rattle.draw_core.proofs.lemmas.ReadArguments.{text_at, said_all, said_more, only_more}
 use Rattle.draw_core.proofs.command.calls_of.Goals as goal
 
 -- The number of a bad word.

@@ -5,8 +5,7 @@ use Rattle.std.proofs.lemmas.Result.{err_from_is_err_and}
 use Rattle.draw_core.specs.declared.error.DrawError.{DrawError}
 use Rattle.draw_core.specs.declared.error.DrawError.TheVariants.{BadWord, Write}
 use Rattle.draw_core.specs.Arguments.{IsReadable, IsFirstUnreadable, IsSeed, IsCount, AreRequests, FirstBadRequest, generator_of, name_of_generator, asked_by, texts}
-use Rattle.draw_core.proofs.lemmas.AllRequests.{texts_from}
-use Rattle.draw_core.proofs.lemmas.FirstArguments.{same_asked, first_of_all, one_first, first_is_bad, second_is_bad, third_is_bad, fourth_is_bad, none_is_bad}
+use Rattle.draw_core.proofs.lemmas.ReadArguments.{texts_from, same_asked, first_of_all, one_first, first_is_bad, second_is_bad, third_is_bad, fourth_is_bad, none_is_bad}
 use Rattle.draw_core.proofs.command.read.Goals as goal
 
 -- An `ok_or` that refuses had no value, and hands on its error.
