@@ -63,6 +63,16 @@ fn text_for_arguments<'a, A: Allocator>(
     Ok(text_of_command(alloc, &command)?)
 }
 
+/// Writes the whole text, and then flushes. `Write` is its only error.
+fn write_text<W: Write>(out: &mut W, text: &str) -> Result<(), DrawError>
+    ensures written { OnOk result (Appends (W.contents out.old) (W.contents out.new) text.now) }
+    ensures refusal { IfErr result (λ error. error ≡ DrawError.Write) }
+{
+    out.write_all(text.as_bytes())
+        .map_err(|_| DrawError::Write)?;
+    out.flush().map_err(|_| DrawError::Write)
+}
+
 /// Writes the text that the arguments ask for, all of it at once, and then flushes. The arguments
 /// are those after the name of the program.
 ///
@@ -94,9 +104,7 @@ pub fn run<A: Allocator, W: Write>(
     ensures untouched { IfErr result (λ error. error ≢ DrawError.Write → out.new ≡ out.old) }
 {
     let text = text_for_arguments(&alloc, arguments)?;
-    out.write_all(text.as_bytes())
-        .map_err(|_| DrawError::Write)?;
-    out.flush().map_err(|_| DrawError::Write)
+    write_text(out, text.as_str())
 }
 
 /// Returns the exit status of an outcome, and writes an error as one line to `err`. A failure to
