@@ -99,13 +99,16 @@ fn mode_of(name: &str) -> Option<Mode>
     }
 }
 
-/// The number of items, from decimal digits. None if the text is no number, or one above
-/// `MOST_ITEMS`.
-fn count_of(text: &str) -> Option<u64>
-    ensures found { IfSome result (IsCount text.now) }
-    ensures only { (count : ℕ) → IsCount text.now count → result ≡ Some count }
+/// The number of items, from the decimal digits of argument 4. It is a bad word if the text is no
+/// number, or one above `MOST_ITEMS`.
+fn count_of(text: &str) -> Result<u64, DrawError>
+    ensures found { IfOk result (IsCount text.now) }
+    ensures only { (count : ℕ) → IsCount text.now count → result ≡ Ok count }
+    ensures refusal { IfErr result (λ error. error ≡ DrawError.BadWord 4) }
 {
-    read_unsigned(text).filter(|count| *count <= MOST_ITEMS)
+    read_unsigned(text)
+        .filter(|count| *count <= MOST_ITEMS)
+        .ok_or(DrawError::BadWord(4))
 }
 
 /// The calls that the requests ask for. The first request is argument 5.
@@ -153,7 +156,7 @@ pub fn read<A: Allocator>(alloc: A, arguments: &[String]) -> Result<Command<A>, 
     let generator = generator_named(argument(arguments, 0)).ok_or(DrawError::BadWord(1))?;
     let seeded = seeded_generator(generator, argument(arguments, 1)).ok_or(DrawError::BadWord(2))?;
     let mode = mode_of(argument(arguments, 2)).ok_or(DrawError::BadWord(3))?;
-    let count = count_of(argument(arguments, 3)).ok_or(DrawError::BadWord(4))?;
+    let count = count_of(argument(arguments, 3))?;
     // An empty count is refused, so there are four arguments.
     let calls = calls_of(alloc, &arguments[4..])?;
     Ok(Command {

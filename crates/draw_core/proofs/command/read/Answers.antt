@@ -21,6 +21,15 @@ handed_on result kept error failed same =
     let made = err_from_is_err_and result failed in
     let first = made.1 in let handed = made.2 in cc
 
+-- Where it was given a known one, it is that one.
+told : {R : Type 0} (result : Result R DrawError) (kept error : DrawError) → IsErrAnd result (λ made. made ≡ kept) → kept ≡ error → result ≡ Err error
+told result kept error failed is =
+    let made = err_from_is_err_and result failed in
+    let first = made.1 in let handed = made.2 in cc
+
+same_count : (x y : ℕ) → (let given : Result ℕ DrawError = Ok x in given ≡ Ok y) → y ≡ x
+same_count x y same = cc
+
 no_value : {T : Type 0} (option : Option T) (x : T) → option ≡ None → option ≡ Some x → ⊥
 no_value option x none some = cc
 
@@ -88,15 +97,15 @@ returns-in_err-count g c =
     let named = sym c.argument.ensures ∙ rw c.in_ok-generator.ensures.ok_part at c.generator_named.ensures.found in
     let seeded = rw c.in_ok-seeded.ensures.ok_part at c.seeded_generator.ensures.found in
     let mode = sym c.argument-3.ensures ∙ rw c.in_ok-mode.ensures.ok_part at c.mode_of.ensures.found in
-    let refusal = refused c.count_of.result (BadWord 4) c.in_err-count.field-0.0 c.from_residual-in_err-count.result c.in_err-count.ensures.value c.from_residual-in_err-count.ensures.1 in
-    let bad : IsReadable arguments 3 → ⊥ = λ said. no_value c.count_of.result said.0 refusal.0 (c.count_of.ensures.only said.0 (subst (λ t. IsCount t said.0) (sym c.argument-4.ensures) said.1)) in
+    let refusal = told c.from_residual-in_err-count.result c.in_err-count.field-0.0 (BadWord 4) c.from_residual-in_err-count.ensures.1 c.in_err-count.ensures.refusal in
+    let bad : IsReadable arguments 3 → ⊥ = λ said. no_error said.0 _ (sym (c.in_err-count.ensures.only said.0 (subst (λ t. IsCount t said.0) (sym c.argument-4.ensures) said.1))) in
     let first = fourth_is_bad arguments (c.in_ok-generator.generator, named) (c.in_ok-seeded.seeded, named ∙ ap name_of_generator (sym seeded.0), subst (λ t. IsSeed t c.in_ok-seeded.seeded) c.argument-2.ensures seeded.1) (c.in_ok-mode.mode, mode) bad in
     record {
-      said = rw refusal.1 tt;
-      only = rw refusal.1 tt;
-      not_write = not_write _ _ refusal.1;
-      bad = λ k same. subst (IsFirstUnreadable arguments) (one_word _ _ _ refusal.1 same) first;
-      early = λ k small other. rw (← one_first arguments 4 k first other) refusal.1;
+      said = rw refusal tt;
+      only = rw refusal tt;
+      not_write = not_write _ _ refusal;
+      bad = λ k same. subst (IsFirstUnreadable arguments) (one_word _ _ _ refusal same) first;
+      early = λ k small other. rw (← one_first arguments 4 k first other) refusal;
     }
 
 pub returns-in_err-calls : goal.returns-in_err-calls
@@ -105,7 +114,7 @@ returns-in_err-calls g c =
     let named = sym c.argument.ensures ∙ rw c.in_ok-generator.ensures.ok_part at c.generator_named.ensures.found in
     let seeded = rw c.in_ok-seeded.ensures.ok_part at c.seeded_generator.ensures.found in
     let mode = sym c.argument-3.ensures ∙ rw c.in_ok-mode.ensures.ok_part at c.mode_of.ensures.found in
-    let count = rw c.in_ok-count.ensures.ok_part at c.count_of.ensures.found in
+    let count = c.in_ok-count.ensures.found in
     let failed = c.from_residual-in_err-calls.ensures.1 in
     let made = (err_from_is_err_and c.from_residual-in_err-calls.result failed).1 in
     record {
@@ -125,7 +134,7 @@ returns g c =
     let named = sym c.argument.ensures ∙ rw c.in_ok-generator.ensures.ok_part at c.generator_named.ensures.found in
     let seeded = rw c.in_ok-seeded.ensures.ok_part at c.seeded_generator.ensures.found in
     let mode = sym c.argument-3.ensures ∙ rw c.in_ok-mode.ensures.ok_part at c.mode_of.ensures.found in
-    let count = rw c.in_ok-count.ensures.ok_part at c.count_of.ensures.found in
+    let count = c.in_ok-count.ensures.found in
     record {
       said = record {
         generator = named ∙ ap name_of_generator (sym seeded.0);
@@ -139,7 +148,7 @@ returns g c =
           same_asked other (asked_by (record { generator = c.in_ok-seeded.seeded; mode = c.in_ok-mode.mode; count = c.in_ok-count.count; calls = c.in_ok-calls.calls }))
           (one_value c.seeded_generator.result _ _ (c.seeded_generator.ensures.only other.generator generator (subst (λ t. IsSeed t other.generator) (sym c.argument-2.ensures) said.seed)) c.in_ok-seeded.ensures.ok_part)
           (one_value c.mode_of.result _ _ (c.mode_of.ensures.only other.mode (c.argument-3.ensures ∙ said.mode)) c.in_ok-mode.ensures.ok_part)
-          (one_value c.count_of.result _ _ (c.count_of.ensures.only other.count (subst (λ t. IsCount t other.count) (sym c.argument-4.ensures) said.count)) c.in_ok-count.ensures.ok_part)
+          (same_count _ _ (c.in_ok-count.ensures.only other.count (subst (λ t. IsCount t other.count) (sym c.argument-4.ensures) said.count)))
           (c.in_ok-calls.ensures.only other.calls (subst (λ ws. AreRequests ws other.calls) (sym (texts_from 4 c.args.arguments.now)) said.requests));
       not_write = no_error _ _;
       bad = λ k same. absurd (no_error _ _ same);
