@@ -1,4 +1,4 @@
-use Rattle.std.proofs.Common.{◌≡◌, ◌≢◌, ◌-◌, ◌++◌, ℕ, List, [], length, drop, length-drop, ap, refl, arith, ◌∙◌}
+use Rattle.std.proofs.Common.{◌≡◌, ◌≢◌, ◌+◌, ◌-◌, ◌<◌, ◌≤◌, ◌++◌, ℕ, List, [], length, take, drop, length-drop, ap, refl, arith, ◌∙◌}
 use Rattle.std.proofs.lemmas.List.{take_rest, drop_all}
 use Rattle.std.proofs.lemmas.Result.{err_from_is_err_and}
 use Rattle.nanorand_replay.specs.generators.Buffered.{Buffered, buffer_of}
@@ -14,6 +14,10 @@ some_rest block rest cursor output is told some none = some (rest_length block r
 
 appended : (items before out bytes rest : List ℕ) → items ≡ before ++ bytes → before ≡ out → bytes ≡ rest → items ≡ out ++ rest
 appended items before out bytes rest all old new = all ∙ (λ i. old i ++ new i)
+
+-- Where there is room for them, it is not too small for them.
+no_room : (block : List ℕ) (cursor output len capacity : ℕ) → length block ≡ output → len + (output - cursor) ≤ capacity → capacity < len + length (take (length block - cursor) (drop cursor block)) → ⊥
+no_room block cursor output len capacity told room full = omega (arith, ap length (take_rest block cursor), length-drop cursor block)
 
 pub returns-clause-count : goal.returns-clause-count
 returns-clause-count g c =
@@ -64,3 +68,7 @@ returns-in_err-reserve g c =
       empty = λ none. absurd (some none);
       untouched = λ none. absurd (some none);
     }
+
+pub returns-in_err-extend_from_slice : goal.returns-in_err-extend_from_slice
+returns-in_err-extend_from_slice g c =
+    absurd (no_room c.self.inside.block c.self.inside.cursor g.row.OUTPUT _ _ c.self.told c.in_ok-reserve.ensures.ok c.in_err-extend_from_slice.ensures.full)
