@@ -1,12 +1,12 @@
 -- The text that is written, and when a run ends how.
-use Rattle.std.specs.Prelude.{◌≡◌, ℕ, ◌<◌, ◌≤◌, List, [], ◌∷◌, ◌++◌, length, Option, Result, Ok, Err}
+use Rattle.std.specs.Prelude.{◌≡◌, ℕ, ◌<◌, ◌≤◌, List, [], ◌∷◌, ◌++◌, length, Option, Result, Ok, Err, Vec, ⊤}
 use Rattle.std.specs.Io.KnownBytes.{Consumes, IsAtEnd}
 use Rattle.std.specs.List.{flat_map}
 use Rattle.lots_core.specs.declared.error.LotsError.{LotsError}
 use Rattle.lots_core.specs.declared.error.LotsError.TheVariants.{Usage, TooFew, EmptyLine, Memory, Read, Write, Exhausted}
 use Rattle.lots_core.specs.Arguments.{Asked, AsksFor, number_asked}
 use Rattle.lots_core.specs.Draws.{drawing, drawn}
-use Rattle.lots_core.specs.Lists.{AreFull, lines_of}
+use Rattle.lots_core.specs.Lists.{AreFull, IsFirstEmpty, lines_of}
 use Rattle.lots_core.specs.declared.arguments.Count.TheVariants.{Of}
 use Rattle.nanorand_core.specs.declared.values.range.RangeError.TheVariants as ranges
 
@@ -44,6 +44,17 @@ text_of lines = flat_map (λ line. line ++ 10 ∷ []) lines
 abbrev pub text_drawn : Asked → List (List ℕ) → List ℕ
 text_drawn asked entrants =
     text_of (drawn asked.seed (places_asked asked entrants) entrants)
+
+-- What a draw from these lines comes to: the text of the selection, or why there is none. Of an
+-- allocation that is refused nothing is said. No other error is returned.
+abbrev pub Outcome : {A : Type 0} → Asked → List (List ℕ) → Result (Vec ℕ A) LotsError → Type 0
+Outcome asked lines (Ok text) =
+    AreFull lines × HasSelection asked lines × (text.items ≡ text_drawn asked lines)
+Outcome asked lines (Err (EmptyLine k)) = IsFirstEmpty lines k
+Outcome asked lines (Err (TooFew n k)) = AreFull lines × AreTooFew asked lines n k
+Outcome asked lines (Err Exhausted) = AreFull lines × IsRefused asked lines
+Outcome asked lines (Err Memory) = ⊤
+Outcome asked lines (Err other) = ⊥
 
 -- The arguments ask for a selection, and the reader's list has it, with this text.
 pub record IsDrawn (arguments : List (List ℕ)) (before after : Option (List ℕ)) (text : List ℕ)

@@ -1,9 +1,9 @@
 //! The whole run: from the arguments and the list to the text that is written.
-ghost use Rattle.std.specs.Prelude.{◌≡◌, ◌≢◌, ◌⊎◌, ℕ, List, map, IfOk, IfErr, IfSome, OnOk};
+ghost use Rattle.std.specs.Prelude.{◌≡◌, ◌≢◌, ◌⊎◌, ℕ, List, IfOk, IfErr, IfSome, OnOk};
 ghost use Rattle.std.specs.Io.KnownBytes.{Appends};
 ghost use Rattle.lots_core.specs.Arguments.{Asked, AsksFor, asked_by, texts};
 ghost use Rattle.lots_core.specs.Lists.{IsFirstEmpty, AreFull, lines_of};
-ghost use Rattle.lots_core.specs.Text.{AreTooFew, HasSelection, IsDrawn, IsRefused, WasRead, status_of, text_drawn};
+ghost use Rattle.lots_core.specs.Text.{AreTooFew, IsDrawn, IsRefused, Outcome, WasRead, status_of, text_drawn};
 ghost use Rattle.lots_core.specs.declared.error.LotsError.TheVariants.{Usage, TooFew, EmptyLine, Memory, Read as Unread, Write as Unwritten, Exhausted};
 
 use crate::arguments::{Request, read};
@@ -28,79 +28,18 @@ fn read_list<A: Allocator, R: Read>(alloc: A, input: &mut R) -> Result<Vec<u8, A
     }
 }
 
-/// The text of the entrants that the request draws. It leaves the entrants in an unspecified order.
-fn draw_text<'a, A: Allocator>(
-    alloc: &'a A,
-    request: &Request<'_>,
-    entrants: &mut [&[u8]],
-) -> Result<Vec<u8, &'a A>, LotsError>
-    ensures text { IfOk result (λ text. text.items
-        ≡ text_drawn (asked_by request.now) (map (λ entrant. entrant.now) entrants.old)) }
-    ensures selection { OnOk result
-        (HasSelection (asked_by request.now) (map (λ entrant. entrant.now) entrants.old)) }
-    ensures few { (n k : ℕ) → result ≡ Err (TooFew n k) →
-        AreTooFew (asked_by request.now) (map (λ entrant. entrant.now) entrants.old) n k }
-    ensures exhausted { result ≡ Err Exhausted →
-        IsRefused (asked_by request.now) (map (λ entrant. entrant.now) entrants.old) }
-    ensures refusal { IfErr result (λ error. (error ≡ Exhausted) ⊎ (error ≡ Memory)
-        ⊎ ((n : ℕ) × (k : ℕ) × (error ≡ TooFew n k))) }
-{
-    let count = request.count.among(entrants.len());
-    draw(request.seed, entrants, count)?;
-    Ok(text_of(alloc, &entrants[..count])?)
-}
-
-/// The text of the selection that the request makes from the list.
+/// The text of the selection that the request makes from the list, or why there is none.
 fn select<'a, A: Allocator>(
     alloc: &'a A,
     request: &Request<'_>,
     list: &[u8],
 ) -> Result<Vec<u8, &'a A>, LotsError>
-    ensures text { IfOk result (λ text.
-        text.items ≡ text_drawn (asked_by request.now) (lines_of list.now)) }
-    ensures full { OnOk result (AreFull (lines_of list.now)) }
-    ensures selection { OnOk result (HasSelection (asked_by request.now) (lines_of list.now)) }
-    ensures few { (n k : ℕ) → result ≡ Err (TooFew n k) →
-        AreFull (lines_of list.now) × AreTooFew (asked_by request.now) (lines_of list.now) n k }
-    ensures empty { (k : ℕ) → result ≡ Err (EmptyLine k) → IsFirstEmpty (lines_of list.now) k }
-    ensures exhausted { result ≡ Err Exhausted →
-        AreFull (lines_of list.now) × IsRefused (asked_by request.now) (lines_of list.now) }
-    ensures asked { result ≢ Err Usage }
-    ensures not_write { result ≢ Err Unwritten }
+    ensures { Outcome (asked_by request.now) (lines_of list.now) result }
 {
     let mut entrants = entrants_of(alloc, list)?;
-    draw_text(alloc, request, &mut entrants)
-}
-
-/// The text that the arguments ask for, of the list that the reader has.
-fn text_asked<'a, A: Allocator, R: Read>(
-    alloc: &'a A,
-    arguments: &[String],
-    input: &mut R,
-) -> Result<Vec<u8, &'a A>, LotsError>
-    ensures drawn { IfOk result (λ text. IsDrawn (texts arguments.now) (R.remaining input.old)
-        (R.remaining input.new) text.items) }
-    ensures usage { result ≡ Err Usage →
-        (asked : Asked) → AsksFor (texts arguments.now) asked → ⊥ }
-    ensures unread { result ≡ Err Usage → input.new ≡ input.old }
-    ensures unreadable { ((asked : Asked) → AsksFor (texts arguments.now) asked → ⊥) →
-        result ≡ Err Usage }
-    ensures few { (n k : ℕ) → result ≡ Err (TooFew n k) → (asked : Asked) × (list : List ℕ)
-        × AsksFor (texts arguments.now) asked
-        × WasRead (R.remaining input.old) (R.remaining input.new) list
-        × AreFull (lines_of list) × AreTooFew asked (lines_of list) n k }
-    ensures empty { (k : ℕ) → result ≡ Err (EmptyLine k) → (list : List ℕ)
-        × WasRead (R.remaining input.old) (R.remaining input.new) list
-        × IsFirstEmpty (lines_of list) k }
-    ensures exhausted { result ≡ Err Exhausted → (asked : Asked) × (list : List ℕ)
-        × AsksFor (texts arguments.now) asked
-        × WasRead (R.remaining input.old) (R.remaining input.new) list
-        × AreFull (lines_of list) × IsRefused asked (lines_of list) }
-    ensures not_write { result ≢ Err Unwritten }
-{
-    let request = read(arguments).ok_or(LotsError::Usage)?;
-    let list = read_list(alloc, input)?;
-    select(alloc, &request, &list)
+    let count = request.count.among(entrants.len());
+    draw(request.seed, &mut entrants, count)?;
+    Ok(text_of(alloc, &entrants[..count])?)
 }
 
 /// Draws what the arguments ask for from the list that `input` has, and writes it to `out`, all at
@@ -149,7 +88,9 @@ pub fn run<A: Allocator, R: Read, W: Write>(
         × IsDrawn (texts arguments.now) (R.remaining input.old) (R.remaining input.new) text }
     ensures untouched { IfErr result (λ error. error ≢ Unwritten → out.new ≡ out.old) }
 {
-    let text = text_asked(&alloc, arguments, input)?;
+    let request = read(arguments).ok_or(LotsError::Usage)?;
+    let list = read_list(&alloc, input)?;
+    let text = select(&alloc, &request, &list)?;
     out.write_all(&text).map_err(|_| LotsError::Write)?;
     out.flush().map_err(|_| LotsError::Write)
 }
