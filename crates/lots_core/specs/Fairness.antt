@@ -1,6 +1,7 @@
 -- The words of a seed, and what lists of words draw. The lists are counted: who is drawn, and by how
 -- many.
-use Rattle.std.specs.Prelude.{◌≡◌, ℕ, ◌*◌, ◌^◌, ◌<◌, ◌≤◌, ◌==◌, ◌&&◌, Bool, true, List, length, map, take, drop, replicate, slice_index_or, IsPermutation}
+use Rattle.std.specs.Prelude.{◌≡◌, ℕ, ◌*◌, ◌^◌, ◌<◌, ◌≤◌, ◌==◌, ◌&&◌, Bool, true, List, length, map, take, drop}
+use Rattle.std.specs.Prelude.{replicate, slice_index_or, IsPermutation}
 use Rattle.std.specs.List.{list_any}
 use Rattle.std.specs.Cmp.Lexicographic.{pointwise}
 use Rattle.nanorand_core.specs.shuffles.Arrangements.{rising}

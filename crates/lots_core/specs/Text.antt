@@ -3,7 +3,8 @@ use Rattle.std.specs.Prelude.{◌≡◌, ℕ, ◌<◌, ◌≤◌, List, [], ◌�
 use Rattle.std.specs.Io.KnownBytes.{Consumes, IsAtEnd}
 use Rattle.std.specs.List.{flat_map}
 use Rattle.lots_core.specs.declared.error.LotsError.{LotsError}
-use Rattle.lots_core.specs.declared.error.LotsError.TheVariants.{Usage, TooFew, EmptyLine, Memory, Read, Write, Exhausted}
+use Rattle.lots_core.specs.declared.error.LotsError.TheVariants.{Usage, TooFew, EmptyLine, Memory, Read, Write}
+use Rattle.lots_core.specs.declared.error.LotsError.TheVariants.{Exhausted}
 use Rattle.lots_core.specs.Arguments.{Asked, AsksFor, number_asked}
 use Rattle.lots_core.specs.Draws.{drawing, drawn}
 use Rattle.lots_core.specs.Lists.{AreFull, IsFirstEmpty, lines_of}

@@ -1,5 +1,6 @@
 -- A draw moves entrants, whatever they are: it commutes with every map of them.
-use Rattle.std.proofs.Common.{◌≡◌, ℕ, List, [], ◌∷◌, length, map, take, fold, swap, ap, refl, sym, ◌∙◌, slice_index_or, slice_set, min}
+use Rattle.std.proofs.Common.{◌≡◌, ℕ, List, [], ◌∷◌, length, map, take, fold, swap, ap, refl, sym, ◌∙◌}
+use Rattle.std.proofs.Common.{slice_index_or, slice_set, min}
 use Rattle.std.specs.List.{enumerate_from}
 use Rattle.std.proofs.lemmas.List.{length-map, take-map, map-set}
 use Rattle.std.proofs.Math.ListN.{get_or-map}
@@ -20,16 +21,20 @@ swap-map f (x ∷ xs) i j =
 
 -- So are swaps one after another.
 swaps-map : {T U : Type 0} (f : T → U) (moves : List (ℕ × ℕ)) (items : List T)
-    → fold (λ xs move. swap xs move.0 move.1) (map f items) moves ≡ map f (fold (λ xs move. swap xs move.0 move.1) items moves)
+    → fold (λ xs move. swap xs move.0 move.1) (map f items) moves
+    ≡ map f (fold (λ xs move. swap xs move.0 move.1) items moves)
 swaps-map f [] items = refl
 swaps-map f (move ∷ moves) items =
-    ap (λ xs. fold (λ xs move. swap xs move.0 move.1) xs moves) (swap-map f items move.0 move.1) ∙ swaps-map f moves (swap items move.0 move.1)
+    ap (λ xs. fold (λ xs move. swap xs move.0 move.1) xs moves) (swap-map f items move.0 move.1)
+    ∙ swaps-map f moves (swap items move.0 move.1)
 
-pub arranged-map : {T U : Type 0} (f : T → U) (choices : List ℕ) (items : List T) → arranged choices (map f items) ≡ map f (arranged choices items)
+pub arranged-map : {T U : Type 0} (f : T → U) (choices : List ℕ) (items : List T)
+    → arranged choices (map f items) ≡ map f (arranged choices items)
 arranged-map f choices items = swaps-map f (enumerate_from 0 choices) items
 
 -- The entrants drawn from a mapped list are the drawn ones, mapped.
-pub drawn-map : {T U : Type 0} (f : T → U) (seed : List ℕ) (count : ℕ) (entrants : List T) → drawn seed count (map f entrants) ≡ map f (drawn seed count entrants)
+pub drawn-map : {T U : Type 0} (f : T → U) (seed : List ℕ) (count : ℕ) (entrants : List T)
+    → drawn seed count (map f entrants) ≡ map f (drawn seed count entrants)
 drawn-map f seed count entrants =
     let choices : ℕ → List ℕ = λ n. partial_choices requests from_itself n (min count n) (start_of seed) in
     ap (λ n. take count (arranged (choices n) (map f entrants))) (length-map entrants f)

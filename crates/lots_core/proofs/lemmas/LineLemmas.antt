@@ -1,5 +1,6 @@
 -- The first line of a text, and the lines after it.
-use Rattle.std.proofs.Common.{◌≡◌, ◌≢◌, ℕ, zero, suc, ◌+◌, ◌<◌, List, [], ◌∷◌, length, take, drop, slice_index, ap, arith, ◌∙◌}
+use Rattle.std.proofs.Common.{◌≡◌, ◌≢◌, ℕ, zero, suc, ◌+◌, ◌<◌, List, [], ◌∷◌, length, take, drop, slice_index, ap}
+use Rattle.std.proofs.Common.{arith, ◌∙◌}
 use Rattle.std.specs.List.{onto_first}
 use Rattle.lots_core.specs.Lists.{HasNoLineFeed, lines_of}
 
@@ -12,13 +13,15 @@ pub byte_joins : (byte : ℕ) (bytes : List ℕ) → byte ≢ 10 → lines_of (b
 byte_joins byte bytes other = search (arith, other)
 
 -- The text up to a first line feed is the first line.
-pub line_before : (text : List ℕ) (end : ℕ) → end < length text → slice_index text end ≡ 10 → HasNoLineFeed (take end text) → lines_of text ≡ take end text ∷ lines_of (drop (end + 1) text)
+pub line_before : (text : List ℕ) (end : ℕ) → end < length text → slice_index text end ≡ 10
+    → HasNoLineFeed (take end text) → lines_of text ≡ take end text ∷ lines_of (drop (end + 1) text)
 line_before [] end within feed none = absurd (omega (arith, within))
 line_before (byte ∷ bytes) zero within feed none = search (arith, feed)
 line_before (byte ∷ bytes) (suc end) within feed none =
     let more : suc (end + 1) ≡ suc end + 1 = omega arith in
     byte_joins byte bytes (none 0 0 (omega arith))
-    ∙ ap (onto_first byte) (line_before bytes end (omega (arith, within)) feed (tail_has_none byte (take end bytes) none))
+    ∙ ap (onto_first byte)
+    (line_before bytes end (omega (arith, within)) feed (tail_has_none byte (take end bytes) none))
     ∙ ap (λ n. (byte ∷ take end bytes) ∷ lines_of (drop n (byte ∷ bytes))) more
 
 -- A text without line feeds is one line.

@@ -22,5 +22,7 @@ returns-clause-draws c = λ seed count n within fits.
     let draws : min count (length (rising n)) ≡ count = omega arith in
     let turn = c.shuffles_draw_in_turn.ensures count (start_of seed) (rising n) (omega arith) in
     ap (λ choices. take count (arranged choices (rising n))) turn
-    ∙ ap (λ k. take count (arranged (choices_by 0 (numbers_in_turn 64 (deal_sizes k (length (rising n))) (words_of seed (word_limit * k)))) (rising n))) draws
-    ∙ ap (λ m. take count (arranged (choices_by 0 (numbers_in_turn 64 (deal_sizes count m) (words_of seed (word_limit * count)))) (rising n))) long
+    ∙ ap (λ k. take count (arranged (choices_by 0 (numbers_in_turn 64
+    (deal_sizes k (length (rising n))) (words_of seed (word_limit * k)))) (rising n))) draws
+    ∙ ap (λ m. take count (arranged (choices_by 0 (numbers_in_turn 64
+    (deal_sizes count m) (words_of seed (word_limit * count)))) (rising n))) long

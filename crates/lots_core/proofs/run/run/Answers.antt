@@ -25,12 +25,14 @@ found_asks arguments found request asks is =
     subst (λ it. IfSome it (λ it. AsksFor arguments (asked_by it))) is asks
 
 -- An error of the draw is that of the run.
-told : {A : Type 0} (draw : Result (Vec ℕ A) LotsError) (result : Result Unit LotsError) (asked : Asked) (list bytes : List ℕ)
-    (error : LotsError) → Outcome asked (lines_of bytes) draw → draw ≡ Err error → bytes ≡ list → IsErrAnd result (λ it. it ≡ error)
+told : {A : Type 0} (draw : Result (Vec ℕ A) LotsError) (result : Result Unit LotsError) (asked : Asked)
+    (list bytes : List ℕ) (error : LotsError) → Outcome asked (lines_of bytes) draw → draw ≡ Err error
+    → bytes ≡ list → IsErrAnd result (λ it. it ≡ error)
     → (named : LotsError) → result ≡ Err named → Outcome {A = A} asked (lines_of list) (Err named)
 told {A} draw result asked list bytes error outcome failed same passed named is =
     subst (λ e. Outcome {A = A} asked (lines_of list) (Err e)) (passed_on result error named passed is)
-    (subst (λ it. Outcome {A = A} asked (lines_of it) (Err error)) same (subst (Outcome asked (lines_of bytes)) failed outcome))
+    (subst (λ it. Outcome {A = A} asked (lines_of it) (Err error)) same
+    (subst (Outcome asked (lines_of bytes)) failed outcome))
 
 pub returns-in_err-request-clause-usage : goal.returns-in_err-request-clause-usage
 returns-in_err-request-clause-usage g c = λ _ asked asks.
@@ -54,7 +56,8 @@ returns-in_err-text g c =
     let list = c.in_ok-list.list.items in
     let read = c.in_ok-list.ensures.read in
     let asks = found_asks _ _ _ c.read.ensures.found c.in_ok-request.ensures.ok_part in
-    let is = told c.select.result c.from_residual-in_err-text.result asked list _ _ c.select.ensures c.in_err-text.was c.deref.ensures.value passed in
+    let is = told c.select.result c.from_residual-in_err-text.result asked list _ _ c.select.ensures
+    c.in_err-text.was c.deref.ensures.value passed in
     record {
       drawn = rw made tt;
       written = rw made tt;

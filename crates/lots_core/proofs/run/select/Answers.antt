@@ -36,9 +36,11 @@ returns g c =
     let is : count ≡ number_asked asked.count (length entrants) =
     c.among-count.ensures ∙ ap (number_asked asked.count) (c.len.ensures ∙ sym c.deref_mut.ensures.len) in
     let drawn = selected (λ entrant. entrant.now) asked entrants count is draw.enough draw.answer in
-    let back = take-append-le c.in_ok-entrants.entrants.len c.draw.new.entrants
-    (drop (length c.draw.new.entrants) c.in_ok-entrants.entrants.items) (omega (arith, c.draw.auto.entrants, c.deref_mut.ensures.len))
-    ∙ take_all c.in_ok-entrants.entrants.len c.draw.new.entrants (omega (arith, c.draw.auto.entrants, c.deref_mut.ensures.len)) in
+    let moved = c.draw.new.entrants in
+    let long = c.in_ok-entrants.entrants.len in
+    let whole : long ≡ length moved = omega (arith, c.draw.auto.entrants, c.deref_mut.ensures.len) in
+    let rest = drop (length moved) c.in_ok-entrants.entrants.items in
+    let back = take-append-le long moved rest (omega (arith, whole)) ∙ take_all long moved (omega (arith, whole)) in
     let text = c.in_ok-text_of.ensures
     ∙ ap (λ xs. text_of (map (λ entrant. entrant.now) (take count xs))) (c.deref.ensures.value ∙ back)
     ∙ ap (λ xs. text_of (map (λ entrant. entrant.now) xs)) draw.drawn ∙ drawn.1 in
