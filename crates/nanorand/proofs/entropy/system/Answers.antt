@@ -1,5 +1,6 @@
 use Rattle.std.proofs.lemmas.List.{take_all}
-use Rattle.std.proofs.Common.{◌≡◌, ℕ, ◌+◌, ◌-◌, ◌≤◌, List, [], ◌++◌, length, rules, take, drop, ap, sym, subst, ◌∙◌, le_refl, drop_at, length-append, length-take-le, arith}
+use Rattle.std.proofs.Common.{◌≡◌, ℕ, ◌+◌, ◌-◌, ◌≤◌, List, [], ◌++◌, length, rules, take, drop, ap, sym, subst, ◌∙◌}
+use Rattle.std.proofs.Common.{le_refl, drop_at, length-append, length-take-le, arith}
 use Rattle.std.proofs.lemmas.Slice.{take-put_mid_below}
 use Rattle.std.proofs.KnownBytes.{Consumes-kept, Consumes-trans}
 use Rattle.std.specs.Io.KnownBytes.{Consumes}
@@ -20,7 +21,8 @@ take-put_mid_within a n k xs ys within fits =
 pub loop-filled-preserved : goal.loop-filled-preserved
 loop-filled-preserved g c =
     let loop = c.loop-filled in
-    let part = take-put_mid_within loop.filled c.in-Ok.count (length loop.out - loop.filled) loop.out c.read.new.buf loop.invariant.in_slice c.in-Ok.ensures.bound.0 in
+    let part = take-put_mid_within loop.filled c.in-Ok.count
+    (length loop.out - loop.filled) loop.out c.read.new.buf loop.invariant.in_slice c.in-Ok.ensures.bound.0 in
     record {
       in_slice = search rules;
       so_far = subst (Consumes _ _) (sym part) (Consumes-trans _ _ _ _ _ loop.invariant.so_far c.in-Ok.ensures.bytes.0);
@@ -47,11 +49,23 @@ pub returns-in-Ok-eq0-clause-fewer : goal.returns-in-Ok-eq0-clause-fewer
 returns-in-Ok-eq0-clause-fewer g c =
     let loop = c.loop-filled in
     let taken = take loop.filled loop.out in
-    let none = ap (λ n. taken ++ take n c.read.new.buf) c.in-Ok-eq0.field-0-test in
-    (taken ++ [], omega (arith, length-take-le loop.filled loop.out loop.invariant.in_slice, length-append taken [], loop.auto.out), subst (Consumes _ _) none (Consumes-trans _ _ _ _ _ loop.invariant.so_far c.in-Ok-eq0.ensures.bytes.0))
+    let none = ap (λ n. taken ++ take n c.read.new.buf) c.in-Ok-eq0.field-0-test in (
+      taken ++ [],
+      omega (
+        arith,
+        length-take-le loop.filled loop.out loop.invariant.in_slice,
+        length-append taken [],
+        loop.auto.out,
+      ),
+      subst (Consumes _ _) none
+          (Consumes-trans _ _ _ _ _ loop.invariant.so_far c.in-Ok-eq0.ensures.bytes.0),
+    )
 
 pub returns-in-Err-clause-fewer : goal.returns-in-Err-clause-fewer
 returns-in-Err-clause-fewer g c =
     let loop = c.loop-filled in
-    let taken = take loop.filled loop.out in
-    (taken, omega (arith, length-take-le loop.filled loop.out loop.invariant.in_slice, loop.auto.out), Consumes-kept _ _ _ _ loop.invariant.so_far c.in-Err.ensures.bytes)
+    let taken = take loop.filled loop.out in (
+      taken,
+      omega (arith, length-take-le loop.filled loop.out loop.invariant.in_slice, loop.auto.out),
+      Consumes-kept _ _ _ _ loop.invariant.so_far c.in-Err.ensures.bytes,
+    )

@@ -1,4 +1,6 @@
-use Rattle.nanorand.specs.support.ChaChaDrawLemmas.{chacha_steps, chacha_more, chacha_adds, chacha_closed, chacha_matrix, chacha_counts, chacha_keeps, chacha_key, chacha_nonce, chacha_blocks, chacha_agree, chacha_periods}
+use Rattle.nanorand.specs.support.ChaChaDrawLemmas.{chacha_steps, chacha_more, chacha_adds, chacha_closed}
+use Rattle.nanorand.specs.support.ChaChaDrawLemmas.{chacha_matrix, chacha_counts, chacha_keeps, chacha_key}
+use Rattle.nanorand.specs.support.ChaChaDrawLemmas.{chacha_nonce, chacha_blocks, chacha_agree, chacha_periods}
 use Rattle.nanorand.proofs.laws.chacha_counter.Goals as goal
 
 pub returns : goal.returns

@@ -50,12 +50,18 @@ initial_made key nonce key_long nonce_long is_a is_b is_c is_d is_e is_f is_g is
 
 -- a matrix with its counter set, word by word
 pub with_counter-spelled : (x : List ℕ) (n : ℕ) → length x ≡ 16
-    → with_counter x n ≡ slice_index x 0 ∷ slice_index x 1 ∷ slice_index x 2 ∷ slice_index x 3 ∷ slice_index x 4 ∷ slice_index x 5 ∷ slice_index x 6 ∷ slice_index x 7 ∷ slice_index x 8 ∷ slice_index x 9 ∷ slice_index x 10 ∷ slice_index x 11 ∷ n % 2 ^ 32 ∷ n / 2 ^ 32 ∷ slice_index x 14 ∷ slice_index x 15 ∷ []
+    → with_counter x n ≡ slice_index x 0 ∷ slice_index x 1 ∷ slice_index x 2 ∷ slice_index x 3 ∷ slice_index x 4
+    ∷ slice_index x 5 ∷ slice_index x 6 ∷ slice_index x 7 ∷ slice_index x 8 ∷ slice_index x 9 ∷ slice_index x 10
+    ∷ slice_index x 11 ∷ n % 2 ^ 32 ∷ n / 2 ^ 32 ∷ slice_index x 14 ∷ slice_index x 15 ∷ []
 with_counter-spelled x n =
-    sixteen (λ x. with_counter x n ≡ slice_index x 0 ∷ slice_index x 1 ∷ slice_index x 2 ∷ slice_index x 3 ∷ slice_index x 4 ∷ slice_index x 5 ∷ slice_index x 6 ∷ slice_index x 7 ∷ slice_index x 8 ∷ slice_index x 9 ∷ slice_index x 10 ∷ slice_index x 11 ∷ n % 2 ^ 32 ∷ n / 2 ^ 32 ∷ slice_index x 14 ∷ slice_index x 15 ∷ [])
+    sixteen (λ x. with_counter x n ≡ slice_index x 0 ∷ slice_index x 1 ∷ slice_index x 2 ∷ slice_index x 3
+    ∷ slice_index x 4 ∷ slice_index x 5 ∷ slice_index x 6 ∷ slice_index x 7 ∷ slice_index x 8 ∷ slice_index x 9
+    ∷ slice_index x 10 ∷ slice_index x 11 ∷ n % 2 ^ 32 ∷ n / 2 ^ 32 ∷ slice_index x 14 ∷ slice_index x 15 ∷ [])
     (λ a b c d e f g h i j k l m o p q. refl) x
 
 -- a matrix with these two words of counter
 pub with_counter-halves : (x : List ℕ) (n low high : ℕ) → length x ≡ 16 → low ≡ n % 2 ^ 32 → high ≡ n / 2 ^ 32
-    → slice_index x 0 ∷ slice_index x 1 ∷ slice_index x 2 ∷ slice_index x 3 ∷ slice_index x 4 ∷ slice_index x 5 ∷ slice_index x 6 ∷ slice_index x 7 ∷ slice_index x 8 ∷ slice_index x 9 ∷ slice_index x 10 ∷ slice_index x 11 ∷ low ∷ high ∷ slice_index x 14 ∷ slice_index x 15 ∷ [] ≡ with_counter x n
+    → slice_index x 0 ∷ slice_index x 1 ∷ slice_index x 2 ∷ slice_index x 3 ∷ slice_index x 4 ∷ slice_index x 5
+    ∷ slice_index x 6 ∷ slice_index x 7 ∷ slice_index x 8 ∷ slice_index x 9 ∷ slice_index x 10 ∷ slice_index x 11
+    ∷ low ∷ high ∷ slice_index x 14 ∷ slice_index x 15 ∷ [] ≡ with_counter x n
 with_counter-halves x n low high long is_low is_high = rw (is_low, is_high) (sym (with_counter-spelled x n long))

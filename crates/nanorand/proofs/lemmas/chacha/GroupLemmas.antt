@@ -1,5 +1,6 @@
 -- Requests by groups of blocks of 64 bytes each.
-use Rattle.std.proofs.Common.{◌≡◌, ℕ, zero, suc, ◌+◌, ◌-◌, ◌*◌, ◌<◌, ◌≤◌, List, ◌++◌, length, take, drop, arith, ap, ap₂, sym, ◌∙◌, append_assoc, length-append, refl}
+use Rattle.std.proofs.Common.{◌≡◌, ℕ, zero, suc, ◌+◌, ◌-◌, ◌*◌, ◌<◌, ◌≤◌, List, ◌++◌, length, take, drop, arith, ap}
+use Rattle.std.proofs.Common.{ap₂, sym, ◌∙◌, append_assoc, length-append, refl}
 use Rattle.std.proofs.lemmas.List.{take_at, take_all, drop_at, drop_all, append-nil}
 use Rattle.std.proofs.lemmas.Grind.{common_steps}
 use Rattle.std.proofs.lemmas.Slice.{take-put_mid}
@@ -67,7 +68,8 @@ module _ {G : Type 0} (block : G → List ℕ) (step : G → G) (size : (g : G) 
       ∙ after_past k (step g) (n - 64) (omega arith) ∙ ap (plain_after step 64 (iterate step (suc k) g)) left
 
   -- four blocks, and eight
-  pub taken_four : (g : G) → taken block step g 256 ≡ block (iterate step 0 g) ++ block (iterate step 1 g) ++ block (iterate step 2 g) ++ block (iterate step 3 g)
+  pub taken_four : (g : G) → taken block step g 256 ≡ block (iterate step 0 g) ++ block (iterate step 1 g)
+      ++ block (iterate step 2 g) ++ block (iterate step 3 g)
   taken_four g =
       taken_block g 256 (omega arith)
       ∙ ap (λ rest. block g ++ rest) (taken_block (step g) 192 (omega arith)
@@ -83,17 +85,26 @@ module _ {G : Type 0} (block : G → List ℕ) (step : G → G) (size : (g : G) 
       taken_past 4 g 512 (omega arith) ∙ ap₂ (λ (x : List ℕ) (y : List ℕ). x ++ y) (taken_four g) (taken_four (iterate step 4 g))
 
   -- One step of the loop over groups of k blocks: it writes the next group.
-  module _ (k : ℕ) (some : 0 < k) (buffer piece : List ℕ) (filled : ℕ) (g : G) (room : 64 * k ≤ length buffer - filled) (written : piece ≡ taken block step g (64 * k)) where
+  module _ (k : ℕ) (some : 0 < k) (buffer piece : List ℕ) (filled : ℕ) (g : G)
+      (room : 64 * k ≤ length buffer - filled) (written : piece ≡ taken block step g (64 * k)) where
     group_length : length piece ≡ 64 * k
     group_length = ap length written ∙ length-taken block step 64 (omega arith) size g (64 * k)
 
     pub grouped_length : length (put_mid filled (filled + 64 * k - filled) buffer piece) ≡ length buffer
     grouped_length = let long = group_length in grind (arith, common_steps)
 
-    pub grouped_bytes : take (filled + 64 * k) (put_mid filled (filled + 64 * k - filled) buffer piece) ++ taken block step (iterate step k g) (length buffer - (filled + 64 * k)) ≡ take filled buffer ++ taken block step g (length buffer - filled)
+    pub grouped_bytes : take (filled + 64 * k) (put_mid filled (filled + 64 * k - filled) buffer piece)
+        ++ taken block step (iterate step k g) (length buffer - (filled + 64 * k))
+        ≡ take filled buffer ++ taken block step g (length buffer - filled)
     grouped_bytes =
         let left : length buffer - (filled + 64 * k) ≡ (length buffer - filled) - 64 * k = omega arith in
-        rw (take-put_mid filled (filled + 64 * k - filled) buffer piece (filled + 64 * k) (omega (arith, group_length)) (omega (arith, some, room)), left, append_assoc, written)
+        rw (
+          take-put_mid filled (filled + 64 * k - filled) buffer piece (filled + 64 * k)
+              (omega (arith, group_length)) (omega (arith, some, room)),
+          left,
+          append_assoc,
+          written,
+        )
         (ap (λ rest. take filled buffer ++ rest) (sym (taken_past k g (length buffer - filled) room)))
 
     pub grouped_state : plain_after step 64 (iterate step k g) (length buffer - (filled + 64 * k)) ≡ plain_after step 64 g (length buffer - filled)

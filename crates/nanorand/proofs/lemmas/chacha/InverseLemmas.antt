@@ -1,10 +1,14 @@
 -- The quarter round and its inverse, on four words and on matrices.
 use Rattle.std.proofs.Common.{◌≡◌, ℕ, zero, suc, ◌/◌, ◌^◌, ◌<◌, List, [], ◌∷◌, slice_index, lit<, refl, sym, ap, ◌∙◌}
 use Rattle.std.specs.Fn.{iterate}
-use Rattle.nanorand.specs.generators.ChaChaRounds.{Words, add, xor_rotate, quarter_round, of_columns, of_diagonals, on_columns, on_diagonals, pair_of_rounds, rounds, IsMatrix, RoundsAreInjective}
+use Rattle.nanorand.specs.generators.ChaChaRounds.{Words, add, xor_rotate, quarter_round, of_columns, of_diagonals}
+use Rattle.nanorand.specs.generators.ChaChaRounds.{on_columns, on_diagonals, pair_of_rounds, rounds, IsMatrix}
+use Rattle.nanorand.specs.generators.ChaChaRounds.{RoundsAreInjective}
 use Rattle.nanorand.specs.support.ChaChaInverse.{subtract, rotate_xor, unquarter_round}
 use Rattle.nanorand.proofs.lemmas.chacha.MatrixLemmas.{sixteen, of_four}
-use Rattle.nanorand.proofs.lemmas.chacha.QuarterLemmas.{by_16, by_12, by_8, by_7, subtract-add, add-subtract, rotate_xor-xor_rotate, xor_rotate-rotate_xor, add-lt, subtract-lt, xor_rotate-lt, rotate_xor-lt}
+use Rattle.nanorand.proofs.lemmas.chacha.QuarterLemmas.{by_16, by_12, by_8, by_7, subtract-add, add-subtract}
+use Rattle.nanorand.proofs.lemmas.chacha.QuarterLemmas.{rotate_xor-xor_rotate, xor_rotate-rotate_xor, add-lt}
+use Rattle.nanorand.proofs.lemmas.chacha.QuarterLemmas.{subtract-lt, xor_rotate-lt, rotate_xor-lt}
 
 -- four 32-bit words: numbers below 2 ^ 32
 pub record AreWords (w : Words) : Type 0 where

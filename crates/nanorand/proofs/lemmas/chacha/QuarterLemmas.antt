@@ -2,7 +2,8 @@
 use Rattle.std.proofs.Common.{◌≡◌, ℕ, ◌+◌, ◌-◌, ◌*◌, ◌/◌, ◌%◌, ◌^◌, ◌<◌, bit_or, bit_xor, arith, ap, add_comm, refl, ◌∙◌}
 use Rattle.std.specs.Int.{w32, rotate_left, rotate_right}
 use Rattle.std.specs.Int.Bits.{xor_assoc, xor_self, xor_zero_r}
-use Rattle.std.proofs.lemmas.Nat.{or_comm, or_shifted, or_of_32, xor_of_32, mod-pow-add, shl-shr, pow-add, mul-add-lt, shr_below, shr_le, shr_high, mod_low, shr_split, mod_below, pow_pos}
+use Rattle.std.proofs.lemmas.Nat.{or_comm, or_shifted, or_of_32, xor_of_32, mod-pow-add, shl-shr, pow-add, mul-add-lt}
+use Rattle.std.proofs.lemmas.Nat.{shr_below, shr_le, shr_high, mod_low, shr_split, mod_below, pow_pos}
 use Rattle.std.proofs.Math.Nat.{mul-mod_left}
 use Rattle.nanorand.specs.generators.ChaChaRounds.{add, xor_rotate, quarter_round}
 use Rattle.nanorand.specs.support.ChaChaInverse.{subtract, rotate_xor}

@@ -1,7 +1,9 @@
 -- The cycles of the walks x ↦ a * x + c with a = 16 * u + 7 and c = 8 * v + 7, modulo 8 * 2 ^ i. A
 -- stride is 2 ^ suc i steps.
 use Rattle.std.proofs.Common.{◌≡◌, ℕ, zero, suc, ◌+◌, ◌*◌, ◌/◌, ◌%◌, ◌^◌, ◌<◌, ◌⊎◌, inl, inr, lit<, sym, ap, ◌∙◌, arith}
-use Rattle.std.proofs.Math.Nat.{pow-suc, two-pow-succ, mod-add-div', mul_comm, add-mul-mod_self_left, mul-pos, eq_of_mul-eq-mul_left, one-mul, dvd-mul_right, mod-mod_of_dvd, add-mod_right, add-div_right}
+use Rattle.std.proofs.Math.Nat.{pow-suc, two-pow-succ, mod-add-div', mul_comm, add-mul-mod_self_left, mul-pos}
+use Rattle.std.proofs.Math.Nat.{eq_of_mul-eq-mul_left, one-mul, dvd-mul_right, mod-mod_of_dvd, add-mod_right}
+use Rattle.std.proofs.Math.Nat.{add-div_right}
 use Rattle.std.proofs.Math.Arith.{mod-mul}
 use Rattle.std.proofs.Math.Pow.{pow_pos}
 use Rattle.nanorand.proofs.lemmas.cycles.ModulusLemmas.{parity, mod_cancel_left, mul-mod-mul}

@@ -1,6 +1,7 @@
 -- The distance between two seeds of Pcg64, bit by bit from the lowest.
 use Rattle.std.proofs.Common.{◌≡◌, ◌≢◌, ℕ, zero, suc, ◌+◌, ◌-◌, ◌*◌, ◌/◌, ◌%◌, ◌^◌, ◌<◌, ◌≤◌, ◌↔◌, inl, inr, sym, ap, ◌∙◌, arith, lit<, subst}
-use Rattle.std.proofs.Math.Nat.{mod-add-mod, add-mod_right, mul-div_cancel_left, mod-mod_of_dvd, dvd-mul_right, pow-succ', two-pow-succ, mod-eq_of_lt, mul-mod_left}
+use Rattle.std.proofs.Math.Nat.{mod-add-mod, add-mod_right, mul-div_cancel_left, mod-mod_of_dvd, dvd-mul_right}
+use Rattle.std.proofs.Math.Nat.{pow-succ', two-pow-succ, mod-eq_of_lt, mul-mod_left}
 use Rattle.std.proofs.Math.Numerals.{add-one}
 use Rattle.std.proofs.Math.Pow.{pow-add, pow_pos}
 use Rattle.nanorand.specs.generators.Pcg64.{factor, term, seed_after, SameCycle}

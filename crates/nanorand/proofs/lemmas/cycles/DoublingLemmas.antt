@@ -39,7 +39,9 @@ pub doubled : (u v i : ℕ) → IsDoubled u v i
 doubled u v zero = record {
   x = 16 * u * u + 14 * u + 3;
   y = 8 * u * v + 7 * u + 4 * v + 3;
-  moves = λ s. walk-suc u v 1 s ∙ ap (λ (t : ℕ). (16 * u + 7) * t + (8 * v + 7)) (walk-suc u v 0 s ∙ ap (λ (t : ℕ). (16 * u + 7) * t + (8 * v + 7)) (walk-zero u v s)) ∙ omega arith;
+  moves = λ s. walk-suc u v 1 s
+      ∙ ap (λ (t : ℕ). (16 * u + 7) * t + (8 * v + 7))
+      (walk-suc u v 0 s ∙ ap (λ (t : ℕ). (16 * u + 7) * t + (8 * v + 7)) (walk-zero u v s)) ∙ omega arith;
 }
 doubled u v (suc i) =
     let last = doubled u v i in
@@ -55,7 +57,11 @@ doubled u v (suc i) =
 -- e * 2 ^ suc i steps add e * (8 * 2 ^ i), modulo 16 * 2 ^ i
 pub moves_far : (u v i e s : ℕ) → (z : ℕ)
     × (walk u v (e * 2 ^ suc i) s ≡ s + e * (8 * 2 ^ i) + 16 * 2 ^ i * z)
-moves_far u v i zero s = (0, ap (λ (n : ℕ). walk u v n s) (zero-mul (2 ^ suc i)) ∙ walk-zero u v s ∙ (let e : s ≡ s + 0 * (8 * 2 ^ i) + 16 * 2 ^ i * 0 = omega arith in e))
+moves_far u v i zero s = (
+  0,
+  ap (λ (n : ℕ). walk u v n s) (zero-mul (2 ^ suc i)) ∙ walk-zero u v s
+      ∙ (let e : s ≡ s + 0 * (8 * 2 ^ i) + 16 * 2 ^ i * 0 = omega arith in e),
+)
 moves_far u v i (suc e) s =
     let map = doubled u v i in
     let before = moves_far u v i e s in

@@ -24,7 +24,24 @@ returns c =
         word 15,
       ),
     ) in
-    rw (c.splat.ensures, c.splat-2.ensures, c.splat-3.ensures, c.splat-4.ensures, c.splat-5.ensures, c.splat-6.ensures, c.splat-7.ensures, c.splat-8.ensures, c.splat-9.ensures, c.splat-10.ensures, c.splat-11.ensures, c.splat-12.ensures, c.splat-13.ensures, c.splat-14.ensures, c.vector.ensures, c.vector-2.ensures)
+    rw (
+      c.splat.ensures,
+      c.splat-2.ensures,
+      c.splat-3.ensures,
+      c.splat-4.ensures,
+      c.splat-5.ensures,
+      c.splat-6.ensures,
+      c.splat-7.ensures,
+      c.splat-8.ensures,
+      c.splat-9.ensures,
+      c.splat-10.ensures,
+      c.splat-11.ensures,
+      c.splat-12.ensures,
+      c.splat-13.ensures,
+      c.splat-14.ensures,
+      c.vector.ensures,
+      c.vector-2.ensures,
+    )
     (below_eight (λ j. lane j made ≡ chacha_after j x)
     (with_counter-halves x _ _ _ c.told-x c.low.ensures c.high.ensures ∙ ap (with_counter x) is_first ∙ sym (chacha_closed 0 x matrix))
     (with_counter-halves x _ _ _ c.told-x c.low-2.ensures c.high-2.ensures ∙ ap (λ (n : ℕ). with_counter x ((n + 1) % 2 ^ 64)) c.counter-first.ensures)
