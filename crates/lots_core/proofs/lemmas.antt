@@ -1,4 +1,3 @@
 pub mod LineLemmas
 pub mod DrawLemmas
-pub mod ErrorLemmas
 pub mod PlaceLemmas

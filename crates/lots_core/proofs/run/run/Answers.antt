@@ -1,5 +1,5 @@
-use Rattle.std.proofs.Common.{◌≡◌, ◌∙◌, ℕ, List, subst, sym, refl, arith, rules, ok_or, IsSomeAnd}
-use Rattle.std.proofs.Common.{Option, None, Some, Result, Err}
+use Rattle.std.proofs.Common.{◌≡◌, ◌∙◌, ℕ, List, ap, subst, sym, refl, arith, rules, ok_or, IsSomeAnd}
+use Rattle.std.proofs.Common.{Option, None, Some, Result, Ok, Err}
 use Rattle.std.proofs.lemmas.Result.{err_from_is_err_and}
 use Rattle.std.specs.Prelude.{IfSome, IsErrAnd, Vec}
 use Rattle.lots_core.specs.Arguments.{Asked, AsksFor, asked_by}
@@ -8,7 +8,6 @@ use Rattle.lots_core.specs.Text.{Outcome}
 use Rattle.lots_core.specs.declared.arguments.Request.{Request}
 use Rattle.lots_core.specs.declared.error.LotsError.{LotsError}
 use Rattle.lots_core.specs.declared.error.LotsError.TheVariants.{Usage, TooFew, EmptyLine, Write, Exhausted}
-use Rattle.lots_core.proofs.lemmas.ErrorLemmas.{passed_on}
 use Rattle.lots_core.proofs.run.run.Goals as goal
 
 -- What is found is no error.
@@ -23,6 +22,17 @@ found_asks : (arguments : List (List ℕ)) (found : Option Request) (request : R
     → AsksFor arguments (asked_by request)
 found_asks arguments found request asks is =
     subst (λ it. IfSome it (λ it. AsksFor arguments (asked_by it))) is asks
+
+-- The error of a result, or else `other`.
+abbrev error_of : {U E : Type 0} → E → Result U E → E
+error_of other (Ok value) = other
+error_of other (Err error) = error
+
+-- An error that `?` passes on is the error of the call.
+passed_on : {U E : Type 0} (result : Result U E) (error named : E)
+    → IsErrAnd result (λ it. it ≡ error) → result ≡ Err named → error ≡ named
+passed_on (Ok value) error named passed is = absurd passed
+passed_on (Err it) error named passed is = sym passed ∙ ap (error_of named) is
 
 -- An error of the draw is that of the run.
 told : {A : Type 0} (draw : Result (Vec ℕ A) LotsError) (result : Result Unit LotsError) (asked : Asked)
