@@ -32,16 +32,19 @@ module _ {G : Type 0} (requests : Requests G)
     (two_takes : (g : G) (m n : ℕ) → requests.bytes g m ++ requests.bytes (requests.after g m) n ≡ requests.bytes g (m + n)) where
   all_states : (g : G) (sizes : List ℕ) → after_all requests g sizes ≡ requests.after g (sum sizes)
   all_states g [] = sym (nothing_left g)
-  all_states g (n ∷ sizes) = all_states (requests.after g n) sizes ∙ two_states g n (sum sizes) ∙ ap (requests.after g) (sym (sum_by-cons (λ size. size) n sizes))
+  all_states g (n ∷ sizes) = all_states (requests.after g n) sizes ∙ two_states g n (sum sizes)
+      ∙ ap (requests.after g) (sym (sum_by-cons (λ size. size) n sizes))
 
   all_takes : (g : G) (sizes : List ℕ) → taken_all requests g sizes ≡ requests.bytes g (sum sizes)
   all_takes g [] = sym (nothing_taken g)
-  all_takes g (n ∷ sizes) = ap (λ rest. requests.bytes g n ++ rest) (all_takes (requests.after g n) sizes) ∙ two_takes g n (sum sizes) ∙ ap (requests.bytes g) (sym (sum_by-cons (λ size. size) n sizes))
+  all_takes g (n ∷ sizes) = ap (λ rest. requests.bytes g n ++ rest) (all_takes (requests.after g n) sizes)
+      ∙ two_takes g n (sum sizes) ∙ ap (requests.bytes g) (sym (sum_by-cons (λ size. size) n sizes))
 
   -- `count` requests of one size are one request of their sum
   repeated_state : (size count : ℕ) (g : G) → iterate (λ state. requests.after state size) count g ≡ requests.after g (count * size)
   repeated_state size zero g = rw zero-mul (sym (nothing_left g))
-  repeated_state size (suc count) g = repeated_state size count (requests.after g size) ∙ two_states g size (count * size) ∙ ap (requests.after g) (omega (arith, suc-mul count size))
+  repeated_state size (suc count) g = repeated_state size count (requests.after g size)
+      ∙ two_states g size (count * size) ∙ ap (requests.after g) (omega (arith, suc-mul count size))
 
   range_state : {T : Type 0} (bits : ℕ) (numbers : List T) (g : G)
       → left_by (next_word requests bits) (after_word requests bits) bits numbers g ≡ requests.after g (asked_by_range requests bits numbers g)

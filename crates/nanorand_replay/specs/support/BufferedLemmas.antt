@@ -1,6 +1,7 @@
 -- A buffer delivers one unbroken stream of bytes. Nobody has to believe this file: it has lemmas that
 -- the laws of impls cite.
-use Rattle.std.proofs.Common.{◌≡◌, ℕ, zero, suc, ◌+◌, ◌-◌, ◌*◌, ◌/◌, ◌%◌, ◌<◌, ◌≤◌, List, [], ◌++◌, length, take, drop, refl, sym, ◌∙◌, ap, arith, length-append, length-drop, append_assoc, add-zero, ⊎_elim}
+use Rattle.std.proofs.Common.{◌≡◌, ℕ, zero, suc, ◌+◌, ◌-◌, ◌*◌, ◌/◌, ◌%◌, ◌<◌, ◌≤◌, List, [], ◌++◌, length, take,
+    drop, refl, sym, ◌∙◌, ap, arith, length-append, length-drop, append_assoc, add-zero, ⊎_elim}
 use Rattle.std.specs.Fn.{iterate}
 use Rattle.std.specs.Int.{div_ceil}
 use Rattle.std.proofs.lemmas.Bool.{cases_lt}
@@ -77,43 +78,56 @@ module _ {G : Type 0} (block : G → List ℕ) (step : G → G) (output : ℕ) (
   pub rest_below : (b : Buffered G) (n : ℕ) → length b.rest < output → length (buffered_after block step output b n).rest < output
   unfolding buffered_after
   rest_below b n below =
-      rw (length-drop n (stream block step output b (blocks_needed block step output b n)), length-stream b (blocks_needed block step output b n)) (left_below (length b.rest) n output positive below)
+      rw (length-drop n (stream block step output b (blocks_needed block step output b n)),
+          length-stream b (blocks_needed block step output b n)) (left_below (length b.rest) n output positive below)
 
   -- further blocks come at the end of the stream
   stream_add : (b : Buffered G) (m k : ℕ) → stream block step output b (m + k) ≡ stream block step output b m ++ blocks block step (iterate step m b.inner) k
   stream_add b m k = ap (λ bytes. b.rest ++ bytes) (blocks_add block step b.inner m k) ∙ sym (append_assoc b.rest _ _)
 
   -- the stream after a request is the rest of the stream
-  stream_after : (b : Buffered G) (n m : ℕ) → stream block step output (buffered_after block step output b n) m ≡ drop n (stream block step output b (blocks_needed block step output b n + m))
+  stream_after : (b : Buffered G) (n m : ℕ) → stream block step output (buffered_after block step output b n) m
+      ≡ drop n (stream block step output b (blocks_needed block step output b n + m))
   unfolding buffered_after
   stream_after b n m = rw (stream_add b (blocks_needed block step output b n) m) (sym (drop-append-le n _ _ (stream_covers b n)))
 
-  needed_add : (b : Buffered G) (m n : ℕ) → blocks_needed block step output b (m + n) ≡ blocks_needed block step output b m + blocks_needed block step output (buffered_after block step output b m) n
+  needed_add : (b : Buffered G) (m n : ℕ) → blocks_needed block step output b (m + n)
+      ≡ blocks_needed block step output b m + blocks_needed block step output (buffered_after block step output b m) n
   unfolding buffered_after
   needed_add b m n =
       let needed : ℕ = blocks_needed block step output b m in
       rw (length-drop m (stream block step output b needed), length-stream b needed) (ceil_add (length b.rest) m n output positive)
 
   -- Two requests take what one of their total size takes,
-  pub taken_add : (b : Buffered G) (m n : ℕ) → buffered_taken block step output b (m + n) ≡ buffered_taken block step output b m ++ buffered_taken block step output (buffered_after block step output b m) n
+  pub taken_add : (b : Buffered G) (m n : ℕ) → buffered_taken block step output b (m + n)
+      ≡ buffered_taken block step output b m
+      ++ buffered_taken block step output (buffered_after block step output b m) n
   unfolding buffered_taken
   taken_add b m n =
       let first : ℕ = blocks_needed block step output b m in
       let second : ℕ = blocks_needed block step output (buffered_after block step output b m) n in
-      let front : take m (stream block step output b (first + second)) ≡ take m (stream block step output b first) = ap (λ bytes. take m bytes) (stream_add b first second) ∙ take-append-le m _ _ (stream_covers b m) in
+      let front : take m (stream block step output b (first + second))
+          ≡ take m (stream block step output b first) = ap (λ bytes. take m bytes) (stream_add b first second)
+          ∙ take-append-le m _ _ (stream_covers b m) in
       ap (λ k. take (m + n) (stream block step output b k)) (needed_add b m n)
       ∙ take-add m n (stream block step output b (first + second))
       ∙ ap (λ bytes. bytes ++ take n (drop m (stream block step output b (first + second)))) front
       ∙ ap (λ bytes. take m (stream block step output b first) ++ take n bytes) (sym (stream_after b m second))
 
   -- and leave the same.
-  pub after_add : (b : Buffered G) (m n : ℕ) → buffered_after block step output (buffered_after block step output b m) n ≡ buffered_after block step output b (m + n)
+  pub after_add : (b : Buffered G) (m n : ℕ)
+      → buffered_after block step output (buffered_after block step output b m) n
+      ≡ buffered_after block step output b (m + n)
   unfolding buffered_after
   after_add b m n =
       let first : ℕ = blocks_needed block step output b m in
       let second : ℕ = blocks_needed block step output (buffered_after block step output b m) n in
-      let rest : drop n (stream block step output (buffered_after block step output b m) second) ≡ drop (m + n) (stream block step output b (first + second)) = ap (λ bytes. drop n bytes) (stream_after b m second) ∙ drop-drop n m _ in
-      same_buffer rest (sym (iterate-add step first second b.inner)) ∙ ap (λ k. record { rest = drop (m + n) (stream block step output b k); inner = iterate step k b.inner }) (sym (needed_add b m n))
+      let rest : drop n (stream block step output (buffered_after block step output b m) second)
+          ≡ drop (m + n) (stream block step output b (first + second)) = ap (λ bytes. drop n bytes)
+          (stream_after b m second) ∙ drop-drop n m _ in
+      same_buffer rest (sym (iterate-add step first second b.inner))
+          ∙ ap (λ k. record { rest = drop (m + n) (stream block step output b k); inner = iterate step k b.inner })
+          (sym (needed_add b m n))
 
   taken_within : (b : Buffered G) (n m : ℕ) → n ≤ m → take n (buffered_taken block step output b m) ≡ buffered_taken block step output b n
   taken_within b n m within =
@@ -122,21 +136,26 @@ module _ {G : Type 0} (block : G → List ℕ) (step : G → G) (output : ℕ) (
       ap (λ k. take n (buffered_taken block step output b k)) split ∙ ap (λ bytes. take n bytes) (taken_add b n (m - n)) ∙ take_at _ _ n long
 
   -- n blocks of a buffer are one request of their length
-  blocks_of : (b : Buffered G) (n : ℕ) → blocks (buffered_block block step output) (buffered_step block step output) b n ≡ buffered_taken block step output b (n * output)
+  blocks_of : (b : Buffered G) (n : ℕ) → blocks (buffered_block block step output) (buffered_step block step output) b
+      n ≡ buffered_taken block step output b (n * output)
   blocks_of b zero = rw zero-mul (sym (nil_from_length _ (length-buffered_taken b 0)))
   blocks_of b (suc n) =
       ap (λ bytes. buffered_block block step output b ++ bytes) (blocks_of (buffered_step block step output b) n)
       ∙ sym (taken_add b output (n * output)) ∙ ap (λ k. buffered_taken block step output b k) (sym (suc-mul n output ∙ add_comm (n * output) output))
 
   -- The bytes by the blocks of the buffer are those of the unbroken stream.
-  pub taken_unbroken : (b : Buffered G) (n : ℕ) → taken (buffered_block block step output) (buffered_step block step output) b n ≡ buffered_taken block step output b n
+  pub taken_unbroken : (b : Buffered G) (n : ℕ)
+      → taken (buffered_block block step output) (buffered_step block step output) b n
+      ≡ buffered_taken block step output b n
   unfolding taken
   taken_unbroken b n = ap (λ bytes. take n bytes) (blocks_of b n) ∙ taken_within b n (n * output) (le-mul_self n output positive)
 
-  pub delivers : (b : Buffered G) (n : ℕ) → buffered_taken block step output b n ≡ taken (buffered_block block step output) (buffered_step block step output) b n
+  pub delivers : (b : Buffered G) (n : ℕ) → buffered_taken block step output b n
+      ≡ taken (buffered_block block step output) (buffered_step block step output) b n
   delivers b n = sym (taken_unbroken b n)
 
-  pub after_refilled : (g : G) (n : ℕ) → 0 < n → buffered_after block step output (buffer_of [] g) n ≡ buffered_after block step output (buffer_of (block g) (step g)) n
+  pub after_refilled : (g : G) (n : ℕ) → 0 < n → buffered_after block step output (buffer_of [] g) n
+      ≡ buffered_after block step output (buffer_of (block g) (step g)) n
   unfolding buffered_after
   after_refilled g n some = rw (sub-zero, div_ceil_more n output some positive, size g) refl
 
@@ -204,7 +223,8 @@ module _ {G : Type 0} (block : G → List ℕ) (step : G → G) (output : ℕ) (
   pub after_fresh : (g : G) (n : ℕ) → n % output ≡ 0 → buffered_after block step output (buffer_of [] g) n ≡ buffer_of [] (plain_after step output g n)
   unfolding buffered_after
   after_fresh g n even =
-      let long : length (blocks block step g (div_ceil n output)) ≤ n = rw (length-blocks block step output positive size g (div_ceil n output)) (omega (arith, ceil_even n even)) in
+      let long : length (blocks block step g (div_ceil n output)) ≤ n = rw (length-blocks block step output positive
+          size g (div_ceil n output)) (omega (arith, ceil_even n even)) in
       rw sub-zero (same_buffer (drop_all n (blocks block step g (div_ceil n output)) long) refl)
 
   -- whole blocks, and the front of one more
@@ -221,17 +241,22 @@ module _ {G : Type 0} (block : G → List ℕ) (step : G → G) (output : ℕ) (
     last_few : n % output < output
     last_few = mod_below n output positive
 
-    pub taken_parts : buffered_taken block step output (buffer_of [] g) n ≡ taken block step g (n - n % output) ++ take (n % output) (block (plain_after step output g (n - n % output)))
+    pub taken_parts : buffered_taken block step output (buffer_of [] g) n ≡ taken block step g (n - n % output)
+        ++ take (n % output) (block (plain_after step output g (n - n % output)))
     taken_parts =
         let behind = plain_after step output g (n - n % output) in
         ap (λ k. buffered_taken block step output (buffer_of [] g) k) whole_split
         ∙ taken_add (buffer_of [] g) (n - n % output) (n % output)
-        ∙ ap (λ bytes. bytes ++ buffered_taken block step output (buffered_after block step output (buffer_of [] g) (n - n % output)) (n % output)) (taken_fresh g (n - n % output))
+        ∙ ap (λ bytes. bytes ++ buffered_taken block step output
+            (buffered_after block step output (buffer_of [] g) (n - n % output)) (n % output))
+            (taken_fresh g (n - n % output))
         ∙ ap (λ c. taken block step g (n - n % output) ++ buffered_taken block step output c (n % output)) (after_fresh g (n - n % output) whole_even)
         ∙ ap (λ bytes. taken block step g (n - n % output) ++ bytes)
         (taken_fresh behind (n % output) ∙ taken_front block step output positive size behind (n % output) (omega (arith, last_few)))
 
-    pub after_parts : 0 < n % output → buffered_after block step output (buffer_of [] g) n ≡ buffer_of (drop (n % output) (block (plain_after step output g (n - n % output)))) (step (plain_after step output g (n - n % output)))
+    pub after_parts : 0 < n % output → buffered_after block step output (buffer_of [] g) n
+        ≡ buffer_of (drop (n % output) (block (plain_after step output g (n - n % output))))
+        (step (plain_after step output g (n - n % output)))
     after_parts some =
         let behind = plain_after step output g (n - n % output) in
         ap (λ k. buffered_after block step output (buffer_of [] g) k) whole_split

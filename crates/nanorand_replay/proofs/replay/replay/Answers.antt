@@ -18,8 +18,12 @@ loop-place-preserved g c =
       answers =
           rw (take_more_set, append_assoc, made.answer, made.items, made.state)
           (sym (at_drop_more (λ calls. front ++ (left calls).answers) calls loop.place (Gen I8) c.loop-place-test.true) ∙ loop.invariant.answers);
-      items = rw (made.items, made.state) (sym (at_drop_more (λ calls. (left calls).items) calls loop.place (Gen I8) c.loop-place-test.true) ∙ loop.invariant.items);
-      state = rw (made.items, made.state) (sym (at_drop_more (λ calls. (left calls).state) calls loop.place (Gen I8) c.loop-place-test.true) ∙ loop.invariant.state);
+      items = rw (made.items, made.state)
+          (sym (at_drop_more (λ calls. (left calls).items) calls loop.place (Gen I8) c.loop-place-test.true)
+          ∙ loop.invariant.items);
+      state = rw (made.items, made.state)
+          (sym (at_drop_more (λ calls. (left calls).state) calls loop.place (Gen I8) c.loop-place-test.true)
+          ∙ loop.invariant.state);
     }
 
 pub returns-clause-answers : goal.returns-clause-answers

@@ -16,16 +16,21 @@ appended : (items before out bytes rest : List ℕ) → items ≡ before ++ byte
 appended items before out bytes rest all old new = all ∙ (λ i. old i ++ new i)
 
 -- Where there is room for them, it is not too small for them.
-no_room : (block : List ℕ) (cursor output len capacity : ℕ) → length block ≡ output → len + (output - cursor) ≤ capacity → capacity < len + length (take (length block - cursor) (drop cursor block)) → ⊥
+no_room : (block : List ℕ) (cursor output len capacity : ℕ) → length block ≡ output
+    → len + (output - cursor) ≤ capacity → capacity < len + length (take (length block - cursor) (drop cursor block))
+    → ⊥
 no_room block cursor output len capacity told room full = omega (arith, ap length (take_rest block cursor), length-drop cursor block)
 
 pub returns-clause-count : goal.returns-clause-count
 returns-clause-count g c =
-    rest_length c.self.inside.block c.args.self.now.rest c.self.inside.cursor g.row.OUTPUT (ap (λ (b : Buffered g.row.G.Denot). b.rest) c.self.view_is) c.self.told
+    rest_length c.self.inside.block c.args.self.now.rest c.self.inside.cursor g.row.OUTPUT
+        (ap (λ (b : Buffered g.row.G.Denot). b.rest) c.self.view_is) c.self.told
 
 pub returns-clause-appended : goal.returns-clause-appended
 returns-clause-appended g c =
-    appended _ _ _ _ _ c.in_ok-extend_from_slice.ensures.items c.reserve.ensures.items (take_rest c.self.inside.block c.self.inside.cursor ∙ ap (λ (b : Buffered g.row.G.Denot). b.rest) c.self.view_is)
+    appended _ _ _ _ _ c.in_ok-extend_from_slice.ensures.items c.reserve.ensures.items
+        (take_rest c.self.inside.block c.self.inside.cursor
+        ∙ ap (λ (b : Buffered g.row.G.Denot). b.rest) c.self.view_is)
 
 pub returns-clause-rest : goal.returns-clause-rest
 returns-clause-rest g c =
@@ -37,7 +42,8 @@ returns-clause-empty g c = λ none. refl
 
 pub returns-clause-untouched : goal.returns-clause-untouched
 returns-clause-untouched g c = λ none.
-    absurd (some_rest c.self.inside.block c.args.self.now.rest c.self.inside.cursor g.row.OUTPUT (ap (λ (b : Buffered g.row.G.Denot). b.rest) c.self.view_is) c.self.told (omega arith) none)
+    absurd (some_rest c.self.inside.block c.args.self.now.rest c.self.inside.cursor g.row.OUTPUT
+        (ap (λ (b : Buffered g.row.G.Denot). b.rest) c.self.view_is) c.self.told (omega arith) none)
 
 pub returns-clause-vector_stays : goal.returns-clause-vector_stays
 returns-clause-vector_stays g c = tt
