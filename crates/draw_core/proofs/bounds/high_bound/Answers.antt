@@ -6,7 +6,9 @@ use Rattle.draw_core.specs.Requests.{IsHigh}
 use Rattle.draw_core.proofs.bounds.high_bound.Goals as goal
 
 -- A text that is not empty, does not begin with `=` and is no number, is no upper bound.
-no_bound : {N : Type 0} (is_text : List ℕ → N → Type 0) (text : List ℕ) → 0 < length text → ((rest : List ℕ) → text ≢ 61 ∷ rest) → ((n : N) → is_text text n → let none : Option N = None in none ≡ Some n) → (high : Bound N) → IsHigh is_text text high → ⊥
+no_bound : {N : Type 0} (is_text : List ℕ → N → Type 0) (text : List ℕ) → 0 < length text
+    → ((rest : List ℕ) → text ≢ 61 ∷ rest) → ((n : N) → is_text text n → let none : Option N = None in none ≡ Some n)
+    → (high : Bound N) → IsHigh is_text text high → ⊥
 no_bound is_text text some no_equals no_number (Included n) (digits, whole, said) = no_equals digits whole
 no_bound is_text text some no_equals no_number (Excluded n) said = let gives = no_number n said in cc
 no_bound is_text text some no_equals no_number Unbounded said = omega (arith, some, ap length said)
@@ -20,7 +22,9 @@ one_bound is_text text n some no_equals only Unbounded said = absurd (omega (ari
 
 pub returns-in_err-read-in-None-clause-only : goal.returns-in_err-read-in-None-clause-only
 returns-in_err-read-in-None-clause-only g c = λ high said.
-    absurd (no_bound g.N.ReadNumber.is_text c.args.text.now (search rules) (strip_prefix_char 61 c.args.text.now None c.in-None.ensures.cases (lit< tt)) c.in_err-read-in-None.ensures.only high said)
+    absurd (no_bound g.N.ReadNumber.is_text c.args.text.now (search rules)
+        (strip_prefix_char 61 c.args.text.now None c.in-None.ensures.cases (lit< tt))
+        c.in_err-read-in-None.ensures.only high said)
 
 pub returns-in_ok-read-in-None-clause-found : goal.returns-in_ok-read-in-None-clause-found
 returns-in_ok-read-in-None-clause-found g c = c.in_ok-read-in-None.ensures.found
