@@ -3,8 +3,8 @@ use Rattle.std.specs.Prelude.{◌≡◌, ℕ, ◌==◌, true, false, List, [], �
 use Rattle.std.specs.Cmp.Lexicographic.{pointwise}
 use Rattle.nanorand_core.specs.values.Runs.{named}
 use Rattle.nanorand_fairness.specs.Lists.{sum_over_lists, number_by_words, words_taken}
-use Rattle.nanorand_fairness.specs.InTurn.{Exchange, numbers_in_turn, deciding_in_turn, word_lists_that, quotas,
-    number_lists_that, swapped_in_turn, swapped_numbers}
+use Rattle.nanorand_fairness.specs.InTurn.{Exchange, numbers_in_turn, deciding_in_turn, word_lists_that, quotas}
+use Rattle.nanorand_fairness.specs.InTurn.{number_lists_that, swapped_in_turn, swapped_numbers}
 use Rattle.std.specs.List.{list_any}
 use Rattle.nanorand_fairness.specs.Deals.{choices_by, deal_sizes, dealt, deals_of}
 use Rattle.nanorand_fairness.specs.FullShuffles.{choices_making}

@@ -1,6 +1,6 @@
 -- Numbers drawn one after another from one list of words, as shuffles and samples draw them.
-use Rattle.std.specs.Prelude.{◌≡◌, ℕ, zero, suc, ◌*◌, ◌^◌, ◌<◌, ◌≤◌, ◌==◌, ◌&&◌, Bool, true, false, List, [], ◌∷◌,
-    length, map, sum_by, Option, Some, None, if◌then◌else◌}
+use Rattle.std.specs.Prelude.{◌≡◌, ℕ, zero, suc, ◌*◌, ◌^◌, ◌<◌, ◌≤◌, ◌==◌, ◌&&◌, Bool, true, false, List, [], ◌∷◌}
+use Rattle.std.specs.Prelude.{length, map, sum_by, Option, Some, None, if◌then◌else◌}
 use Rattle.std.specs.List.{All, range_with_len}
 use Rattle.nanorand_core.specs.values.Runs.{IsWordWidth, named, quota}
 use Rattle.nanorand_core.specs.values.Draws.{word_limit}

@@ -1,6 +1,7 @@
 -- Counting lists of words: one draw from a list of words, rejected words included.
-use Rattle.std.specs.Prelude.{◌≡◌, ℕ, zero, suc, ◌+◌, ◌-◌, ◌*◌, ◌^◌, ◌<◌, ◌≤◌, ◌==◌, Bool, List, [], ◌∷◌, length, min,
-    take, sum, sum_by, count_by, slice_index, nat_lt, Option, is_none, option_map, if◌then◌else◌}
+use Rattle.std.specs.Prelude.{◌≡◌, ℕ, zero, suc, ◌+◌, ◌-◌, ◌*◌, ◌^◌, ◌<◌, ◌≤◌, ◌==◌, Bool, List, [], ◌∷◌, length, min}
+use Rattle.std.specs.Prelude.{take, sum, sum_by, count_by, slice_index, nat_lt, Option, is_none, option_map}
+use Rattle.std.specs.Prelude.{if◌then◌else◌}
 use Rattle.std.specs.List.{range_with_len}
 use Rattle.std.specs.Option.{option_map_or}
 use Rattle.nanorand_core.specs.values.Runs.{IsWordWidth, rejected}

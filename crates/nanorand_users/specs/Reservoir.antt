@@ -1,7 +1,7 @@
 -- Reservoir sampling, Waterman's algorithm R: a sample of indices, kept in slots while the indices
 -- go by.
-use Rattle.std.specs.Prelude.{◌≡◌, ℕ, zero, suc, ◌+◌, ◌-◌, ◌*◌, ◌^◌, ◌<◌, ◌≤◌, ◌==◌, Bool, true, List, [], ◌∷◌,
-    length, Result, Ok, Err, nat_lt, slice_set, sum_by, if◌then◌else◌}
+use Rattle.std.specs.Prelude.{◌≡◌, ℕ, zero, suc, ◌+◌, ◌-◌, ◌*◌, ◌^◌, ◌<◌, ◌≤◌, ◌==◌, Bool, true, List, [], ◌∷◌, length}
+use Rattle.std.specs.Prelude.{Result, Ok, Err, nat_lt, slice_set, sum_by, if◌then◌else◌}
 use Rattle.std.specs.List.{list_any, range_with_len}
 use Rattle.std.specs.declared.ops.Bound.TheVariants.{Included}
 use Rattle.nanorand_core.specs.generators.Blocks.{Requests}

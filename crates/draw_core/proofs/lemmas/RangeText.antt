@@ -1,7 +1,7 @@
 -- The text of a range is split at its first dots.
-use Rattle.std.proofs.Common.{◌≡◌, ◌≢◌, ℕ, ◌+◌, ◌<◌, ◌≤◌, Option, Some, None, List, ◌++◌, length, drop, take, get_or,
-    codes, arith, sym, refl, ◌∙◌, ap, subst, append_assoc, length-append, Bor, get_or-drop, take_at, drop_at,
-    add-zero}
+use Rattle.std.proofs.Common.{◌≡◌, ◌≢◌, ℕ, ◌+◌, ◌<◌, ◌≤◌, Option, Some, None, List, ◌++◌, length, drop, take, get_or}
+use Rattle.std.proofs.Common.{codes, arith, sym, refl, ◌∙◌, ap, subst, append_assoc, length-append, Bor, get_or-drop}
+use Rattle.std.proofs.Common.{take_at, drop_at, add-zero}
 use Rattle.std.proofs.Math.ListN.{get_or-append}
 use Rattle.std.proofs.lemmas.Str.Pattern.{split_text_parts}
 use Rattle.std.specs.Option.{MatchOption, IsSomeAnd}
@@ -48,9 +48,11 @@ split_at_dots text before after None split whole no_dot =
     absurd (split (length before) (let room = within text before after whole in omega arith) after (dots_behind text before after whole))
 split_at_dots text before after (Some x) (i, j, (lacks, has), front, back, order, front_len, back_len) whole no_dot =
     let index = place_is text before after whole no_dot i j lacks has in
-    let rest : codes ".." ++ drop j text ≡ codes ".." ++ after = sym has.split ∙ ap (λ k. drop k text) index ∙ dots_behind text before after whole in
-    (front ∙ ap (λ k. take k text) index ∙ ap (take (length before)) (joined text before after whole)
-        ∙ take_at before (codes ".." ++ after) (length before) refl, back ∙ cc)
+    let rest : codes ".." ++ drop j text ≡ codes ".." ++ after = sym has.split ∙ ap (λ k. drop k text) index ∙ dots_behind text before after whole in (
+      front ∙ ap (λ k. take k text) index ∙ ap (take (length before)) (joined text before after whole)
+          ∙ take_at before (codes ".." ++ after) (length before) refl,
+      back ∙ cc,
+    )
 
 -- The text of a low bound has no dot.
 low_no_dot : {N : Type 0} (is_text : List ℕ → N → Type 0) → ((text : List ℕ) (n : N) → is_text text n → IsPlain text)

@@ -1,7 +1,7 @@
 -- The arguments, read one by one: the requests, and then all of them.
-use Rattle.std.proofs.Common.{◌≡◌, ℕ, ◌+◌, ◌<◌, ◌≤◌, ◌-◌, take, take_all, length-drop, Some, List, [], ◌∷◌, ◌++◌,
-    length, drop, get_or, sym, ap, subst, ◌∙◌, append_assoc, drop-cons, add-one, arith, append-nil, zero, suc,
-    get_or-drop}
+use Rattle.std.proofs.Common.{◌≡◌, ℕ, ◌+◌, ◌<◌, ◌≤◌, ◌-◌, take, take_all, length-drop, Some, List, [], ◌∷◌, ◌++◌}
+use Rattle.std.proofs.Common.{length, drop, get_or, sym, ap, subst, ◌∙◌, append_assoc, drop-cons, add-one, arith}
+use Rattle.std.proofs.Common.{append-nil, zero, suc, get_or-drop}
 use Rattle.std.proofs.lemmas.List.{get_or-map, drop_all, drop-map}
 use Rattle.std.specs.Prelude.{String, string_bytes}
 use Rattle.nanorand_replay.specs.declared.replay.Call.{Call}
@@ -30,8 +30,8 @@ module _ (arguments : List (List ℕ)) (calls : List Call) (index : ℕ) (within
       → AreRequests (drop (index + 1) arguments) rest → AreRequests arguments ((calls ++ call ∷ []) ++ rest)
   said_more said here rest behind =
       subst (AreRequests arguments) (sym (append_assoc calls (call ∷ []) rest))
-          (said (call ∷ rest) (subst (λ ws. AreRequests ws (call ∷ rest)) (sym (next_word arguments index within))
-          (here, behind)))
+      (said (call ∷ rest) (subst (λ ws. AreRequests ws (call ∷ rest)) (sym (next_word arguments index within))
+      (here, behind)))
 
   first_is : (rest : List Call) → ((other : Call) → IsRequest (argument_at arguments index) other → Some call
       ≡ Some other) → AreRequests (argument_at arguments index ∷ drop (index + 1) arguments) rest → (more : List Call)

@@ -31,9 +31,17 @@ three_items : IsCount (codes "3") 3
 three_items = record { number = record { digits = (omega arith, (omega arith, tt)); value = refl; fits = omega arith }; small = omega arith }
 
 most_items : IsCount (codes "1000") 1000
-most_items = record { number = record { digits = (omega arith,
-    (omega arith, (omega arith, (omega arith, (omega arith, tt))))); value = refl; fits = omega arith };
-    small = omega arith }
+most_items = record {
+  number = record {
+    digits = (
+      omega arith,
+      (omega arith, (omega arith, (omega arith, (omega arith, tt)))),
+    );
+    value = refl;
+    fits = omega arith;
+  };
+  small = omega arith;
+}
 
 -- `pcg64 00000000000000000000000000000000 plain 0 u8`
 abbrev u8_of_pcg64 : Asked
@@ -84,8 +92,12 @@ text_in_order = refl
 
 -- `wyrand d19b42879be2895f plain 1 u8:5..5 shuffle`
 abbrev pub empty_and_shuffle : Asked
-empty_and_shuffle = record { generator = WyRand (0xd1 ∷ 0x9b ∷ 0x42 ∷ 0x87 ∷ 0x9b ∷ 0xe2 ∷ 0x89 ∷ 0x5f ∷ []);
-    mode = Plain; count = 1; calls = Range (spans.U8 (Included 5) (Excluded 5)) ∷ Shuffle ∷ [] }
+empty_and_shuffle = record {
+  generator = WyRand (0xd1 ∷ 0x9b ∷ 0x42 ∷ 0x87 ∷ 0x9b ∷ 0xe2 ∷ 0x89 ∷ 0x5f ∷ []);
+  mode = Plain;
+  count = 1;
+  calls = Range (spans.U8 (Included 5) (Excluded 5)) ∷ Shuffle ∷ [];
+}
 
 asks_for_empty_and_shuffle : AsksFor (codes "wyrand" ∷ codes "d19b42879be2895f" ∷ codes "plain" ∷ codes "1"
     ∷ codes "u8:5..5" ∷ codes "shuffle" ∷ []) empty_and_shuffle

@@ -1,6 +1,6 @@
 -- Known answers: whole texts with shuffles, whose choices are drawn from ranges of `u64`.
-use Rattle.std.proofs.Common.{◌≡◌, ℕ, zero, suc, ◌+◌, ◌-◌, ◌^◌, ◌≤◌, List, [], ◌∷◌, ◌++◌, Ok, codes, filter, map,
-    nat_le, nat_lt, replicate, refl, ap, ◌∙◌, arith}
+use Rattle.std.proofs.Common.{◌≡◌, ℕ, zero, suc, ◌+◌, ◌-◌, ◌^◌, ◌≤◌, List, [], ◌∷◌, ◌++◌, Ok, codes, filter, map}
+use Rattle.std.proofs.Common.{nat_le, nat_lt, replicate, refl, ap, ◌∙◌, arith}
 use Rattle.std.specs.Prelude.{◌&&◌, drop}
 use Rattle.std.specs.Fmt.{digits}
 use Rattle.std.specs.List.{range_with_len}
@@ -47,7 +47,7 @@ one_partner : partner_drawn (record { bytes = taken wyrand_block next_seed; afte
 unfolding partner_drawn named words_from value_drawn left_by left_after taken
 one_partner =
     ap (λ numbers. range_outcome (record { bytes = taken wyrand_block next_seed; after = plain_after next_seed 8 }) 64
-        numbers 0x5f89e29b87429bd1) (just_0 64 (2 ^ 64 - 1) refl) ∙ refl
+    numbers 0x5f89e29b87429bd1) (just_0 64 (2 ^ 64 - 1) refl) ∙ refl
 
 one_choice : shuffle_choices (record { bytes = taken wyrand_block next_seed; after = plain_after next_seed 8 }) from_itself 1 0x5f89e29b87429bd1 ≡ 0 ∷ []
 unfolding choices_from

@@ -140,7 +140,7 @@ vector_5_fourth = refl
 -- a request of 256 bytes takes four blocks and leaves the state after them
 four_blocks_taken : taken (chacha_block 20) next_state in_order 256
     ≡ chacha_block 20 (chacha_after 0 in_order) ++ chacha_block 20 (chacha_after 1 in_order)
-        ++ chacha_block 20 (chacha_after 2 in_order) ++ chacha_block 20 (chacha_after 3 in_order)
+    ++ chacha_block 20 (chacha_after 2 in_order) ++ chacha_block 20 (chacha_after 3 in_order)
 unfolding block initial_state taken
 four_blocks_taken = refl
 

@@ -2,8 +2,8 @@
 -- draws, and the first bytes of a stream.
 use Rattle.std.specs.Prelude.{◌≡◌, ℕ, ◌+◌, ◌-◌, ◌^◌, List, [], ◌∷◌, refl, ◌++◌, codes, drop, replicate}
 use Rattle.std.specs.List.{range_with_len}
-use Rattle.nanorand.specs.generators.ChaCha.{constants, initial_state, state_at, key_of, nonce_of, counter, words,
-    next_state, chacha_block, chacha_after, with_counter}
+use Rattle.nanorand.specs.generators.ChaCha.{constants, initial_state, state_at, key_of, nonce_of, counter, words}
+use Rattle.nanorand.specs.generators.ChaCha.{next_state, chacha_block, chacha_after, with_counter}
 use Rattle.std.proofs.Common.{ap}
 use Rattle.nanorand_replay.specs.generators.Buffered.{buffer_of, buffered_taken, buffered_after, Buffered}
 use Rattle.nanorand.specs.generators.ChaChaRounds.{block, quarter_round, on_columns, on_diagonals, rounds}

@@ -3,8 +3,8 @@ use Rattle.std.specs.Prelude.{◌≡◌, ℕ, ◌+◌, ◌*◌, ◌%◌, ◌^◌
 use Rattle.std.specs.Fn.{iterate}
 use Rattle.std.specs.List.{range_with_len}
 use Rattle.std.proofs.Common.{◌∙◌, arith}
-use Rattle.nanorand.specs.generators.Pcg64.{multiplier, factor, term, next_seed, Generator, next, pcg64_block,
-    reseeded, same_generator, geometric_sum, affine_after, seed_after, pcg64_after}
+use Rattle.nanorand.specs.generators.Pcg64.{multiplier, factor, term, next_seed, Generator, next, pcg64_block, reseeded}
+use Rattle.nanorand.specs.generators.Pcg64.{same_generator, geometric_sum, affine_after, seed_after, pcg64_after}
 use Rattle.nanorand.specs.support.Pcg64DrawLemmas.{seed_after-zero}
 use Rattle.nanorand.proofs.lemmas.cycles.Pcg64Lemmas.{seed_after-half, seed_after-agree}
 

@@ -12,8 +12,8 @@ use Rattle.std.specs.declared.ops.Bound.TheVariants.{Included, Excluded}
 use Rattle.nanorand_core.specs.values.Runs.{named}
 use Rattle.nanorand_core.specs.values.Range.{range_within}
 use Rattle.nanorand_core.specs.values.Draws.{words_from, value_drawn, left_by, left_after}
-use Rattle.nanorand_core.specs.shuffles.Shuffles.{arranged, from_all, from_itself, partner_drawn, choices_from,
-    shuffle_choices, shuffle_answer, shuffle_state, state_after_places}
+use Rattle.nanorand_core.specs.shuffles.Shuffles.{arranged, from_all, from_itself, partner_drawn, choices_from}
+use Rattle.nanorand_core.specs.shuffles.Shuffles.{shuffle_choices, shuffle_answer, shuffle_state, state_after_places}
 use Rattle.nanorand_core.specs.shuffles.Arrangements.{rising}
 use Rattle.nanorand_replay.specs.replay.Replay.{replayed, shuffle_call_answer}
 use Rattle.nanorand_replay.specs.declared.replay.Span.TheVariants as spans

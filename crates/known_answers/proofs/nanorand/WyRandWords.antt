@@ -49,7 +49,7 @@ five_bytes = refl
 
 four_across_seeds : buffered_taken wyrand_block next_seed 8
     (buffer_of (buffered_after wyrand_block next_seed 8 (buffer_of [] 0x5f89e29b87429bd2) 5).rest
-        (number_of (0xd3 ∷ 0x9b ∷ 0x42 ∷ 0x87 ∷ 0x9b ∷ 0xe2 ∷ 0x89 ∷ 0x5f ∷ []))) 4
+    (number_of (0xd3 ∷ 0x9b ∷ 0x42 ∷ 0x87 ∷ 0x9b ∷ 0xe2 ∷ 0x89 ∷ 0x5f ∷ []))) 4
     ≡ 126 ∷ 3 ∷ 231 ∷ 179 ∷ []
 unfolding buffered_taken buffered_after
 four_across_seeds = refl

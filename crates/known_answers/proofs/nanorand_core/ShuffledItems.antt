@@ -3,8 +3,9 @@
 use Rattle.std.specs.Prelude.{◌≡◌, ℕ, zero, suc, ◌<◌, ◌≤◌, [], ◌∷◌, refl, codes}
 use Rattle.std.proofs.Common.{arith, Ok, ap, ◌∙◌, ◌+◌, length, min, Err}
 use Rattle.std.proofs.lemmas.List.Sorted.{IsPermutation-refl, sum_by-IsPermutation}
-use Rattle.nanorand_core.specs.shuffles.Shuffles.{arranged, from_all, from_itself, shuffle_choices, partner_drawn,
-    choices_from, state_after_places, partial_choices, partial_answer, partial_state, partly_shuffled}
+use Rattle.nanorand_core.specs.shuffles.Shuffles.{arranged, from_all, from_itself, shuffle_choices, partner_drawn}
+use Rattle.nanorand_core.specs.shuffles.Shuffles.{choices_from, state_after_places, partial_choices, partial_answer}
+use Rattle.nanorand_core.specs.shuffles.Shuffles.{partial_state, partly_shuffled}
 use Rattle.nanorand_core.specs.shuffles.Arrangements.{IsValid, IsArrangement, rising, completed}
 use Rattle.nanorand_core.specs.generators.Blocks.{taken, Requests}
 use Rattle.nanorand_core.specs.values.Runs.{named}

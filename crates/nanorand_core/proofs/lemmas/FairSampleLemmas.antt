@@ -1,6 +1,6 @@
 -- In how many sequences of draws a number is in the sample.
-use Rattle.std.proofs.Common.{◌≡◌, ℕ, zero, suc, ◌+◌, ◌-◌, ◌*◌, ◌<◌, ◌≤◌, ◌||◌, Bool, true, false, cond, List, [],
-    ◌∷◌, ◌++◌, nat_eq, add-one, zero-add, refl, sym, ◌∙◌, ap, inl, inr, arith}
+use Rattle.std.proofs.Common.{◌≡◌, ℕ, zero, suc, ◌+◌, ◌-◌, ◌*◌, ◌<◌, ◌≤◌, ◌||◌, Bool, true, false, cond, List, [], ◌∷◌}
+use Rattle.std.proofs.Common.{◌++◌, nat_eq, add-one, zero-add, refl, sym, ◌∙◌, ap, inl, inr, arith}
 use Rattle.std.specs.List.{sum_by, count_by, range_with_len}
 use Rattle.std.proofs.lemmas.Bool.{cases_Bool, cases_eq, cases_lt, false≢true, eq-eqb, eqb-true, eqb-false, ne_eqb, or_from, or_left, or_right}
 use Rattle.std.proofs.lemmas.List.Folds.{list_any-append}
@@ -171,7 +171,7 @@ coming last (suc left) p size sample s from to =
           let many : count_by (λ d. holds d (sample ++ last ∷ [])) (range_with_len 0 (last + 1)) ≡ size + 1 =
           count-push last sample (last + 1) none (omega arith) ∙ ap (λ (n : ℕ). n + 1) (count-held last size sample s) in
           let rows = sum_split (λ d. rows_that (last + 1) left (joined last d sample) (holds last))
-              (λ d. holds d (sample ++ last ∷ [])) K (K * T) (left * T) 0 (last + 1)
+          (λ d. holds d (sample ++ last ∷ [])) K (K * T) (left * T) 0 (last + 1)
           (λ d from to is.
           let joins : holds last (joined last d sample) ≡ true =
           elim (cases_Bool (holds d sample)) [

@@ -1,6 +1,6 @@
 -- In how many sequences of draws a set of numbers, given by a test, is the sample.
-use Rattle.std.proofs.Common.{◌≡◌, ℕ, zero, suc, ◌+◌, ◌-◌, ◌*◌, ◌<◌, ◌≤◌, ◌&&◌, Bool, true, false, cond, not, List,
-    [], ◌∷◌, ◌++◌, nat_eq, add-zero, add-one, refl, sym, ◌∙◌, ap, inl, inr, arith}
+use Rattle.std.proofs.Common.{◌≡◌, ℕ, zero, suc, ◌+◌, ◌-◌, ◌*◌, ◌<◌, ◌≤◌, ◌&&◌, Bool, true, false, cond, not, List, []}
+use Rattle.std.proofs.Common.{◌∷◌, ◌++◌, nat_eq, add-zero, add-one, refl, sym, ◌∙◌, ap, inl, inr, arith}
 use Rattle.std.specs.List.{list_all, count_by, range_with_len}
 use Rattle.std.proofs.Math.Nat.{eq_of_mul-eq-mul_left}
 use Rattle.std.proofs.lemmas.Nat.{mul-le}
@@ -99,8 +99,8 @@ module _ (test : ℕ → Bool) where
       let goes : (d : ℕ) → d < last + 1 → test (joining last d sample) ≡ true → f d * factorial (within (last + 1)) ≡ A =
       λ d below passes.
       let rest = set_rows (last + 1) left (size + 1) (joined last d sample)
-          (sampling_more last size sample s d (omega arith)) (all-push (joining last d sample) sample all passes)
-          next in
+      (sampling_more last size sample s d (omega arith)) (all-push (joining last d sample) sample all passes)
+      next in
       rest ∙ ap (λ (k : ℕ). factorial (within (last + 1) - (size + 1)) * k) end in
       let stops : (d : ℕ) → test (joining last d sample) ≡ false → f d * factorial (within (last + 1)) ≡ 0 =
       λ d fails.

@@ -1,6 +1,6 @@
 -- A sample under way: its numbers stay different and below the count, and each draw goes on or ends it.
-use Rattle.std.proofs.Common.{◌≡◌, ◌≢◌, ◌==◌, ℕ, suc, ◌+◌, ◌-◌, ◌*◌, ◌<◌, ◌≤◌, List, ◌++◌, length, get_or, take, drop,
-    set, Ok, Err, inl, inr, refl, sym, ◌∙◌, ap, arith}
+use Rattle.std.proofs.Common.{◌≡◌, ◌≢◌, ◌==◌, ℕ, suc, ◌+◌, ◌-◌, ◌*◌, ◌<◌, ◌≤◌, List, ◌++◌, length, get_or, take, drop}
+use Rattle.std.proofs.Common.{set, Ok, Err, inl, inr, refl, sym, ◌∙◌, ap, arith}
 use Rattle.std.specs.Fn.{iterate}
 use Rattle.std.specs.List.{All, AllPairs}
 use Rattle.std.proofs.lemmas.Bool.{cases_Bool, eq-eqb, both_ways}

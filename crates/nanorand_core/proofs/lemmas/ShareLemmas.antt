@@ -1,6 +1,7 @@
 -- An item's numbers are exactly those in its share.
-use Rattle.std.proofs.Common.{◌≡◌, ℕ, zero, suc, ◌+◌, ◌-◌, ◌*◌, ◌<◌, ◌&&◌, Bool, cond, List, [], ◌∷◌, length, take,
-    slice_index, min, max, Option, Some, None, option_map, nat_eq, nat_le, nat_lt, refl, ◌∙◌, ap, inl, inr, arith}
+use Rattle.std.proofs.Common.{◌≡◌, ℕ, zero, suc, ◌+◌, ◌-◌, ◌*◌, ◌<◌, ◌&&◌, Bool, cond, List, [], ◌∷◌, length, take}
+use Rattle.std.proofs.Common.{slice_index, min, max, Option, Some, None, option_map, nat_eq, nat_le, nat_lt, refl, ◌∙◌}
+use Rattle.std.proofs.Common.{ap, inl, inr, arith}
 use Rattle.std.specs.List.{range_with_len, count_by, sum}
 use Rattle.std.proofs.lemmas.Bool.{cases_lt, lt-ltb, le-ltb}
 use Rattle.std.proofs.lemmas.Bool.Decides.{nat_tests}

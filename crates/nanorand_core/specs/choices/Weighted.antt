@@ -1,7 +1,7 @@
 -- Weighted choice: the numbers below the sum of the weights are divided into consecutive shares,
 -- one for each item, each as long as the item's weight.
-use Rattle.std.specs.Prelude.{◌≡◌, ℕ, suc, ◌+◌, ◌-◌, ◌*◌, ◌<◌, ◌≤◌, ◌^◌, ◌==◌, List, [], ◌∷◌, length, Option, Result,
-    Ok, Err, sum, take, slice_index, nat_le, nat_lt, ok_or, is_ok, option_map, if◌then◌else◌}
+use Rattle.std.specs.Prelude.{◌≡◌, ℕ, suc, ◌+◌, ◌-◌, ◌*◌, ◌<◌, ◌≤◌, ◌^◌, ◌==◌, List, [], ◌∷◌, length, Option, Result}
+use Rattle.std.specs.Prelude.{Ok, Err, sum, take, slice_index, nat_le, nat_lt, ok_or, is_ok, option_map, if◌then◌else◌}
 use Rattle.nanorand_core.specs.generators.Blocks.{Requests}
 use Rattle.nanorand_core.specs.values.Runs.{IsWordWidth, named, quota, words_that}
 use Rattle.nanorand_core.specs.values.Draws.{drawn_below}

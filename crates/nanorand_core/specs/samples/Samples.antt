@@ -1,7 +1,7 @@
 -- Samples without repetition, by Floyd's algorithm: different numbers below a count, in the order in
 -- which they join the sample.
-use Rattle.std.specs.Prelude.{◌≡◌, ℕ, zero, suc, ◌+◌, ◌-◌, ◌*◌, ◌<◌, ◌≤◌, ◌==◌, Bool, true, List, [], ◌∷◌, ◌++◌,
-    Result, Ok, Err, sum_by, count_by, if◌then◌else◌}
+use Rattle.std.specs.Prelude.{◌≡◌, ℕ, zero, suc, ◌+◌, ◌-◌, ◌*◌, ◌<◌, ◌≤◌, ◌==◌, Bool, true, List, [], ◌∷◌, ◌++◌, Result}
+use Rattle.std.specs.Prelude.{Ok, Err, sum_by, count_by, if◌then◌else◌}
 use Rattle.std.specs.List.{list_any, list_all, range_with_len}
 use Rattle.std.specs.declared.ops.Bound.TheVariants.{Included}
 use Rattle.nanorand_core.specs.generators.Blocks.{Requests}

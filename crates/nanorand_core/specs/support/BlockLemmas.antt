@@ -1,7 +1,7 @@
 -- Lemmas about requests, block by block. Nobody has to believe this file: it is in specs/ only
 -- because laws of impls cite its lemmas.
-use Rattle.std.proofs.Common.{◌≡◌, ℕ, zero, suc, ◌+◌, ◌-◌, ◌*◌, min, ◌<◌, ◌≤◌, List, [], ◌∷◌, ◌++◌, length, take,
-    drop, refl, sym, ◌∙◌, ap, arith, length-append, append_assoc, ⊎_elim, zero-add}
+use Rattle.std.proofs.Common.{◌≡◌, ℕ, zero, suc, ◌+◌, ◌-◌, ◌*◌, min, ◌<◌, ◌≤◌, List, [], ◌∷◌, ◌++◌, length, take, drop}
+use Rattle.std.proofs.Common.{refl, sym, ◌∙◌, ap, arith, length-append, append_assoc, ⊎_elim, zero-add}
 use Rattle.std.proofs.lemmas.List.{length-take-le, take_min}
 use Rattle.std.specs.Fn.{iterate}
 use Rattle.std.specs.Int.{div_ceil}
@@ -10,8 +10,8 @@ use Rattle.std.proofs.lemmas.Bool.{cases_lt}
 use Rattle.std.proofs.lemmas.Grind.{common_steps}
 use Rattle.std.proofs.lemmas.Slice.{take-put_mid}
 use borrow.Rule.Slice.PartMut.{put_mid, post_of}
-use Rattle.std.proofs.Math.Nat.{suc-add, min_comm, suc-sub-suc, zero-sub, sub-zero, div-eq_of_lt, mod-eq_of_lt,
-    add-div_right, add-mod_right, zero-div, zero-mod, div_self, mod_self}
+use Rattle.std.proofs.Math.Nat.{suc-add, min_comm, suc-sub-suc, zero-sub, sub-zero, div-eq_of_lt, mod-eq_of_lt}
+use Rattle.std.proofs.Math.Nat.{add-div_right, add-mod_right, zero-div, zero-mod, div_self, mod_self}
 use Rattle.nanorand_core.specs.generators.Blocks.{blocks, taken, plain_after}
 
 -- the first n elements of one list followed by another, for any n
@@ -83,7 +83,7 @@ module _ {G : Type 0} (block : G → List ℕ) (step : G → G) (output : ℕ) (
   pub taken_part : (g : G) (n k : ℕ) → k ≡ min output n → taken block step g n ≡ take k (block g) ++ taken block step (step g) (n - k)
   taken_part g n k part =
       let front : take k (block g) ≡ take n (block g) = ap (λ j. take j (block g))
-          (part ∙ ap (λ j. min j n) (sym (size g)) ∙ min_comm (length (block g)) n) ∙ take_min n (block g) in
+      (part ∙ ap (λ j. min j n) (sym (size g)) ∙ min_comm (length (block g)) n) ∙ take_min n (block g) in
       let left : n - k ≡ n - output = omega arith in
       rw (front, left) (taken_more g n)
 
@@ -110,8 +110,13 @@ module _ {G : Type 0} (block : G → List ℕ) (step : G → G) (output : ℕ) (
         ++ taken block step g (length buffer - filled)
     filled_bytes =
         let left : length buffer - (filled + count) ≡ (length buffer - filled) - count = omega arith in
-        rw (take-put_mid filled (filled + count - filled) buffer piece (filled + count) (omega (arith, piece_length))
-            (omega arith), left, append_assoc, written)
+        rw (
+          take-put_mid filled (filled + count - filled) buffer piece (filled + count) (omega (arith, piece_length))
+              (omega arith),
+          left,
+          append_assoc,
+          written,
+        )
         (ap (λ rest. take filled buffer ++ rest) (sym (taken_part g (length buffer - filled) count part)))
 
     pub filled_state : plain_after step output (step g) (length buffer - (filled + count)) ≡ plain_after step output g (length buffer - filled)

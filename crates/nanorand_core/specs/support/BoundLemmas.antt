@@ -6,8 +6,9 @@ use Rattle.std.specs.declared.ops.Bound.TheVariants.{Included, Excluded, Unbound
 use Rattle.std.proofs.Common.{arith, sym}
 use Rattle.std.proofs.lemmas.Bool.{le-leb, lt-ltb}
 use Rattle.std.proofs.lemmas.Int.{ints}
-use Rattle.nanorand_core.specs.values.Range.{is_above, is_below, unsigned_number, signed_number, Admits, IfBound,
-    IsNumber, HasUnsigned, HasSigned, unsigned_first, unsigned_end, signed_first, signed_end}
+use Rattle.nanorand_core.specs.values.Range.{is_above, is_below, unsigned_number, signed_number, Admits, IfBound}
+use Rattle.nanorand_core.specs.values.Range.{IsNumber, HasUnsigned, HasSigned, unsigned_first, unsigned_end}
+use Rattle.nanorand_core.specs.values.Range.{signed_first, signed_end}
 
 -- the least number that a low bound admits lies within it, and what is before a high bound's end
 -- lies within that

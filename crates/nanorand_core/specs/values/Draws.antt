@@ -1,6 +1,6 @@
 -- Bounded draws: words are drawn one after another until one names a number, at most 128 of them.
-use Rattle.std.specs.Prelude.{ℕ, ℤ, ◌+◌, ◌/◌, ◌==◌, List, length, map, position, slice_index, slice_get, Option,
-    is_some, option_and_then, ok_or, Result, Err, if◌then◌else◌}
+use Rattle.std.specs.Prelude.{ℕ, ℤ, ◌+◌, ◌/◌, ◌==◌, List, length, map, position, slice_index, slice_get, Option}
+use Rattle.std.specs.Prelude.{is_some, option_and_then, ok_or, Result, Err, if◌then◌else◌}
 use Rattle.std.specs.Fn.{iterate}
 use Rattle.std.specs.List.{range_with_len}
 use Rattle.std.specs.Option.{option_map_or}

@@ -1,6 +1,6 @@
 -- Exact fairness: every number has equally many words, and no list of words prefers a number.
-use Rattle.std.specs.Prelude.{◌≡◌, ℕ, ◌+◌, ◌-◌, ◌*◌, ◌^◌, ◌<◌, ◌≤◌, ◌==◌, Bool, false, List, Option, Some, None,
-    is_some, true, ◌↔◌, map, count_by, option_map, if◌then◌else◌}
+use Rattle.std.specs.Prelude.{◌≡◌, ℕ, ◌+◌, ◌-◌, ◌*◌, ◌^◌, ◌<◌, ◌≤◌, ◌==◌, Bool, false, List, Option, Some, None}
+use Rattle.std.specs.Prelude.{is_some, true, ◌↔◌, map, count_by, option_map, if◌then◌else◌}
 use Rattle.std.specs.List.{All, range_with_len}
 use Rattle.nanorand_core.specs.values.Runs.{IsWordWidth, Names, named, is_in_run, quota, rejected, first_word, words_that}
 use Rattle.nanorand_core.specs.values.Draws.{deciding_place, decided}

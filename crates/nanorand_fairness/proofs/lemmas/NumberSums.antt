@@ -32,7 +32,7 @@ pub numbers-constant : (sizes : List ℕ) (c : ℕ) → sum_over_numbers sizes (
 numbers-constant [] c = omega arith
 numbers-constant (size ∷ sizes) c =
     sum-terms (λ number. sum_over_numbers sizes (λ numbers. c))
-        (λ number. number_lists_that sizes (λ numbers. true) * c) (λ number. numbers-constant sizes c) 0 size
+    (λ number. number_lists_that sizes (λ numbers. true) * c) (λ number. numbers-constant sizes c) 0 size
     ∙ sum-times (λ number. number_lists_that sizes (λ numbers. true)) c 0 size
 
 -- two sums in either order: of numbers, of numbers and a list, of two lists
@@ -62,7 +62,7 @@ sum-in-lists (size ∷ sizes) g m =
 
 pub lists-in-lists : (sizes others : List ℕ) (f : List ℕ → List ℕ → ℕ)
     → sum_over_numbers sizes (λ numbers. sum_over_numbers others (f numbers))
-        ≡ sum_over_numbers others (λ later. sum_over_numbers sizes (λ numbers. f numbers later))
+    ≡ sum_over_numbers others (λ later. sum_over_numbers sizes (λ numbers. f numbers later))
 lists-in-lists [] others f = refl
 lists-in-lists (size ∷ sizes) others f =
     sum-terms (λ number. sum_over_numbers sizes (λ numbers. sum_over_numbers others (f (number ∷ numbers))))

@@ -1,6 +1,6 @@
 -- Exchanging two runs word by word, while numbers are drawn in turn.
-use Rattle.std.proofs.Common.{◌≡◌, ℕ, zero, suc, ◌<◌, ◌^◌, Bool, true, false, List, [], ◌∷◌, length, map, Option,
-    Some, None, option_map, slice_index, refl, sym, ◌∙◌, ap, arith}
+use Rattle.std.proofs.Common.{◌≡◌, ℕ, zero, suc, ◌<◌, ◌^◌, Bool, true, false, List, [], ◌∷◌, length, map, Option, Some}
+use Rattle.std.proofs.Common.{None, option_map, slice_index, refl, sym, ◌∙◌, ap, arith}
 use Rattle.std.specs.List.{All}
 use Rattle.std.proofs.lemmas.List.Elements.{All-nil, All-cons, All-head, All-tail, All-same}
 use Rattle.nanorand_core.specs.values.Runs.{IsWordWidth, named}

@@ -19,7 +19,7 @@ module _ (runs : RunsAreFair) (events : EventsAreFair) (bits size : ℕ) (width 
   unfolding sum_over_lists
   by_first n f F is =
       sum-terms (λ word. sum_over_lists bits n (λ words. f (word ∷ words))) (λ word. F (named bits size word))
-          (λ word. is word (named bits size word) refl) 0 (2 ^ bits)
+      (λ word. is word (named bits size word) refl) 0 (2 ^ bits)
       ∙ sum-named runs events bits size width some fits F
 
   -- undecided lists

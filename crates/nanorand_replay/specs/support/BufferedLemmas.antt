@@ -1,7 +1,7 @@
 -- A buffer delivers one unbroken stream of bytes. Nobody has to believe this file: it has lemmas that
 -- the laws of impls cite.
-use Rattle.std.proofs.Common.{◌≡◌, ℕ, zero, suc, ◌+◌, ◌-◌, ◌*◌, ◌/◌, ◌%◌, ◌<◌, ◌≤◌, List, [], ◌++◌, length, take,
-    drop, refl, sym, ◌∙◌, ap, arith, length-append, length-drop, append_assoc, add-zero, ⊎_elim}
+use Rattle.std.proofs.Common.{◌≡◌, ℕ, zero, suc, ◌+◌, ◌-◌, ◌*◌, ◌/◌, ◌%◌, ◌<◌, ◌≤◌, List, [], ◌++◌, length, take, drop}
+use Rattle.std.proofs.Common.{refl, sym, ◌∙◌, ap, arith, length-append, length-drop, append_assoc, add-zero, ⊎_elim}
 use Rattle.std.specs.Fn.{iterate}
 use Rattle.std.specs.Int.{div_ceil}
 use Rattle.std.proofs.lemmas.Bool.{cases_lt}
@@ -78,8 +78,10 @@ module _ {G : Type 0} (block : G → List ℕ) (step : G → G) (output : ℕ) (
   pub rest_below : (b : Buffered G) (n : ℕ) → length b.rest < output → length (buffered_after block step output b n).rest < output
   unfolding buffered_after
   rest_below b n below =
-      rw (length-drop n (stream block step output b (blocks_needed block step output b n)),
-          length-stream b (blocks_needed block step output b n)) (left_below (length b.rest) n output positive below)
+      rw (
+        length-drop n (stream block step output b (blocks_needed block step output b n)),
+        length-stream b (blocks_needed block step output b n),
+      ) (left_below (length b.rest) n output positive below)
 
   -- further blocks come at the end of the stream
   stream_add : (b : Buffered G) (m k : ℕ) → stream block step output b (m + k) ≡ stream block step output b m ++ blocks block step (iterate step m b.inner) k
@@ -107,8 +109,8 @@ module _ {G : Type 0} (block : G → List ℕ) (step : G → G) (output : ℕ) (
       let first : ℕ = blocks_needed block step output b m in
       let second : ℕ = blocks_needed block step output (buffered_after block step output b m) n in
       let front : take m (stream block step output b (first + second))
-          ≡ take m (stream block step output b first) = ap (λ bytes. take m bytes) (stream_add b first second)
-          ∙ take-append-le m _ _ (stream_covers b m) in
+      ≡ take m (stream block step output b first) = ap (λ bytes. take m bytes) (stream_add b first second)
+      ∙ take-append-le m _ _ (stream_covers b m) in
       ap (λ k. take (m + n) (stream block step output b k)) (needed_add b m n)
       ∙ take-add m n (stream block step output b (first + second))
       ∙ ap (λ bytes. bytes ++ take n (drop m (stream block step output b (first + second)))) front
@@ -123,11 +125,11 @@ module _ {G : Type 0} (block : G → List ℕ) (step : G → G) (output : ℕ) (
       let first : ℕ = blocks_needed block step output b m in
       let second : ℕ = blocks_needed block step output (buffered_after block step output b m) n in
       let rest : drop n (stream block step output (buffered_after block step output b m) second)
-          ≡ drop (m + n) (stream block step output b (first + second)) = ap (λ bytes. drop n bytes)
-          (stream_after b m second) ∙ drop-drop n m _ in
+      ≡ drop (m + n) (stream block step output b (first + second)) = ap (λ bytes. drop n bytes)
+      (stream_after b m second) ∙ drop-drop n m _ in
       same_buffer rest (sym (iterate-add step first second b.inner))
-          ∙ ap (λ k. record { rest = drop (m + n) (stream block step output b k); inner = iterate step k b.inner })
-          (sym (needed_add b m n))
+      ∙ ap (λ k. record { rest = drop (m + n) (stream block step output b k); inner = iterate step k b.inner })
+      (sym (needed_add b m n))
 
   taken_within : (b : Buffered G) (n m : ℕ) → n ≤ m → take n (buffered_taken block step output b m) ≡ buffered_taken block step output b n
   taken_within b n m within =
@@ -224,7 +226,7 @@ module _ {G : Type 0} (block : G → List ℕ) (step : G → G) (output : ℕ) (
   unfolding buffered_after
   after_fresh g n even =
       let long : length (blocks block step g (div_ceil n output)) ≤ n = rw (length-blocks block step output positive
-          size g (div_ceil n output)) (omega (arith, ceil_even n even)) in
+      size g (div_ceil n output)) (omega (arith, ceil_even n even)) in
       rw sub-zero (same_buffer (drop_all n (blocks block step g (div_ceil n output)) long) refl)
 
   -- whole blocks, and the front of one more
@@ -248,8 +250,8 @@ module _ {G : Type 0} (block : G → List ℕ) (step : G → G) (output : ℕ) (
         ap (λ k. buffered_taken block step output (buffer_of [] g) k) whole_split
         ∙ taken_add (buffer_of [] g) (n - n % output) (n % output)
         ∙ ap (λ bytes. bytes ++ buffered_taken block step output
-            (buffered_after block step output (buffer_of [] g) (n - n % output)) (n % output))
-            (taken_fresh g (n - n % output))
+        (buffered_after block step output (buffer_of [] g) (n - n % output)) (n % output))
+        (taken_fresh g (n - n % output))
         ∙ ap (λ c. taken block step g (n - n % output) ++ buffered_taken block step output c (n % output)) (after_fresh g (n - n % output) whole_even)
         ∙ ap (λ bytes. taken block step g (n - n % output) ++ bytes)
         (taken_fresh behind (n % output) ∙ taken_front block step output positive size behind (n % output) (omega (arith, last_few)))

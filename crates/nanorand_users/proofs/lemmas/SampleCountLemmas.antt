@@ -1,6 +1,6 @@
 -- In how many sequences of draws an index is in the sample at the end.
-use Rattle.std.proofs.Common.{◌≡◌, ◌≢◌, ℕ, zero, suc, ◌+◌, ◌-◌, ◌*◌, ◌<◌, ◌≤◌, Bool, true, List, [], ◌∷◌, length,
-    get_or, nat_eq, refl, sym, ◌∙◌, ap, inl, inr, arith}
+use Rattle.std.proofs.Common.{◌≡◌, ◌≢◌, ℕ, zero, suc, ◌+◌, ◌-◌, ◌*◌, ◌<◌, ◌≤◌, Bool, true, List, [], ◌∷◌, length}
+use Rattle.std.proofs.Common.{get_or, nat_eq, refl, sym, ◌∙◌, ap, inl, inr, arith}
 use Rattle.std.specs.List.{All, AllPairs, list_any, range_with_len, sum_by}
 use Rattle.std.proofs.lemmas.Bool.{cases_lt, cases_eq, lt-ltb, le-ltb, eq-eqb, ne_eqb}
 use Rattle.std.proofs.lemmas.List.{get_or-set_same, get_or-set_other, length-set}
@@ -50,7 +50,7 @@ module _ (f : ℕ → ℕ) (K : ℕ) where
             let whole = ap (λ (s : ℕ). s * K) (sum_by-cons f first (range_with_len (first + 1) n)) in
             let here = each first (omega arith) more in
             let rest = sum_front w size (first + 1) n (omega arith) (omega arith)
-                (λ d from to. each d (omega arith) to) (λ d from to. none d from (omega arith)) in
+            (λ d from to. each d (omega arith) to) (λ d from to. none d from (omega arith)) in
             omega (arith, whole, here, rest)
         | inr done ↦
             let same : first ≡ size = omega arith in
@@ -174,7 +174,7 @@ coming i (suc left) p chosen below apart long from to =
           (λ d first last.
           let same = length-placed chosen i d in
           coming (i + 1) left p (placed chosen i d) (placed_below chosen i d below)
-              (placed_apart chosen i d below apart) (omega arith) (omega arith) (omega arith)
+          (placed_apart chosen i d below apart) (omega arith) (omega arith) (omega arith)
           ∙ ap (λ (n : ℕ). n * total (i + 1) left) same) in
           omega (arith, rows)
     ]

@@ -37,7 +37,7 @@ pub word-samples : NumbersInTurnAreFair → IsWordWidth 64 → (size count : ℕ
     → word_samples_that size count test ≡ samples_that size count test * quotas 64 (draw_sizes size count)
 word-samples numbers width size count test fits =
     ap (λ (n : ℕ). word_lists_that 64 n (draw_sizes size count)
-        (λ draws. test (chosen_by size draws (range_with_len 0 size))))
-        (sym (length-range_with_len (size + 1) (count - size)))
+    (λ draws. test (chosen_by size draws (range_with_len 0 size))))
+    (sym (length-range_with_len (size + 1) (count - size)))
     ∙ numbers 64 (draw_sizes size count) (λ draws. test (chosen_by size draws (range_with_len 0 size))) width (sizes-fit size count 64 fits)
     ∙ ap (λ (n : ℕ). n * quotas 64 (draw_sizes size count)) (draw-rows test (count - size) size (range_with_len 0 size))

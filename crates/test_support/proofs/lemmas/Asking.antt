@@ -7,8 +7,8 @@ use base.Fml.{Lft, Share, ftrue, fsep, flft}
 use prog.Memory.{Memory}
 use prog.Routine.{Routine}
 use types.Logic.{Logic, sem}
-use types.Kit.{‵, raw, ◌⊛◌, some, later, ◌$◌, ◌∵◌, !, qed, move, keep, use1, split, join, pick, fjoin, feq_i, feq_l,
-    check, show, await, updating, now as at_once, done}
+use types.Kit.{‵, raw, ◌⊛◌, some, later, ◌$◌, ◌∵◌, !, qed, move, keep, use1, split, join, pick, fjoin, feq_i, feq_l}
+use types.Kit.{check, show, await, updating, now as at_once, done}
 use contract.Monad.{Fun}
 use denote.Memory.{hidden_shr}
 use denote.Builtin.{bool}
@@ -45,6 +45,6 @@ module _ {M : Type 1} {𝓤 : Ura M} (𝓛 : Logic 𝓤) (mem : Memory → SProp
         let Answer = λ (yes : Bool). guard 𝓤 (v ≡ vbool yes) (A.lft κ q) in
         qed 𝓛 (raw (Asks.post (asked κ q p t) v) ∷ []) ∵ updating ! $
         use1 𝓛 (later (some (λ (yes : Bool). ((‵ (flft κ q) ⊛ ‵ ftrue) ⊛ ‵ (bool.own_val yes (v ∷ [])))
-            ⊛ some (λ (left : Unit {0} × Unit {0}). ‵ (fsep ftrue ftrue) ⊛ ‵ ftrue)))) (id⊢ 𝓤 _) $
+        ⊛ some (λ (left : Unit {0} × Unit {0}). ‵ (fsep ftrue ftrue) ⊛ ‵ ftrue)))) (id⊢ 𝓤 _) $
         await ! tt $ pick ! (λ yes. split ! $ split ! $ move ! (1 ∷ []) $ feq_l ! (λ is. split ! $
         at_once ! $ show ! Answer yes $ check ! (ap only is) $ keep ! (0 ∷ []) $ done !))

@@ -23,8 +23,8 @@ one_bound is_text text n some no_equals only Unbounded said = absurd (omega (ari
 pub returns-in_err-read-in-None-clause-only : goal.returns-in_err-read-in-None-clause-only
 returns-in_err-read-in-None-clause-only g c = λ high said.
     absurd (no_bound g.N.ReadNumber.is_text c.args.text.now (search rules)
-        (strip_prefix_char 61 c.args.text.now None c.in-None.ensures.cases (lit< tt))
-        c.in_err-read-in-None.ensures.only high said)
+    (strip_prefix_char 61 c.args.text.now None c.in-None.ensures.cases (lit< tt))
+    c.in_err-read-in-None.ensures.only high said)
 
 pub returns-in_ok-read-in-None-clause-found : goal.returns-in_ok-read-in-None-clause-found
 returns-in_ok-read-in-None-clause-found g c = c.in_ok-read-in-None.ensures.found

@@ -21,7 +21,7 @@ loop-index-preserved g c =
     let text = text_at c.args.requests.now loop.index c.index-requests-index.result (omega arith) c.index-requests-index.is ∙ sym c.as_str.ensures.value in
     let here : IsRequest (argument_at arguments loop.index) c.in-Some.call = subst (λ t. IsRequest t c.in-Some.call) (sym text) c.in-Some.ensures.found in
     let one = λ (other : Call) (said : IsRequest (argument_at arguments loop.index) other). c.in-Some.ensures.only
-        other (subst (λ t. IsRequest t other) text said) in
+    other (subst (λ t. IsRequest t other) text said) in
     let pushed = c.in_ok-push.ensures.items in
     rw pushed (record {
       said = said_more arguments loop.calls.items loop.index within c.in-Some.call loop.invariant.said here;

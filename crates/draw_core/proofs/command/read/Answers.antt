@@ -4,10 +4,10 @@ use Rattle.std.specs.Result.{IsErrAnd}
 use Rattle.std.proofs.lemmas.Result.{err_from_is_err_and}
 use Rattle.draw_core.specs.declared.error.DrawError.{DrawError}
 use Rattle.draw_core.specs.declared.error.DrawError.TheVariants.{BadWord, Write}
-use Rattle.draw_core.specs.Arguments.{IsReadable, IsFirstUnreadable, IsSeed, IsCount, AreRequests, FirstBadRequest,
-    generator_of, name_of_generator, asked_by, texts}
-use Rattle.draw_core.proofs.lemmas.ReadArguments.{texts_from, same_asked, first_of_all, one_first, first_is_bad,
-    second_is_bad, third_is_bad, fourth_is_bad, none_is_bad}
+use Rattle.draw_core.specs.Arguments.{IsReadable, IsFirstUnreadable, IsSeed, IsCount, AreRequests, FirstBadRequest}
+use Rattle.draw_core.specs.Arguments.{generator_of, name_of_generator, asked_by, texts}
+use Rattle.draw_core.proofs.lemmas.ReadArguments.{texts_from, same_asked, first_of_all, one_first, first_is_bad}
+use Rattle.draw_core.proofs.lemmas.ReadArguments.{second_is_bad, third_is_bad, fourth_is_bad, none_is_bad}
 use Rattle.draw_core.proofs.command.read.Goals as goal
 
 -- An `ok_or` that refuses had no value, and hands on its error.
@@ -54,9 +54,9 @@ pub returns-in_err-generator : goal.returns-in_err-generator
 returns-in_err-generator g c =
     let arguments = texts c.args.arguments.now in
     let refusal = refused c.generator_named.result (BadWord 1) c.in_err-generator.field-0.0 c.from_residual.result
-        c.in_err-generator.ensures.value c.from_residual.ensures.1 in
+    c.in_err-generator.ensures.value c.from_residual.ensures.1 in
     let bad : IsReadable arguments 0 → ⊥ = λ said. no_value c.generator_named.result said.0 refusal.0
-        (c.generator_named.ensures.only said.0 (c.argument.ensures ∙ said.1)) in
+    (c.generator_named.ensures.only said.0 (c.argument.ensures ∙ said.1)) in
     let first = first_is_bad arguments bad in
     record {
       said = rw refusal.1 tt;
@@ -71,12 +71,12 @@ returns-in_err-seeded g c =
     let arguments = texts c.args.arguments.now in
     let named = sym c.argument.ensures ∙ rw c.in_ok-generator.ensures.ok_part at c.generator_named.ensures.found in
     let refusal = refused c.seeded_generator.result (BadWord 2) c.in_err-seeded.field-0.0
-        c.from_residual-in_err-seeded.result c.in_err-seeded.ensures.value c.from_residual-in_err-seeded.ensures.1 in
+    c.from_residual-in_err-seeded.result c.in_err-seeded.ensures.value c.from_residual-in_err-seeded.ensures.1 in
     let bad : IsReadable arguments 1 → ⊥ = λ said. no_value c.seeded_generator.result said.0 refusal.0
     (c.seeded_generator.ensures.only said.0
-        (one_value c.generator_named.result _ _
-        (c.generator_named.ensures.only (generator_of said.0) (c.argument.ensures ∙ said.1))
-        c.in_ok-generator.ensures.ok_part) (subst (λ t. IsSeed t said.0) (sym c.argument-2.ensures) said.2)) in
+    (one_value c.generator_named.result _ _
+    (c.generator_named.ensures.only (generator_of said.0) (c.argument.ensures ∙ said.1))
+    c.in_ok-generator.ensures.ok_part) (subst (λ t. IsSeed t said.0) (sym c.argument-2.ensures) said.2)) in
     let first = second_is_bad arguments (c.in_ok-generator.generator, named) bad in
     record {
       said = rw refusal.1 tt;
@@ -92,11 +92,13 @@ returns-in_err-mode g c =
     let named = sym c.argument.ensures ∙ rw c.in_ok-generator.ensures.ok_part at c.generator_named.ensures.found in
     let seeded = rw c.in_ok-seeded.ensures.ok_part at c.seeded_generator.ensures.found in
     let refusal = refused c.mode_of.result (BadWord 3) c.in_err-mode.field-0.0 c.from_residual-in_err-mode.result
-        c.in_err-mode.ensures.value c.from_residual-in_err-mode.ensures.1 in
+    c.in_err-mode.ensures.value c.from_residual-in_err-mode.ensures.1 in
     let bad : IsReadable arguments 2 → ⊥ = λ said. no_value c.mode_of.result said.0 refusal.0 (c.mode_of.ensures.only said.0 (c.argument-3.ensures ∙ said.1)) in
-    let first = third_is_bad arguments (c.in_ok-generator.generator, named)
-        (c.in_ok-seeded.seeded, named ∙ ap name_of_generator (sym seeded.0),
-        subst (λ t. IsSeed t c.in_ok-seeded.seeded) c.argument-2.ensures seeded.1) bad in
+    let first = third_is_bad arguments (c.in_ok-generator.generator, named) (
+      c.in_ok-seeded.seeded,
+      named ∙ ap name_of_generator (sym seeded.0),
+      subst (λ t. IsSeed t c.in_ok-seeded.seeded) c.argument-2.ensures seeded.1,
+    ) bad in
     record {
       said = rw refusal.1 tt;
       only = rw refusal.1 tt;
@@ -112,13 +114,15 @@ returns-in_err-count g c =
     let seeded = rw c.in_ok-seeded.ensures.ok_part at c.seeded_generator.ensures.found in
     let mode = sym c.argument-3.ensures ∙ rw c.in_ok-mode.ensures.ok_part at c.mode_of.ensures.found in
     let refusal = told c.from_residual-in_err-count.result c.in_err-count.field-0.0 (BadWord 4)
-        c.from_residual-in_err-count.ensures.1 c.in_err-count.ensures.refusal in
+    c.from_residual-in_err-count.ensures.1 c.in_err-count.ensures.refusal in
     let bad : IsReadable arguments 3 → ⊥ = λ said. no_error said.0 _
-        (sym (c.in_err-count.ensures.only said.0
-        (subst (λ t. IsCount t said.0) (sym c.argument-4.ensures) said.1))) in
-    let first = fourth_is_bad arguments (c.in_ok-generator.generator, named)
-        (c.in_ok-seeded.seeded, named ∙ ap name_of_generator (sym seeded.0),
-        subst (λ t. IsSeed t c.in_ok-seeded.seeded) c.argument-2.ensures seeded.1) (c.in_ok-mode.mode, mode) bad in
+    (sym (c.in_err-count.ensures.only said.0
+    (subst (λ t. IsCount t said.0) (sym c.argument-4.ensures) said.1))) in
+    let first = fourth_is_bad arguments (c.in_ok-generator.generator, named) (
+      c.in_ok-seeded.seeded,
+      named ∙ ap name_of_generator (sym seeded.0),
+      subst (λ t. IsSeed t c.in_ok-seeded.seeded) c.argument-2.ensures seeded.1,
+    ) (c.in_ok-mode.mode, mode) bad in
     record {
       said = rw refusal tt;
       only = rw refusal tt;
@@ -142,14 +146,18 @@ returns-in_err-calls g c =
       not_write = λ same. c.in_err-calls.ensures.not_write (handed_on _ _ _ failed same);
       bad = λ k same.
           let bad = c.in_err-calls.ensures.bad k (handed_on _ _ _ failed same) in
-          first_of_all arguments k (c.in_ok-generator.generator, named)
-              (c.in_ok-seeded.seeded, named ∙ ap name_of_generator (sym seeded.0),
-              subst (λ t. IsSeed t c.in_ok-seeded.seeded) c.argument-2.ensures seeded.1) (c.in_ok-mode.mode, mode)
-              (c.in_ok-count.count, subst (λ t. IsCount t c.in_ok-count.count) c.argument-4.ensures count)
+          first_of_all arguments k (c.in_ok-generator.generator, named) (
+            c.in_ok-seeded.seeded,
+            named ∙ ap name_of_generator (sym seeded.0),
+            subst (λ t. IsSeed t c.in_ok-seeded.seeded) c.argument-2.ensures seeded.1,
+          ) (c.in_ok-mode.mode, mode)
+          (c.in_ok-count.count, subst (λ t. IsCount t c.in_ok-count.count) c.argument-4.ensures count)
           (subst (λ ws. FirstBadRequest ws k) (texts_from 4 c.args.arguments.now) bad);
-      early = λ k small first. absurd (none_is_bad arguments (c.in_ok-generator.generator, named)
-          (c.in_ok-seeded.seeded, named ∙ ap name_of_generator (sym seeded.0),
-          subst (λ t. IsSeed t c.in_ok-seeded.seeded) c.argument-2.ensures seeded.1) (c.in_ok-mode.mode, mode)
+      early = λ k small first. absurd (none_is_bad arguments (c.in_ok-generator.generator, named) (
+        c.in_ok-seeded.seeded,
+        named ∙ ap name_of_generator (sym seeded.0),
+        subst (λ t. IsSeed t c.in_ok-seeded.seeded) c.argument-2.ensures seeded.1,
+      ) (c.in_ok-mode.mode, mode)
           (c.in_ok-count.count, subst (λ t. IsCount t c.in_ok-count.count) c.argument-4.ensures count) k small first);
     }
 
@@ -170,22 +178,27 @@ returns g c =
       };
       only = λ other said.
           let generator = one_value c.generator_named.result _ _
-              (c.generator_named.ensures.only (generator_of other.generator) (c.argument.ensures ∙ said.generator))
-              c.in_ok-generator.ensures.ok_part in
-          same_asked other (asked_by (record
-              { generator = c.in_ok-seeded.seeded; mode = c.in_ok-mode.mode; count = c.in_ok-count.count;
-              calls = c.in_ok-calls.calls }))
+          (c.generator_named.ensures.only (generator_of other.generator) (c.argument.ensures ∙ said.generator))
+          c.in_ok-generator.ensures.ok_part in
+          same_asked other (asked_by (record {
+            generator = c.in_ok-seeded.seeded;
+            mode = c.in_ok-mode.mode;
+            count = c.in_ok-count.count;
+            calls = c.in_ok-calls.calls;
+          }))
           (one_value c.seeded_generator.result _ _
-              (c.seeded_generator.ensures.only other.generator generator
-              (subst (λ t. IsSeed t other.generator) (sym c.argument-2.ensures) said.seed))
-              c.in_ok-seeded.ensures.ok_part)
+          (c.seeded_generator.ensures.only other.generator generator
+          (subst (λ t. IsSeed t other.generator) (sym c.argument-2.ensures) said.seed))
+          c.in_ok-seeded.ensures.ok_part)
           (one_value c.mode_of.result _ _ (c.mode_of.ensures.only other.mode (c.argument-3.ensures ∙ said.mode)) c.in_ok-mode.ensures.ok_part)
           (same_count _ _ (c.in_ok-count.ensures.only other.count (subst (λ t. IsCount t other.count) (sym c.argument-4.ensures) said.count)))
           (c.in_ok-calls.ensures.only other.calls (subst (λ ws. AreRequests ws other.calls) (sym (texts_from 4 c.args.arguments.now)) said.requests));
       not_write = no_error _ _;
       bad = λ k same. absurd (no_error _ _ same);
-      early = λ k small first. absurd (none_is_bad arguments (c.in_ok-generator.generator, named)
-          (c.in_ok-seeded.seeded, named ∙ ap name_of_generator (sym seeded.0),
-          subst (λ t. IsSeed t c.in_ok-seeded.seeded) c.argument-2.ensures seeded.1) (c.in_ok-mode.mode, mode)
+      early = λ k small first. absurd (none_is_bad arguments (c.in_ok-generator.generator, named) (
+        c.in_ok-seeded.seeded,
+        named ∙ ap name_of_generator (sym seeded.0),
+        subst (λ t. IsSeed t c.in_ok-seeded.seeded) c.argument-2.ensures seeded.1,
+      ) (c.in_ok-mode.mode, mode)
           (c.in_ok-count.count, subst (λ t. IsCount t c.in_ok-count.count) c.argument-4.ensures count) k small first);
     }

@@ -8,8 +8,8 @@ returns-in_ok-span_of-in-Some-clause-found c =
     let found = c.in_ok-span_of-in-Some.ensures.found in
     let range = c.in-Some.range.now in
     let named : c.in-Some.name.now ≡ name_of
-        (kind_of_span c.in_ok-span_of-in-Some.field-0) = c.in_ok-kind_of-in-Some.ensures.found
-        ∙ ap name_of (sym found.0) in
+    (kind_of_span c.in_ok-span_of-in-Some.field-0) = c.in_ok-kind_of-in-Some.ensures.found
+    ∙ ap name_of (sym found.0) in
     let parts = (split_parts 58 c.args.text.now (Some (c.in-Some.name, c.in-Some.range)) c.in-Some.ensures.cases (lit< tt)).0 in
     (range, parts ∙ ap (λ name. name ++ 58 ∷ range) named ∙ sym (append_assoc _ (58 ∷ []) range), found.1)
 

@@ -8,8 +8,8 @@ pub items-preserved : goal.items-preserved
 items-preserved g c =
     let item = c.items.item in
     let more = sym (map-id (range_with_len 0 (item + 1)))
-        ∙ map-range_with_len_more (λ (x : ℕ). x) 0 item item (omega arith)
-        ∙ ap (λ xs. xs ++ item ∷ []) (map-id (range_with_len 0 item)) in
+    ∙ map-range_with_len_more (λ (x : ℕ). x) 0 item item (omega arith)
+    ∙ ap (λ xs. xs ++ item ∷ []) (map-id (range_with_len 0 item)) in
     c.in_ok-push.ensures.items ∙ ap (λ xs. xs ++ item ∷ []) c.items.invariant ∙ sym more
 
 pub items-init : goal.items-init

@@ -52,7 +52,7 @@ doubled u v (suc i) =
       moves = λ s. ap (λ (n : ℕ). walk u v n s) (two-pow-succ (suc i))
           ∙ twice_moves _ _ (2 ^ suc i) p last.x last.y s last.moves
           ∙ ap (λ (q : ℕ). s + 8 * q * (2 * (last.y + 4 * p * last.x * (2 * last.y + 1)) + 1)
-              + 16 * q * (last.x + 8 * p * last.x * last.x) * s) (sym (two-pow-succ i));
+          + 16 * q * (last.x + 8 * p * last.x * last.x) * s) (sym (two-pow-succ i));
     }
 
 -- e * 2 ^ suc i steps add e * (8 * 2 ^ i), modulo 16 * 2 ^ i

@@ -19,7 +19,7 @@ returns-clause-bytes c =
     c.copy_from_slice.ensures.after ∙ ap (λ k. take k (drop (512 - c.min-buffered.result) group)) part
     ∙ ap (λ k. take n (drop (512 - k) group)) same
     ∙ sym (served_bytes (chacha_group 20) next_group 512 (drop (512 - most) group) (chacha_at c.args.stream.now.chacha) n
-        enough)
+    enough)
 
 pub returns-clause-state : goal.returns-clause-state
 returns-clause-state c =

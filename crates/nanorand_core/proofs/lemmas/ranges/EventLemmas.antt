@@ -1,6 +1,6 @@
 -- The words of an event: those that name a number which passes a test.
-use Rattle.std.proofs.Common.{◌≡◌, ℕ, zero, suc, ◌+◌, ◌*◌, ◌^◌, ◌<◌, ◌&&◌, Bool, true, false, cond, List, Option,
-    Some, None, nat_lt, nat_eq, refl, sym, ◌∙◌, ap, inl, inr, arith, zero-add}
+use Rattle.std.proofs.Common.{◌≡◌, ℕ, zero, suc, ◌+◌, ◌*◌, ◌^◌, ◌<◌, ◌&&◌, Bool, true, false, cond, List, Option, Some}
+use Rattle.std.proofs.Common.{None, nat_lt, nat_eq, refl, sym, ◌∙◌, ap, inl, inr, arith, zero-add}
 use Rattle.std.specs.List.{range_with_len, count_by}
 use Rattle.std.proofs.lemmas.Bool.{cases_Bool, lt-ltb, eqb-true, eq-eqb, false_from_ne_true, false≢true}
 use Rattle.std.proofs.lemmas.Bool.Decides.{nat_tests}
@@ -44,7 +44,7 @@ module _ (names : ℕ → Option ℕ) (words : List ℕ) (share : ℕ) (p : ℕ 
       elim (cases_Bool (p n)) [
         | inl hit ↦
             let both = count_by-add (λ w. is_early p n (names w)) (λ w. is_answer n (names w))
-                (λ w. is_early p (suc n) (names w)) (λ w. early_more p n hit (names w)) words in
+            (λ w. is_early p (suc n) (names w)) (λ w. early_more p n hit (names w)) words in
             let grown = rw hit at more in
             both ∙ omega (arith, rest, one, ap (λ (m : ℕ). m * share) grown)
         | inr miss ↦

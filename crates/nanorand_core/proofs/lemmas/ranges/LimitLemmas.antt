@@ -1,7 +1,7 @@
 -- The limits of a ranged draw: its bounds and the number of its words.
-use Rattle.std.proofs.Common.{◌≡◌, ℕ, zero, suc, ◌+◌, ◌^◌, ◌<◌, ◌≤◌, ◌&&◌, Bool, true, List, Option, Some, None,
-    Result, Ok, Err, length, map, filter, nat_eq, slice_get, slice_index, is_some, ok_or, option_and_then, refl, sym,
-    ◌∙◌, ap, inl, inr, arith, subst}
+use Rattle.std.proofs.Common.{◌≡◌, ℕ, zero, suc, ◌+◌, ◌^◌, ◌<◌, ◌≤◌, ◌&&◌, Bool, true, List, Option, Some, None, Result}
+use Rattle.std.proofs.Common.{Ok, Err, length, map, filter, nat_eq, slice_get, slice_index, is_some, ok_or}
+use Rattle.std.proofs.Common.{option_and_then, refl, sym, ◌∙◌, ap, inl, inr, arith, subst}
 use Rattle.std.specs.Result.{IfOk, IfErr}
 use Rattle.std.specs.Fn.{iterate}
 use Rattle.std.specs.List.{All, range_with_len}

@@ -1,6 +1,6 @@
 -- Runs computed by multiplication, after Lemire.
-use Rattle.std.proofs.Common.{◌≡◌, ℕ, zero, suc, ◌+◌, ◌-◌, ◌*◌, ◌/◌, ◌%◌, ◌^◌, ◌<◌, ◌≤◌, Bool, true, false, Option,
-    Some, None, MatchOption, find, refl, sym, ◌∙◌, ap, inl, inr, arith}
+use Rattle.std.proofs.Common.{◌≡◌, ℕ, zero, suc, ◌+◌, ◌-◌, ◌*◌, ◌/◌, ◌%◌, ◌^◌, ◌<◌, ◌≤◌, Bool, true, false, Option}
+use Rattle.std.proofs.Common.{Some, None, MatchOption, find, refl, sym, ◌∙◌, ap, inl, inr, arith}
 use Rattle.std.specs.List.{range_with_len}
 use Rattle.std.proofs.lemmas.Bool.{cases_lt, cases_Bool, and_parts, and_from, ltb-true, leb-true, lt-ltb, le-leb, false_from_ne_true}
 use Rattle.std.proofs.lemmas.Nat.{mul-le, pow_pos, div-add-mod', div_below, mod_below, div-mul-add, mod-mul-add}

@@ -1,6 +1,6 @@
 -- Choices and the permutations that they make.
-use Rattle.std.proofs.Common.{◌≡◌, ℕ, suc, ◌+◌, ◌<◌, ◌≤◌, List, [], ◌∷◌, ◌++◌, length, get_or, swap, IsPermutation,
-    refl, sym, ◌∙◌, ap, inl, inr, arith, add-zero, take, set, subst}
+use Rattle.std.proofs.Common.{◌≡◌, ℕ, suc, ◌+◌, ◌<◌, ◌≤◌, List, [], ◌∷◌, ◌++◌, length, get_or, swap, IsPermutation}
+use Rattle.std.proofs.Common.{refl, sym, ◌∙◌, ap, inl, inr, arith, add-zero, take, set, subst}
 use Rattle.std.proofs.lemmas.Bool.{cases_lt}
 use Rattle.std.proofs.lemmas.List.{take_more, take_more_set, take_all, length-take-le, take-set-le, get_or_append_left, get_or_push, length_push}
 use Rattle.std.proofs.lemmas.List.FromFn.{length-range_with_len}
@@ -9,8 +9,9 @@ use Rattle.std.proofs.lemmas.List.Edits.{length-swap}
 use Rattle.std.proofs.lemmas.List.Sorted.{IsPermutation-refl, IsPermutation-swap, IsPermutation-trans}
 use Rattle.nanorand_core.specs.shuffles.Shuffles.{arranged_from, arranged}
 use Rattle.nanorand_core.specs.shuffles.Arrangements.{IsValid, rising, IsArrangement}
-use Rattle.nanorand_core.proofs.lemmas.shuffles.PlaceLemmas.{IsDistinct, IsDistinct-swap, IsDistinct-rising,
-    IsDistinct-arrangement, AllBelow-arrangement, HasBelow-arrangement, get_or-swap_first, get_or-swap_other}
+use Rattle.nanorand_core.proofs.lemmas.shuffles.PlaceLemmas.{IsDistinct, IsDistinct-swap, IsDistinct-rising}
+use Rattle.nanorand_core.proofs.lemmas.shuffles.PlaceLemmas.{IsDistinct-arrangement, AllBelow-arrangement}
+use Rattle.nanorand_core.proofs.lemmas.shuffles.PlaceLemmas.{HasBelow-arrangement, get_or-swap_first, get_or-swap_other}
 
 -- choices followed by more choices are swaps followed by more swaps
 pub arranged_from-append : {T : Type 0} (i : ℕ) (choices more : List ℕ) (items : List T)

@@ -7,8 +7,9 @@ use Rattle.std.proofs.lemmas.List.Sorted.{length_permutation}
 use Rattle.nanorand_core.specs.shuffles.Shuffles.{arranged}
 use Rattle.nanorand_core.specs.shuffles.Arrangements.{IsValid, rising, IsArrangement, CorrespondsOneToOne}
 use Rattle.nanorand_core.proofs.lemmas.shuffles.PlaceLemmas.{IsDistinct-rising}
-use Rattle.nanorand_core.proofs.lemmas.shuffles.ChoiceLemmas.{Chosen, Choosing, choosing_start, choosing_step,
-    next_place, end_chosen, end_made, Chosen-valid, valid_from_chosen, arranged-permutation, choices-unique}
+use Rattle.nanorand_core.proofs.lemmas.shuffles.ChoiceLemmas.{Chosen, Choosing, choosing_start, choosing_step}
+use Rattle.nanorand_core.proofs.lemmas.shuffles.ChoiceLemmas.{next_place, end_chosen, end_made, Chosen-valid}
+use Rattle.nanorand_core.proofs.lemmas.shuffles.ChoiceLemmas.{valid_from_chosen, arranged-permutation, choices-unique}
 
 -- valid choices that make the order
 abbrev Makes : List ℕ → Type 0

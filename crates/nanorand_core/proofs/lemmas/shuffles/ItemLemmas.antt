@@ -28,7 +28,7 @@ module _ (E : El) {M : Type 1} {𝓤 : Ura M} (𝓛 : Logic 𝓤) (b : ℕ) (x :
   item_out =
       qed 𝓛 (‵ (part_at (R E) full_share x b o) ∷ []) ∵
       use1 𝓛 (some (λ (v : Val). ‵ (fat full_share (elτ E) b o v) ⊛ ‵ (E.row.own_val x (v ∷ []))))
-          (part_out 𝓛 (R E) refl full_share x b o) $ pick ! (λ v. split ! $ move ! (1 ∷ []) $
+      (part_out 𝓛 (R E) refl full_share x b o) $ pick ! (λ v. split ! $ move ! (1 ∷ []) $
       peeks ! (R E) (Is (R E)) (shows 𝓛 (R E)) x (v ∷ []) (λ typed.
       show ! (λ (w : Val). guard 𝓤 (Good E w) (Bits w)) v $ check ! ((lawful E 𝓛).typed x (v ∷ []) typed).0 $ move ! (1 ∷ 0 ∷ []) $ done !))
 
@@ -76,12 +76,12 @@ module _ (R : RattleType) (b : ℕ) where
     takes_two (x ∷ xs) zero (suc j) d o apart il jl =
         qed 𝓛 (‵ (all (x ∷ xs) o) ∷ []) ∵ fsplit ! $ move ! (1 ∷ []) $
         use1 𝓛 (‵ (item (get_or xs j d) (place size (o + size) j)) ⊛ ‵ (but_one xs j (o + size)))
-            (takes (shares R) full_share 𝓛 xs j d b (o + size) (le_of_suc-le-suc jl)) $ split ! $
+        (takes (shares R) full_share 𝓛 xs j d b (o + size) (le_of_suc-le-suc jl)) $ split ! $
         move ! (2 ∷ []) $ done !
     takes_two (x ∷ xs) (suc i) zero d o apart il jl =
         qed 𝓛 (‵ (all (x ∷ xs) o) ∷ []) ∵ fsplit ! $ move ! (1 ∷ []) $
         use1 𝓛 (‵ (item (get_or xs i d) (place size (o + size) i)) ⊛ ‵ (but_one xs i (o + size)))
-            (takes (shares R) full_share 𝓛 xs i d b (o + size) (le_of_suc-le-suc il)) $ split ! $
+        (takes (shares R) full_share 𝓛 xs i d b (o + size) (le_of_suc-le-suc il)) $ split ! $
         move ! (0 ∷ 2 ∷ []) $ done !
     takes_two (x ∷ xs) (suc i) (suc j) d o apart il jl =
         qed 𝓛 (‵ (all (x ∷ xs) o) ∷ []) ∵ fsplit ! $ move ! (1 ∷ []) $
@@ -103,8 +103,8 @@ module _ (R : RattleType) (b : ℕ) where
         qed 𝓛 (‵ (item y (place size (o + size) i)) ∷ ‵ (item z (place size (o + size) j)) ∷ ‵ (but_two (x ∷ xs) (suc i) (suc j) o) ∷ []) ∵
         move ! (2 ∷ []) $ fsplit ! $ move ! (2 ∷ 3 ∷ 1 ∷ []) $
         use3 𝓛 (‵ (all (set (set xs i y) j z) (o + size)))
-            (puts_two xs i j y z (o + size) (λ e. apart (ap suc e)) (le_of_suc-le-suc il) (le_of_suc-le-suc jl)) $
-            move ! (1 ∷ []) $ done !
+        (puts_two xs i j y z (o + size) (λ e. apart (ap suc e)) (le_of_suc-le-suc il) (le_of_suc-le-suc jl)) $
+        move ! (1 ∷ []) $ done !
 
     -- the same, with the offset of each item as the code computes it
     abbrev there : R.Denot → ℕ → ℕ → Fml
@@ -127,7 +127,7 @@ module _ (R : RattleType) (b : ℕ) where
     two_out xs i j d o apart il jl =
         qed 𝓛 (‵ (all xs o) ∷ []) ∵
         use1 𝓛 (‵ (item (get_or xs i d) (place size o i)) ⊛ ‵ (item (get_or xs j d) (place size o j))
-            ⊛ ‵ (but_two xs i j o)) (takes_two xs i j d o apart il jl) $ split3 ! $
+        ⊛ ‵ (but_two xs i j o)) (takes_two xs i j d o apart il jl) $ split3 ! $
         rewrite ! 0 (λ (at : ℕ). ‵ (item (get_or xs i d) at)) (place_is size o i) refl $
         rewrite ! 1 (λ (at : ℕ). ‵ (item (get_or xs j d) at)) (place_is size o j) refl $ done !
 

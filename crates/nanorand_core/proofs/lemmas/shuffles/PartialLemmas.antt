@@ -1,8 +1,8 @@
 -- Partial shuffles: their choices are valid, and they are the first choices of the whole shuffle.
 use Rattle.std.proofs.Common.{◌≡◌, ℕ, zero, suc, ◌+◌, ◌≤◌, List, length, take, drop, min, IsPermutation, inl, inr, Result, Ok, Err, refl, sym, ◌∙◌, ap, arith}
 use Rattle.nanorand_core.specs.generators.Blocks.{Requests}
-use Rattle.nanorand_core.specs.shuffles.Shuffles.{arranged, arranged_from, from_itself, choice_before, partner_drawn,
-    choices_from, partial_choices, partly_shuffled, shuffled}
+use Rattle.nanorand_core.specs.shuffles.Shuffles.{arranged, arranged_from, from_itself, choice_before, partner_drawn}
+use Rattle.nanorand_core.specs.shuffles.Shuffles.{choices_from, partial_choices, partly_shuffled, shuffled}
 use Rattle.nanorand_core.specs.shuffles.Arrangements.{completed, IsValid}
 use Rattle.nanorand_core.specs.declared.values.range.RangeError.{RangeError}
 use Rattle.std.proofs.lemmas.Bool.{cases_lt}

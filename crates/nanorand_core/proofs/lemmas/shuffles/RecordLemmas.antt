@@ -1,11 +1,11 @@
 -- Choices that are recorded while a shuffle draws them.
-use Rattle.std.proofs.Common.{◌≡◌, ℕ, zero, suc, ◌+◌, ◌-◌, ◌<◌, ◌≤◌, List, [], ◌∷◌, ◌++◌, length, get_or, take, set,
-    swap, append_assoc, Ok, inl, inr, refl, sym, ◌∙◌, ap, arith}
+use Rattle.std.proofs.Common.{◌≡◌, ℕ, zero, suc, ◌+◌, ◌-◌, ◌<◌, ◌≤◌, List, [], ◌∷◌, ◌++◌, length, get_or, take, set}
+use Rattle.std.proofs.Common.{swap, append_assoc, Ok, inl, inr, refl, sym, ◌∙◌, ap, arith}
 use Rattle.std.specs.List.{range_with_len}
 use Rattle.std.proofs.Math.Seq.{set-append_seam}
 use Rattle.std.proofs.lemmas.Bool.{cases_lt}
-use Rattle.std.proofs.lemmas.List.{take_more, take_all, append-nil, length-append, length-take-le, length_push,
-    set-get_or, get_or_append_left, get_or-append_right}
+use Rattle.std.proofs.lemmas.List.{take_more, take_all, append-nil, length-append, length-take-le, length_push}
+use Rattle.std.proofs.lemmas.List.{set-get_or, get_or_append_left, get_or-append_right}
 use Rattle.std.proofs.lemmas.List.FromFn.{length-range_with_len, get_or-range_with_len}
 use Rattle.nanorand_core.specs.generators.Blocks.{Requests}
 use Rattle.nanorand_core.specs.shuffles.Arrangements.{completed, rising, IsValid}

@@ -1,6 +1,7 @@
 -- The draws of a shuffle so far, and what they lead to. The partner of index i is drawn from `first i` on.
-use Rattle.std.proofs.Common.{◌≡◌, ℕ, zero, suc, ◌+◌, ◌-◌, ◌*◌, ◌^◌, ◌<◌, ◌≤◌, List, Result, ◌∷◌, Ok, Err, length,
-    get_or, take, drop, min, swap, nat_le, nat_lt, true, refl, sym, ◌∙◌, ap, arith, add-zero, add-one, IsPermutation}
+use Rattle.std.proofs.Common.{◌≡◌, ℕ, zero, suc, ◌+◌, ◌-◌, ◌*◌, ◌^◌, ◌<◌, ◌≤◌, List, Result, ◌∷◌, Ok, Err, length}
+use Rattle.std.proofs.Common.{get_or, take, drop, min, swap, nat_le, nat_lt, true, refl, sym, ◌∙◌, ap, arith, add-zero}
+use Rattle.std.proofs.Common.{add-one, IsPermutation}
 use Rattle.std.specs.declared.ops.Bound.TheVariants.{Included, Excluded}
 use Rattle.std.proofs.lemmas.Bool.{ne_eqb, eq-eqb, le-leb, lt-ltb, leb-true, ltb-true}
 use Rattle.std.proofs.lemmas.List.{length-drop, get_or-drop, drop-drop, take_all}
@@ -11,8 +12,9 @@ use Rattle.nanorand_core.specs.support.IterateLemmas.{iterate-add}
 use Rattle.nanorand_core.specs.generators.Blocks.{Requests}
 use Rattle.nanorand_core.specs.values.Range.{unsigned_number}
 use Rattle.nanorand_core.specs.values.Draws.{next_word, after_word, after_words, word_limit}
-use Rattle.nanorand_core.specs.shuffles.Shuffles.{arranged, from_itself, choice_before, partner_drawn, choices_from,
-    state_after_places, partial_choices, partial_state, partial_answer, shuffle_choices}
+use Rattle.nanorand_core.specs.shuffles.Shuffles.{arranged, from_itself, choice_before, partner_drawn, choices_from}
+use Rattle.nanorand_core.specs.shuffles.Shuffles.{state_after_places, partial_choices, partial_state, partial_answer}
+use Rattle.nanorand_core.specs.shuffles.Shuffles.{shuffle_choices}
 use Rattle.nanorand_core.specs.declared.values.range.RangeError.{RangeError}
 use Rattle.nanorand_core.specs.declared.values.range.RangeError.TheVariants.{Exhausted}
 use Rattle.nanorand_core.specs.values.RangeLimits.{KeepsLimits}

@@ -15,16 +15,16 @@ loop-buffer-preserved g c =
     let room : output ≤ length buffer - filled = c.loop-buffer-test.true in
     let open_place : filled < length buffer = omega (arith, laws.positive) in
     let whole : take output (block c.loop-buffer.rng)
-        ≡ block c.loop-buffer.rng = take_all output (block c.loop-buffer.rng)
-        (omega (arith, laws.block_length c.loop-buffer.rng)) in
+    ≡ block c.loop-buffer.rng = take_all output (block c.loop-buffer.rng)
+    (omega (arith, laws.block_length c.loop-buffer.rng)) in
     let part : output ≡ min output (length buffer - filled) = omega arith in
     let written = c.copy_from_slice.ensures.after ∙ c.rand-block.ensures.bytes ∙ sym whole in
     let long = filled_length block step output laws.positive laws.block_length buffer c.copy_from_slice.new.self
-        filled output c.loop-buffer.rng open_place part written in
+    filled output c.loop-buffer.rng open_place part written in
     let bytes = filled_bytes block step output laws.positive laws.block_length buffer c.copy_from_slice.new.self
-        filled output c.loop-buffer.rng open_place part written in
+    filled output c.loop-buffer.rng open_place part written in
     let state = filled_state block step output laws.positive laws.block_length buffer c.copy_from_slice.new.self
-        filled output c.loop-buffer.rng open_place part written in
+    filled output c.loop-buffer.rng open_place part written in
     record {
       within = rw long (omega arith);
       bytes = rw (long, c.rand-block.ensures.state) (bytes ∙ c.loop-buffer.invariant.bytes);
@@ -56,6 +56,6 @@ returns-else-left-gt0-clause-bytes g c =
     let full : c.loop-buffer.filled ≡ length c.loop-buffer.buffer = omega arith in
     let none : length c.loop-buffer.buffer - length c.loop-buffer.buffer ≡ 0 = omega arith in
     let all : take (length c.loop-buffer.buffer) c.loop-buffer.buffer
-        ≡ c.loop-buffer.buffer = take_all (length c.loop-buffer.buffer) c.loop-buffer.buffer (omega arith) in
+    ≡ c.loop-buffer.buffer = take_all (length c.loop-buffer.buffer) c.loop-buffer.buffer (omega arith) in
     let whole = rw (full, none, taken_nothing g.G.Blocks.block g.G.Blocks.step, append-nil, all) at c.loop-buffer.invariant.bytes in
     rw c.loop-buffer.auto.buffer at whole

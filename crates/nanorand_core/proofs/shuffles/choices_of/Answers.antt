@@ -1,7 +1,7 @@
 use Rattle.std.proofs.Common.{◌≡◌, length, ◌∙◌, ap, arith}
 use Rattle.nanorand_core.specs.shuffles.Arrangements.{rising}
-use Rattle.nanorand_core.proofs.lemmas.shuffles.ChoiceLemmas.{choosing_start, choosing_step, choosing_refused,
-    end_chosen, end_made, made_alone, made_arrangement}
+use Rattle.nanorand_core.proofs.lemmas.shuffles.ChoiceLemmas.{choosing_start, choosing_step, choosing_refused}
+use Rattle.nanorand_core.proofs.lemmas.shuffles.ChoiceLemmas.{end_chosen, end_made, made_alone, made_arrangement}
 use Rattle.nanorand_core.proofs.shuffles.choices_of.Goals as goal
 
 pub loop-place-init : goal.loop-place-init

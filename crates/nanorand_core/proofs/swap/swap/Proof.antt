@@ -1,7 +1,7 @@
 -- `swap` meets its contract, for items of every type: its code is followed step by step, once where
 -- the indices differ and once where they are equal.
-use Rattle.std.proofs.Common.{◌≡◌, ◌≢◌, ℕ, zero, suc, ◌+◌, ◌*◌, ◌^◌, ◌<◌, ◌≤◌, List, [], ◌∷◌, length, get_or, set,
-    sym, refl, ap, ◌∙◌, subst, inl, inr, arith, length-set, w64, MutBor}
+use Rattle.std.proofs.Common.{◌≡◌, ◌≢◌, ℕ, zero, suc, ◌+◌, ◌*◌, ◌^◌, ◌<◌, ◌≤◌, List, [], ◌∷◌, length, get_or, set, sym}
+use Rattle.std.proofs.Common.{refl, ap, ◌∙◌, subst, inl, inr, arith, length-set, w64, MutBor}
 use Rattle.std.specs.List.{swap}
 use Rattle.std.proofs.lemmas.Bool.{cases_lt}
 use Rattle.std.proofs.mem.Timeless.{timeless, timeless_laws}
@@ -19,8 +19,8 @@ use prog.Capped.{capped_is}
 use prog.Memory.{capped}
 use prog.Wp.{Env, Calls, Loops, WpFn, Tables}
 use types.Logic.{Logic}
-use types.Kit.{‵, ◌⊛◌, ⋆, some, given, at_ret, ◌$◌, ◌∵◌, !, qed, by, move, keep, use1, use2, use3, drop, split,
-    split3, join, pick, learn, fsplit, fjoin, feq_i, suffices, frame, done}
+use types.Kit.{‵, ◌⊛◌, ⋆, some, given, at_ret, ◌$◌, ◌∵◌, !, qed, by, move, keep, use1, use2, use3, drop, split, split3}
+use types.Kit.{join, pick, learn, fsplit, fjoin, feq_i, suffices, frame, done}
 use types.Part.{whole, sub}
 use types.Run.{look, store, stop, fld, load, addr, hop, from, size_word, unit_lit, of_opd, bin, assigns, assigns_last, first, blocks, exec, returns, enter}
 use types.ByLocal.{alloc_all, pass_all, free_all, look_at, look_in_at, get, is, through, sets, env}
@@ -55,8 +55,13 @@ module _ (E : El) where
 
   abbrev ended : Ended
   ended = record {
-    signature = record { lifetimes = 1; outlives = []; params = SliceRefMutOf (0 ∷ []) tt (plain (λ _. R E)) (λ _. tt)
-        ∷ plain (λ _. usize) ∷ plain (λ _. usize) ∷ []; result = plain (λ _. unit) };
+    signature = record {
+      lifetimes = 1;
+      outlives = [];
+      params = SliceRefMutOf (0 ∷ []) tt (plain (λ _. R E)) (λ _. tt)
+          ∷ plain (λ _. usize) ∷ plain (λ _. usize) ∷ [];
+      result = plain (λ _. unit);
+    };
     kept = (yes, (yes, (yes, tt)));
   }
 
@@ -110,7 +115,7 @@ module _ (E : El) {M : Type 1} {𝓤 : Ura M} (𝓛 : Logic 𝓤) (κ : Lft) (q 
       suffices ! _ (ends_at 𝓛 (ended E) (stayed E) (spec E 𝓤) bound vunit tt (zs, (tt, (tt, tt))) (same, (tt, (tt, tt)))) $ says ! swapped $
       nothing ! $ move ! (3 ∷ 0 ∷ []) $ join ! $ frame ! $ fjoin ! $
       pure_i ! (mut_slice_at (R E) (at zs) (mut_slice_vals (at xs))) (tt, (tt, tt))
-          (ap (λ (n : ℕ). slice_val (b, o) n ∷ []) (sym same), subst (Room (R E)) (sym same) room) $ fjoin ! $
+      (ap (λ (n : ℕ). slice_val (b, o) n ∷ []) (sym same), subst (Room (R E)) (sym same) room) $ fjoin ! $
       nothing ! $ nothing ! $ fjoin ! $ nothing ! $ fjoin ! $ move ! (1 ∷ 0 ∷ []) $ fjoin ! $
       feq_i ! (List Val) (vunit ∷ []) (vunit ∷ []) refl $ move ! (1 ∷ 0 ∷ []) $ done !
 
@@ -136,7 +141,7 @@ module _ (E : El) {M : Type 1} {𝓤 : Ura M} (𝓛 : Logic 𝓤) (κ : Lft) (q 
         let fmi : i * size < 2 ^ 64 = omega arith in
         let fmj : j * size < 2 ^ 64 = omega arith in
         qed 𝓛 ((‵ (flft κ q) ⊛ ‵ ftrue) ∷ ‵ (owns (MutSlice (named 0) κ (R E) ∷ usize ∷ usize ∷ [])
-            (at xs, (i, (j, tt))) (mut_slice_vals (at xs), (vint w64 i ∷ [], (vint w64 j ∷ [], tt)))) ∷ []) ∵
+        (at xs, (i, (j, tt))) (mut_slice_vals (at xs), (vint w64 i ∷ [], (vint w64 j ∷ [], tt)))) ∷ []) ∵
         enter ! C Λ (function E) (slice_val (b, o) n ∷ vint w64 i ∷ vint w64 j ∷ []) _ $
         alloc_all ! (λ l. pass_all ! refl ((tt, (tt, (record { fits = fn }, tt))), ((tt, record { fits = fi }), ((tt, record { fits = fj }), tt))) $
         let En : Env 𝓤 H = env (function E).locals l in
@@ -146,22 +151,22 @@ module _ (E : El) {M : Type 1} {𝓤 : Ura M} (𝓛 : Logic 𝓤) (κ : Lft) (q 
         opens_slice ! tt (R E) xs b o $
         use1 𝓛 (‵ (item x i) ⊛ ‵ (item y j) ⊛ ‵ (but_two (R E) b xs i j o)) (two_out (R E) b 𝓛 xs i j d o apart il jl) $ split3 ! $
         use1 𝓛 (some (λ (v : Val). given (Good E v)
-            (‵ (fat full_share (elτ E) b (i * size + o) v) ⊛ ‵ (E.row.own_val x (v ∷ [])))))
-            (item_out E 𝓛 b x (i * size + o)) $ pick ! (λ v. learn ! (λ vt. split ! $
+        (‵ (fat full_share (elτ E) b (i * size + o) v) ⊛ ‵ (E.row.own_val x (v ∷ [])))))
+        (item_out E 𝓛 b x (i * size + o)) $ pick ! (λ v. learn ! (λ vt. split ! $
         move ! (2 ∷ []) $
         use1 𝓛 (some (λ (w : Val). given (Good E w)
-            (‵ (fat full_share (elτ E) b (j * size + o) w) ⊛ ‵ (E.row.own_val y (w ∷ [])))))
-            (item_out E 𝓛 b y (j * size + o)) $ pick ! (λ w. learn ! (λ wt. split ! $
+        (‵ (fat full_share (elτ E) b (j * size + o) w) ⊛ ‵ (E.row.own_val y (w ∷ [])))))
+        (item_out E 𝓛 b y (j * size + o)) $ pick ! (λ w. learn ! (λ wt. split ! $
         -- [the bits at b; what y owns; the bits at a; what x owns; the other items; the open borrow; ..]
         first ! $ blocks ! $
         -- let first = start.add(a); let second = start.add(b);
         sets ! (is ! (bin ! (get ! refl) (size_word !)
-            (record { fits = subst (λ (k : ℕ). k < 2 ^ 64) (sym (uncapped i size fmi)) fmi }))
-            (ap (vint w64) (uncapped i size fmi))) refl (tt, record { fits = fmi }) $
+        (record { fits = subst (λ (k : ℕ). k < 2 ^ 64) (sym (uncapped i size fmi)) fmi }))
+        (ap (vint w64) (uncapped i size fmi))) refl (tt, record { fits = fmi }) $
         sets ! (bin ! (get ! refl) (get ! refl) tt) refl (tt, tt) $
         sets ! (is ! (bin ! (get ! refl) (size_word !)
-            (record { fits = subst (λ (k : ℕ). k < 2 ^ 64) (sym (uncapped j size fmj)) fmj }))
-            (ap (vint w64) (uncapped j size fmj))) refl (tt, record { fits = fmj }) $
+        (record { fits = subst (λ (k : ℕ). k < 2 ^ 64) (sym (uncapped j size fmj)) fmj }))
+        (ap (vint w64) (uncapped j size fmj))) refl (tt, record { fits = fmj }) $
         sets ! (bin ! (get ! refl) (get ! refl) tt) refl (tt, tt) $
         -- let item = first.read();
         sets ! (of_opd ! (load ! (through ! refl (stop !)) (look ! 2 refl))) refl vt $
@@ -198,7 +203,7 @@ module _ (E : El) {M : Type 1} {𝓤 : Ura M} (𝓛 : Logic 𝓤) (κ : Lft) (q 
         let fi : i < 2 ^ 64 = omega arith in
         let fmi : i * size < 2 ^ 64 = omega arith in
         qed 𝓛 ((‵ (flft κ q) ⊛ ‵ ftrue) ∷ ‵ (owns (MutSlice (named 0) κ (R E) ∷ usize ∷ usize ∷ [])
-            (at xs, (i, (i, tt))) (mut_slice_vals (at xs), (vint w64 i ∷ [], (vint w64 i ∷ [], tt)))) ∷ []) ∵
+        (at xs, (i, (i, tt))) (mut_slice_vals (at xs), (vint w64 i ∷ [], (vint w64 i ∷ [], tt)))) ∷ []) ∵
         enter ! C Λ (function E) (slice_val (b, o) n ∷ vint w64 i ∷ vint w64 i ∷ []) _ $
         alloc_all ! (λ l. pass_all ! refl ((tt, (tt, (record { fits = fn }, tt))), ((tt, record { fits = fi }), ((tt, record { fits = fi }), tt))) $
         let En : Env 𝓤 H = env (function E).locals l in
@@ -207,17 +212,17 @@ module _ (E : El) {M : Type 1} {𝓤 : Ura M} (𝓛 : Logic 𝓤) (κ : Lft) (q 
         opens_slice ! tt (R E) xs b o $
         use1 𝓛 (‵ (part_at (R E) full_share x b (i * size + o)) ⊛ ‵ (but_one (R E) b xs i o)) (one_out (R E) b 𝓛 xs i d o il) $ split ! $
         use1 𝓛 (some (λ (v : Val). given (Good E v)
-            (‵ (fat full_share (elτ E) b (i * size + o) v) ⊛ ‵ (E.row.own_val x (v ∷ [])))))
-            (item_out E 𝓛 b x (i * size + o)) $ pick ! (λ v. learn ! (λ vt. split ! $
+        (‵ (fat full_share (elτ E) b (i * size + o) v) ⊛ ‵ (E.row.own_val x (v ∷ [])))))
+        (item_out E 𝓛 b x (i * size + o)) $ pick ! (λ v. learn ! (λ vt. split ! $
         -- [the bits; what x owns; the other items; the open borrow; ..]
         first ! $ blocks ! $
         sets ! (is ! (bin ! (get ! refl) (size_word !)
-            (record { fits = subst (λ (k : ℕ). k < 2 ^ 64) (sym (uncapped i size fmi)) fmi }))
-            (ap (vint w64) (uncapped i size fmi))) refl (tt, record { fits = fmi }) $
+        (record { fits = subst (λ (k : ℕ). k < 2 ^ 64) (sym (uncapped i size fmi)) fmi }))
+        (ap (vint w64) (uncapped i size fmi))) refl (tt, record { fits = fmi }) $
         sets ! (bin ! (get ! refl) (get ! refl) tt) refl (tt, tt) $
         sets ! (is ! (bin ! (get ! refl) (size_word !)
-            (record { fits = subst (λ (k : ℕ). k < 2 ^ 64) (sym (uncapped i size fmi)) fmi }))
-            (ap (vint w64) (uncapped i size fmi))) refl (tt, record { fits = fmi }) $
+        (record { fits = subst (λ (k : ℕ). k < 2 ^ 64) (sym (uncapped i size fmi)) fmi }))
+        (ap (vint w64) (uncapped i size fmi))) refl (tt, record { fits = fmi }) $
         sets ! (bin ! (get ! refl) (get ! refl) tt) refl (tt, tt) $
         sets ! (of_opd ! (load ! (through ! refl (stop !)) (look ! 0 refl))) refl vt $
         sets ! (of_opd ! (load ! (through ! refl (stop !)) (look ! 0 refl))) refl vt $
@@ -249,10 +254,13 @@ module _ (E : El) {M : Type 1} {𝓤 : Ura M} (𝓛 : Logic 𝓤) (𝓣 : Tables
 
   meets : Meets 𝓛 (ended E).signature (WpFn 𝓤 𝓛.H 𝓣.C 𝓣.Λ (function E)) (closing 𝓛 (ended E) (spec E 𝓤))
   meets =
-      walk_Meets 𝓛 (ended E) (stayed E)
-      (Goes-slice 𝓛 1 0 tt (plain (λ _. R E)),
-          (Goes-dropped 𝓛 1 (plain (λ _. usize)) yes (λ κs x f. refl),
-          (Goes-dropped 𝓛 1 (plain (λ _. usize)) yes (λ κs x f. refl), tt)))
+      walk_Meets 𝓛 (ended E) (stayed E) (
+        Goes-slice 𝓛 1 0 tt (plain (λ _. R E)),
+        (
+          Goes-dropped 𝓛 1 (plain (λ _. usize)) yes (λ κs x f. refl),
+          (Goes-dropped 𝓛 1 (plain (λ _. usize)) yes (λ κs x f. refl), tt),
+        ),
+      )
       (spec E 𝓤) (WpFn 𝓤 𝓛.H 𝓣.C 𝓣.Λ (function E)) (WpFn-mono 𝓤 𝓛.H 𝓛.laws 𝓣 (function E))
       (walked 𝓛 (ended E) (stayed E) (spec E 𝓤) (WpFn 𝓤 𝓛.H 𝓣.C 𝓣.Λ (function E))
       (λ κs. (mut_slice_vals, (uint_vals w64, (uint_vals w64, tt)))) (λ κs. (mut_slice_Tells (named 0) κs.0 (R E), (uint_Tells w64, (uint_Tells w64, tt))))
@@ -265,7 +273,7 @@ swap_spec 𝓤 𝓛 𝓜 𝓡 wired X L y =
     let E : El = record { row = timeless X; laws = timeless_laws X L } in
     let 𝓣 : Tables 𝓤 𝓛.H = tables_of 𝓤 𝓛.H 𝓜 (tables 𝓤 𝓛.H 𝓜 𝓡 𝓡.env) in
     spared 𝓛 (ended E).signature (𝓡.run (𝓡.env (#swap (args E)))) (run_framed 𝓤 𝓛.H 𝓜 𝓡 (𝓡.env (#swap (args E)))) 1
-        (X.lives, tt) (closing 𝓛 (ended E) (spec E 𝓤))
+    (X.lives, tt) (closing 𝓛 (ended E) (spec E 𝓤))
     (entered 𝓤 𝓛.H (triple_of 𝓛 (ended E).signature (closing 𝓛 (ended E) (spec E 𝓤))) 𝓣.C 𝓣.Λ (#swap (args E))
-        (function E) (code.unfolded 𝓤 𝓛.H 𝓜 𝓡 wired (E.row, tt)) (meets E 𝓛 𝓣))
+    (function E) (code.unfolded 𝓤 𝓛.H 𝓜 𝓡 wired (E.row, tt)) (meets E 𝓛 𝓣))
     ((y.0.0, y.0.1, tt, y.0.3, y.0.4), y.1)

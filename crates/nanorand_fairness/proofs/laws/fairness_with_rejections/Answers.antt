@@ -18,7 +18,7 @@ returns-clause-ratios c = λ bits numerator denominator n k width fits within lo
     let words = c.choices_are_fair.ensures.ratios bits numerator denominator width (omega arith) fits within in
     let numbers = event-count laws.runs laws.events bits denominator numerator (λ j. nat_lt j numerator) width (omega arith) fits words in
     let lists = first-events bits n word_limit laws.runs laws.events denominator width (omega arith) fits
-        (λ j. nat_lt j numerator) (λ j. nat_eq j k) (one_number k denominator low) in
+    (λ j. nat_lt j numerator) (λ j. nat_eq j k) (one_number k denominator low) in
     rw numbers at lists
 
 pub returns-clause-weights : goal.returns-clause-weights
@@ -27,5 +27,5 @@ returns-clause-weights c = λ bits weights n i k width fits within low.
     let words = c.weighted_choices_are_fair.ensures bits weights i width (omega arith) fits within in
     let numbers = share-count laws.runs laws.events bits _ weights i width (omega arith) fits words in
     let lists = first-events bits n word_limit laws.runs laws.events (sum weights) width (omega arith) fits
-        (λ j. nat_eq (item_at weights j) i) (λ j. nat_eq j k) (one_number k (sum weights) low) in
+    (λ j. nat_eq (item_at weights j) i) (λ j. nat_eq j k) (one_number k (sum weights) low) in
     item-lists bits n weights i ∙ rw numbers at lists

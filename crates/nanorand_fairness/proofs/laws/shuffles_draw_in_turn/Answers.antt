@@ -6,4 +6,4 @@ use Rattle.nanorand_fairness.proofs.laws.shuffles_draw_in_turn.Goals as goal
 pub returns : goal.returns
 returns g c = λ steps start items fits.
     choices_in_turn g.G.Rng.requests (length items) (omega arith) (min steps (length items)) 0
-        (word_limit * min steps (length items)) start (omega arith) (omega arith)
+    (word_limit * min steps (length items)) start (omega arith) (omega arith)

@@ -68,7 +68,7 @@ order-deal order arrangement =
     let n = length order in
     let long = length-range_with_len 0 n in
     let different = IsPermutation-keeps (rising n) AreDifferent (rising-different n)
-        (λ xs i j i_low j_low. swap-different xs i j i_low j_low) order arrangement in
+    (λ xs i j i_low j_low. swap-different xs i j i_low j_low) order arrangement in
     record {
       size = refl;
       below = All-permutation (λ index. index < n) (rising n) order arrangement

@@ -19,6 +19,6 @@ pub numbers-same : (sizes : List ℕ) (test other : List ℕ → Bool) → ((num
 numbers-same [] test other same = ap (λ (b : Bool). cond b 1 0) (same [] tt)
 numbers-same (size ∷ sizes) test other same =
     sum-same (λ number. number_lists_that sizes (λ numbers. test (number ∷ numbers)))
-        (λ number. number_lists_that sizes (λ numbers. other (number ∷ numbers))) 0 size
+    (λ number. number_lists_that sizes (λ numbers. other (number ∷ numbers))) 0 size
     (λ number from to. numbers-same sizes (λ numbers. test (number ∷ numbers)) (λ numbers. other (number ∷ numbers))
     (λ numbers below. same (number ∷ numbers) (omega arith, below)))

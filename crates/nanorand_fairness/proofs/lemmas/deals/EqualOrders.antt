@@ -1,6 +1,6 @@
 -- If all orders of n items were made by equally many lists of choices, n! would divide n^n.
-use Rattle.std.proofs.Common.{◌≡◌, ℕ, zero, suc, ◌+◌, ◌-◌, ◌*◌, ◌^◌, ◌≤◌, Bool, true, cond, nat_eq, List, [], ◌∷◌,
-    length, replicate, swap, refl, sym, ◌∙◌, ap, subst, arith}
+use Rattle.std.proofs.Common.{◌≡◌, ℕ, zero, suc, ◌+◌, ◌-◌, ◌*◌, ◌^◌, ◌≤◌, Bool, true, cond, nat_eq, List, [], ◌∷◌}
+use Rattle.std.proofs.Common.{length, replicate, swap, refl, sym, ◌∙◌, ap, subst, arith}
 use Rattle.std.specs.Cmp.Lexicographic.{pointwise}
 use Rattle.std.specs.List.Sorted.{IsPermutation}
 use Rattle.std.proofs.Math.Nat.{pow-zero, pow-suc}

@@ -3,8 +3,8 @@ use Rattle.std.proofs.Common.{◌≡◌, ℕ, ◌<◌, ◌≤◌, ◌^◌, List,
 use Rattle.std.proofs.lemmas.Slice.Zip.{AllZip-long}
 use Rattle.nanorand_core.specs.values.Runs.{IsWordWidth, named}
 use Rattle.nanorand_core.specs.shuffles.Arrangements.{rising}
-use Rattle.nanorand_fairness.specs.InTurn.{Exchange, NoListOfNumbersIsPreferred, SwapsInTurn, numbers_in_turn,
-    deciding_in_turn, swapped_in_turn, swapped_numbers}
+use Rattle.nanorand_fairness.specs.InTurn.{Exchange, NoListOfNumbersIsPreferred, SwapsInTurn, numbers_in_turn}
+use Rattle.nanorand_fairness.specs.InTurn.{deciding_in_turn, swapped_in_turn, swapped_numbers}
 use Rattle.nanorand_fairness.specs.Deals.{deal_sizes, dealt, IsDeal, Deals, ExchangesDeals}
 use Rattle.nanorand_fairness.proofs.lemmas.deals.StepLemmas.{AreBelow}
 use Rattle.nanorand_fairness.proofs.lemmas.deals.FoundLemmas.{Finds}

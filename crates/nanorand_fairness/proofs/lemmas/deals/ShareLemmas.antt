@@ -1,6 +1,6 @@
 -- Each index has the same share of the lists of numbers that draw a deal.
-use Rattle.std.proofs.Common.{◌≡◌, ◌≢◌, ℕ, zero, suc, ◌+◌, ◌-◌, ◌*◌, ◌<◌, ◌≤◌, ◌||◌, Bool, true, nat_eq, List, ◌∷◌,
-    length, get_or, take, drop, swap, refl, sym, ◌∙◌, ap, arith}
+use Rattle.std.proofs.Common.{◌≡◌, ◌≢◌, ℕ, zero, suc, ◌+◌, ◌-◌, ◌*◌, ◌<◌, ◌≤◌, ◌||◌, Bool, true, nat_eq, List, ◌∷◌}
+use Rattle.std.proofs.Common.{length, get_or, take, drop, swap, refl, sym, ◌∙◌, ap, arith}
 use Rattle.std.specs.List.{list_any}
 use Rattle.std.proofs.lemmas.Bool.{eq-eqb, ne_eqb}
 use Rattle.std.proofs.lemmas.List.Edits.{length-swap}
@@ -75,19 +75,19 @@ item-share (suc k) i n item q items size room differ from to is =
     let now = numbers-same sizes (λ ts. deals_item i (suc k) item items (t0 ∷ ts)) (λ ts. true)
     (λ ts below. dealt-now k i n item t0 items ts size room (omega arith, below) (ap (λ (j : ℕ). get_or items j 0) place ∙ is)) in
     let later : (t : ℕ) → 0 ≤ t → t < 0 + (n - i) → (t ≢ t0)
-        → number_lists_that sizes (λ ts. deals_item i (suc k) item items (t ∷ ts)) ≡ share_from (i + 1) k n =
+    → number_lists_that sizes (λ ts. deals_item i (suc k) item items (t ∷ ts)) ≡ share_from (i + 1) k n =
     λ t least low other.
     let apart : get_or items (i + t) 0 ≢ item = λ same.
     let places = differ (i + t) q (omega (arith, size)) (omega (arith, size)) (same ∙ sym is) in absurd (other (omega (arith, places))) in
     let moved = swap-from items i (i + t) (omega (arith, size)) (omega (arith, size)) (omega arith) q from
-        (omega (arith, size)) (λ same. other (omega (arith, same))) in
+    (omega (arith, size)) (λ same. other (omega (arith, same))) in
     numbers-same sizes (λ ts. deals_item i (suc k) item items (t ∷ ts)) (deals_item (i + 1) k item (swap items i (i + t)))
     (λ ts below. dealt-later k i n item t items ts size room (omega arith, below) apart)
     ∙ item-share k (i + 1) n item moved.0 (swap items i (i + t)) (length-swap items i (i + t) ∙ size) (omega (arith, room))
     (swap-different items i (i + t) (omega (arith, size)) (omega (arith, size)) differ) moved.1
-        (omega (arith, moved.2, length-swap items i (i + t), size)) (moved.3 ∙ is) in
+    (omega (arith, moved.2, length-swap items i (i + t), size)) (moved.3 ∙ is) in
     let all = sum-apart (λ t. number_lists_that sizes (λ ts. deals_item i (suc k) item items (t ∷ ts)))
-        (all_from (i + 1) k n) (share_from (i + 1) k n) t0 0 (n - i)
+    (all_from (i + 1) k n) (share_from (i + 1) k n) t0 0 (n - i)
     (omega arith) (omega arith) now later in
     omega (arith, all, share-step i k n room)
 
@@ -96,6 +96,6 @@ pub index-share : (k n index : ℕ) → k ≤ n → index < n
     ≡ k * number_lists_that (deal_sizes k n) (λ numbers. true)
 index-share k n index within low =
     let share = item-share k 0 n index index (rising n) (length-range_with_len 0 n) (omega arith) (rising-different n)
-        (omega arith) low (get_or-range_with_len 0 n index 0 low ∙ omega arith) in
+    (omega arith) low (get_or-range_with_len 0 n index 0 low ∙ omega arith) in
     let all : n ≡ n - 0 = omega arith in
     ap (λ (m : ℕ). n * m) share ∙ ap (λ (m : ℕ). m * share_from 0 k n) all ∙ share-whole 0 k n

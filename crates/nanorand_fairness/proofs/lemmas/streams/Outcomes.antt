@@ -1,14 +1,15 @@
 -- The outcome of a draw from a range: the number at the place that was drawn, or a refusal.
-use Rattle.std.proofs.Common.{◌≡◌, ℕ, zero, suc, ◌+◌, ◌<◌, Bool, false, List, Option, Some, None, Ok, Err, nat_eq,
-    length, find, slice_get, slice_index, option_and_then, ok_or, refl, ◌∙◌, ap, inl, inr, arith}
+use Rattle.std.proofs.Common.{◌≡◌, ℕ, zero, suc, ◌+◌, ◌<◌, Bool, false, List, Option, Some, None, Ok, Err, nat_eq}
+use Rattle.std.proofs.Common.{length, find, slice_get, slice_index, option_and_then, ok_or, refl, ◌∙◌, ap, inl, inr}
+use Rattle.std.proofs.Common.{arith}
 use Rattle.std.specs.List.{range_with_len}
 use Rattle.std.proofs.lemmas.Bool.{cases_Bool, ne_eqb}
 use Rattle.std.proofs.lemmas.List.FromFn.{length-range_with_len, get_or-range_with_len}
 use Rattle.std.proofs.lemmas.Option.{slice_get-get_or}
 use Rattle.nanorand_core.specs.generators.Blocks.{Requests}
 use Rattle.nanorand_core.specs.values.Runs.{named, is_in_run}
-use Rattle.nanorand_core.specs.values.Draws.{next_word, after_word, drawn_below, range_outcome, word_limit,
-    words_from, deciding_place, number_drawn, left_after, value_drawn, left_by}
+use Rattle.nanorand_core.specs.values.Draws.{next_word, after_word, drawn_below, range_outcome, word_limit, words_from}
+use Rattle.nanorand_core.specs.values.Draws.{deciding_place, number_drawn, left_after, value_drawn, left_by}
 use Rattle.nanorand_core.specs.declared.values.range.RangeError.TheVariants.{Exhausted}
 use Rattle.nanorand_fairness.specs.InTurn.{by_word}
 

@@ -46,5 +46,5 @@ module _ {G : Type 0} (requests : Requests G) where
   sample_in_turn (suc left) last n g sample fits long =
       one_more left last n g sample (draw last g).number refl (omega arith)
       (draws_first (next_word requests 64) (after_word requests 64) 64 (last + 1) (range_with_len (last + 1 + 1) left)
-          (word_limit * left) word_limit n g (omega arith))
+      (word_limit * left) word_limit n g (omega arith))
       (λ m h later enough. sample_in_turn left (last + 1) m h later (omega arith) enough)

@@ -1,5 +1,5 @@
-use Rattle.std.proofs.Common.{◌≡◌, ◌≤◌, ◌<◌, ℕ, List, ◌++◌, [], length, length-append, length-take, length-drop, take,
-    drop, ◌+◌, ◌-◌, refl, arith, ap, sym, ◌∙◌}
+use Rattle.std.proofs.Common.{◌≡◌, ◌≤◌, ◌<◌, ℕ, List, ◌++◌, [], length, length-append, length-take, length-drop, take}
+use Rattle.std.proofs.Common.{drop, ◌+◌, ◌-◌, refl, arith, ap, sym, ◌∙◌}
 use Rattle.std.proofs.lemmas.List.{take_at, take_rest, drop-drop}
 use Rattle.nanorand_replay.specs.generators.Buffered.{buffer_of, buffered_taken, buffered_after}
 use Rattle.nanorand_core.specs.support.BlockLemmas.{put_end}
@@ -27,7 +27,7 @@ returns-then-start-out-clause-bytes g c =
     let part : start + length c.args.out.now - start ≡ length c.args.out.now = omega arith in
     c.copy_from_slice.ensures.after ∙ ap (λ k. take k kept) part
     ∙ sym (taken_kept g.G.Blocks.block g.G.Blocks.step g.row.OUTPUT laws.positive laws.block_length
-        (buffer_of kept c.args.inner.now) (length c.args.out.now) (omega (arith, long)))
+    (buffer_of kept c.args.inner.now) (length c.args.out.now) (omega (arith, long)))
 
 pub returns-then-start-out-clause-state : goal.returns-then-start-out-clause-state
 returns-then-start-out-clause-state g c =
@@ -37,7 +37,7 @@ returns-then-start-out-clause-state g c =
     let long = kept_length g.row.OUTPUT start c.args.block.now c.told-block in
     same_buffer (sym (drop-drop (length c.args.out.now) start c.args.block.now)) refl
     ∙ sym (after_kept g.G.Blocks.block g.G.Blocks.step g.row.OUTPUT laws.positive laws.block_length
-        (buffer_of kept c.args.inner.now) (length c.args.out.now) (omega (arith, long)))
+    (buffer_of kept c.args.inner.now) (length c.args.out.now) (omega (arith, long)))
 
 pub returns-else-out-clause-bytes : goal.returns-else-out-clause-bytes
 returns-else-out-clause-bytes g c =

@@ -21,7 +21,7 @@ returns-then-last-gt0-clause-bytes g c =
     let piece = c.copy_from_slice.ensures.after ∙ ap (λ bytes. take last bytes) (c.rand.ensures.bytes ∙ ap block behind) in
     put_end whole (length filled - whole) filled c.copy_from_slice.new.self (omega arith)
     ∙ ap (λ bytes. bytes ++ c.copy_from_slice.new.self)
-        (take_at c.fill_by_blocks.new.buffer (drop whole out) whole (c.fill_by_blocks.auto.buffer ∙ old) ∙ front)
+    (take_at c.fill_by_blocks.new.buffer (drop whole out) whole (c.fill_by_blocks.auto.buffer ∙ old) ∙ front)
     ∙ ap (λ bytes. taken block step c.args.inner.now whole ++ bytes) piece
     ∙ sym (taken_parts block step output laws.positive laws.block_length c.args.inner.now (length out))
 

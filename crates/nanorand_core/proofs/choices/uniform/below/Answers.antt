@@ -31,7 +31,7 @@ pub returns-clause-power : goal.returns-clause-power
 returns-clause-power g c k low is =
     let bits = g.T.Number.BITS in
     let split : 2 ^ bits ≡ 2 ^ (bits - k) * 2 ^ k = (let sum : bits
-        ≡ bits - k + k = omega (arith, low) in ap (λ (n : ℕ). 2 ^ n) sum) ∙ pow-add 2 (bits - k) k in
+    ≡ bits - k + k = omega (arith, low) in ap (λ (n : ℕ). 2 ^ n) sum) ∙ pow-add 2 (bits - k) k in
     let divides = ap (λ (n : ℕ). n % 2 ^ k) split ∙ mul-mod_left (2 ^ (bits - k)) (2 ^ k) in
     returns-clause-divisor g c (2 ^ k) is (pow_pos k) divides
 

@@ -9,7 +9,12 @@ loop-item-preserved g c =
     let within : place < length target = omega arith in
     let left : length target - place ≡ suc (length target - (place + 1)) = omega arith in
     record {
-      values = rw (length-set, take_more_set target place c.generate.result within, append_assoc,
-          c.generate.ensures.value, c.generate.ensures.state) (rw left at c.loop-item.invariant.values);
+      values = rw (
+        length-set,
+        take_more_set target place c.generate.result within,
+        append_assoc,
+        c.generate.ensures.value,
+        c.generate.ensures.state,
+      ) (rw left at c.loop-item.invariant.values);
       state = rw (length-set, c.generate.ensures.state) (rw left at c.loop-item.invariant.state);
     }

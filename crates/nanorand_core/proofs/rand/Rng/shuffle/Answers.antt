@@ -68,9 +68,9 @@ returns-in-None g c =
           })
     ] in
     let partner = partner-exhausted g.Self.Rng.requests (length c.args.target.now) c.loop-place.place over.start
-        c.loop-place-test.true (omega arith) (sym c.in-None.is ∙ over.draw.number) in
+    c.loop-place-test.true (omega arith) (sym c.in-None.is ∙ over.draw.number) in
     let state = partner-state g.Self.Rng.requests (length c.args.target.now) c.loop-place.place over.start
-        c.loop-place-test.true (omega arith) c.if-is_none.self over.draw.state in
+    c.loop-place-test.true (omega arith) c.if-is_none.self over.draw.state in
     let ended = refused over.so_far c.loop-place-test.true partner (omega arith) (omega arith) in
     rw state (record {
       answer = ended.answered;
@@ -137,9 +137,9 @@ loop-place-preserved g c =
     ] in
     let below : c.in-Some.ahead < length c.args.target.now - c.loop-place.place = rw c.in-Some.is at over.draw.below in
     let partner = partner-number g.Self.Rng.requests (length c.args.target.now) c.loop-place.place over.start
-        c.loop-place-test.true (omega arith) c.in-Some.ahead below (sym c.in-Some.is ∙ over.draw.number) in
+    c.loop-place-test.true (omega arith) c.in-Some.ahead below (sym c.in-Some.is ∙ over.draw.number) in
     let state = partner-state g.Self.Rng.requests (length c.args.target.now) c.loop-place.place over.start
-        c.loop-place-test.true (omega arith) c.if-is_none.self over.draw.state in
+    c.loop-place-test.true (omega arith) c.if-is_none.self over.draw.state in
     rw (state, c.swap.ensures) (shuffling-step over.so_far c.loop-place-test.true partner)
 
 pub returns : goal.returns

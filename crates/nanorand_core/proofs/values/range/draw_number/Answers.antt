@@ -1,7 +1,7 @@
 use Rattle.std.proofs.Common.{◌+◌, ap, ◌∙◌, Ok, arith, ℕ, sym, refl}
 use Rattle.std.proofs.lemmas.Bool.{leb-true, ltb-true}
-use Rattle.nanorand_core.proofs.lemmas.ranges.RangeLemmas.{range-empty, range-places, range-count, value-empty,
-    left-empty, value-number, value-exhausted, left-drawn}
+use Rattle.nanorand_core.proofs.lemmas.ranges.RangeLemmas.{range-empty, range-places, range-count, value-empty}
+use Rattle.nanorand_core.proofs.lemmas.ranges.RangeLemmas.{left-empty, value-number, value-exhausted, left-drawn}
 use Rattle.nanorand_core.proofs.values.range.draw_number.Goals as goal
 
 pub returns-then-end-first-clause-value : goal.returns-then-end-first-clause-value

@@ -24,13 +24,13 @@ no_room block cursor output len capacity told room full = omega (arith, ap lengt
 pub returns-clause-count : goal.returns-clause-count
 returns-clause-count g c =
     rest_length c.self.inside.block c.args.self.now.rest c.self.inside.cursor g.row.OUTPUT
-        (ap (λ (b : Buffered g.row.G.Denot). b.rest) c.self.view_is) c.self.told
+    (ap (λ (b : Buffered g.row.G.Denot). b.rest) c.self.view_is) c.self.told
 
 pub returns-clause-appended : goal.returns-clause-appended
 returns-clause-appended g c =
     appended _ _ _ _ _ c.in_ok-extend_from_slice.ensures.items c.reserve.ensures.items
-        (take_rest c.self.inside.block c.self.inside.cursor
-        ∙ ap (λ (b : Buffered g.row.G.Denot). b.rest) c.self.view_is)
+    (take_rest c.self.inside.block c.self.inside.cursor
+    ∙ ap (λ (b : Buffered g.row.G.Denot). b.rest) c.self.view_is)
 
 pub returns-clause-rest : goal.returns-clause-rest
 returns-clause-rest g c =
@@ -43,7 +43,7 @@ returns-clause-empty g c = λ none. refl
 pub returns-clause-untouched : goal.returns-clause-untouched
 returns-clause-untouched g c = λ none.
     absurd (some_rest c.self.inside.block c.args.self.now.rest c.self.inside.cursor g.row.OUTPUT
-        (ap (λ (b : Buffered g.row.G.Denot). b.rest) c.self.view_is) c.self.told (omega arith) none)
+    (ap (λ (b : Buffered g.row.G.Denot). b.rest) c.self.view_is) c.self.told (omega arith) none)
 
 pub returns-clause-vector_stays : goal.returns-clause-vector_stays
 returns-clause-vector_stays g c = tt

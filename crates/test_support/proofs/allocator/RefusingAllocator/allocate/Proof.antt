@@ -14,8 +14,8 @@ use contract.BorrowLft.{◌⊑◌, ⊑_trans}
 use contract.Monad.{Fun, fact}
 use contract.Running.{tables, tables_of}
 use sound.WpLaws.{fm_of, WpFn-mono}
-use types.Kit.{‵, raw, ◌⊛◌, some, later, given, prop, at_ret, Sq, ◌$◌, ◌∵◌, !, qed, move, keep, drop, use0, use1,
-    use2, split, join, fsplit, fjoin, pick, learn, suffices, await, done}
+use types.Kit.{‵, raw, ◌⊛◌, some, later, given, prop, at_ret, Sq, ◌$◌, ◌∵◌, !, qed, move, keep, drop, use0, use1, use2}
+use types.Kit.{split, join, fsplit, fjoin, pick, learn, suffices, await, done}
 use types.Part.{agg}
 use types.Run.{stop, fld, addr, lit, no_more, and_then, first, branches, skips, exec, returns, returns_within, enter}
 use types.ByLocal.{alloc_all, pass_all, free_all, look_at, get, through, sets, lands_as, env}
@@ -36,8 +36,8 @@ use denote.Triple.Statement.{Triple}
 use denote.Triple.Table.{entered, cited}
 use denote.Triple.Walked.{Stays, stay_dropped, walk_of, ends_at, walked, Goes-dropped, walk_Meets}
 use Rattle.std.proofs.VecSteps.Shapes.{after}
-use Rattle.std.proofs.alloc.Calls.{Al, α, seen, token, Answer, answer_val, Answer-typed, Answer-Ok, Answer-err,
-    takes_key, Takes, at_takes, Answered, Takes-goes, Takes-gives, answers}
+use Rattle.std.proofs.alloc.Calls.{Al, α, seen, token, Answer, answer_val, Answer-typed, Answer-Ok, Answer-err}
+use Rattle.std.proofs.alloc.Calls.{takes_key, Takes, at_takes, Answered, Takes-goes, Takes-gives, answers}
 use Rattle.test_support.proofs.lemmas.Asking.{Asks, asked, asks, answered}
 use Rattle.test_support.proofs.allocator.Turns.is_refused.Symbol as turn
 use Rattle.test_support.proofs.allocator.Turns.is_refused.Met as turn_met
@@ -115,16 +115,16 @@ module _ (Z : Al) {M : Type 1} {𝓤 : Ura M} (𝓛 : Logic 𝓤) (mem : Memory 
         let passed : (Takes Z 𝓛 mem run).Ghost = at_takes Z 𝓛 mem run κ q p h n a τ in
         let Asked : Type 0 = (capped (size τ) ≡ n) × (capped (align τ) ≡ a) in
         qed 𝓛 (((‵ (flft κ q) ⊛ ‵ (flft ρ r) ⊛ ‵ ftrue)
-            ⊛ ‵ (owns (types_at (ended Z).signature.params bound.0.0) bound.0.3 bound.0.4))
-            ∷ (raw (fact 𝓤 (ρ ⊑ Z.row.lives)) ⊛ raw (fact 𝓤 Asked)) ∷ []) ∵
+        ⊛ ‵ (owns (types_at (ended Z).signature.params bound.0.0) bound.0.3 bound.0.4))
+        ∷ (raw (fact 𝓤 (ρ ⊑ Z.row.lives)) ⊛ raw (fact 𝓤 Asked)) ∷ []) ∵
         move ! (1 ∷ []) $ split ! $ heard ! (ρ ⊑ Z.row.lives) (λ lasts. heard ! Asked (λ is_asked.
         split ! $ split ! $ move ! (2 ∷ []) $ fsplit ! $ fsplit ! $ move ! (1 ∷ []) $ unhide ! $ fsplit ! $ fsplit ! $
         use1 𝓛 (‵ (seen Z κ p h)) (id⊢ 𝓤 _) $ move ! (1 ∷ []) $ fsplit ! $
         keep ! (0 ∷ 6 ∷ 2 ∷ 7 ∷ []) $
         -- [the counter; the token of κ; the inner allocator; the token of ρ]
         enter ! 𝓣.C 𝓣.Λ (body Z) given_values _ $
-            alloc_all ! (λ l. pass_all ! refl
-            ((tt, tt), ((tt, record { fits = n_fits }), ((tt, record { fits = a_fits }), tt))) $
+        alloc_all ! (λ l. pass_all ! refl
+        ((tt, tt), ((tt, record { fits = n_fits }), ((tt, record { fits = a_fits }), tt))) $
         sets ! (addr ! (through ! refl (fld ! refl (stop !)))) refl (tt, tt) $
         use2 𝓛 (raw ((Asks 𝓛 mem run).pre (asked 𝓛 mem run κ q t handle.now.turns))) (asks 𝓛 mem run κ q t handle.now.turns) $
         calls_at ! (fm_of 𝓤 H 𝓛.laws 𝓣) (Asks 𝓛 mem run) turns (asked 𝓛 mem run κ q t handle.now.turns) (and_then ! (get ! refl) (no_more !)) (λ u.
@@ -139,10 +139,10 @@ module _ (Z : Al) {M : Type 1} {𝓤 : Ura M} (𝓛 : Logic 𝓤) (mem : Memory 
         sets ! (addr ! (through ! refl (fld ! refl (stop !)))) refl (tt, tt) $ move ! (1 ∷ []) $
         -- [the inner allocator; the token of κ; the token of ρ]
         use2 𝓛 (raw ((Takes Z 𝓛 mem run).pre passed))
-            (Takes-goes Z 𝓛 mem run κ q p h (⊑_trans κ ρ Z.row.lives within lasts) n a τ is_asked.0 is_asked.1 n_fits
-            a_fits) $
+        (Takes-goes Z 𝓛 mem run κ q p h (⊑_trans κ ρ Z.row.lives within lasts) n a τ is_asked.0 is_asked.1 n_fits
+        a_fits) $
         calls_at ! (fm_of 𝓤 H 𝓛.laws 𝓣) (Takes Z 𝓛 mem run) takes passed
-            (and_then ! (get ! refl) (and_then ! (get ! refl) (and_then ! (get ! refl) (no_more !)))) (λ v.
+        (and_then ! (get ! refl) (and_then ! (get ! refl) (and_then ! (get ! refl) (no_more !)))) (λ v.
         use1 𝓛 (later (raw (Answered Z 𝓛 mem run h τ v) ⊛ ‵ (flft κ q))) (Takes-gives Z 𝓛 mem run κ q p h n a τ v) $ await ! tt $ split ! $
         answers Z ! mem run h τ v
         (λ b o e. fjoin ! $ lands_as ! e refl (Answer-typed true b o) $ returns ! (look_at ! 0 refl) $ free_all ! refl $ handed b o)
@@ -157,10 +157,10 @@ allocate_spec 𝓤 𝓛 𝓜 𝓡 wired B laws g d drops met _ =
     let runs = WpFn 𝓤 𝓛.H 𝓣.C 𝓣.Λ (body Z) in
     let gone = Goes-dropped 𝓛 2 (number Z) yes (λ κs x f. refl) in
     let turns = cited 𝓤 𝓛.H _ 𝓜 𝓡 𝓡.env turn.name (𝓡.env turn.name) refl
-        (turn_met.met 𝓤 𝓛 𝓜 𝓡 (code.calls-test_support::allocator::Turns::is_refused 𝓡.env wired)) in
+    (turn_met.met 𝓤 𝓛 𝓜 𝓡 (code.calls-test_support::allocator::Turns::is_refused 𝓡.env wired)) in
     entered 𝓤 𝓛.H (triple_of 𝓛 (F.signature B) (F.spec B g d drops 𝓛 𝓜.mem 𝓡.returns)) 𝓣.C 𝓣.Λ (key.name (args Z)) (body Z)
     (code.unfolded 𝓤 𝓛.H 𝓜 𝓡 wired (B, tt) d drops)
     (walk_Meets 𝓛 (ended Z) (stayed Z) (Goes-dropped 𝓛 2 (self Z) yes (λ κs x f. refl), (gone, (gone, tt))) c runs (WpFn-mono 𝓤 𝓛.H 𝓛.laws 𝓣 (body Z))
     (walked 𝓛 (ended Z) (stayed Z) c runs (λ κs. (shr_vals, (uint_vals w64, (uint_vals w64, tt))))
-        (λ κs. ((λ r vs s. s.0), (uint_Tells w64, (uint_Tells w64, tt))))
+    (λ κs. ((λ r vs s. s.0), (uint_Tells w64, (uint_Tells w64, tt))))
     (λ κs qs bounds a τ are. walk Z 𝓛 𝓜.mem 𝓡.returns 𝓣 (met.allocate drops) turns κs.0 κs.1.0 qs.0 qs.1.0 bounds.0 a.0 a.1.0 a.1.1.0 τ are.1.0.1 are.1.1.0.1)))

@@ -14,8 +14,8 @@ use contract.BorrowLft.{◌⊑◌, ⊑_trans}
 use contract.Monad.{Fun, fact}
 use contract.Running.{tables, tables_of}
 use sound.WpLaws.{fm_of, WpFn-mono}
-use types.Kit.{Item, ‵, raw, ◌⊛◌, later, given, prop, Sq, ◌$◌, ◌∵◌, !, qed, by, move, keep, use1, split, split3, join,
-    fsplit, fjoin, feq_i, learn, suffices, await, done}
+use types.Kit.{Item, ‵, raw, ◌⊛◌, later, given, prop, Sq, ◌$◌, ◌∵◌, !, qed, by, move, keep, use1, split, split3, join}
+use types.Kit.{fsplit, fjoin, feq_i, learn, suffices, await, done}
 use types.Run.{stop, fld, addr, of_opd, unit_lit, no_more, and_then, returns, enter}
 use types.ByLocal.{alloc_all, pass_all, free_all, look_at, get, through, sets, lands_as}
 use denote.Exit.{yes}
@@ -74,8 +74,16 @@ module _ (Z : Al) {M : Type 1} {𝓤 : Ura M} (𝓛 : Logic 𝓤) (mem : Memory 
   -- `κ` is the lifetime of the `&`, and `ρ` outlives it.
   module _ (κ ρ : Lft) (q r : Share) (within : κ ⊑ ρ) (handle : Bor (R.the_row Z.row).Denot) (n a : ℕ) (τ : Ty) where
     abbrev bound : Ptr → (walk_of 𝓛 (ended Z) (stayed Z) held).Ghost
-    bound x = (((κ, (ρ, tt)), (q, (r, tt)), (within, tt), (handle, (x, (n, (a, tt)))),
-        (shr_vals handle, (rawptr_vals x, (vint w64 n ∷ [], (vint w64 a ∷ [], tt))))), τ)
+    bound x = (
+      (
+        (κ, (ρ, tt)),
+        (q, (r, tt)),
+        (within, tt),
+        (handle, (x, (n, (a, tt)))),
+        (shr_vals handle, (rawptr_vals x, (vint w64 n ∷ [], (vint w64 a ∷ [], tt)))),
+      ),
+      τ,
+    )
 
     abbrev given_values : Ptr → List Val
     given_values x = vptr handle.ref_ptr.0 handle.ref_ptr.1 ∷ ptr_val x ∷ vint w64 n ∷ vint w64 a ∷ []
@@ -95,7 +103,7 @@ module _ (Z : Al) {M : Type 1} {𝓤 : Ura M} (𝓛 : Logic 𝓤) (mem : Memory 
         suffices ! _ (ends_at 𝓛 (ended Z) (stayed Z) held (bound x) vunit tt (tt, (tt, (tt, (tt, tt)))) (tt, (tt, (tt, (tt, tt))))) $
         nothing ! $ feq_i ! (List Val) (vunit ∷ []) (vunit ∷ []) refl $
         nothing ! $ nothing ! $ fjoin ! $ nothing ! $ fjoin ! $ nothing ! $ fjoin ! $ nothing ! $ fjoin ! $ join ! $
-            move ! (2 ∷ 3 ∷ []) $ join ! $ join ! $ done !
+        move ! (2 ∷ 3 ∷ []) $ join ! $ join ! $ done !
 
     walk : n < 2 ^ 64 → a < 2 ^ 64 → (x : Ptr)
         → ent 𝓤 ((walk_of 𝓛 (ended Z) (stayed Z) held).pre (bound x))
@@ -119,11 +127,11 @@ module _ (Z : Al) {M : Type 1} {𝓤 : Ura M} (𝓛 : Logic 𝓤) (mem : Memory 
         sets ! (addr ! (through ! refl (fld ! refl (stop !)))) refl (tt, tt) $
         join ! $ move ! (2 ∷ []) $ fsplit ! $ move ! (1 ∷ 2 ∷ []) $ join ! $ move ! (1 ∷ []) $ join ! $
         use1 𝓛 (raw ((Gives Z 𝓛 mem run).pre passed))
-            (Gives-goes Z 𝓛 mem run κ q p h (⊑_trans κ ρ Z.row.lives within lasts) b o n a τ is_asked.0 is_asked.1
-            n_fits a_fits) $
+        (Gives-goes Z 𝓛 mem run κ q p h (⊑_trans κ ρ Z.row.lives within lasts) b o n a τ is_asked.0 is_asked.1
+        n_fits a_fits) $
         calls_at ! (fm_of 𝓤 H 𝓛.laws 𝓣) (Gives Z 𝓛 mem run) gives passed
-            (and_then ! (get ! refl) (and_then ! (get ! refl)
-            (and_then ! (get ! refl) (and_then ! (get ! refl) (no_more !))))) (λ v.
+        (and_then ! (get ! refl) (and_then ! (get ! refl)
+        (and_then ! (get ! refl) (and_then ! (get ! refl) (no_more !))))) (λ v.
         use1 𝓛 (later (given (v ≡ vunit) (‵ (flft κ q)))) (Gives-Gives Z 𝓛 mem run κ q p h b o n a τ v) $ await ! tt $ learn ! (λ is.
         lands_as ! is refl (tt, tt) $ sets ! (of_opd ! (unit_lit !)) refl (tt, tt) $
         returns ! (look_at ! 0 refl) $ free_all ! refl $ ends x)))))
@@ -138,11 +146,12 @@ deallocate_spec 𝓤 𝓛 𝓜 𝓡 wired B laws g d drops met _ =
     let gone = Goes-dropped 𝓛 2 (number Z) yes (λ κs x f. refl) in
     entered 𝓤 𝓛.H (triple_of 𝓛 (F.signature B) (F.spec B g d drops 𝓛 𝓜.mem 𝓡.returns)) 𝓣.C 𝓣.Λ (key.name (args Z)) (body Z)
     (code.unfolded 𝓤 𝓛.H 𝓜 𝓡 wired (B, tt) d drops)
-    (walk_Meets 𝓛 (ended Z) (stayed Z)
-    (Goes-dropped 𝓛 2 (self Z) yes (λ κs x f. refl),
-        (Goes-dropped 𝓛 2 (pointer Z) yes (λ κs x f. refl), (gone, (gone, tt)))) c runs
-        (WpFn-mono 𝓤 𝓛.H 𝓛.laws 𝓣 (body Z))
+    (walk_Meets 𝓛 (ended Z) (stayed Z) (
+      Goes-dropped 𝓛 2 (self Z) yes (λ κs x f. refl),
+      (Goes-dropped 𝓛 2 (pointer Z) yes (λ κs x f. refl), (gone, (gone, tt))),
+    ) c runs
+    (WpFn-mono 𝓤 𝓛.H 𝓛.laws 𝓣 (body Z))
     (walked 𝓛 (ended Z) (stayed Z) c runs (λ κs. (shr_vals, (rawptr_vals, (uint_vals w64, (uint_vals w64, tt)))))
     (λ κs. ((λ r vs s. s.0), (rawptr_Tells, (uint_Tells w64, (uint_Tells w64, tt)))))
     (λ κs qs bounds a τ are. walk Z 𝓛 𝓜.mem 𝓡.returns 𝓣 (met.deallocate drops) κs.0 κs.1.0 qs.0 qs.1.0 bounds.0 a.0
-        a.1.1.0 a.1.1.1.0 τ are.1.1.0.1 are.1.1.1.0.1 a.1.0)))
+    a.1.1.0 a.1.1.1.0 τ are.1.1.0.1 are.1.1.1.0.1 a.1.0)))

@@ -5,4 +5,4 @@ use Rattle.nanorand.proofs.rand.keystream.BufferedRngChaChaGroups512Keystream.po
 pub returns : goal.returns
 returns g c =
     ap₂ (λ (n k : ℕ). (n * 64 + 2 ^ 70 - k) % 2 ^ 70)
-        (c.from-ahead.ensures ∙ c.counter.ensures.value ∙ ap counter c.inner.ensures) c.buffered.ensures.value
+    (c.from-ahead.ensures ∙ c.counter.ensures.value ∙ ap counter c.inner.ensures) c.buffered.ensures.value
