@@ -1,7 +1,8 @@
 //! Streams of ChaCha deliver what buffered generators deliver, and can be sought.
 
 use nanorand_proved::{
-    BufferedRng, ChaCha, ChaCha12Stream, ChaCha20Stream, ChaCha8Stream, ChaChaStream, Keystream, Rng,
+    BufferedRng, ChaCha, ChaCha12Stream, ChaCha20Stream, ChaCha8Stream, ChaChaStream, Keystream,
+    Rng,
 };
 
 const KEY: [u8; 32] = [1; 32];
