@@ -46,9 +46,9 @@ pub fn generators_as_defined<const ROUNDS: u8>()
     ensures chacha_blocks { ⟦<ChaCha<ROUNDS> as Blocks<64>>⟧.block ≡ chacha_block ROUNDS }
     ensures chacha_steps { ⟦<ChaCha<ROUNDS> as Blocks<64>>⟧.step ≡ next_state }
     ensures chacha_requests { ⟦<ChaCha<ROUNDS> as Rng<64>>⟧.requests ≡ chacha_requests ROUNDS }
-    ensures groups_blocks { ⟦<ChaChaGroups<ROUNDS> as Blocks<512>>⟧.block ≡ chacha_group ROUNDS }
-    ensures groups_steps { ⟦<ChaChaGroups<ROUNDS> as Blocks<512>>⟧.step ≡ next_group }
-    ensures groups_requests { ⟦<ChaChaGroups<ROUNDS> as Rng<512>>⟧.requests ≡ group_requests ROUNDS }
+    ensures group_blocks { ⟦<ChaChaGroups<ROUNDS> as Blocks<512>>⟧.block ≡ chacha_group ROUNDS }
+    ensures group_steps { ⟦<ChaChaGroups<ROUNDS> as Blocks<512>>⟧.step ≡ next_group }
+    ensures group_requests { ⟦<ChaChaGroups<ROUNDS> as Rng<512>>⟧.requests ≡ group_requests ROUNDS }
 {}
 
 /// `==` of two generators is true exactly if their states are equal.
