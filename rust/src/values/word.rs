@@ -58,8 +58,42 @@ pub(crate) fn pick_counted(size: u64, bits: u32, rejects: u64, word: u64) -> Opt
 // The halves of `word * size`: the high one is the number, and the low one accepts or rejects.
 #[inline(always)]
 fn halves_of(size: u64, bits: u32, word: u64) -> (u64, u64) {
-    let product = u128::from(word) * u128::from(size);
-    ((product >> bits) as u64, (product % (1 << bits)) as u64)
+    let product = product_of(size, bits, word);
+    (high_of(product, bits), low_of(product, bits))
+}
+
+// The product of a word and the size. Words of fewer than 64 bits are multiplied in 64.
+#[inline(always)]
+fn product_of(size: u64, bits: u32, word: u64) -> u128 {
+    if bits < 64 {
+        u128::from(word * size)
+    } else {
+        u128::from(word) * u128::from(size)
+    }
+}
+
+// The high half of a product.
+#[inline(always)]
+fn high_of(product: u128, bits: u32) -> u64 {
+    (product >> bits) as u64
+}
+
+// The low half of a product.
+#[inline(always)]
+fn low_of(product: u128, bits: u32) -> u64 {
+    (product % (1 << bits)) as u64
+}
+
+// Whether the low half of a product is below a number, compared in the type of the word.
+#[inline(always)]
+fn low_is_below(product: u128, number: u64, bits: u32) -> bool {
+    let low = low_of(product, bits);
+    match bits {
+        8 => (low as u8) < number as u8,
+        16 => (low as u16) < number as u16,
+        32 => (low as u32) < number as u32,
+        _ => low < number,
+    }
 }
 
 // How many words are rejected. If `size` is more than half of all words, this needs no division.
@@ -103,20 +137,27 @@ pub fn draw_below<G: Rng<OUTPUT>, const OUTPUT: usize>(
     assert!(size <= 1 << bits, "the size is at most 2^bits");
 
     let first = draw_word(rng, bits);
-    if let Some(number) = pick_word(size, bits, first) {
-        return Some(number);
+    if size == 1 << bits {
+        return Some(first);
     }
     let size = size as u64;
+    let mut product = product_of(size, bits, first);
+    // Fewer than `size` words are rejected, so a low half of at least `size` is accepted as it is.
+    if !low_is_below(product, size, bits) {
+        return Some(high_of(product, bits));
+    }
     let rejects = rejected(size, bits);
-    let mut number = None;
     let mut drawn = 1;
     // `&` makes one exit: with two, LLVM vectorizes the search, which takes four times as long.
-    while number.is_none() & (drawn < MAX_WORDS) {
+    while low_is_below(product, rejects, bits) & (drawn < MAX_WORDS) {
         let word = draw_word(rng, bits);
-        number = pick_counted(size, bits, rejects, word);
+        product = product_of(size, bits, word);
         drawn += 1;
     }
-    number
+    if low_is_below(product, rejects, bits) {
+        return None;
+    }
+    Some(high_of(product, bits))
 }
 
 // The next word of `bits` bits, by one request.

@@ -1,5 +1,5 @@
 //! Random words of 8, 16, 32 or 64 bits, and the numbers that they name.
-ghost use Rattle.std.specs.Prelude.{◌≡◌, ℕ, ◌*◌, ◌/◌, ◌%◌, ◌^◌, ◌<◌, ◌≤◌, MatchOption, IsSome, IfSome, IfNone};
+ghost use Rattle.std.specs.Prelude.{◌≡◌, ℕ, ◌*◌, ◌/◌, ◌%◌, ◌^◌, ◌<◌, ◌≤◌, nat_lt, MatchOption, IsSome, IfSome, IfNone};
 ghost use Rattle.nanorand_core.specs.values.Runs.{IsWordWidth, Names, named, rejected};
 ghost use Rattle.nanorand_core.specs.values.Draws.{word_limit, next_word, after_word, after_words, drawn_below};
 
@@ -51,6 +51,7 @@ pub(crate) fn pick_below(size: u64, bits: u32, word: u64) -> Option<u64>
 pub(crate) fn pick_counted(size: u64, bits: u32, rejects: u64, word: u64) -> Option<u64>
     requires width { IsWordWidth bits }
     requires some { 1 ≤ size }
+    requires within { size ≤ 2 ^ bits }
     requires fits { word < 2 ^ bits }
     requires counted { rejects ≡ rejected bits size }
     ensures { result ≡ named bits size word }
@@ -62,12 +63,60 @@ pub(crate) fn pick_counted(size: u64, bits: u32, rejects: u64, word: u64) -> Opt
 // The halves of `word * size`: the high one is the number, and the low one accepts or rejects.
 fn halves_of(size: u64, bits: u32, word: u64) -> (u64, u64)
     requires width { IsWordWidth bits }
+    requires within { size ≤ 2 ^ bits }
     requires fits { word < 2 ^ bits }
     ensures high { result.0 ≡ word * size / 2 ^ bits }
     ensures low { result.1 ≡ word * size % 2 ^ bits }
 {
-    let product = u128::from(word) * u128::from(size);
-    ((product >> bits) as u64, (product % (1 << bits)) as u64)
+    let product = product_of(size, bits, word);
+    (high_of(product, bits), low_of(product, bits))
+}
+
+// The product of a word and the size. Words of fewer than 64 bits are multiplied in 64.
+fn product_of(size: u64, bits: u32, word: u64) -> u128
+    requires width { IsWordWidth bits }
+    requires within { size ≤ 2 ^ bits }
+    requires fits { word < 2 ^ bits }
+    ensures value { result ≡ word * size }
+    ensures bound { result / 2 ^ bits < 2 ^ 64 }
+{
+    if bits < 64 {
+        u128::from(word * size)
+    } else {
+        u128::from(word) * u128::from(size)
+    }
+}
+
+// The high half of a product.
+fn high_of(product: u128, bits: u32) -> u64
+    requires width { IsWordWidth bits }
+    requires bound { product / 2 ^ bits < 2 ^ 64 }
+    ensures { result ≡ product / 2 ^ bits }
+{
+    (product >> bits) as u64
+}
+
+// The low half of a product.
+fn low_of(product: u128, bits: u32) -> u64
+    requires width { IsWordWidth bits }
+    ensures { result ≡ product % 2 ^ bits }
+{
+    (product % (1 << bits)) as u64
+}
+
+// Whether the low half of a product is below a number, compared in the type of the word.
+fn low_is_below(product: u128, number: u64, bits: u32) -> bool
+    requires width { IsWordWidth bits }
+    requires within { number < 2 ^ bits }
+    ensures { result ≡ nat_lt (product % 2 ^ bits) number }
+{
+    let low = low_of(product, bits);
+    match bits {
+        8 => (low as u8) < number as u8,
+        16 => (low as u16) < number as u16,
+        32 => (low as u32) < number as u32,
+        _ => low < number,
+    }
 }
 
 // How many words are rejected. If `size` is more than half of all words, this needs no division.
@@ -118,20 +167,27 @@ pub fn draw_below<G: Rng<OUTPUT>, const OUTPUT: usize>(
     ensures divisor { rejected bits size ≡ 0 → IsSome result }
 {
     let first = draw_word(rng, bits);
-    if let Some(number) = pick_word(size, bits, first) {
-        return Some(number);
+    if size == 1 << bits {
+        return Some(first);
     }
     let size = size as u64;
+    let mut product = product_of(size, bits, first);
+    // Fewer than `size` words are rejected, so a low half of at least `size` is accepted as it is.
+    if !low_is_below(product, size, bits) {
+        return Some(high_of(product, bits));
+    }
     let rejects = rejected(size, bits);
-    let mut number = None;
     let mut drawn = 1;
     // `&` makes one exit: with two, LLVM vectorizes the search, which takes four times as long.
-    'others: while number.is_none() & (drawn < MAX_WORDS) {
+    'others: while low_is_below(product, rejects, bits) & (drawn < MAX_WORDS) {
         let word = draw_word(rng, bits);
-        number = pick_counted(size, bits, rejects, word);
+        product = product_of(size, bits, word);
         drawn += 1;
     }
-    number
+    if low_is_below(product, rejects, bits) {
+        return None;
+    }
+    Some(high_of(product, bits))
 }
 
 // The next word of `bits` bits, by one request.

@@ -1,11 +1,12 @@
 -- Runs computed by multiplication, after Lemire.
-use Rattle.std.proofs.Common.{◌≡◌, ℕ, zero, suc, ◌+◌, ◌-◌, ◌*◌, ◌/◌, ◌%◌, ◌^◌, ◌<◌, ◌≤◌, Bool, true, false, Option}
+use Rattle.std.proofs.Common.{if◌then◌else◌, nat_lt, is_some, ◌≡◌, ℕ, zero, suc, ◌+◌, ◌-◌, ◌*◌, ◌/◌, ◌%◌, ◌^◌, ◌<◌, ◌≤◌, Bool, true, false, Option}
 use Rattle.std.proofs.Common.{Some, None, MatchOption, find, refl, sym, ◌∙◌, ap, inl, inr, arith}
 use Rattle.std.specs.List.{range_with_len}
-use Rattle.std.proofs.lemmas.Bool.{cases_lt, cases_Bool, and_parts, and_from, ltb-true, leb-true, lt-ltb, le-leb, false_from_ne_true}
+use Rattle.std.proofs.lemmas.Bool.{cases_lt, cases_Bool, and_parts, and_from, ltb-true, ltb-false, leb-true, lt-ltb, le-ltb, le-leb, false_from_ne_true}
 use Rattle.std.proofs.lemmas.Nat.{mul-le, pow_pos, div-add-mod', div_below, mod_below, div-mul-add, mod-mul-add}
 use Rattle.std.proofs.Math.Nat.{add-mod_right, mod_self}
 use Rattle.nanorand_core.specs.values.Runs.{IsWordWidth, Names, named, is_in_run, quota, rejected}
+use mathlib.Core.Bool.{not}
 use Rattle.nanorand_core.proofs.lemmas.ranges.CeilingLemmas.{ceil_le, le_ceil, lt_ceil_add, ceil_add_lt}
 
 -- word names k, in terms of the product word * s: of m words in all, t are rejected
@@ -167,14 +168,6 @@ size-is_whole bits size width within past =
       | inr (inr (inr is)) ↦ let low = rw is at within in rw is (omega arith)
     ]
 
--- a size of which a word is rejected fits in 64 bits
-pub rejecting-fits : (bits size word : ℕ) → IsWordWidth bits → size ≤ 2 ^ bits → word < 2 ^ bits → named bits size word ≡ None → size ≤ 18446744073709551615
-rejecting-fits bits size word width within fits miss =
-    elim (cases_lt 18446744073709551615 size) [
-      | inl past ↦ let hit = rw (size-is_whole bits size width within past, names-itself bits word fits) at miss in absurd cc
-      | inr low ↦ low
-    ]
-
 -- taking `size` words away leaves the number of rejected words unchanged
 pub rejected-less : (bits size : ℕ) → size ≤ 2 ^ bits → (2 ^ bits - size) % size ≡ rejected bits size
 rejected-less bits size within =
@@ -189,3 +182,31 @@ module _ (bits size word : ℕ) (some : 0 < size) where
 
   pub named-Names : MatchOption (named bits size word) ((k : ℕ) → Names bits size word k → ⊥) (λ k. Names bits size word k)
   named-Names = names_what (named bits size word) refl
+
+-- what a product says of its word: rejected, or the number that the word names
+abbrev pub judged : ℕ → ℕ → ℕ → Option ℕ
+judged bits size product = if nat_lt (product % 2 ^ bits) (rejected bits size) then None else Some (product / 2 ^ bits)
+
+pub named-judged : (bits size word : ℕ) → 0 < size → word < 2 ^ bits → named bits size word ≡ judged bits size (word * size)
+named-judged bits size word some fits =
+    elim (cases_Bool (nat_lt (word * size % 2 ^ bits) (rejected bits size))) [
+      | inl low ↦ rw low (rejects bits size word some (ltb-true _ _ low))
+      | inr kept ↦ rw kept (picks bits size word some fits (ltb-false _ _ kept))
+    ]
+
+pub judged-low : (bits size product : ℕ) → nat_lt (product % 2 ^ bits) (rejected bits size) ≡ true → judged bits size product ≡ None
+judged-low bits size product low = rw low refl
+
+-- a product whose low part is at least the size, of which fewer are rejected, is kept
+pub judged-high : (bits size product : ℕ) → 0 < size → nat_lt (product % 2 ^ bits) size ≡ false → judged bits size product ≡ Some (product / 2 ^ bits)
+judged-high bits size product some high =
+    let fewer = mod_below (2 ^ bits) size some in
+    let kept = le-ltb (product % 2 ^ bits) (rejected bits size) (omega (arith, fewer, ltb-false _ _ high)) in
+    rw kept refl
+
+pub judged-is_some : (bits size product : ℕ) → is_some (judged bits size product) ≡ not (nat_lt (product % 2 ^ bits) (rejected bits size))
+judged-is_some bits size product =
+    elim (cases_Bool (nat_lt (product % 2 ^ bits) (rejected bits size))) [
+      | inl low ↦ rw low refl
+      | inr kept ↦ rw kept refl
+    ]
