@@ -64,8 +64,9 @@ def same_type(first, second):
 def graft(source, file, layer):
     """Adds the functions of the layer's traits and implementations to those of the file.
 
-    A trait of the layer has the bounds and the documents that the trait has in Rust. A function that
-    both have gets the layer's body. Uses are added.
+    A trait of the layer has the bounds and the attributes that the trait has in Rust, and documents of
+    the layer go before the proved source's. A function that both have gets the layer's body. Uses are
+    added.
     """
     for item in layer.items:
         if isinstance(item, Use):
@@ -79,7 +80,8 @@ def graft(source, file, layer):
         if len(found) != 1:
             raise source.unknown("the proved source should have this once", item.place)
         if isinstance(item, Trait):
-            found[0].bounds, found[0].docs = item.bounds, item.docs
+            found[0].bounds, found[0].attributes = item.bounds, item.attributes
+        found[0].docs = item.docs or found[0].docs
         for function in item.items:
             drop_unused(file, graft_function(found[0], function))
 

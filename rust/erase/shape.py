@@ -118,6 +118,24 @@ WIDE = {
     "self.next_eight(lanes)": "lanes.next(self)",
 }
 
+# What Rattle says of usize and isize, which have 64 bits there, as Rust says it where they may have 32. Words have
+# 64 bits on every machine, so that equal seeds give equal indices.
+WIDTHS = {
+    "usize::from_le_bytes(next_bytes(rng))": "u64::from_le_bytes(next_bytes(rng)) as usize",
+    "isize::from_le_bytes(next_bytes(rng))": "i64::from_le_bytes(next_bytes(rng)) as isize",
+    # A range without a high bound ends with the type's greatest number.
+    "Bound::Unbounded => 1 << T::BITS,": (
+        "Bound::Unbounded => u128::from(T::at_place(u64::MAX >> (64 - T::BITS)).place()) + 1,"
+    ),
+    # A list of calls is answered by the whole number.
+    "isize::random(rng) as i128": "i128::from(i64::random(rng))",
+    "usize::random(rng) as u128": "u128::from(u64::random(rng))",
+}
+
+# The arrays that have one request of all bytes in Rattle. Rust has arrays of all values, by a function of their items'
+# type; of bytes it is the proved one.
+ARRAYS = {"[u8; N]": ("T: RandomGen<G, OUTPUT>", "[T; N]")}
+
 # The preconditions of public functions, and how Rust refuses a caller that breaks one. None: no
 # caller can break it, or the function says what it does then.
 PRECONDITIONS = {
@@ -166,7 +184,7 @@ used = set()
 def unused():
     """Rows of the tables above that nothing in the proved source has."""
     rows = (*PATHS, *DERIVED, *NAMES, *ALLOCATING, *GROWTH, *CONSTANT, *INLINED, *WIDE, *PRECONDITIONS, *CHECKED_LAWS)
-    return [row for row in (*rows, *SIZED) if row not in used]
+    return [row for row in (*rows, *SIZED, *WIDTHS, *ARRAYS) if row not in used]
 
 
 def rust_of(source, file):
@@ -360,6 +378,10 @@ def implementation_in_rust(source, implementation, _):
     implementation.generics = [
         bound_in_rust(source, implementation, text) for text in implementation.generics
     ]
+    if trait and head_of(trait) == "RandomGen" and implementation.type in ARRAYS:
+        used.add(implementation.type)
+        items, implementation.type = ARRAYS[implementation.type]
+        implementation.generics.insert(0, items)
     if trait == "Clone":
         # A generator need not be Clone in Rust, so that a borrowed one is a generator too.
         implementation.generics = [
@@ -448,7 +470,7 @@ def body_in_rust(source, function):
                 raise source.unknown(f"a macro '{token.text}!'", function.place)
         if token.text in ("ghost", "proof", "unsafe", "await"):
             raise source.unknown(f"'{token.text}' in a body", function.place)
-    for old, new in (*GROWTH.items(), *WIDE.items()):
+    for old, new in (*GROWTH.items(), *WIDE.items(), *WIDTHS.items()):
         body = replaced(body, old, new)
     return ranges_as_pairs(without_labels(body))
 

@@ -133,9 +133,6 @@
     clippy::unreadable_literal
 )]
 
-#[cfg(not(target_pointer_width = "64"))]
-compile_error!("what is proved of this crate holds where usize has 64 bits");
-
 #[cfg(feature = "std")]
 extern crate std;
 

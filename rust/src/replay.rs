@@ -137,13 +137,13 @@ fn draw<G: Rng<OUTPUT>, const OUTPUT: usize>(rng: &mut G, kind: Kind) -> Answer 
         Kind::I32 => Answer::Signed(i128::from(i32::random(rng))),
         Kind::I64 => Answer::Signed(i128::from(i64::random(rng))),
         Kind::I128 => Answer::Signed(i128::random(rng)),
-        Kind::Isize => Answer::Signed(isize::random(rng) as i128),
+        Kind::Isize => Answer::Signed(i128::from(i64::random(rng))),
         Kind::U8 => Answer::Unsigned(u128::from(u8::random(rng))),
         Kind::U16 => Answer::Unsigned(u128::from(u16::random(rng))),
         Kind::U32 => Answer::Unsigned(u128::from(u32::random(rng))),
         Kind::U64 => Answer::Unsigned(u128::from(u64::random(rng))),
         Kind::U128 => Answer::Unsigned(u128::random(rng)),
-        Kind::Usize => Answer::Unsigned(usize::random(rng) as u128),
+        Kind::Usize => Answer::Unsigned(u128::from(u64::random(rng))),
         Kind::Bool => Answer::Truth(bool::random(rng)),
     }
 }

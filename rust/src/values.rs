@@ -1,5 +1,6 @@
 // Written by `python3 rust/erase` from:
 // crates/nanorand_core/src/values.rt
+// rust/erase/layer/values.rs
 
 //! The values that a generator draws.
 
@@ -16,15 +17,29 @@ pub use word::pick_word;
 
 /// A type whose values can be drawn from a generator. A draw of a value cannot be refused.
 ///
-/// There are no floats: draw a number below a power of two with `choices::below`, and an event
-/// that happens in n of m cases with `choices::ratio`.
-///
-/// An integer of N bits takes one request of N / 8 bytes, read least byte first, the signed types
-/// in two's complement. `usize` and `isize` have 64 bits. An array of N bytes takes one request of
-/// N bytes.
+/// | Type | Taken | Value |
+/// |---|---|---|
+/// | an integer of N bits | one request of N / 8 bytes | their number, least byte first, in two's complement |
+/// | `usize`, `isize` | one request of 8 bytes | of a `u64` or an `i64` the bits that the type has |
+/// | `bool` | one byte | true if it is below 128 |
+/// | `f32`, `f64` | as `u32`, `u64` | the first 24 or 53 bits as a part of 1, from 0 to below 1 |
+/// | `char` | as `u32`, at most 128 times | one of all 1,112,064; U+0000 after 128 rejected words |
+/// | `NonZeroU8`, .. | as the integer, at most 128 times | the first that is not 0; 1 after 128 zeros |
+/// | an array of N bytes | one request of N bytes | the bytes |
+/// | another array, a tuple | as its items | the items, drawn in their order |
 pub trait RandomGen<G: Rng<OUTPUT>, const OUTPUT: usize> {
     /// Draws a value.
     fn random(rng: &mut G) -> Self;
+
+    /// Draws an array of values: one after another, but bytes by one request.
+    #[doc(hidden)]
+    #[inline]
+    fn array<const N: usize>(rng: &mut G) -> [Self; N]
+    where
+        Self: Sized,
+    {
+        core::array::from_fn(|_| Self::random(rng))
+    }
 }
 
 /// Takes one byte, and is true if it is below 128.

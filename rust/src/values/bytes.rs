@@ -1,15 +1,18 @@
 // Written by `python3 rust/erase` from:
 // crates/nanorand_core/src/values/bytes.rt
+// rust/erase/layer/values/bytes.rs
 
 //! Arrays of bytes: one request of their length.
 
-use super::{next_bytes, RandomGen};
+use super::RandomGen;
 use crate::rand::Rng;
 
-/// Takes `N` bytes by one request. An array of no bytes takes a request of none.
-impl<G: Rng<OUTPUT>, const N: usize, const OUTPUT: usize> RandomGen<G, OUTPUT> for [u8; N] {
+/// Draws the items one after another, in their order. An array of bytes takes one request of all.
+impl<T: RandomGen<G, OUTPUT>, G: Rng<OUTPUT>, const N: usize, const OUTPUT: usize>
+    RandomGen<G, OUTPUT> for [T; N]
+{
     #[inline]
-    fn random(rng: &mut G) -> [u8; N] {
-        next_bytes(rng)
+    fn random(rng: &mut G) -> [T; N] {
+        T::array(rng)
     }
 }

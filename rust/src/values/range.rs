@@ -93,6 +93,6 @@ fn end_place<T: Number>(high: Bound<T>) -> u128 {
     match high {
         Bound::Included(number) => u128::from(number.place()) + 1,
         Bound::Excluded(number) => u128::from(number.place()),
-        Bound::Unbounded => 1 << T::BITS,
+        Bound::Unbounded => u128::from(T::at_place(u64::MAX >> (64 - T::BITS)).place()) + 1,
     }
 }

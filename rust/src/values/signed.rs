@@ -44,6 +44,6 @@ impl<G: Rng<OUTPUT>, const OUTPUT: usize> RandomGen<G, OUTPUT> for i128 {
 impl<G: Rng<OUTPUT>, const OUTPUT: usize> RandomGen<G, OUTPUT> for isize {
     #[inline]
     fn random(rng: &mut G) -> isize {
-        isize::from_le_bytes(next_bytes(rng))
+        i64::from_le_bytes(next_bytes(rng)) as isize
     }
 }

@@ -1,5 +1,6 @@
 // Written by `python3 rust/erase` from:
 // crates/nanorand_core/src/values/unsigned.rt
+// rust/erase/layer/values/unsigned.rs
 
 //! The unsigned types: one request of their bytes, read least byte first.
 
@@ -10,6 +11,11 @@ impl<G: Rng<OUTPUT>, const OUTPUT: usize> RandomGen<G, OUTPUT> for u8 {
     #[inline]
     fn random(rng: &mut G) -> u8 {
         u8::from_le_bytes(next_bytes(rng))
+    }
+
+    #[inline]
+    fn array<const N: usize>(rng: &mut G) -> [u8; N] {
+        next_bytes(rng)
     }
 }
 
@@ -44,6 +50,6 @@ impl<G: Rng<OUTPUT>, const OUTPUT: usize> RandomGen<G, OUTPUT> for u128 {
 impl<G: Rng<OUTPUT>, const OUTPUT: usize> RandomGen<G, OUTPUT> for usize {
     #[inline]
     fn random(rng: &mut G) -> usize {
-        usize::from_le_bytes(next_bytes(rng))
+        u64::from_le_bytes(next_bytes(rng)) as usize
     }
 }
