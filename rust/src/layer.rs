@@ -1,8 +1,22 @@
 //! What a Rust program expects beside the proved functions, written by hand over them.
 
+mod any;
 mod borrowed;
+mod characters;
 mod debug;
+mod defaults;
+mod floats;
+mod hash;
+mod iterator;
+mod nonzero;
 mod seeds;
+mod tuples;
+mod wide_numbers;
+
+pub use any::{AnyRng, Lent};
+pub use iterator::GenerateIter;
+
+use core::ops::Bound;
 
 /// Refuses an odd number of rounds while the program is compiled.
 pub(crate) struct Rounds<const ROUNDS: u8>;
@@ -16,4 +30,13 @@ pub(crate) struct BlockLength<const OUTPUT: usize>;
 
 impl<const OUTPUT: usize> BlockLength<OUTPUT> {
     pub(crate) const POSITIVE: () = assert!(0 < OUTPUT, "a block has a byte or more");
+}
+
+// `Bound::map`, which Rust 1.63 has not yet.
+fn mapped<T, U>(bound: Bound<T>, map: impl FnOnce(T) -> U) -> Bound<U> {
+    match bound {
+        Bound::Included(value) => Bound::Included(map(value)),
+        Bound::Excluded(value) => Bound::Excluded(map(value)),
+        Bound::Unbounded => Bound::Unbounded,
+    }
 }

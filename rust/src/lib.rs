@@ -169,6 +169,7 @@ struct DoesNotCompile;
 struct Readme;
 
 pub use buffer::BufferedRng;
+pub use layer::{AnyRng, GenerateIter, Lent};
 pub use rand::{ChaCha, ChaCha12, ChaCha20, ChaCha8, Pcg64, Rng, SeedableRng, WyRand};
 pub use rand::{
     ChaCha12Stream, ChaCha20Stream, ChaCha8Stream, ChaChaGroups, ChaChaStream, Keystream,

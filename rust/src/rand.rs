@@ -13,9 +13,12 @@ pub mod keystream;
 pub mod pcg64;
 pub mod wyrand;
 
+use crate::choices::WeightError;
+use crate::layer::{GenerateIter, Lent};
 use crate::swap::swap;
 use crate::values::word::{draw_below, pick_below, pick_counted, rejected, MAX_WORDS};
 use crate::values::{RandomGen, RandomRange, RangeError};
+use crate::{choices, samples, shuffles};
 pub use chacha::{ChaCha, ChaCha12, ChaCha20, ChaCha8};
 pub use chacha_groups::ChaChaGroups;
 use core::ops::RangeBounds;
@@ -48,12 +51,10 @@ pub use wyrand::WyRand;
 /// # Ok::<(), RangeError>(())
 /// ```
 ///
-/// Choices and samples are functions that take a generator: see [`choices`](crate::choices) and
-/// [`samples`](crate::samples).
-///
 /// Functions over generators are generic: `fn f<R: Rng<OUTPUT>, const OUTPUT: usize>(rng: &mut R)`. A
 /// `&mut R` is a generator too, so it can be lent where a generator is taken. There is no `dyn Rng`,
-/// since the calls are generic. `OUTPUT` is at least 1: blocks of no bytes do not compile.
+/// since the calls are generic: [`AnyRng`](crate::AnyRng) has one, and no parameter. `OUTPUT` is at
+/// least 1: blocks of no bytes do not compile.
 pub trait Rng<const OUTPUT: usize>: Sized {
     /// Draws the next block.
     fn rand(&mut self) -> [u8; OUTPUT];
@@ -80,13 +81,14 @@ pub trait Rng<const OUTPUT: usize>: Sized {
     /// Draws a number of the range, such as `1..=6` or `..10`, or a value of a type of your own.
     ///
     /// Each number of a range of an integer type is named by equally many words, after Daniel Lemire
-    /// ("Fast Random Integer Generation in an Interval", 2019). A type of your own says what its bounds
-    /// mean, and when it returns each error.
+    /// ("Fast Random Integer Generation in an Interval", 2019). [`RandomRange`] says what the ranges of
+    /// `char` and of floats are. A type of your own says what its bounds mean, and when it returns each
+    /// error.
     ///
     /// # Errors
     ///
-    /// For the integer types `Empty` if the range has no number; nothing is drawn then. `Exhausted` if 128
-    /// words in a row were rejected; they stay drawn.
+    /// For the types of the library `Empty` if the range has no number; nothing is drawn then.
+    /// `Exhausted` if 128 words in a row were rejected; they stay drawn.
     #[inline]
     fn generate_range<T: RandomRange<Self, OUTPUT> + Clone>(
         &mut self,
@@ -134,6 +136,140 @@ pub trait Rng<const OUTPUT: usize>: Sized {
             }
         }
         Ok(())
+    }
+
+    /// Draws a number of the range as `generate_range` does, for ranges that are known to have one.
+    ///
+    /// # Panics
+    ///
+    /// Panics with the text of the error where `generate_range` returns one.
+    #[inline]
+    #[track_caller]
+    fn range<T: RandomRange<Self, OUTPUT> + Clone>(&mut self, range: impl RangeBounds<T>) -> T {
+        match self.generate_range(range) {
+            Ok(number) => number,
+            Err(error) => panic!("{error}"),
+        }
+    }
+
+    /// Shuffles the slice as `shuffle` does.
+    ///
+    /// # Panics
+    ///
+    /// Panics with the text of the error where `shuffle` returns one: after 128 rejected words in a row.
+    #[inline]
+    #[track_caller]
+    fn permute<T>(&mut self, items: &mut [T]) {
+        if let Err(error) = self.shuffle(items) {
+            panic!("{error}");
+        }
+    }
+
+    /// Shuffles the beginning of the slice, as [`partial_shuffle`](shuffles::partial_shuffle) does: the
+    /// first `count` items are then a selection from all items, in random order.
+    ///
+    /// # Errors
+    ///
+    /// It returns `Exhausted` if 128 words in a row were rejected for one index. The swaps before that
+    /// stay, and so do all draws.
+    #[inline]
+    fn partial_shuffle<T>(&mut self, items: &mut [T], count: usize) -> Result<(), RangeError> {
+        shuffles::partial_shuffle(self, items, count)
+    }
+
+    /// Chooses an item of the slice; each is chosen by equally many words.
+    ///
+    /// # Errors
+    ///
+    /// It returns `Empty` for an empty slice, and draws nothing then. It returns `Exhausted` if 128 words
+    /// in a row were rejected; they stay drawn.
+    #[inline]
+    fn choose<'a, T>(&mut self, items: &'a [T]) -> Result<&'a T, RangeError> {
+        choices::choose(self, items)
+    }
+
+    /// Chooses an item of the slice as `choose` does, and lends it for writing.
+    ///
+    /// # Errors
+    ///
+    /// It returns `Empty` and `Exhausted` as `choose` does.
+    #[inline]
+    fn choose_mut<'a, T>(&mut self, items: &'a mut [T]) -> Result<&'a mut T, RangeError> {
+        choices::choose_mut(self, items)
+    }
+
+    /// Chooses an item by its weight, and returns its index: `weights[i]` is the weight of item i.
+    ///
+    /// # Errors
+    ///
+    /// It returns `NoWeight` if there are no weights or all of them are 0, `TooHeavy` if they add up to
+    /// 2^64 or more, and `Exhausted` if 128 words in a row were rejected. After any other error nothing
+    /// was drawn.
+    #[inline]
+    fn choose_weighted(&mut self, weights: &[u64]) -> Result<usize, WeightError> {
+        choices::choose_weighted(self, weights)
+    }
+
+    /// Returns true in `numerator` of `denominator` cases, and always if `numerator` is the greater.
+    ///
+    /// # Errors
+    ///
+    /// It returns `Empty` if `denominator` is 0, and draws nothing then. It returns `Exhausted` if 128
+    /// words in a row were rejected; they stay drawn.
+    #[inline]
+    fn ratio(&mut self, numerator: u64, denominator: u64) -> Result<bool, RangeError> {
+        choices::ratio(self, numerator, denominator)
+    }
+
+    /// Samples different numbers below `count`, one into each slot, as [`sample`](samples::sample) does.
+    /// The order of the slots is not random.
+    ///
+    /// # Errors
+    ///
+    /// It returns `Exhausted` if 128 words in a row were rejected for one slot. The slots before it then
+    /// hold the numbers drawn so far, all other slots are as before, and all draws stay.
+    ///
+    /// # Panics
+    ///
+    /// Panics unless there are at most `count` slots.
+    #[inline]
+    #[track_caller]
+    fn sample(&mut self, count: usize, places: &mut [usize]) -> Result<(), RangeError> {
+        samples::sample(self, count, places)
+    }
+
+    /// The values that `generate` draws, as an iterator without an end. It draws each when it is asked
+    /// for it.
+    ///
+    /// ```
+    /// use nanorand_proved::{Rng, WyRand};
+    ///
+    /// let mut rng = WyRand::new_seed(42);
+    /// let throws: Vec<bool> = rng.generate_iter().take(10).collect();
+    /// # let _ = throws;
+    /// ```
+    #[inline]
+    fn generate_iter<T: RandomGen<Self, OUTPUT>>(&mut self) -> GenerateIter<'_, T, Self, OUTPUT> {
+        GenerateIter::new(self)
+    }
+
+    /// Lends the generator as an [`AnyRng`](crate::AnyRng), for functions that take one.
+    ///
+    /// ```
+    /// use nanorand_proved::{AnyRng, Rng, WyRand};
+    ///
+    /// fn number(rng: &mut dyn AnyRng) -> u64 {
+    ///     rng.u64()
+    /// }
+    ///
+    /// fn sum<R: Rng<OUTPUT>, const OUTPUT: usize>(rng: &mut R) -> u64 {
+    ///     number(&mut rng.as_any()).wrapping_add(number(&mut rng.as_any()))
+    /// }
+    /// # let _ = sum(&mut WyRand::new_seed(42));
+    /// ```
+    #[inline]
+    fn as_any(&mut self) -> Lent<'_, Self, OUTPUT> {
+        Lent(self)
     }
 
     /// Draws a `u32`: the number of the next four bytes, least byte first.

@@ -27,6 +27,13 @@ pub use word::pick_word;
 /// | `NonZeroU8`, .. | as the integer, at most 128 times | the first that is not 0; 1 after 128 zeros |
 /// | an array of N bytes | one request of N bytes | the bytes |
 /// | another array, a tuple | as its items | the items, drawn in their order |
+#[cfg_attr(
+    diagnostic_hints,
+    diagnostic::on_unimplemented(
+        message = "`{Self}` is no type whose values can be drawn",
+        note = "implement `RandomGen` for it, or draw its parts"
+    )
+)]
 pub trait RandomGen<G: Rng<OUTPUT>, const OUTPUT: usize> {
     /// Draws a value.
     fn random(rng: &mut G) -> Self;

@@ -1,5 +1,6 @@
 // Written by `python3 rust/erase` from:
 // crates/nanorand_core/src/values/range.rt
+// rust/erase/layer/values/range.rs
 
 //! Numbers between two bounds.
 
@@ -33,20 +34,36 @@ impl core::fmt::Display for RangeError {
 #[cfg(feature = "std")]
 impl std::error::Error for RangeError {}
 
-/// A type whose values can be drawn within two bounds: the integer types of 8 to 64 bits, `usize`
-/// and `isize`, but not `u128` and `i128`, since a word has at most 64 bits.
+/// A type whose values can be drawn within two bounds: the integer types, `char`, `f32` and `f64`.
 ///
-/// A range of an integer type holds the numbers that both bounds admit. Words of the type's width
-/// are drawn, each by one request, until one names a number, at most 128; each number of the range
-/// is produced by equally many words. A user's type defines what its bounds mean and when a draw
-/// fails.
+/// A range of an integer type holds the numbers that both bounds admit. Words of the type's width,
+/// and of `usize` and `isize` of 64 bits, are drawn, each by one request, until one names a number,
+/// at most 128; each number of the range is produced by equally many words. So are the characters of
+/// a range of `char`, by words of 32 bits; surrogates are passed over.
+///
+/// A float is `low + (high - low) * part`, rounded. With k the first 53 bits of a word of 64, the part
+/// is k / 2^53 if `high` is excluded, and k / (2^53 - 1) if it is included, so that it can come; of
+/// `f32` it is 24 bits of a word of 32. An unbounded side ends with the type's least or greatest finite
+/// number. A number that rounding moved to an excluded bound is drawn again. The numbers are rounded,
+/// so they are not equally likely to the last bit.
+///
+/// A type of your own defines what its bounds mean and when a draw fails.
+#[cfg_attr(
+    diagnostic_hints,
+    diagnostic::on_unimplemented(
+        message = "`{Self}` has no ranges",
+        note = "implement `RandomRange` for it, or draw a number of an integer type and make the value of it"
+    )
+)]
 pub trait RandomRange<G: Rng<OUTPUT>, const OUTPUT: usize>: RandomGen<G, OUTPUT> + Sized {
     /// Draws a value between the bounds.
     ///
     /// # Errors
     ///
-    /// It returns an error as the type defines. The integer types return `Empty` if the range has no
-    /// number, and `Exhausted` if 128 words in a row were rejected.
+    /// It returns an error as the type defines. For the library's types it is `Empty`, and nothing is
+    /// drawn, if the range has no value: no number of an integer type or character, or of floats a bound
+    /// that is infinite or NaN, a low one above the high one, or equal ones of which one is excluded. It is
+    /// `Exhausted` after 128 words without a value.
     fn random_range(rng: &mut G, low: Bound<Self>, high: Bound<Self>) -> Result<Self, RangeError>;
 }
 

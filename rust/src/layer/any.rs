@@ -1,0 +1,157 @@
+//! Generators behind `dyn`, and generics without the size of a block. Written by hand, tested, not proved.
+
+use crate::buffer::BufferedRng;
+use crate::rand::{ChaCha, ChaChaGroups, Pcg64, Rng, WyRand};
+
+/// Any generator, whatever the size of its blocks: `&mut dyn AnyRng`, or `rng: &mut impl AnyRng`.
+///
+/// [`rng`](Self::rng) lends it as an [`Rng`], which has ranges, shuffles and all other calls. They
+/// draw what the generator itself draws by these calls.
+///
+/// ```
+/// use nanorand_proved::{AnyRng, ChaCha20, RangeError, Rng, WyRand};
+///
+/// fn throw(rng: &mut dyn AnyRng) -> Result<u8, RangeError> {
+///     rng.rng().generate_range(1..=6)
+/// }
+///
+/// fn deal(rng: &mut impl AnyRng, cards: &mut [&str]) -> Result<(), RangeError> {
+///     rng.rng().shuffle(cards)
+/// }
+///
+/// let pips = throw(&mut WyRand::new_seed(42))?;
+/// assert_eq!(WyRand::new_seed(42).generate_range(1..=6), Ok(pips));
+/// deal(&mut ChaCha20::new_key([1; 32], [2; 8]), &mut ["ace", "king", "queen"])?;
+/// # Ok::<(), RangeError>(())
+/// ```
+///
+/// A generator of your own has it by one function:
+///
+/// ```
+/// # use nanorand_proved::{AnyRng, Rng};
+/// struct Counter(u64);
+///
+/// impl Rng<8> for Counter {
+///     fn rand(&mut self) -> [u8; 8] {
+///         self.0 += 1;
+///         self.0.to_le_bytes()
+///     }
+/// }
+///
+/// impl AnyRng for Counter {
+///     fn bytes(&mut self, buffer: &mut [u8]) {
+///         self.fill_bytes(buffer);
+///     }
+/// }
+///
+/// let generators: [Box<dyn AnyRng>; 2] = [Box::new(Counter(6)), Box::<Counter>::new(Counter(8))];
+/// assert_eq!(generators.map(|mut rng| rng.u64()), [7, 9]);
+/// ```
+pub trait AnyRng: AsDyn {
+    /// Fills the slice with the next bytes, by one request. An empty slice draws nothing.
+    fn bytes(&mut self, buffer: &mut [u8]);
+
+    /// Draws a `u32`: the number of the next four bytes, least byte first.
+    #[inline]
+    fn u32(&mut self) -> u32 {
+        let mut bytes = [0; 4];
+        self.bytes(&mut bytes);
+        u32::from_le_bytes(bytes)
+    }
+
+    /// Draws a `u64`: the number of the next eight bytes, least byte first.
+    #[inline]
+    fn u64(&mut self) -> u64 {
+        let mut bytes = [0; 8];
+        self.bytes(&mut bytes);
+        u64::from_le_bytes(bytes)
+    }
+
+    /// Lends the generator as an [`Rng`], which `&mut dyn AnyRng` is.
+    #[inline]
+    fn rng(&mut self) -> &mut dyn AnyRng {
+        self.as_dyn()
+    }
+}
+
+/// What a provided method cannot do, as the size of `Self` is not known there. Every `AnyRng` has it.
+pub trait AsDyn {
+    /// Forgets the type.
+    fn as_dyn(&mut self) -> &mut dyn AnyRng;
+}
+
+impl<R: AnyRng> AsDyn for R {
+    #[inline]
+    fn as_dyn(&mut self) -> &mut dyn AnyRng {
+        self
+    }
+}
+
+/// Each request is made to the generator that is lent. A block has 8 bytes, and is a request of 8.
+impl Rng<8> for &mut (dyn AnyRng + '_) {
+    #[inline]
+    fn rand(&mut self) -> [u8; 8] {
+        self.u64().to_le_bytes()
+    }
+
+    #[inline]
+    fn fill_bytes(&mut self, buffer: &mut [u8]) {
+        self.bytes(buffer);
+    }
+}
+
+/// A lent generator as an [`AnyRng`]: see [`Rng::as_any`].
+#[derive(Debug)]
+pub struct Lent<'a, G, const OUTPUT: usize>(pub(crate) &'a mut G);
+
+impl<G: Rng<OUTPUT>, const OUTPUT: usize> AnyRng for Lent<'_, G, OUTPUT> {
+    #[inline]
+    fn bytes(&mut self, buffer: &mut [u8]) {
+        self.0.fill_bytes(buffer);
+    }
+}
+
+macro_rules! any_rng {
+    ($([$($parameter:tt)*] $generator:ty,)+) => { $(
+        impl<$($parameter)*> AnyRng for $generator {
+            #[inline]
+            fn bytes(&mut self, buffer: &mut [u8]) {
+                self.fill_bytes(buffer);
+            }
+        }
+    )+ };
+}
+
+any_rng! {
+    [] WyRand,
+    [] Pcg64,
+    [const ROUNDS: u8] ChaCha<ROUNDS>,
+    [const ROUNDS: u8] ChaChaGroups<ROUNDS>,
+    [G: Rng<OUTPUT>, const OUTPUT: usize] BufferedRng<G, OUTPUT>,
+}
+
+macro_rules! any_rng_by_reference {
+    ($reference:ty) => {
+        /// Each call is made on the generator that it refers to.
+        impl<R: AnyRng + ?Sized> AnyRng for $reference {
+            #[inline]
+            fn bytes(&mut self, buffer: &mut [u8]) {
+                (**self).bytes(buffer);
+            }
+
+            #[inline]
+            fn u32(&mut self) -> u32 {
+                (**self).u32()
+            }
+
+            #[inline]
+            fn u64(&mut self) -> u64 {
+                (**self).u64()
+            }
+        }
+    };
+}
+
+any_rng_by_reference!(&mut R);
+#[cfg(feature = "std")]
+any_rng_by_reference!(std::boxed::Box<R>);

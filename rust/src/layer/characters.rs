@@ -1,0 +1,51 @@
+//! Characters, and ranges of them. Written by hand over the proved draw, tested, not proved.
+
+use super::mapped;
+use crate::rand::Rng;
+use crate::values::word::draw_below;
+use crate::values::{RandomGen, RandomRange, RangeError};
+use core::ops::Bound;
+
+// The surrogates, which are no characters, stand from here on, and so many they are.
+const SURROGATES: u32 = 0xd800;
+const SURROGATE_COUNT: u32 = 0x800;
+
+const CHARACTERS: u32 = char::MAX as u32 + 1 - SURROGATE_COUNT;
+
+/// One of the 1,112,064 scalar values of Unicode, each named by equally many words of 32 bits. U+0000
+/// if 128 words in a row were rejected, since a draw of a value cannot be refused.
+impl<G: Rng<OUTPUT>, const OUTPUT: usize> RandomGen<G, OUTPUT> for char {
+    #[inline]
+    fn random(rng: &mut G) -> char {
+        draw_below(rng, u128::from(CHARACTERS), 32).map_or('\0', |rank| at_rank(rank as u32))
+    }
+}
+
+/// The scalar values that both bounds admit, each named by equally many words of 32 bits: surrogates
+/// are passed over. The errors are those of the integer types.
+impl<G: Rng<OUTPUT>, const OUTPUT: usize> RandomRange<G, OUTPUT> for char {
+    #[inline]
+    fn random_range(rng: &mut G, low: Bound<char>, high: Bound<char>) -> Result<char, RangeError> {
+        let high = match mapped(high, rank_of) {
+            Bound::Unbounded => Bound::Excluded(CHARACTERS),
+            bound => bound,
+        };
+        u32::random_range(rng, mapped(low, rank_of), high).map(at_rank)
+    }
+}
+
+fn rank_of(character: char) -> u32 {
+    match u32::from(character) {
+        scalar if scalar < SURROGATES => scalar,
+        scalar => scalar - SURROGATE_COUNT,
+    }
+}
+
+fn at_rank(rank: u32) -> char {
+    let scalar = if rank < SURROGATES {
+        rank
+    } else {
+        rank + SURROGATE_COUNT
+    };
+    char::from_u32(scalar).expect("a rank below the number of characters")
+}

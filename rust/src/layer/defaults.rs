@@ -1,0 +1,43 @@
+//! `Default` of generators, with a seed from the operating system. Written by hand, tested, not proved.
+#![cfg(feature = "std")]
+
+use crate::entropy::EntropyError;
+use crate::rand::{ChaCha, ChaChaGroups, Pcg64, WyRand};
+
+/// `from_entropy`, which panics where it returns an error.
+impl Default for WyRand {
+    #[track_caller]
+    fn default() -> Self {
+        seeded(Self::from_entropy())
+    }
+}
+
+/// `from_entropy`, which panics where it returns an error.
+impl Default for Pcg64 {
+    #[track_caller]
+    fn default() -> Self {
+        seeded(Self::from_entropy())
+    }
+}
+
+/// `from_entropy`, which panics where it returns an error.
+impl<const ROUNDS: u8> Default for ChaCha<ROUNDS> {
+    #[track_caller]
+    fn default() -> Self {
+        seeded(Self::from_entropy())
+    }
+}
+
+/// With the key and the nonce of a `ChaCha` by default.
+impl<const ROUNDS: u8> Default for ChaChaGroups<ROUNDS> {
+    #[track_caller]
+    fn default() -> Self {
+        let chacha = ChaCha::<ROUNDS>::default();
+        Self::new_key(chacha.key(), chacha.nonce())
+    }
+}
+
+#[track_caller]
+fn seeded<G>(generator: Result<G, EntropyError>) -> G {
+    generator.unwrap_or_else(|error| panic!("{error}"))
+}

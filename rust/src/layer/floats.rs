@@ -1,0 +1,145 @@
+//! Floating-point numbers, and ranges of them. Written by hand, tested, not proved.
+
+use crate::rand::Rng;
+use crate::values::word::MAX_WORDS;
+use crate::values::{RandomGen, RandomRange, RangeError};
+use core::ops::{Add, Bound, Div, Mul, Sub};
+
+/// The word's first 24 bits times 2^-24: a multiple of 2^-24 from 0 to below 1, each equally likely.
+impl<G: Rng<OUTPUT>, const OUTPUT: usize> RandomGen<G, OUTPUT> for f32 {
+    #[inline]
+    fn random(rng: &mut G) -> f32 {
+        f32::draw_step(rng) / f32::STEPS
+    }
+}
+
+/// The word's first 53 bits times 2^-53: a multiple of 2^-53 from 0 to below 1, each equally likely.
+impl<G: Rng<OUTPUT>, const OUTPUT: usize> RandomGen<G, OUTPUT> for f64 {
+    #[inline]
+    fn random(rng: &mut G) -> f64 {
+        f64::draw_step(rng) / f64::STEPS
+    }
+}
+
+/// A number that both bounds admit: `low + (high - low) * part`, rounded.
+///
+/// With k the first 24 bits of a word of 32, the part is k / 2^24 if `high` is excluded, and
+/// k / (2^24 - 1) if it is included, so that it can come. An unbounded side ends with the type's least
+/// or greatest finite number. A number that rounding moved to an excluded bound is drawn again, by the
+/// next word. The numbers are rounded, so they are not equally likely to the last bit.
+///
+/// The error is `Empty`, and nothing is drawn, if a bound is infinite or NaN, if `low` is above `high`,
+/// or if both are equal and one is excluded. It is `Exhausted` after 128 words without a number.
+impl<G: Rng<OUTPUT>, const OUTPUT: usize> RandomRange<G, OUTPUT> for f32 {
+    #[inline]
+    fn random_range(rng: &mut G, low: Bound<f32>, high: Bound<f32>) -> Result<f32, RangeError> {
+        draw_between(rng, low, high)
+    }
+}
+
+/// As of `f32`, with the first 53 bits of a word of 64, and 2^53 in the place of 2^24.
+impl<G: Rng<OUTPUT>, const OUTPUT: usize> RandomRange<G, OUTPUT> for f64 {
+    #[inline]
+    fn random_range(rng: &mut G, low: Bound<f64>, high: Bound<f64>) -> Result<f64, RangeError> {
+        draw_between(rng, low, high)
+    }
+}
+
+// A type of floating-point numbers, whose whole numbers from 0 to `STEPS` are all exact.
+trait Float: Copy + PartialOrd
+where
+    Self: Add<Output = Self> + Sub<Output = Self> + Mul<Output = Self> + Div<Output = Self>,
+{
+    const ONE: Self;
+    const TWO: Self;
+    const STEPS: Self;
+    const LEAST: Self;
+    const GREATEST: Self;
+
+    // A whole number below `STEPS`, by one word.
+    fn draw_step<G: Rng<OUTPUT>, const OUTPUT: usize>(rng: &mut G) -> Self;
+
+    // Neither infinite nor NaN.
+    fn is_number(self) -> bool {
+        Self::LEAST <= self && self <= Self::GREATEST
+    }
+}
+
+impl Float for f32 {
+    const ONE: f32 = 1.0;
+    const TWO: f32 = 2.0;
+    const STEPS: f32 = 16_777_216.0;
+    const LEAST: f32 = f32::MIN;
+    const GREATEST: f32 = f32::MAX;
+
+    #[inline]
+    #[allow(clippy::cast_precision_loss)] // 24 bits, as many as an `f32` has
+    fn draw_step<G: Rng<OUTPUT>, const OUTPUT: usize>(rng: &mut G) -> f32 {
+        (u32::random(rng) >> 8) as f32
+    }
+}
+
+impl Float for f64 {
+    const ONE: f64 = 1.0;
+    const TWO: f64 = 2.0;
+    const STEPS: f64 = 9_007_199_254_740_992.0;
+    const LEAST: f64 = f64::MIN;
+    const GREATEST: f64 = f64::MAX;
+
+    #[inline]
+    #[allow(clippy::cast_precision_loss)] // 53 bits, as many as an `f64` has
+    fn draw_step<G: Rng<OUTPUT>, const OUTPUT: usize>(rng: &mut G) -> f64 {
+        (u64::random(rng) >> 11) as f64
+    }
+}
+
+#[inline]
+fn draw_between<T: Float, G: Rng<OUTPUT>, const OUTPUT: usize>(
+    rng: &mut G,
+    low: Bound<T>,
+    high: Bound<T>,
+) -> Result<T, RangeError> {
+    let (low, low_excluded) = end_of(low, T::LEAST);
+    let (high, high_excluded) = end_of(high, T::GREATEST);
+    let excluded = low_excluded || high_excluded;
+    let ordered = low < high || low == high && !excluded;
+    if !(low.is_number() && high.is_number() && ordered) {
+        return Err(RangeError::Empty);
+    }
+    let last = if high_excluded {
+        T::STEPS
+    } else {
+        T::STEPS - T::ONE
+    };
+    (0..MAX_WORDS)
+        .map(|_| between(low, high, T::draw_step(rng) / last))
+        .find(|number| !(low_excluded && *number == low || high_excluded && *number == high))
+        .ok_or(RangeError::Exhausted)
+}
+
+// The number where a range ends, and whether it is excluded.
+#[inline]
+fn end_of<T>(bound: Bound<T>, unbounded: T) -> (T, bool) {
+    match bound {
+        Bound::Included(number) => (number, false),
+        Bound::Excluded(number) => (number, true),
+        Bound::Unbounded => (unbounded, false),
+    }
+}
+
+// The number at a part of the way from `low` to `high`. Where the way is longer than any number, the
+// halves of both ends have one that is not.
+#[inline]
+fn between<T: Float>(low: T, high: T, part: T) -> T {
+    let way = high - low;
+    let number = if way.is_number() {
+        low + way * part
+    } else {
+        (low / T::TWO + (high / T::TWO - low / T::TWO) * part) * T::TWO
+    };
+    if part == T::ONE || high < number {
+        high
+    } else {
+        number
+    }
+}

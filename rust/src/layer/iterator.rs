@@ -1,0 +1,47 @@
+//! An iterator of drawn values. Written by hand, tested, not proved.
+
+use crate::rand::Rng;
+use crate::values::RandomGen;
+use core::iter::FusedIterator;
+use core::marker::PhantomData;
+
+/// The values that a generator draws, one after another without an end: see
+/// [`Rng::generate_iter`].
+#[derive(Debug)]
+pub struct GenerateIter<'a, T, G, const OUTPUT: usize> {
+    rng: &'a mut G,
+    values: PhantomData<fn() -> T>,
+}
+
+impl<'a, T, G, const OUTPUT: usize> GenerateIter<'a, T, G, OUTPUT> {
+    pub(crate) fn new(rng: &'a mut G) -> Self {
+        GenerateIter {
+            rng,
+            values: PhantomData,
+        }
+    }
+}
+
+impl<T, G, const OUTPUT: usize> Iterator for GenerateIter<'_, T, G, OUTPUT>
+where
+    T: RandomGen<G, OUTPUT>,
+    G: Rng<OUTPUT>,
+{
+    type Item = T;
+
+    #[inline]
+    fn next(&mut self) -> Option<T> {
+        Some(self.rng.generate())
+    }
+
+    fn size_hint(&self) -> (usize, Option<usize>) {
+        (usize::MAX, None)
+    }
+}
+
+impl<T, G, const OUTPUT: usize> FusedIterator for GenerateIter<'_, T, G, OUTPUT>
+where
+    T: RandomGen<G, OUTPUT>,
+    G: Rng<OUTPUT>,
+{
+}

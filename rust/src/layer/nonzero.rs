@@ -1,0 +1,37 @@
+//! Integers that are not 0. Written by hand, tested, not proved.
+
+use crate::rand::Rng;
+use crate::values::word::MAX_WORDS;
+use crate::values::RandomGen;
+use core::num::{NonZeroI128, NonZeroI16, NonZeroI32, NonZeroI64, NonZeroI8, NonZeroIsize};
+use core::num::{NonZeroU128, NonZeroU16, NonZeroU32, NonZeroU64, NonZeroU8, NonZeroUsize};
+
+macro_rules! nonzero {
+    ($($number:ident),+) => { $(
+        /// The first of at most 128 values of the integer type that is not 0, and 1 if all are 0.
+        impl<G: Rng<OUTPUT>, const OUTPUT: usize> RandomGen<G, OUTPUT> for $number {
+            #[inline]
+            fn random(rng: &mut G) -> Self {
+                let drawn = (0..MAX_WORDS).find_map(|_| Self::new(rng.generate()));
+                drawn.or(Self::new(1)).expect("1 is not 0")
+            }
+        }
+    )+ };
+}
+
+nonzero!(
+    NonZeroU8,
+    NonZeroU16,
+    NonZeroU32,
+    NonZeroU64,
+    NonZeroU128,
+    NonZeroUsize
+);
+nonzero!(
+    NonZeroI8,
+    NonZeroI16,
+    NonZeroI32,
+    NonZeroI64,
+    NonZeroI128,
+    NonZeroIsize
+);

@@ -1,0 +1,25 @@
+//! Tuples of up to twelve values, drawn in their order. Written by hand, tested, not proved.
+
+use crate::rand::Rng;
+use crate::values::RandomGen;
+
+// One tuple, and those that lack its first members.
+macro_rules! tuples {
+    ($first:ident $($other:ident)*) => {
+        impl<$first, $($other,)* G, const OUTPUT: usize> RandomGen<G, OUTPUT> for ($first, $($other,)*)
+        where
+            G: Rng<OUTPUT>,
+            $first: RandomGen<G, OUTPUT>,
+            $($other: RandomGen<G, OUTPUT>,)*
+        {
+            #[inline]
+            fn random(rng: &mut G) -> Self {
+                ($first::random(rng), $($other::random(rng),)*)
+            }
+        }
+        tuples!($($other)*);
+    };
+    () => {};
+}
+
+tuples!(A B C D E F H I J K L M);

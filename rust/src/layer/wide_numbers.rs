@@ -1,0 +1,141 @@
+//! Ranges of 128-bit numbers, by the rule of the proved `pick_word`. Written by hand, tested, not proved.
+
+use super::mapped;
+use crate::rand::Rng;
+use crate::values::word::MAX_WORDS;
+use crate::values::{RandomGen, RandomRange, RangeError};
+use core::ops::Bound;
+
+/// Each number of the range is named by equally many words of 128 bits. The errors are those of the
+/// other integer types.
+impl<G: Rng<OUTPUT>, const OUTPUT: usize> RandomRange<G, OUTPUT> for u128 {
+    #[inline]
+    fn random_range(rng: &mut G, low: Bound<u128>, high: Bound<u128>) -> Result<u128, RangeError> {
+        draw_between(rng, low, high)
+    }
+}
+
+/// Each number of the range is named by equally many words of 128 bits. The errors are those of the
+/// other integer types.
+impl<G: Rng<OUTPUT>, const OUTPUT: usize> RandomRange<G, OUTPUT> for i128 {
+    #[inline]
+    fn random_range(rng: &mut G, low: Bound<i128>, high: Bound<i128>) -> Result<i128, RangeError> {
+        let rank = draw_between(rng, mapped(low, rank_of), mapped(high, rank_of))?;
+        Ok((rank ^ SIGN) as i128)
+    }
+}
+
+const SIGN: u128 = 1 << 127;
+
+// Rank 0 is the least number.
+fn rank_of(number: i128) -> u128 {
+    number as u128 ^ SIGN
+}
+
+fn draw_between<G: Rng<OUTPUT>, const OUTPUT: usize>(
+    rng: &mut G,
+    low: Bound<u128>,
+    high: Bound<u128>,
+) -> Result<u128, RangeError> {
+    let first = first_of(low).ok_or(RangeError::Empty)?;
+    let last = last_of(high).ok_or(RangeError::Empty)?;
+    let others = last.checked_sub(first).ok_or(RangeError::Empty)?;
+    match others.checked_add(1) {
+        Some(size) => Ok(first + draw_below(rng, size)?),
+        None => Ok(rng.generate()),
+    }
+}
+
+fn first_of(low: Bound<u128>) -> Option<u128> {
+    match low {
+        Bound::Included(number) => Some(number),
+        Bound::Excluded(number) => number.checked_add(1),
+        Bound::Unbounded => Some(0),
+    }
+}
+
+fn last_of(high: Bound<u128>) -> Option<u128> {
+    match high {
+        Bound::Included(number) => Some(number),
+        Bound::Excluded(number) => number.checked_sub(1),
+        Bound::Unbounded => Some(u128::MAX),
+    }
+}
+
+fn draw_below<G: Rng<OUTPUT>, const OUTPUT: usize>(
+    rng: &mut G,
+    size: u128,
+) -> Result<u128, RangeError> {
+    (0..MAX_WORDS)
+        .find_map(|_| pick_number(size, 128, u128::random(rng)))
+        .ok_or(RangeError::Exhausted)
+}
+
+// The number below `size` that a word of `bits` bits names, or `None` if the word is rejected. The size
+// is from 1 to 2^bits - 1.
+fn pick_number(size: u128, bits: u32, word: u128) -> Option<u128> {
+    let (number, low) = product(size, bits, word);
+    (low >= size || low >= rejected(size, bits)).then_some(number)
+}
+
+// How many words are rejected: 2^bits modulo the size.
+fn rejected(size: u128, bits: u32) -> u128 {
+    (ones(bits) - size + 1) % size
+}
+
+// The halves of `word * size`, each of `bits` bits, the high one first. They are multiplied by halves
+// of their own, whose products have `bits` bits.
+fn product(size: u128, bits: u32, word: u128) -> (u128, u128) {
+    let half = bits / 2;
+    let (size_high, size_low) = (size >> half, size & ones(half));
+    let (word_high, word_low) = (word >> half, word & ones(half));
+    let lowest = word_low * size_low;
+    let first = word_high * size_low + (lowest >> half);
+    let second = word_low * size_high + (first & ones(half));
+    let high = word_high * size_high + (first >> half) + (second >> half);
+    (
+        high,
+        ((second & ones(half)) << half) + (lowest & ones(half)),
+    )
+}
+
+// The greatest number of `bits` bits.
+fn ones(bits: u32) -> u128 {
+    u128::MAX >> (128 - bits)
+}
+
+#[cfg(test)]
+mod tests {
+    use super::pick_number;
+    use crate::values::pick_word;
+
+    fn agrees(size: u64, bits: u32, word: u64) {
+        let wide = pick_number(u128::from(size), bits, u128::from(word));
+        let proved = pick_word(u128::from(size), bits, word).map(u128::from);
+        assert_eq!(wide, proved, "{size} {bits} {word}");
+    }
+
+    #[test]
+    fn every_size_and_word_of_8_bits() {
+        for size in 1..=255 {
+            (0..=255).for_each(|word| agrees(size, 8, word));
+        }
+    }
+
+    // Numbers at both ends, and spread between them.
+    fn numbers(bits: u32) -> impl Iterator<Item = u64> {
+        (0..60_u64).flat_map(move |step| {
+            let spread = step.wrapping_mul(0x9e37_79b9_7f4a_7c15);
+            [step, spread, !step].map(|number| number & u64::MAX >> (64 - bits))
+        })
+    }
+
+    #[test]
+    fn many_sizes_and_words_of_more_bits() {
+        for bits in [16, 32, 64] {
+            for size in numbers(bits).filter(|size| *size > 0) {
+                numbers(bits).for_each(|word| agrees(size, bits, word));
+            }
+        }
+    }
+}
