@@ -123,10 +123,12 @@
 // The proved source has the form of Rattle, and its proofs say that no cast loses a bit that counts.
 #![allow(
     clippy::cast_possible_truncation,
+    clippy::cast_possible_wrap,
     clippy::cast_sign_loss,
     clippy::inline_always,
     clippy::manual_find,
     clippy::many_single_char_names,
+    clippy::match_same_arms,
     clippy::needless_bitwise_bool,
     clippy::needless_range_loop,
     clippy::semicolon_if_nothing_returned,

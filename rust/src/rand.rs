@@ -233,7 +233,6 @@ pub trait Rng<const OUTPUT: usize>: Sized {
     ///
     /// Panics unless there are at most `count` slots.
     #[inline]
-    #[track_caller]
     fn sample(&mut self, count: usize, places: &mut [usize]) -> Result<(), RangeError> {
         samples::sample(self, count, places)
     }

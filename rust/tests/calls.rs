@@ -70,7 +70,7 @@ macro_rules! check_forms {
 
 #[test]
 fn every_form_of_bounds_of_every_type() {
-    check_forms!(u8, u16, u32, u64, usize, i8, i16, i32, i64, isize);
+    check_forms!(u8, u16, u32, u64, u128, usize, i8, i16, i32, i64, i128, isize);
 }
 
 /// A word of one range is that of the range of bounds, from each generator.

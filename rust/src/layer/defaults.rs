@@ -41,3 +41,15 @@ impl<const ROUNDS: u8> Default for ChaChaGroups<ROUNDS> {
 fn seeded<G>(generator: Result<G, EntropyError>) -> G {
     generator.unwrap_or_else(|error| panic!("{error}"))
 }
+
+#[cfg(test)]
+mod tests {
+    use super::seeded;
+    use crate::entropy::EntropyError;
+
+    #[test]
+    #[should_panic(expected = "no entropy source is available")]
+    fn without_a_source() {
+        seeded(Err::<u8, _>(EntropyError::Unavailable));
+    }
+}

@@ -21,15 +21,7 @@ impl<G: Rng<OUTPUT>, const OUTPUT: usize> RandomGen<G, OUTPUT> for f64 {
     }
 }
 
-/// A number that both bounds admit: `low + (high - low) * part`, rounded.
-///
-/// With k the first 24 bits of a word of 32, the part is k / 2^24 if `high` is excluded, and
-/// k / (2^24 - 1) if it is included, so that it can come. An unbounded side ends with the type's least
-/// or greatest finite number. A number that rounding moved to an excluded bound is drawn again, by the
-/// next word. The numbers are rounded, so they are not equally likely to the last bit.
-///
-/// The error is `Empty`, and nothing is drawn, if a bound is infinite or NaN, if `low` is above `high`,
-/// or if both are equal and one is excluded. It is `Exhausted` after 128 words without a number.
+/// A number that both bounds admit, by the first 24 bits of a word, as [`RandomRange`] says.
 impl<G: Rng<OUTPUT>, const OUTPUT: usize> RandomRange<G, OUTPUT> for f32 {
     #[inline]
     fn random_range(rng: &mut G, low: Bound<f32>, high: Bound<f32>) -> Result<f32, RangeError> {
@@ -37,7 +29,7 @@ impl<G: Rng<OUTPUT>, const OUTPUT: usize> RandomRange<G, OUTPUT> for f32 {
     }
 }
 
-/// As of `f32`, with the first 53 bits of a word of 64, and 2^53 in the place of 2^24.
+/// A number that both bounds admit, by the first 53 bits of a word, as [`RandomRange`] says.
 impl<G: Rng<OUTPUT>, const OUTPUT: usize> RandomRange<G, OUTPUT> for f64 {
     #[inline]
     fn random_range(rng: &mut G, low: Bound<f64>, high: Bound<f64>) -> Result<f64, RangeError> {
@@ -127,19 +119,17 @@ fn end_of<T>(bound: Bound<T>, unbounded: T) -> (T, bool) {
     }
 }
 
-// The number at a part of the way from `low` to `high`. Where the way is longer than any number, the
-// halves of both ends have one that is not.
+// The number at a part of the way from `low` to `high`, which ends at `high` whatever was rounded. Before
+// that no number passes `high`: what the part takes off the way is more than rounding added to it. Where
+// the way is longer than any number, the halves of both ends have one that is not.
 #[inline]
 fn between<T: Float>(low: T, high: T, part: T) -> T {
     let way = high - low;
-    let number = if way.is_number() {
+    if part == T::ONE {
+        high
+    } else if way.is_number() {
         low + way * part
     } else {
         (low / T::TWO + (high / T::TWO - low / T::TWO) * part) * T::TWO
-    };
-    if part == T::ONE || high < number {
-        high
-    } else {
-        number
     }
 }

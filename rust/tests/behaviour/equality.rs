@@ -3,11 +3,14 @@
 use nanorand_proved::buffer::{RestTooLong, TextRefused};
 use nanorand_proved::choices::weighted::WeightError;
 use nanorand_proved::entropy::EntropyError;
+use nanorand_proved::rand::ChaChaGroups;
 use nanorand_proved::replay::{Answer, Kind};
 use nanorand_proved::shuffles::NotArrangement;
 use nanorand_proved::values::RangeError;
 use nanorand_proved::{BufferedRng, ChaCha8, Pcg64, Rng, SeedableRng, WyRand};
+use std::collections::hash_map::DefaultHasher;
 use std::fmt::Debug;
+use std::hash::{Hash, Hasher};
 
 const KEY: [u8; 32] = [7; 32];
 
@@ -25,9 +28,28 @@ fn check_equality<T: Eq + Clone + Debug>(values: &[T]) {
     }
 }
 
+/// The same of values that have hashes: equal ones have equal ones, and here the others have not.
+fn check_hashes<T: Eq + Clone + Debug + Hash>(values: &[T]) {
+    check_equality(values);
+    for value in values {
+        let equal: Vec<&T> = values
+            .iter()
+            .filter(|other| hash_of(*other) == hash_of(value))
+            .collect();
+        assert_eq!(equal, [value]);
+        assert_eq!(hash_of(&value.clone()), hash_of(value));
+    }
+}
+
+fn hash_of<T: Hash>(value: &T) -> u64 {
+    let mut hasher = DefaultHasher::new();
+    value.hash(&mut hasher);
+    hasher.finish()
+}
+
 #[test]
 fn seeds_of_wyrand() {
-    check_equality(&[0, 1, 1 << 32, 1 << 63, u64::MAX].map(WyRand::new_seed));
+    check_hashes(&[0, 1, 1 << 32, 1 << 63, u64::MAX].map(WyRand::new_seed));
 }
 
 /// Three of them differ from the first in the seed, one in `inc` alone. The last two differ from
@@ -50,6 +72,7 @@ fn numbers_of_pcg64() {
         low,
         high,
     ]);
+    check_hashes(&[0, 1, 1 << 64, 1 << 127].map(Pcg64::new_seed));
 }
 
 #[test]
@@ -58,7 +81,7 @@ fn parts_of_chacha() {
     key[0] = 9;
     let mut nonce = NONCE;
     nonce[7] = 9;
-    check_equality(&[
+    let states = [
         ChaCha8::at(KEY, NONCE, 0),
         ChaCha8::at(key, NONCE, 0),
         ChaCha8::at([1; 32], NONCE, 0),
@@ -67,7 +90,9 @@ fn parts_of_chacha() {
         ChaCha8::at(KEY, NONCE, 1),
         ChaCha8::at(KEY, NONCE, 1 << 32),
         ChaCha8::at(KEY, NONCE, u64::MAX),
-    ]);
+    ];
+    check_hashes(&states);
+    check_hashes(&states.map(|one| ChaChaGroups::<8>::at(one.key(), one.nonce(), one.counter())));
 }
 
 /// A buffer around `WyRand` with these buffered bytes.
@@ -77,7 +102,7 @@ fn buffer(seed: u64, rest: &[u8]) -> BufferedRng<WyRand, 8> {
 
 #[test]
 fn parts_of_buffers() {
-    check_equality(&[
+    check_hashes(&[
         buffer(7, &[]),
         buffer(8, &[]),
         buffer(7, &[1]),
@@ -98,6 +123,7 @@ fn delivered_bytes_do_not_count() {
     assert_eq!(second.generate::<u16>(), 0x0909);
     assert_eq!(first, second);
     assert_eq!(first, buffer(7, &[3, 4]));
+    assert_eq!(hash_of(&first), hash_of(&second));
     assert_eq!(first.generate::<u64>(), second.generate::<u64>());
     assert_eq!(first, second);
 }

@@ -1,19 +1,24 @@
 //! What the table of answers (`tests/answers.rs`) cannot show: generators and types of a user's own,
-//! rejected words, buffers, replays, weights, entropy and texts. The values come from the rules of
+//! rejected words, floats, characters, buffers, replays, weights, entropy and texts. The values come from the rules of
 //! behaviour, not from this crate.
 
 #[path = "../common/mod.rs"]
 mod common;
 
 #[cfg(feature = "std")]
+mod any;
+#[cfg(feature = "std")]
 mod buffers;
 mod chacha;
+mod characters;
 mod choices;
 mod cycles;
 mod draws;
 #[cfg(feature = "std")]
 mod entropy;
 mod equality;
+mod floats;
+mod methods;
 mod own_types;
 mod ranges;
 mod replays;
@@ -23,4 +28,5 @@ mod shuffles;
 mod stored;
 #[cfg(feature = "std")]
 mod texts;
+mod values;
 mod weights;

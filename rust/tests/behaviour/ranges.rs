@@ -99,5 +99,5 @@ macro_rules! check_ends {
 
 #[test]
 fn every_pair_of_bounds_at_both_ends() {
-    check_ends!(u8, u16, u32, u64, usize, i8, i16, i32, i64, isize);
+    check_ends!(u8, u16, u32, u64, u128, usize, i8, i16, i32, i64, i128, isize);
 }

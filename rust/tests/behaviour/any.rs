@@ -1,0 +1,106 @@
+//! Generators behind `AnyRng`: they draw what they draw as an `Rng`.
+
+use crate::common::{Rising, Waste};
+use nanorand_proved::rand::ChaChaGroups;
+use nanorand_proved::{AnyRng, BufferedRng, ChaCha12, ChaCha8, Pcg64, RangeError, Rng, WyRand};
+use std::fmt::Debug;
+
+type Drawn = (u8, char, [u16; 3], [u8; 9], i64);
+
+/// A draw of each kind.
+fn draws<R: Rng<N>, const N: usize>(rng: &mut R) -> Result<Drawn, RangeError> {
+    let mut items = [0, 1, 2];
+    rng.shuffle(&mut items)?;
+    let mut bytes = [0; 9];
+    rng.fill_bytes(&mut bytes);
+    let letter = rng.generate_range('a'..='z')?;
+    Ok((
+        rng.generate(),
+        letter,
+        items,
+        bytes,
+        rng.generate_range(-5..)?,
+    ))
+}
+
+fn by_parameter(rng: &mut impl AnyRng) -> Result<u16, RangeError> {
+    rng.rng().generate_range(..1000)
+}
+
+fn by_table(rng: &mut dyn AnyRng) -> Result<u16, RangeError> {
+    rng.rng().generate_range(..1000)
+}
+
+fn check<G: Rng<N> + AnyRng + Clone + PartialEq + Debug, const N: usize>(fresh: &G) {
+    let (mut rng, mut any) = (fresh.clone(), fresh.clone());
+    assert_eq!(draws(&mut rng), draws(&mut any.rng()));
+    assert_eq!(rng, any);
+    let numbers = [(); 6].map(|()| rng.generate_range(..1000));
+    let same = [
+        by_parameter(&mut any),
+        by_parameter(&mut &mut any),
+        by_parameter(&mut any.rng()),
+        by_table(&mut any),
+        by_table(&mut any.as_any()),
+        by_table(any.rng()),
+    ];
+    assert_eq!(numbers, same);
+    let lent: &mut dyn AnyRng = &mut any;
+    let mut bytes = [0; 5];
+    lent.bytes(&mut bytes);
+    let drawn = (bytes, lent.u32(), lent.u64(), lent.rng().rand());
+    rng.fill_bytes(&mut bytes);
+    assert_eq!(
+        drawn,
+        (bytes, rng.next_u32(), rng.next_u64(), rng.generate())
+    );
+    let mut boxed: Box<dyn AnyRng + '_> = Box::new(&mut any);
+    let drawn = (
+        boxed.u32(),
+        boxed.u64(),
+        by_parameter(&mut boxed),
+        by_table(&mut *boxed),
+    );
+    let numbers = (rng.next_u32(), rng.next_u64());
+    assert_eq!(
+        drawn,
+        (
+            numbers.0,
+            numbers.1,
+            rng.generate_range(..1000),
+            rng.generate_range(..1000)
+        )
+    );
+    drop(boxed);
+    assert_eq!(rng, any);
+}
+
+#[test]
+fn all_draw_what_they_draw_as_generators() {
+    let (key, nonce) = ([1; 32], [2; 8]);
+    check(&WyRand::new_seed(42));
+    check(&Pcg64::new_seed(42));
+    check(&ChaCha8::new_key(key, nonce));
+    check(&ChaChaGroups::<12>::new_key(key, nonce));
+    check(&BufferedRng::new(ChaCha12::new_key(key, nonce)));
+    check(&BufferedRng::new(Rising::<3>::new()));
+}
+
+/// A call is one request, of 4, 8 or all bytes.
+#[test]
+fn one_request_a_call() {
+    let mut waste = Waste::new();
+    let mut lent = waste.as_any();
+    assert_eq!(
+        (lent.u64(), lent.u32()),
+        (0x0706_0504_0302_0100, 0x0b0a_0908)
+    );
+    let mut bytes = [0; 3];
+    lent.bytes(&mut bytes);
+    assert_eq!(bytes, [24, 25, 26]);
+    lent.rng().fill_bytes(&mut bytes);
+    assert_eq!(bytes, [40, 41, 42]);
+    lent.bytes(&mut []);
+    assert_eq!(lent.rng().rand(), [56, 57, 58, 59, 60, 61, 62, 63]);
+    assert_eq!(waste.drawn(), 8);
+}

@@ -1,0 +1,143 @@
+//! Floating-point numbers and their ranges, by the rule of `RandomRange`. Literal numbers come from
+//! another implementation of the rule.
+#![allow(clippy::float_cmp)] // which number comes is known to the last bit
+
+use crate::common::{zeros, Constant, Script, Steps};
+use nanorand_proved::RangeError::{Empty, Exhausted};
+use nanorand_proved::{BufferedRng, Rng, WyRand};
+use std::ops::Bound::{Excluded, Included, Unbounded};
+
+#[test]
+#[allow(clippy::cast_precision_loss)] // 53 bits
+fn parts_of_one() {
+    let mut rng = WyRand::new_seed(42);
+    let wide = [
+        0.680_824_086_038_831_3,
+        0.913_269_628_593_499_9,
+        0.794_301_409_546_801_7,
+    ];
+    assert_eq!(rng.generate::<[f64; 3]>(), wide);
+    let mut rng = WyRand::new_seed(42);
+    assert_eq!(
+        rng.generate::<[f32; 3]>(),
+        [0.865_870_7, 0.239_148_68, 0.170_215_79]
+    );
+    let mut bytes = BufferedRng::new(Steps::new());
+    assert_eq!(bytes.generate::<f32>(), 197_121.0 / 16_777_216.0);
+    assert_eq!(bytes.generate::<u8>(), 4);
+    let word: u64 = 0x0c0b_0a09_0807_0605;
+    assert_eq!(
+        bytes.generate::<f64>(),
+        (word >> 11) as f64 / 9_007_199_254_740_992.0
+    );
+}
+
+#[test]
+fn numbers_of_ranges() {
+    let mut rng = WyRand::new_seed(42);
+    for number in [
+        6.010_301_075_485_390_5,
+        8.915_870_357_418_749,
+        7.428_767_619_335_021,
+    ] {
+        assert_eq!(rng.generate_range(-2.5..10.0), Ok(number));
+    }
+    let mut rng = WyRand::new_seed(42);
+    for number in [8.323_384_f32, 0.489_358_66, -0.372_302_53, -0.055_903_91] {
+        assert_eq!(rng.generate_range(-2.5..=10.0), Ok(number));
+    }
+}
+
+/// What the least and the greatest word name, ranges without a number, and words that are rejected.
+macro_rules! check_ranges {
+    ($number:ident) => {{
+        let (least, greatest, ulp) = ($number::MIN, $number::MAX, $number::EPSILON);
+        let (half, quarter) = (ulp / 2.0, ulp / 4.0);
+        for (low, high, by_least, by_greatest) in [
+            (Included(0.0), Excluded(1.0), 0.0, 1.0 - half),
+            (Included(0.0), Included(1.0), 0.0, 1.0),
+            // The distances are rounded, down and up.
+            (Included(-1.0), Included(quarter), -1.0, quarter),
+            (
+                Included(-1.0),
+                Included(half + quarter),
+                -1.0,
+                half + quarter,
+            ),
+            (Included(3.5), Included(3.5), 3.5, 3.5),
+            (Included(0.0), Included(-0.0), 0.0, 0.0),
+            (Included(least), Included(greatest), least, greatest),
+            (
+                Included(least),
+                Excluded(greatest),
+                least,
+                greatest * (1.0 - ulp),
+            ),
+            (Unbounded, Unbounded, least, greatest),
+            (Included(7.0), Unbounded, 7.0, greatest),
+            (Unbounded, Included(7.0), least, 7.0),
+        ] {
+            let [first, last] =
+                [0, 255].map(|byte| Constant::new(byte).generate_range((low, high)));
+            assert_eq!(
+                (first, last),
+                (Ok::<$number, _>(by_least), Ok(by_greatest)),
+                "{low:?} {high:?}"
+            );
+        }
+
+        let (none, endless) = ($number::NAN, $number::INFINITY);
+        let mut rng = zeros();
+        for (low, high) in [
+            (Included(none), Unbounded),
+            (Unbounded, Excluded(none)),
+            (Included(-endless), Unbounded),
+            (Excluded(-endless), Included(0.0)),
+            (Unbounded, Included(endless)),
+            (Included(endless), Included(endless)),
+            (Included(1.0), Included(0.0)),
+            (Included(1.0), Excluded(1.0)),
+            (Excluded(1.0), Included(1.0)),
+            (Excluded(greatest), Unbounded),
+            (Unbounded, Excluded(least)),
+        ] {
+            assert_eq!(
+                rng.generate_range::<$number>((low, high)),
+                Err(Empty),
+                "{low:?} {high:?}"
+            );
+        }
+        assert_eq!(rng.drawn(), 0);
+
+        let mut only_the_last = [0; 128];
+        only_the_last[127] = 255;
+        let next = 1.0 + ulp;
+        for (low, high, words, number) in [
+            (1.0, Excluded(next), &[255, 255, 0][..], Ok(1.0)),
+            (1.0, Included(next), &[0, 0, 255], Ok(next)),
+            (1.0, Excluded(next + ulp), &[0, 255, 127], Ok(next)),
+            (1.0, Included(next), &only_the_last, Ok(next)),
+            (1.0, Excluded(next), &[255; 128], Err(Exhausted)),
+            (1.0, Included(next), &[0; 128], Err(Exhausted)),
+        ] {
+            let mut rng = Script::new(words);
+            let low = if words[0] == 255 {
+                Included(low)
+            } else {
+                Excluded(low)
+            };
+            assert_eq!(
+                rng.generate_range::<$number>((low, high)),
+                number,
+                "{words:?}"
+            );
+            assert_eq!(rng.drawn(), words.len(), "{words:?}");
+        }
+    }};
+}
+
+#[test]
+fn ranges_of_both_types() {
+    check_ranges!(f32);
+    check_ranges!(f64);
+}

@@ -1,0 +1,160 @@
+//! Tuples, arrays, integers that are not 0, and ranges of 128 bits. Literal numbers of ranges come from
+//! another implementation of the rule.
+
+use crate::common::{ByteScript, Script, Steps};
+use nanorand_proved::{RandomGen, Rng, WyRand};
+use std::fmt::Debug;
+use std::num::{NonZeroI128, NonZeroI16, NonZeroI32, NonZeroI64, NonZeroI8, NonZeroIsize};
+use std::num::{NonZeroU128, NonZeroU16, NonZeroU32, NonZeroU64, NonZeroU8, NonZeroUsize};
+
+/// The value of the blocks 0, 8, 16, .., and how many it takes.
+fn takes<T: RandomGen<Steps, 8> + PartialEq + Debug>(value: &T, blocks: u64) {
+    let mut steps = Steps::new();
+    assert_eq!(&steps.generate::<T>(), value);
+    assert_eq!(steps.drawn(), blocks, "{value:?}");
+}
+
+#[test]
+fn members_in_their_order() {
+    takes(&(0_u8,), 1);
+    takes(&(0x0100_u16, 8_u8, 0x1312_1110_u32, true), 4);
+    takes(&((0_u8, 8_u8), [16_u8, 17], (24_u8, (32_u8,))), 5);
+    takes(
+        &(
+            0_i8, 8_i8, 16_i8, 24_i8, 32_i8, 40_i8, 48_i8, 56_i8, 64_i8, 72_i8, 80_i8,
+        ),
+        11,
+    );
+    takes(
+        &(
+            0_i8, 8_i8, 16_i8, 24_i8, 32_i8, 40_i8, 48_i8, 56_i8, 64_i8, 72_i8, 80_i8, 88_i8,
+        ),
+        12,
+    );
+}
+
+#[test]
+fn items_in_their_order() {
+    takes(&[0_u8, 1, 2], 1);
+    takes(&[0_i8, 8, 16], 3);
+    takes(&[0x0100_u16, 0x0908, 0x1110], 3);
+    takes(&[[0_u8, 1], [8, 9]], 2);
+    takes(&[(0_u8, false); 0], 0);
+    takes(&[(0_u8, true), (16, true)], 4);
+    let mut arrays = [[9_u16; 2]; 2];
+    Steps::new().fill(&mut arrays);
+    assert_eq!(arrays, [[0x0100, 0x0908], [0x1110, 0x1918]]);
+}
+
+#[test]
+fn integers_that_are_not_zero() {
+    macro_rules! check {
+        ($($number:ident),+) => { $({
+            let words = std::mem::size_of::<$number>().max(8) / 8;
+            for (zeros, found) in [(0, true), (1, true), (127, true), (128, false)] {
+                let mut bytes = vec![0; zeros * words];
+                bytes.resize((zeros + 1) * words, 255);
+                let mut rng = Script::new(&bytes);
+                let expected = if found { Script::new(&[255; 2]).generate() } else { 1 };
+                assert_eq!(rng.generate::<$number>().get(), expected, "{zeros}");
+                assert_eq!(rng.drawn(), (zeros + usize::from(found)) * words);
+            }
+        })+ };
+    }
+    check!(
+        NonZeroU8,
+        NonZeroU16,
+        NonZeroU32,
+        NonZeroU64,
+        NonZeroU128,
+        NonZeroUsize
+    );
+    check!(
+        NonZeroI8,
+        NonZeroI16,
+        NonZeroI32,
+        NonZeroI64,
+        NonZeroI128,
+        NonZeroIsize
+    );
+}
+
+#[test]
+fn wide_numbers() {
+    let mut rng = WyRand::new_seed(42);
+    assert_eq!(
+        [(); 4].map(|()| rng.generate_range(..10_u128)),
+        [9, 9, 9, 0].map(Ok)
+    );
+    for (low, high, number) in [
+        (
+            1,
+            1 << 127,
+            155_384_775_427_401_270_341_259_404_175_952_108_059,
+        ),
+        ((1 << 64) - 5, (1 << 64) + 5, (1 << 64) + 5),
+        (
+            12_345_678_901_234_567_890_123_456_789,
+            (3 << 126) + 7,
+            233_077_163_142_172_650_828_258_571_894_868_647_672,
+        ),
+        (
+            0,
+            3 << 126,
+            233_077_163_141_101_905_511_889_106_263_928_162_087_u128,
+        ),
+    ] {
+        assert_eq!(WyRand::new_seed(42).generate_range(low..=high), Ok(number));
+    }
+    // Of the first two the first word is rejected.
+    for (low, high, first, second) in [
+        (
+            i128::MIN,
+            1 << 126,
+            44_926_550_535_414_776_591_121_273_273_865_202_353,
+            41_823_297_102_053_648_214_407_371_119_940_079_123,
+        ),
+        (
+            -(3 << 125),
+            3 << 125,
+            87_461_846_400_532_084_524_043_099_202_836_228_785,
+            84_358_592_967_170_956_147_329_197_048_911_105_555,
+        ),
+        (-10, 10, 2, 7),
+        (
+            i128::MIN,
+            i128::MAX,
+            27_840_427_128_547_182_258_028_751_096_261_486_738,
+            116_615_795_200_709_446_032_057_465_603_781_638_380_i128,
+        ),
+    ] {
+        let mut rng = WyRand::new_seed(9);
+        assert_eq!(rng.generate_range(low..=high), Ok(first));
+        assert_eq!(rng.generate_range(low..=high), Ok(second));
+    }
+}
+
+/// The words whose low halves are the greatest that is rejected and the least that is not.
+#[test]
+fn wide_words_at_the_border() {
+    for (size, rejected, accepted) in [
+        (
+            3_u128,
+            0_u128,
+            0xaaaa_aaaa_aaaa_aaaa_aaaa_aaaa_aaaa_aaab_u128,
+        ),
+        ((1 << 64) + 1, 0, 0xffff_ffff_ffff_ffff_0000_0000_0000_0001),
+        (
+            10_u128.pow(30) + 57,
+            0x4fe2_5841_1148_dd87_c90e_ed8e_7393_c5f9,
+            0xffff_ffff_ffff_ffff_ffff_ffff_ebb7_b402,
+        ),
+        ((1 << 127) - 1, (1 << 127) - 1, u128::MAX - 1),
+        ((1 << 127) + 1, (1 << 127) - 2, u128::MAX),
+        (u128::MAX, 0, u128::MAX),
+    ] {
+        let mut rng = ByteScript::new(&[rejected.to_le_bytes(), accepted.to_le_bytes()].concat());
+        assert_eq!(rng.generate_range(..size), Ok(size - 1));
+        assert_eq!(rng.drawn(), 32, "{size}");
+    }
+}
