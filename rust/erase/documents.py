@@ -29,6 +29,10 @@ SENTENCES = {
     "nothing here takes a seed from the system, reseeds on its own or erases": (
         "nothing here reseeds on its own or erases"
     ),
+    "from 0 for the least to 2^BITS - 1 for the greatest.": (
+        "from 0 for the least to 2^BITS - 1 for the greatest. `usize` and `isize` have `BITS` 64 on every"
+        " machine, and fewer ranks where they have fewer bits."
+    ),
     "Precondition: the rank is below 2^BITS.": "A rank is below 2^BITS; of others nothing is said.",
     "This is promised for every reader whose bytes a contract can name (a slice, not a file).": (
         "This is proved for readers such as a slice."

@@ -20,7 +20,7 @@
 //! ```
 //!
 //! A number of a range: each is named by equally many words. An empty range is an error, and draws
-//! nothing:
+//! nothing. Where a range is known to have a number, `range` is the same without a `Result`:
 //!
 //! ```
 //! use nanorand_proved::{RangeError, Rng, WyRand};
@@ -29,6 +29,8 @@
 //! let pips: u8 = rng.generate_range(1..=6)?;
 //! assert!((1..=6).contains(&pips));
 //! assert_eq!(rng.generate_range(3..3_i64), Err(RangeError::Empty));
+//! let (letter, part) = (rng.range('a'..='z'), rng.range(0.0..1.0));
+//! # let _: (char, f64) = (letter, part);
 //! # Ok::<(), RangeError>(())
 //! ```
 //!
@@ -54,6 +56,20 @@
 //! WyRand::new_seed(7).shuffle(&mut cards)?;
 //! cards.sort_unstable();
 //! assert_eq!(cards, ["ace", "jack", "king", "queen"]);
+//! # Ok::<(), RangeError>(())
+//! ```
+//!
+//! Choices and samples are calls of the generator too, and functions of [`choices`] and [`samples`]:
+//!
+//! ```
+//! use nanorand_proved::{RangeError, Rng, WyRand};
+//!
+//! let mut rng = WyRand::new_seed(7);
+//! let colour = rng.choose(&["red", "green", "blue"])?;
+//! let rain = rng.ratio(1, 3)?; // true one time in three
+//! let mut places = [0; 3];
+//! rng.sample(10, &mut places)?; // three different numbers below 10
+//! # let _ = (colour, rain);
 //! # Ok::<(), RangeError>(())
 //! ```
 //!
@@ -109,15 +125,27 @@
 //! assert_eq!(rng.generate::<u64>(), 7 + (8 << 32));
 //! ```
 //!
+//! Functions over any generator have no parameter for the size of a block by [`AnyRng`]:
+//!
+//! ```
+//! use nanorand_proved::{AnyRng, ChaCha20, Rng};
+//!
+//! fn throw(rng: &mut dyn AnyRng) -> u8 {
+//!     rng.rng().range(1..=6)
+//! }
+//!
+//! assert!(throw(&mut ChaCha20::new_key([0; 32], [0; 8])) <= 6);
+//! ```
+//!
 //! `ChaCha` has an even number of rounds; another does not compile:
 //!
 //! ```compile_fail
 //! let rng = nanorand_proved::ChaCha::<7>::new_key([0; 32], [0; 8]);
 //! ```
 //!
-//! Features: `std` (on by default) has readers, vectors, `std::error::Error` and seeds from the system, and
-//! asks the processor for AVX2, for fills of `ChaCha`; without it the crate is `no_std` and allocates
-//! nothing. The crate `nanorand-proved-rand-core` has the traits of `rand_core` 0.6.
+//! Features: `std` (on by default) has readers, vectors, `std::error::Error`, `Default` and seeds from the
+//! system, and asks the processor for AVX2, for fills of `ChaCha`; without it the crate is `no_std` and
+//! allocates nothing. The crate `nanorand-proved-rand-core` has the traits of `rand_core` 0.6.
 #![no_std]
 #![deny(missing_docs)]
 // The proved source has the form of Rattle, and its proofs say that no cast loses a bit that counts.

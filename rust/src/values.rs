@@ -22,7 +22,7 @@ pub use word::pick_word;
 /// | an integer of N bits | one request of N / 8 bytes | their number, least byte first, in two's complement |
 /// | `usize`, `isize` | one request of 8 bytes | of a `u64` or an `i64` the bits that the type has |
 /// | `bool` | one byte | true if it is below 128 |
-/// | `f32`, `f64` | as `u32`, `u64` | the first 24 or 53 bits as a part of 1, from 0 to below 1 |
+/// | `f32`, `f64` | as `u32`, `u64` | the top 24 or 53 bits as a part of 1, from 0 to below 1 |
 /// | `char` | as `u32`, at most 128 times | one of all 1,112,064; U+0000 after 128 rejected words |
 /// | `NonZeroU8`, .. | as the integer, at most 128 times | the first that is not 0; 1 after 128 zeros |
 /// | an array of N bytes | one request of N bytes | the bytes |

@@ -44,8 +44,8 @@ use crate::rand::{ChaCha, ChaChaGroups, Pcg64, Rng, WyRand};
 ///     }
 /// }
 ///
-/// let generators: [Box<dyn AnyRng>; 2] = [Box::new(Counter(6)), Box::<Counter>::new(Counter(8))];
-/// assert_eq!(generators.map(|mut rng| rng.u64()), [7, 9]);
+/// let mut generator: Box<dyn AnyRng> = Box::new(Counter(6));
+/// assert_eq!(generator.u64(), 7);
 /// ```
 pub trait AnyRng: AsDyn {
     /// Fills the slice with the next bytes, by one request. An empty slice draws nothing.

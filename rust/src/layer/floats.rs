@@ -5,7 +5,7 @@ use crate::values::word::MAX_WORDS;
 use crate::values::{RandomGen, RandomRange, RangeError};
 use core::ops::{Add, Bound, Div, Mul, Sub};
 
-/// The word's first 24 bits times 2^-24: a multiple of 2^-24 from 0 to below 1, each equally likely.
+/// The word's top 24 bits times 2^-24: a multiple of 2^-24 from 0 to below 1, each equally likely.
 impl<G: Rng<OUTPUT>, const OUTPUT: usize> RandomGen<G, OUTPUT> for f32 {
     #[inline]
     fn random(rng: &mut G) -> f32 {
@@ -13,7 +13,7 @@ impl<G: Rng<OUTPUT>, const OUTPUT: usize> RandomGen<G, OUTPUT> for f32 {
     }
 }
 
-/// The word's first 53 bits times 2^-53: a multiple of 2^-53 from 0 to below 1, each equally likely.
+/// The word's top 53 bits times 2^-53: a multiple of 2^-53 from 0 to below 1, each equally likely.
 impl<G: Rng<OUTPUT>, const OUTPUT: usize> RandomGen<G, OUTPUT> for f64 {
     #[inline]
     fn random(rng: &mut G) -> f64 {
@@ -21,7 +21,7 @@ impl<G: Rng<OUTPUT>, const OUTPUT: usize> RandomGen<G, OUTPUT> for f64 {
     }
 }
 
-/// A number that both bounds admit, by the first 24 bits of a word, as [`RandomRange`] says.
+/// A number that both bounds admit, by the top 24 bits of a word, as [`RandomRange`] says.
 impl<G: Rng<OUTPUT>, const OUTPUT: usize> RandomRange<G, OUTPUT> for f32 {
     #[inline]
     fn random_range(rng: &mut G, low: Bound<f32>, high: Bound<f32>) -> Result<f32, RangeError> {
@@ -29,7 +29,7 @@ impl<G: Rng<OUTPUT>, const OUTPUT: usize> RandomRange<G, OUTPUT> for f32 {
     }
 }
 
-/// A number that both bounds admit, by the first 53 bits of a word, as [`RandomRange`] says.
+/// A number that both bounds admit, by the top 53 bits of a word, as [`RandomRange`] says.
 impl<G: Rng<OUTPUT>, const OUTPUT: usize> RandomRange<G, OUTPUT> for f64 {
     #[inline]
     fn random_range(rng: &mut G, low: Bound<f64>, high: Bound<f64>) -> Result<f64, RangeError> {

@@ -8,7 +8,8 @@ mod unsigned;
 
 /// An integer type of `BITS` bits: 8, 16, 32 or 64.
 ///
-/// Each number has a rank, from 0 for the least to 2^BITS - 1 for the greatest.
+/// Each number has a rank, from 0 for the least to 2^BITS - 1 for the greatest. `usize` and
+/// `isize` have `BITS` 64 on every machine, and fewer ranks where they have fewer bits.
 pub trait Number: Copy {
     /// The width of the type, in bits.
     const BITS: u32;

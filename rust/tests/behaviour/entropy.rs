@@ -2,7 +2,8 @@
 
 use crate::common::Pieces;
 use nanorand_proved::entropy::{backup, rdseed, system, EntropyError};
-use nanorand_proved::{ChaCha12, ChaCha20, ChaCha8, Pcg64, WyRand};
+use nanorand_proved::rand::ChaChaGroups;
+use nanorand_proved::{ChaCha12, ChaCha20, ChaCha20Stream, ChaCha8, Pcg64, WyRand};
 use std::io::ErrorKind;
 
 /// The kinds of errors with which the readers fail. `Interrupted` is one of them.
@@ -136,4 +137,16 @@ fn generators_of_any_seed() {
             assert_eq!(made, Ok(ChaCha20::new_key(key, nonce)));
         }
     }
+}
+
+/// Each default has a seed of its own.
+#[test]
+fn defaults_differ() {
+    fn differ<G: Default + PartialEq>() -> bool {
+        G::default() != G::default()
+    }
+    assert!(differ::<WyRand>() && differ::<Pcg64>() && differ::<ChaCha20>());
+    assert!(differ::<ChaChaGroups<8>>() && differ::<ChaCha20Stream>());
+    let rng = ChaChaGroups::<8>::default();
+    assert!(rng.key() != [0; 32] && rng.nonce() != [0; 8] && rng.counter() == 0);
 }

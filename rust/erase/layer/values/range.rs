@@ -5,11 +5,11 @@
 /// at most 128; each number of the range is produced by equally many words. So are the characters of
 /// a range of `char`, by words of 32 bits; surrogates are passed over.
 ///
-/// A float is `low + (high - low) * part`, rounded. With k the first 53 bits of a word of 64, the part
-/// is k / 2^53 if `high` is excluded, and k / (2^53 - 1) if it is included, so that it can come; of
-/// `f32` it is 24 bits of a word of 32. An unbounded side ends with the type's least or greatest finite
-/// number. A number that rounding moved to an excluded bound is drawn again. The numbers are rounded,
-/// so they are not equally likely to the last bit.
+/// A float is `low + (high - low) * part`, rounded. With k the top 53 bits of a word of 64, the part
+/// is k / 2^53 if `high` is excluded, and k / (2^53 - 1) if it is included, so that it can come. Of
+/// `f32` it is the same with 24 bits of 32. An unbounded side ends with the type's least or greatest
+/// finite number. A number that rounding moved to an excluded bound is drawn again, by the next of at
+/// most 128 words. The numbers are rounded, so they are not equally likely to the last bit.
 ///
 /// A type of your own defines what its bounds mean and when a draw fails.
 #[cfg_attr(diagnostic_hints, diagnostic::on_unimplemented(
@@ -21,9 +21,9 @@ pub trait RandomRange<G: Rng<OUTPUT>, const OUTPUT: usize>: RandomGen<G, OUTPUT>
     ///
     /// # Errors
     ///
-    /// It returns an error as the type defines. For the library's types it is `Empty`, and nothing is
-    /// drawn, if the range has no value: no number of an integer type or character, or of floats a bound
-    /// that is infinite or NaN, a low one above the high one, or equal ones of which one is excluded. It is
-    /// `Exhausted` after 128 words without a value.
+    /// It returns an error as the type defines. The library's types return `Exhausted` after 128 words
+    /// without a value, and `Empty` if the range has none; nothing is drawn then. A range of floats is
+    /// empty if a bound is infinite or NaN, if the low one is above the high one, or if both are equal
+    /// and one is excluded.
     fn random_range(rng: &mut G, low: Bound<Self>, high: Bound<Self>) -> Result<Self, RangeError>;
 }
