@@ -104,3 +104,30 @@ fn one_request_a_call() {
     assert_eq!(lent.rng().rand(), [56, 57, 58, 59, 60, 61, 62, 63]);
     assert_eq!(waste.drawn(), 8);
 }
+
+/// Calls of a user's own, which are no requests of one another.
+struct Own;
+
+impl AnyRng for Own {
+    fn bytes(&mut self, buffer: &mut [u8]) {
+        buffer.fill(1);
+    }
+
+    fn u32(&mut self) -> u32 {
+        2
+    }
+
+    fn u64(&mut self) -> u64 {
+        3
+    }
+}
+
+#[test]
+fn references_pass_each_call_on() {
+    fn calls<R: AnyRng>(mut rng: R) -> (u32, u64, [u8; 8], u8) {
+        (rng.u32(), rng.u64(), rng.rng().rand(), rng.rng().generate())
+    }
+    let expected = (2, 3, 3_u64.to_le_bytes(), 1);
+    assert_eq!(calls(&mut Own), expected);
+    assert_eq!(calls(Box::new(Own)), expected);
+}
