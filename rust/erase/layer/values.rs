@@ -8,7 +8,7 @@
 /// | `f32`, `f64` | as `u32`, `u64` | the top 24 or 53 bits as a part of 1, from 0 to below 1 |
 /// | `char` | as `u32`, at most 128 times | one of all 1,112,064; U+0000 after 128 rejected words |
 /// | `NonZeroU8`, .. | as the integer, at most 128 times | the first that is not 0; 1 after 128 zeros |
-/// | an array of N bytes | one request of N bytes | the bytes |
+/// | `[u8; N]` | one request of N bytes | the bytes |
 /// | another array, a tuple | as its items | the items, drawn in their order |
 #[cfg_attr(diagnostic_hints, diagnostic::on_unimplemented(
     message = "`{Self}` is no type whose values can be drawn",

@@ -47,8 +47,17 @@ use crate::rand::{ChaCha, ChaChaGroups, Pcg64, Rng, WyRand};
 /// let mut generator: Box<dyn AnyRng> = Box::new(Counter(6));
 /// assert_eq!(generator.u64(), 7);
 /// ```
+#[cfg_attr(
+    diagnostic_hints,
+    diagnostic::on_unimplemented(
+        note = "an `Rng` of your own is lent by `rng.as_any()`, or implements `AnyRng` by its `fill_bytes`"
+    )
+)]
 pub trait AnyRng: AsDyn {
     /// Fills the slice with the next bytes, by one request. An empty slice draws nothing.
+    ///
+    /// `io::Read` has another `bytes`: where both are imported, a `BufferedRng` is asked for this one by
+    /// `AnyRng::bytes(&mut rng, buffer)`.
     fn bytes(&mut self, buffer: &mut [u8]);
 
     /// Draws a `u32`: the number of the next four bytes, least byte first.
