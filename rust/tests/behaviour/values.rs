@@ -2,6 +2,7 @@
 //! another implementation of the rule.
 
 use crate::common::{ByteScript, Script, Steps};
+use nanorand_proved::replay::{replay, Answer, Call, Kind};
 use nanorand_proved::{RandomGen, Rng, WyRand};
 use std::fmt::Debug;
 use std::num::{NonZeroI128, NonZeroI16, NonZeroI32, NonZeroI64, NonZeroI8, NonZeroIsize};
@@ -77,6 +78,29 @@ fn integers_that_are_not_zero() {
         NonZeroI128,
         NonZeroIsize
     );
+}
+
+/// Where `usize` has fewer bits too: it has the low ones of a value, and its ranges are those of 64.
+#[test]
+#[allow(clippy::cast_possible_truncation, clippy::cast_possible_wrap)]
+fn words_of_64_bits_on_every_machine() {
+    for seed in 0..50 {
+        let fresh = WyRand::new_seed(seed);
+        let (word, signed) = fresh.clone().generate::<(u64, i64)>();
+        let values: (usize, isize) = fresh.clone().generate();
+        assert_eq!(values, (word as usize, signed as isize));
+        let index: usize = fresh.clone().range(7..1000);
+        assert_eq!(Ok(index as u64), fresh.clone().generate_range(7..1000_u64));
+        let offset: isize = fresh.clone().range(-5..=5);
+        assert_eq!(Ok(offset as i64), fresh.clone().generate_range(-5..=5_i64));
+        let mut answers = [Answer::Empty; 2];
+        let calls = [Call::Gen(Kind::Usize), Call::Gen(Kind::Isize)];
+        replay(&mut fresh.clone(), &calls, &mut [], &mut answers);
+        assert_eq!(
+            answers,
+            [Answer::Unsigned(word.into()), Answer::Signed(signed.into())]
+        );
+    }
 }
 
 #[test]
