@@ -16,6 +16,7 @@ mod wide_numbers;
 pub use any::{AnyRng, Lent};
 pub use iterator::GenerateIter;
 
+use crate::values::word::MAX_WORDS;
 use core::ops::Bound;
 
 /// Refuses an odd number of rounds while the program is compiled.
@@ -39,4 +40,18 @@ fn mapped<T, U>(bound: Bound<T>, map: impl FnOnce(T) -> U) -> Bound<U> {
         Bound::Excluded(value) => Bound::Excluded(map(value)),
         Bound::Unbounded => Bound::Unbounded,
     }
+}
+
+// The first of at most 128 draws that is accepted.
+#[inline]
+fn first_accepted<G, T>(rng: &mut G, draw: impl Fn(&mut G) -> Option<T>) -> Option<T> {
+    draw(rng).or_else(|| later_accepted(rng, draw))
+}
+
+// Few words are rejected, so the search is kept out of line: else LLVM vectorizes it, which takes forty
+// times as long.
+#[cold]
+#[inline(never)]
+fn later_accepted<G, T>(rng: &mut G, draw: impl Fn(&mut G) -> Option<T>) -> Option<T> {
+    (1..MAX_WORDS).find_map(|_| draw(rng))
 }

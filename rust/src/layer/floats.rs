@@ -1,7 +1,7 @@
 //! Floating-point numbers, and ranges of them. Written by hand, tested, not proved.
 
+use super::first_accepted;
 use crate::rand::Rng;
-use crate::values::word::MAX_WORDS;
 use crate::values::{RandomGen, RandomRange, RangeError};
 use core::ops::{Add, Bound, Div, Mul, Sub};
 
@@ -91,22 +91,63 @@ fn draw_between<T: Float, G: Rng<OUTPUT>, const OUTPUT: usize>(
     low: Bound<T>,
     high: Bound<T>,
 ) -> Result<T, RangeError> {
-    let (low, low_excluded) = end_of(low, T::LEAST);
-    let (high, high_excluded) = end_of(high, T::GREATEST);
-    let excluded = low_excluded || high_excluded;
-    let ordered = low < high || low == high && !excluded;
-    if !(low.is_number() && high.is_number() && ordered) {
-        return Err(RangeError::Empty);
+    let range = Range::of(low, high).ok_or(RangeError::Empty)?;
+    first_accepted(rng, |rng| range.draw(rng)).ok_or(RangeError::Exhausted)
+}
+
+// The two ends of a range that has a number, and which of them are excluded.
+#[derive(Clone, Copy)]
+struct Range<T> {
+    low: T,
+    high: T,
+    low_excluded: bool,
+    high_excluded: bool,
+}
+
+impl<T: Float> Range<T> {
+    #[inline]
+    fn of(low: Bound<T>, high: Bound<T>) -> Option<Self> {
+        let (low, low_excluded) = end_of(low, T::LEAST);
+        let (high, high_excluded) = end_of(high, T::GREATEST);
+        let excluded = low_excluded || high_excluded;
+        let ordered = low < high || low == high && !excluded;
+        (low.is_number() && high.is_number() && ordered).then_some(Range {
+            low,
+            high,
+            low_excluded,
+            high_excluded,
+        })
     }
-    let last = if high_excluded {
-        T::STEPS
-    } else {
-        T::STEPS - T::ONE
-    };
-    (0..MAX_WORDS)
-        .map(|_| between(low, high, T::draw_step(rng) / last))
-        .find(|number| !(low_excluded && *number == low || high_excluded && *number == high))
-        .ok_or(RangeError::Exhausted)
+
+    // The number that the next word names, unless it is an excluded end.
+    #[inline]
+    fn draw<G: Rng<OUTPUT>, const OUTPUT: usize>(self, rng: &mut G) -> Option<T> {
+        let step = T::draw_step(rng);
+        let number = self.at(if self.high_excluded {
+            step / T::STEPS
+        } else {
+            step / (T::STEPS - T::ONE)
+        });
+        let excluded =
+            self.low_excluded && number == self.low || self.high_excluded && number == self.high;
+        (!excluded).then_some(number)
+    }
+
+    // The number at a part of the way from `low` to `high`, which ends at `high` whatever was rounded.
+    // Before that no number passes `high`: what the part takes off the way is more than rounding added
+    // to it. Where the way is longer than any number, the halves of both ends have one that is not.
+    #[inline]
+    fn at(self, part: T) -> T {
+        let (low, high) = (self.low, self.high);
+        let way = high - low;
+        if part == T::ONE {
+            high
+        } else if way.is_number() {
+            low + way * part
+        } else {
+            (low / T::TWO + (high / T::TWO - low / T::TWO) * part) * T::TWO
+        }
+    }
 }
 
 // The number where a range ends, and whether it is excluded.
@@ -116,20 +157,5 @@ fn end_of<T>(bound: Bound<T>, unbounded: T) -> (T, bool) {
         Bound::Included(number) => (number, false),
         Bound::Excluded(number) => (number, true),
         Bound::Unbounded => (unbounded, false),
-    }
-}
-
-// The number at a part of the way from `low` to `high`, which ends at `high` whatever was rounded. Before
-// that no number passes `high`: what the part takes off the way is more than rounding added to it. Where
-// the way is longer than any number, the halves of both ends have one that is not.
-#[inline]
-fn between<T: Float>(low: T, high: T, part: T) -> T {
-    let way = high - low;
-    if part == T::ONE {
-        high
-    } else if way.is_number() {
-        low + way * part
-    } else {
-        (low / T::TWO + (high / T::TWO - low / T::TWO) * part) * T::TWO
     }
 }

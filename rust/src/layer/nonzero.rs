@@ -1,7 +1,7 @@
 //! Integers that are not 0. Written by hand, tested, not proved.
 
+use super::first_accepted;
 use crate::rand::Rng;
-use crate::values::word::MAX_WORDS;
 use crate::values::RandomGen;
 use core::num::{NonZeroI128, NonZeroI16, NonZeroI32, NonZeroI64, NonZeroI8, NonZeroIsize};
 use core::num::{NonZeroU128, NonZeroU16, NonZeroU32, NonZeroU64, NonZeroU8, NonZeroUsize};
@@ -12,7 +12,7 @@ macro_rules! nonzero {
         impl<G: Rng<OUTPUT>, const OUTPUT: usize> RandomGen<G, OUTPUT> for $number {
             #[inline]
             fn random(rng: &mut G) -> Self {
-                let drawn = (0..MAX_WORDS).find_map(|_| Self::new(rng.generate()));
+                let drawn = first_accepted(rng, |rng| Self::new(rng.generate()));
                 drawn.or(Self::new(1)).expect("1 is not 0")
             }
         }

@@ -1,8 +1,7 @@
 //! Ranges of 128-bit numbers, by the rule of the proved `pick_word`. Written by hand, tested, not proved.
 
-use super::mapped;
+use super::{first_accepted, mapped};
 use crate::rand::Rng;
-use crate::values::word::MAX_WORDS;
 use crate::values::{RandomGen, RandomRange, RangeError};
 use core::ops::Bound;
 
@@ -41,7 +40,9 @@ fn draw_between<G: Rng<OUTPUT>, const OUTPUT: usize>(
     let last = last_of(high).ok_or(RangeError::Empty)?;
     let others = last.checked_sub(first).ok_or(RangeError::Empty)?;
     match others.checked_add(1) {
-        Some(size) => Ok(first + draw_below(rng, size)?),
+        Some(size) => first_accepted(rng, |rng| pick_number(size, 128, u128::random(rng)))
+            .map(|number| first + number)
+            .ok_or(RangeError::Exhausted),
         None => Ok(rng.generate()),
     }
 }
@@ -62,15 +63,6 @@ fn last_of(high: Bound<u128>) -> Option<u128> {
     }
 }
 
-fn draw_below<G: Rng<OUTPUT>, const OUTPUT: usize>(
-    rng: &mut G,
-    size: u128,
-) -> Result<u128, RangeError> {
-    (0..MAX_WORDS)
-        .find_map(|_| pick_number(size, 128, u128::random(rng)))
-        .ok_or(RangeError::Exhausted)
-}
-
 // The number below `size` that a word of `bits` bits names, or `None` if the word is rejected. The size
 // is from 1 to 2^bits - 1.
 fn pick_number(size: u128, bits: u32, word: u128) -> Option<u128> {
@@ -78,9 +70,15 @@ fn pick_number(size: u128, bits: u32, word: u128) -> Option<u128> {
     (low >= size || low >= rejected(size, bits)).then_some(number)
 }
 
-// How many words are rejected: 2^bits modulo the size.
+// How many words are rejected: 2^bits modulo the size. If it is more than half of all words, this needs
+// no division.
 fn rejected(size: u128, bits: u32) -> u128 {
-    (ones(bits) - size + 1) % size
+    let others = ones(bits) - size + 1;
+    if others < size {
+        others
+    } else {
+        others % size
+    }
 }
 
 // The halves of `word * size`, each of `bits` bits, the high one first. They are multiplied by halves
