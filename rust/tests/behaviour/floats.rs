@@ -48,8 +48,8 @@ fn numbers_of_ranges() {
     }
 }
 
-/// What the least and the greatest word name, ranges without a number, and words that are rejected.
-macro_rules! check_ranges {
+/// What the least and the greatest word name.
+macro_rules! check_ends {
     ($number:ident) => {{
         let (least, greatest, ulp) = ($number::MIN, $number::MAX, $number::EPSILON);
         let (half, quarter) = (ulp / 2.0, ulp / 4.0);
@@ -58,12 +58,7 @@ macro_rules! check_ranges {
             (Included(0.0), Included(1.0), 0.0, 1.0),
             // The distances are rounded, down and up.
             (Included(-1.0), Included(quarter), -1.0, quarter),
-            (
-                Included(-1.0),
-                Included(half + quarter),
-                -1.0,
-                half + quarter,
-            ),
+            (Included(-1.0), Included(3.0 * quarter), -1.0, 3.0 * quarter),
             (Included(3.5), Included(3.5), 3.5, 3.5),
             (Included(0.0), Included(-0.0), 0.0, 0.0),
             (Included(least), Included(greatest), least, greatest),
@@ -71,21 +66,22 @@ macro_rules! check_ranges {
                 Included(least),
                 Excluded(greatest),
                 least,
-                greatest * (1.0 - ulp),
+                greatest - greatest * ulp,
             ),
             (Unbounded, Unbounded, least, greatest),
             (Included(7.0), Unbounded, 7.0, greatest),
             (Unbounded, Included(7.0), least, 7.0),
         ] {
-            let [first, last] =
-                [0, 255].map(|byte| Constant::new(byte).generate_range((low, high)));
-            assert_eq!(
-                (first, last),
-                (Ok::<$number, _>(by_least), Ok(by_greatest)),
-                "{low:?} {high:?}"
-            );
+            for (byte, number) in [(0, by_least), (255, by_greatest)] {
+                let drawn = Constant::new(byte).generate_range::<$number>((low, high));
+                assert_eq!(drawn, Ok(number), "{low:?} {high:?}");
+            }
         }
+    }};
+}
 
+macro_rules! check_empty {
+    ($number:ident) => {{
         let (none, endless) = ($number::NAN, $number::INFINITY);
         let mut rng = zeros();
         for (low, high) in [
@@ -98,34 +94,50 @@ macro_rules! check_ranges {
             (Included(1.0), Included(0.0)),
             (Included(1.0), Excluded(1.0)),
             (Excluded(1.0), Included(1.0)),
-            (Excluded(greatest), Unbounded),
-            (Unbounded, Excluded(least)),
+            (Excluded($number::MAX), Unbounded),
+            (Unbounded, Excluded($number::MIN)),
         ] {
-            assert_eq!(
-                rng.generate_range::<$number>((low, high)),
-                Err(Empty),
-                "{low:?} {high:?}"
-            );
+            let drawn = rng.generate_range::<$number>((low, high));
+            assert_eq!(drawn, Err(Empty), "{low:?} {high:?}");
         }
         assert_eq!(rng.drawn(), 0);
+    }};
+}
 
+/// Numbers of any size, with infinite ones and NaN.
+macro_rules! check_bounds {
+    ($number:ident) => {{
+        let mut rng = WyRand::new_seed(1);
+        for _ in 0..2000 {
+            let [low, high] = [(); 2].map(|()| $number::from_bits(rng.generate()));
+            let some = low.is_finite() && high.is_finite() && low < high;
+            let drawn = rng.generate_range(low..high);
+            assert_eq!(drawn.is_ok(), some, "{low} {high}");
+            assert!(drawn.map_or(true, |number| low <= number && number < high));
+        }
+    }};
+}
+
+/// Words that come to an excluded end, of which there are at most 128.
+macro_rules! check_rejected {
+    ($number:ident) => {{
+        let next = 1.0 + $number::EPSILON;
         let mut only_the_last = [0; 128];
         only_the_last[127] = 255;
-        let next = 1.0 + ulp;
         for (low, high, words, number) in [
-            (1.0, Excluded(next), &[255, 255, 0][..], Ok(1.0)),
-            (1.0, Included(next), &[0, 0, 255], Ok(next)),
-            (1.0, Excluded(next + ulp), &[0, 255, 127], Ok(next)),
-            (1.0, Included(next), &only_the_last, Ok(next)),
-            (1.0, Excluded(next), &[255; 128], Err(Exhausted)),
-            (1.0, Included(next), &[0; 128], Err(Exhausted)),
+            (Included(1.0), Excluded(next), &[255, 255, 0][..], Ok(1.0)),
+            (Excluded(1.0), Included(next), &[0, 0, 255], Ok(next)),
+            (
+                Excluded(1.0),
+                Excluded(next + $number::EPSILON),
+                &[0, 255, 127],
+                Ok(next),
+            ),
+            (Excluded(1.0), Included(next), &only_the_last, Ok(next)),
+            (Included(1.0), Excluded(next), &[255; 128], Err(Exhausted)),
+            (Excluded(1.0), Included(next), &[0; 128], Err(Exhausted)),
         ] {
             let mut rng = Script::new(words);
-            let low = if words[0] == 255 {
-                Included(low)
-            } else {
-                Excluded(low)
-            };
             assert_eq!(
                 rng.generate_range::<$number>((low, high)),
                 number,
@@ -137,7 +149,17 @@ macro_rules! check_ranges {
 }
 
 #[test]
-fn ranges_of_both_types() {
-    check_ranges!(f32);
-    check_ranges!(f64);
+fn ranges_of_f32() {
+    check_ends!(f32);
+    check_empty!(f32);
+    check_bounds!(f32);
+    check_rejected!(f32);
+}
+
+#[test]
+fn ranges_of_f64() {
+    check_ends!(f64);
+    check_empty!(f64);
+    check_bounds!(f64);
+    check_rejected!(f64);
 }
