@@ -5,8 +5,11 @@ use std::process::Command;
 
 fn main() {
     println!("cargo:rerun-if-changed=build.rs");
-    if minor_version().map_or(false, |minor| 80 <= minor) {
+    let minor = minor_version();
+    if minor.map_or(true, |minor| 80 <= minor) {
         println!("cargo:rustc-check-cfg=cfg(diagnostic_hints)");
+    }
+    if minor.map_or(false, |minor| 80 <= minor) {
         println!("cargo:rustc-cfg=diagnostic_hints");
     }
 }

@@ -1,9 +1,9 @@
 //! Tuples, arrays, integers that are not 0, and ranges of 128 bits. Literal numbers of ranges come from
 //! another implementation of the rule.
 
-use crate::common::{ByteScript, Script, Steps};
+use crate::common::{zeros, ByteScript, Script, Steps};
 use nanorand_proved::replay::{replay, Answer, Call, Kind};
-use nanorand_proved::{RandomGen, Rng, WyRand};
+use nanorand_proved::{RandomGen, RangeError, Rng, WyRand};
 use std::fmt::Debug;
 use std::num::{NonZeroI128, NonZeroI16, NonZeroI32, NonZeroI64, NonZeroI8, NonZeroIsize};
 use std::num::{NonZeroU128, NonZeroU16, NonZeroU32, NonZeroU64, NonZeroU8, NonZeroUsize};
@@ -181,4 +181,7 @@ fn wide_words_at_the_border() {
         assert_eq!(rng.generate_range(..size), Ok(size - 1));
         assert_eq!(rng.drawn(), 32, "{size}");
     }
+    let mut rng = zeros();
+    assert_eq!(rng.generate_range(..3_u128), Err(RangeError::Exhausted));
+    assert_eq!(rng.drawn(), 2 * 128);
 }
