@@ -34,6 +34,7 @@ impl<const OUTPUT: usize> BlockLength<OUTPUT> {
 }
 
 // `Bound::map`, which Rust 1.63 has not yet.
+#[inline]
 fn mapped<T, U>(bound: Bound<T>, map: impl FnOnce(T) -> U) -> Bound<U> {
     match bound {
         Bound::Included(value) => Bound::Included(map(value)),

@@ -34,6 +34,7 @@ impl<G: Rng<OUTPUT>, const OUTPUT: usize> RandomRange<G, OUTPUT> for char {
     }
 }
 
+#[inline]
 fn rank_of(character: char) -> u32 {
     match u32::from(character) {
         scalar if scalar < SURROGATES => scalar,
@@ -41,6 +42,7 @@ fn rank_of(character: char) -> u32 {
     }
 }
 
+#[inline]
 fn at_rank(rank: u32) -> char {
     let scalar = if rank < SURROGATES {
         rank
