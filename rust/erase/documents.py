@@ -33,6 +33,8 @@ SENTENCES = {
         "from 0 for the least to 2^BITS - 1 for the greatest. `usize` and `isize` have `BITS` 64 on every"
         " machine, and fewer ranks where they have fewer bits."
     ),
+    "An `isize`.": "An `isize`. The answer is the whole number of 64 bits on every machine.",
+    "A `usize`.": "A `usize`. The answer is the whole number of 64 bits on every machine.",
     "Precondition: the rank is below 2^BITS.": "A rank is below 2^BITS; of others nothing is said.",
     "This is promised for every reader whose bytes a contract can name (a slice, not a file).": (
         "This is proved for readers such as a slice."

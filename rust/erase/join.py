@@ -68,6 +68,7 @@ def graft(source, file, layer):
     the layer go before the proved source's. A function that both have gets the layer's body. Uses are
     added.
     """
+    file.docs = layer.docs or file.docs
     for item in layer.items:
         if isinstance(item, Use):
             file.items.insert(0, item)

@@ -240,9 +240,9 @@ class Differences(Same):
         self.same(
             "impl<G: Rng<OUTPUT>, const N: usize, const OUTPUT: usize> RandomGen<G, OUTPUT> for [u8; N] {\n"
             " ghost value = { a };\n fn random(rng: &mut G) -> [u8; N] { f(rng) } }",
-            "/// All.\nimpl<T: RandomGen<G, OUTPUT>, G: Rng<OUTPUT>, const N: usize, const OUTPUT: usize>"
+            "//! Whole.\n/// All.\nimpl<T: RandomGen<G, OUTPUT>, G: Rng<OUTPUT>, const N: usize, const OUTPUT: usize>"
             " RandomGen<G, OUTPUT> for [T; N] { fn random(rng: &mut G) -> [T; N] { g(rng) } }",
-            layer="/// All.\nimpl RandomGen<G, OUTPUT> for [T; N] { fn random(rng: &mut G) -> [T; N] { g(rng) } }",
+            layer="//! Whole.\n/// All.\nimpl RandomGen<G, OUTPUT> for [T; N] { fn random(rng: &mut G) -> [T; N] { g(rng) } }",
         )
         self.same("impl RandomRange<G, N> for [u8; N] {}", "impl RandomRange<G, N> for [u8; N] {}")
 

@@ -19,7 +19,7 @@ pub enum Kind {
     I64,
     /// An `i128`.
     I128,
-    /// An `isize`.
+    /// An `isize`. The answer is the whole number of 64 bits on every machine.
     Isize,
     /// A `u8`.
     U8,
@@ -31,7 +31,7 @@ pub enum Kind {
     U64,
     /// A `u128`.
     U128,
-    /// A `usize`.
+    /// A `usize`. The answer is the whole number of 64 bits on every machine.
     Usize,
     /// A `bool`.
     Bool,

@@ -2,7 +2,7 @@
 // crates/nanorand_core/src/values/bytes.rt
 // rust/erase/layer/values/bytes.rs
 
-//! Arrays of bytes: one request of their length.
+//! Arrays: of bytes by one request of their length, of other values by their items.
 
 use super::RandomGen;
 use crate::rand::Rng;
