@@ -7,7 +7,7 @@ use core::num::{NonZeroI128, NonZeroI16, NonZeroI32, NonZeroI64, NonZeroI8, NonZ
 use core::num::{NonZeroU128, NonZeroU16, NonZeroU32, NonZeroU64, NonZeroU8, NonZeroUsize};
 
 macro_rules! nonzero {
-    ($($number:ident),+) => { $(
+    ($($number:ident)+) => { $(
         /// The first of at most 128 values of the integer type that is not 0, and 1 if all are 0.
         impl<G: Rng<OUTPUT>, const OUTPUT: usize> RandomGen<G, OUTPUT> for $number {
             #[inline]
@@ -19,19 +19,5 @@ macro_rules! nonzero {
     )+ };
 }
 
-nonzero!(
-    NonZeroU8,
-    NonZeroU16,
-    NonZeroU32,
-    NonZeroU64,
-    NonZeroU128,
-    NonZeroUsize
-);
-nonzero!(
-    NonZeroI8,
-    NonZeroI16,
-    NonZeroI32,
-    NonZeroI64,
-    NonZeroI128,
-    NonZeroIsize
-);
+nonzero!(NonZeroU8 NonZeroU16 NonZeroU32 NonZeroU64 NonZeroU128 NonZeroUsize);
+nonzero!(NonZeroI8 NonZeroI16 NonZeroI32 NonZeroI64 NonZeroI128 NonZeroIsize);

@@ -50,7 +50,7 @@ fn items_in_their_order() {
 #[test]
 fn integers_that_are_not_zero() {
     macro_rules! check {
-        ($($number:ident),+) => { $({
+        ($($number:ident)+) => { $({
             let words = std::mem::size_of::<$number>().max(8) / 8;
             for (zeros, found) in [(0, true), (1, true), (127, true), (128, false)] {
                 let mut bytes = vec![0; zeros * words];
@@ -62,22 +62,8 @@ fn integers_that_are_not_zero() {
             }
         })+ };
     }
-    check!(
-        NonZeroU8,
-        NonZeroU16,
-        NonZeroU32,
-        NonZeroU64,
-        NonZeroU128,
-        NonZeroUsize
-    );
-    check!(
-        NonZeroI8,
-        NonZeroI16,
-        NonZeroI32,
-        NonZeroI64,
-        NonZeroI128,
-        NonZeroIsize
-    );
+    check!(NonZeroU8 NonZeroU16 NonZeroU32 NonZeroU64 NonZeroU128 NonZeroUsize);
+    check!(NonZeroI8 NonZeroI16 NonZeroI32 NonZeroI64 NonZeroI128 NonZeroIsize);
 }
 
 /// Where `usize` has fewer bits too: it has the low ones of a value, and its ranges are those of 64.
@@ -130,7 +116,11 @@ fn wide_numbers() {
     ] {
         assert_eq!(WyRand::new_seed(42).generate_range(low..=high), Ok(number));
     }
-    // Of the first two the first word is rejected.
+}
+
+/// The first word of each of the first two is rejected.
+#[test]
+fn wide_signed_numbers() {
     for (low, high, first, second) in [
         (
             i128::MIN,
