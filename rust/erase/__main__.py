@@ -28,7 +28,7 @@ LEFT_OUT = ("lib.rt", "laws.rt", "swap.rt", "crypto/chacha/wide.rt")
 
 # The files of rust/src that are written by hand.
 WRITTEN_BY_HAND = (
-    "lib.rs", "layer.rs", "layer/*.rs", "simd.rs", "swap.rs", "crypto/chacha/wide.rs"
+    "lib.rs", "layer.rs", "layer/*.rs", "simd.rs", "swap.rs", "system.rs", "crypto/chacha/wide.rs"
 )
 
 

@@ -40,7 +40,7 @@ SENTENCES = {
         "This is proved for readers such as a slice."
     ),
     "Only `backup` returns this.": (
-        "`backup` returns this, and `from_entropy` where the system has none."
+        "`backup` returns this, and an `io::Error` of kind `Unsupported` becomes it."
     ),
     "Precondition: the type has a number below `n`. The only error is `Exhausted`, after 128 rejected"
     " words. If 2^k numbers are below `n` (of an unsigned type: `n` is a power of two), there is none:"

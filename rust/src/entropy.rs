@@ -13,7 +13,8 @@ pub enum EntropyError {
     Short,
     /// The reader returned an error. An interruption counts as one.
     Fault,
-    /// There is no such source. `backup` returns this, and `from_entropy` where the system has none.
+    /// There is no such source. `backup` returns this, and an `io::Error` of kind `Unsupported`
+    /// becomes it.
     Unavailable,
 }
 

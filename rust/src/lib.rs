@@ -187,6 +187,8 @@ pub mod shuffles;
 mod simd;
 #[forbid(unsafe_code)]
 mod swap;
+#[cfg(feature = "std")]
+mod system;
 #[forbid(unsafe_code)]
 pub mod values;
 

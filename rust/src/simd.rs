@@ -6,7 +6,7 @@
 //! eight words AVX2 computes, where the processor has it, and elsewhere nothing: [`EightLanes::find`]
 //! asks. The words are the same everywhere: the tests compare with plain words.
 //!
-//! This is the only file with unsafe code.
+//! This is one of the two files with unsafe code; `system.rs` is the other.
 
 // The rounds are fast only if every operation becomes its one instruction.
 #![allow(clippy::inline_always)]

@@ -1,8 +1,8 @@
 //! `Default` of generators, with a seed from the operating system. Written by hand, tested, not proved.
 #![cfg(feature = "std")]
 
-use crate::entropy::EntropyError;
 use crate::rand::{ChaCha, ChaChaGroups, Pcg64, WyRand};
+use std::io;
 
 /// `from_entropy`, which panics where it returns an error.
 impl Default for WyRand {
@@ -38,18 +38,18 @@ impl<const ROUNDS: u8> Default for ChaChaGroups<ROUNDS> {
 }
 
 #[track_caller]
-fn seeded<G>(generator: Result<G, EntropyError>) -> G {
-    generator.unwrap_or_else(|error| panic!("{error}"))
+fn seeded<G>(generator: io::Result<G>) -> G {
+    generator.unwrap_or_else(|error| panic!("no seed: {error}"))
 }
 
 #[cfg(test)]
 mod tests {
     use super::seeded;
-    use crate::entropy::EntropyError;
+    use std::io::{Error, ErrorKind};
 
     #[test]
-    #[should_panic(expected = "no entropy source is available")]
+    #[should_panic(expected = "no seed: the system is asleep")]
     fn without_a_source() {
-        seeded(Err::<u8, _>(EntropyError::Unavailable));
+        seeded(Err::<u8, _>(Error::new(ErrorKind::Other, "the system is asleep")));
     }
 }

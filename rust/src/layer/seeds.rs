@@ -4,7 +4,9 @@
 use crate::rand::{ChaCha, ChaChaStream, Keystream, Pcg64, WyRand};
 
 #[cfg(feature = "std")]
-use crate::entropy::EntropyError;
+use crate::{entropy::EntropyError, system};
+#[cfg(feature = "std")]
+use std::io;
 
 impl WyRand {
     /// A generator whose seed is these bytes, least byte first.
@@ -16,14 +18,15 @@ impl WyRand {
 
     /// A generator whose seed is the operating system's next 8 random bytes.
     ///
-    /// The bytes are not proved to be random. They are those of `/dev/urandom`, on Unix alone.
+    /// They are not proved to be random. The call that gives them is `getrandom`, `getentropy`,
+    /// `CCRandomGenerateBytes`, `random_get` or `ProcessPrng`, as the system has it.
     ///
     /// # Errors
     ///
-    /// `Unavailable` if the system has no such source; `Short` or `Fault` if it gave too few bytes.
+    /// The error of the system's call; an error of kind `Unsupported` where there is no such call.
     #[cfg(feature = "std")]
-    pub fn from_entropy() -> Result<Self, EntropyError> {
-        Self::new(&mut system_source()?)
+    pub fn from_entropy() -> io::Result<Self> {
+        system_seed().map(Self::from_seed)
     }
 }
 
@@ -37,14 +40,15 @@ impl Pcg64 {
 
     /// A generator whose seed is the operating system's next 16 random bytes.
     ///
-    /// The bytes are not proved to be random. They are those of `/dev/urandom`, on Unix alone.
+    /// They are not proved to be random. The call that gives them is `getrandom`, `getentropy`,
+    /// `CCRandomGenerateBytes`, `random_get` or `ProcessPrng`, as the system has it.
     ///
     /// # Errors
     ///
-    /// `Unavailable` if the system has no such source; `Short` or `Fault` if it gave too few bytes.
+    /// The error of the system's call; an error of kind `Unsupported` where there is no such call.
     #[cfg(feature = "std")]
-    pub fn from_entropy() -> Result<Self, EntropyError> {
-        Self::new(&mut system_source()?)
+    pub fn from_entropy() -> io::Result<Self> {
+        system_seed().map(Self::from_seed)
     }
 }
 
@@ -58,14 +62,15 @@ impl<const ROUNDS: u8> ChaCha<ROUNDS> {
 
     /// A generator whose key and nonce are the operating system's next 40 random bytes.
     ///
-    /// The bytes are not proved to be random. They are those of `/dev/urandom`, on Unix alone.
+    /// They are not proved to be random. The call that gives them is `getrandom`, `getentropy`,
+    /// `CCRandomGenerateBytes`, `random_get` or `ProcessPrng`, as the system has it.
     ///
     /// # Errors
     ///
-    /// `Unavailable` if the system has no such source; `Short` or `Fault` if it gave too few bytes.
+    /// The error of the system's call; an error of kind `Unsupported` where there is no such call.
     #[cfg(feature = "std")]
-    pub fn from_entropy() -> Result<Self, EntropyError> {
-        Self::new(&mut system_source()?)
+    pub fn from_entropy() -> io::Result<Self> {
+        system_seed().map(Self::from_seed)
     }
 }
 
@@ -79,15 +84,15 @@ impl<const ROUNDS: u8> ChaChaStream<ROUNDS> {
 
     /// A stream whose key and nonce are the operating system's next 40 random bytes.
     ///
-    /// The bytes are not proved to be random. They are those of `/dev/urandom`, on Unix alone.
+    /// They are not proved to be random. The call that gives them is `getrandom`, `getentropy`,
+    /// `CCRandomGenerateBytes`, `random_get` or `ProcessPrng`, as the system has it.
     ///
     /// # Errors
     ///
-    /// `Unavailable` if the system has no such source; `Short` or `Fault` if it gave too few bytes.
+    /// The error of the system's call; an error of kind `Unsupported` where there is no such call.
     #[cfg(feature = "std")]
-    pub fn from_entropy() -> Result<Self, EntropyError> {
-        let rng = ChaCha::<ROUNDS>::from_entropy()?;
-        Ok(Self::new_key(rng.key(), rng.nonce()))
+    pub fn from_entropy() -> io::Result<Self> {
+        system_seed().map(Self::from_seed)
     }
 }
 
@@ -102,32 +107,21 @@ const fn part<const SIZE: usize>(seed: &[u8; 40], first: usize) -> [u8; SIZE] {
     bytes
 }
 
+// The operating system's next bytes, by one call.
 #[cfg(feature = "std")]
-fn system_source() -> Result<std::fs::File, EntropyError> {
-    source_at("/dev/urandom", cfg!(unix))
+fn system_seed<const SIZE: usize>() -> io::Result<[u8; SIZE]> {
+    let mut seed = [0; SIZE];
+    system::fill(&mut seed)?;
+    Ok(seed)
 }
 
-// Elsewhere than on Unix a file of that name would be anyone's. The whole body is compiled on every
-// system, so that the tests of one see it.
+/// An error of `from_entropy`: `Unavailable` if it is `Unsupported`, and else `Fault`.
 #[cfg(feature = "std")]
-fn source_at(path: &str, on_unix: bool) -> Result<std::fs::File, EntropyError> {
-    if !on_unix {
-        return Err(EntropyError::Unavailable);
-    }
-    std::fs::File::open(path).map_err(|_| EntropyError::Unavailable)
-}
-
-#[cfg(all(test, feature = "std"))]
-mod tests {
-    use super::source_at;
-    use crate::entropy::EntropyError;
-
-    #[test]
-    fn systems_without_a_source() {
-        assert!(source_at("Cargo.toml", true).is_ok());
-        for (path, on_unix) in [("Cargo.toml", false), ("no/such/file", true)] {
-            let refused = source_at(path, on_unix).err();
-            assert_eq!(refused, Some(EntropyError::Unavailable), "{path}");
+impl From<io::Error> for EntropyError {
+    fn from(error: io::Error) -> Self {
+        match error.kind() {
+            io::ErrorKind::Unsupported => EntropyError::Unavailable,
+            _ => EntropyError::Fault,
         }
     }
 }

@@ -4,7 +4,7 @@ use crate::common::Pieces;
 use nanorand_proved::entropy::{backup, rdseed, system, EntropyError};
 use nanorand_proved::rand::ChaChaGroups;
 use nanorand_proved::{ChaCha12, ChaCha20, ChaCha20Stream, ChaCha8, Pcg64, WyRand};
-use std::io::ErrorKind;
+use std::io::{self, ErrorKind};
 
 /// The kinds of errors with which the readers fail. `Interrupted` is one of them.
 const FAULTS: [ErrorKind; 3] = [
@@ -149,4 +149,16 @@ fn defaults_differ() {
     assert!(differ::<ChaChaGroups<8>>() && differ::<ChaCha20Stream>());
     let rng = ChaChaGroups::<8>::default();
     assert!(rng.key() != [0; 32] && rng.nonce() != [0; 8] && rng.counter() == 0);
+}
+
+#[test]
+fn errors_of_the_system() {
+    for (kind, error) in [
+        (ErrorKind::Unsupported, EntropyError::Unavailable),
+        (ErrorKind::PermissionDenied, EntropyError::Fault),
+        (ErrorKind::UnexpectedEof, EntropyError::Fault),
+        (ErrorKind::Other, EntropyError::Fault),
+    ] {
+        assert_eq!(EntropyError::from(io::Error::from(kind)), error, "{kind:?}");
+    }
 }

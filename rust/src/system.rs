@@ -1,0 +1,285 @@
+//! Random bytes of the operating system, by its own call: no file is opened.
+//!
+//! This is one of the two files with unsafe code; `simd.rs` is the other. It is trusted that each system
+//! has the function that is declared here, and that a call writes to no byte but those that it is given.
+
+use std::io::{self, ErrorKind};
+
+/// Fills the slice with the operating system's random bytes, and asks for nothing if it is empty.
+///
+/// # Errors
+///
+/// The error of the system's call, or `Unsupported` where none is known. What the slice holds is then
+/// unspecified.
+#[inline]
+pub(crate) fn fill(bytes: &mut [u8]) -> io::Result<()> {
+    fill_by(bytes, call::MOST, call::request)
+}
+
+// Fills a slice by requests of at most `most` bytes each. A request says how many bytes it wrote, from the
+// first one on. One that a signal interrupted is made again.
+#[inline]
+fn fill_by(
+    bytes: &mut [u8],
+    most: usize,
+    mut request: impl FnMut(&mut [u8]) -> io::Result<usize>,
+) -> io::Result<()> {
+    let mut filled = 0;
+    while filled < bytes.len() {
+        let rest = &mut bytes[filled..];
+        let size = rest.len().min(most);
+        match request(&mut rest[..size]) {
+            Ok(0) => return Err(ErrorKind::UnexpectedEof.into()),
+            Ok(count) => filled += count,
+            Err(error) if error.kind() == ErrorKind::Interrupted => {}
+            Err(error) => return Err(error),
+        }
+    }
+    Ok(())
+}
+
+/// `getrandom`, which returns a count, or -1 and sets `errno`.
+#[cfg(any(target_os = "linux", target_os = "android", target_os = "dragonfly"))]
+mod call {
+    use std::io;
+    use std::os::raw::{c_uint, c_void};
+
+    pub(super) const MOST: usize = usize::MAX;
+
+    extern "C" {
+        fn getrandom(bytes: *mut c_void, size: usize, flags: c_uint) -> isize;
+    }
+
+    pub(super) fn request(bytes: &mut [u8]) -> io::Result<usize> {
+        request_with(bytes, 0)
+    }
+
+    // Without flags the call waits until the system has gathered enough, once after its start.
+    pub(super) fn request_with(bytes: &mut [u8], flags: c_uint) -> io::Result<usize> {
+        // SAFETY: the slice may be written over its whole size.
+        let count = unsafe { getrandom(bytes.as_mut_ptr().cast(), bytes.len(), flags) };
+        usize::try_from(count).map_err(|_| io::Error::last_os_error())
+    }
+}
+
+/// `getentropy`, which fills at most 256 bytes whole, or returns -1 and sets `errno`.
+#[cfg(any(
+    target_os = "macos",
+    target_os = "freebsd",
+    target_os = "netbsd",
+    target_os = "openbsd",
+    target_os = "solaris",
+    target_os = "illumos",
+    target_os = "emscripten",
+))]
+mod call {
+    use std::io;
+    use std::os::raw::{c_int, c_void};
+
+    pub(super) const MOST: usize = 256;
+
+    extern "C" {
+        fn getentropy(bytes: *mut c_void, size: usize) -> c_int;
+    }
+
+    pub(super) fn request(bytes: &mut [u8]) -> io::Result<usize> {
+        // SAFETY: the slice may be written over its whole size.
+        match unsafe { getentropy(bytes.as_mut_ptr().cast(), bytes.len()) } {
+            0 => Ok(bytes.len()),
+            _ => Err(io::Error::last_os_error()),
+        }
+    }
+}
+
+/// `CCRandomGenerateBytes` of iOS and its kin, which fills the slice whole, or returns its own status.
+#[cfg(all(target_vendor = "apple", not(target_os = "macos")))]
+mod call {
+    use std::io;
+    use std::os::raw::c_void;
+
+    pub(super) const MOST: usize = usize::MAX;
+
+    extern "C" {
+        fn CCRandomGenerateBytes(bytes: *mut c_void, size: usize) -> i32;
+    }
+
+    pub(super) fn request(bytes: &mut [u8]) -> io::Result<usize> {
+        // SAFETY: the slice may be written over its whole size.
+        match unsafe { CCRandomGenerateBytes(bytes.as_mut_ptr().cast(), bytes.len()) } {
+            0 => Ok(bytes.len()),
+            _ => Err(io::Error::new(
+                io::ErrorKind::Other,
+                "CCRandomGenerateBytes failed",
+            )),
+        }
+    }
+}
+
+/// `random_get` of WASI, which fills the slice whole, or returns its error.
+#[cfg(target_os = "wasi")]
+mod call {
+    use std::io;
+
+    pub(super) const MOST: usize = usize::MAX;
+
+    #[link(wasm_import_module = "wasi_snapshot_preview1")]
+    extern "C" {
+        fn random_get(bytes: *mut u8, size: usize) -> i32;
+    }
+
+    pub(super) fn request(bytes: &mut [u8]) -> io::Result<usize> {
+        // SAFETY: the slice may be written over its whole size.
+        match unsafe { random_get(bytes.as_mut_ptr(), bytes.len()) } {
+            0 => Ok(bytes.len()),
+            error => Err(io::Error::from_raw_os_error(error)),
+        }
+    }
+}
+
+/// `ProcessPrng` of Windows, which fills the slice whole. Its library has no part for a linker, so it is
+/// loaded, and stays so.
+#[cfg(windows)]
+mod call {
+    use std::io;
+    use std::os::raw::c_void;
+
+    type ProcessPrng = unsafe extern "system" fn(bytes: *mut u8, size: usize) -> i32;
+
+    pub(super) const MOST: usize = usize::MAX;
+
+    // The system's folder alone: beside the program a library of that name would be anyone's.
+    const LOAD_LIBRARY_SEARCH_SYSTEM32: u32 = 0x800;
+
+    #[link(name = "kernel32")]
+    extern "system" {
+        fn LoadLibraryExA(name: *const u8, file: *mut c_void, flags: u32) -> *mut c_void;
+        fn GetProcAddress(library: *mut c_void, name: *const u8) -> Option<ProcessPrng>;
+    }
+
+    pub(super) fn request(bytes: &mut [u8]) -> io::Result<usize> {
+        let process_prng = load().ok_or_else(io::Error::last_os_error)?;
+        // SAFETY: the slice may be written over its whole size.
+        match unsafe { process_prng(bytes.as_mut_ptr(), bytes.len()) } {
+            0 => Err(io::Error::last_os_error()),
+            _ => Ok(bytes.len()),
+        }
+    }
+
+    fn load() -> Option<ProcessPrng> {
+        let name = b"bcryptprimitives.dll\0".as_ptr();
+        // SAFETY: both names end in 0, and the function of this name has this type.
+        unsafe {
+            let library = LoadLibraryExA(name, std::ptr::null_mut(), LOAD_LIBRARY_SEARCH_SYSTEM32);
+            if library.is_null() {
+                return None;
+            }
+            GetProcAddress(library, b"ProcessPrng\0".as_ptr())
+        }
+    }
+}
+
+#[cfg(not(any(
+    target_os = "linux",
+    target_os = "android",
+    target_os = "dragonfly",
+    target_os = "freebsd",
+    target_os = "netbsd",
+    target_os = "openbsd",
+    target_os = "solaris",
+    target_os = "illumos",
+    target_os = "emscripten",
+    target_os = "wasi",
+    target_vendor = "apple",
+    windows,
+)))]
+mod call {
+    use std::io;
+
+    pub(super) const MOST: usize = usize::MAX;
+
+    pub(super) fn request(_: &mut [u8]) -> io::Result<usize> {
+        Err(io::ErrorKind::Unsupported.into())
+    }
+}
+
+#[cfg(all(test, unix))]
+mod tests {
+    use super::fill_by;
+    use std::io::{self, ErrorKind};
+    use std::vec;
+    use std::vec::Vec;
+
+    const EINTR: i32 = 4;
+    const EIO: i32 = 5;
+
+    // The size that is asked for, and the count or the error of the system that comes back.
+    type Request = (usize, Result<usize, i32>);
+
+    // Fills bytes by exactly these requests, of at most 20 bytes each, which write 1, 2, 3, ..
+    fn filled_by(requests: &[Request], size: usize) -> (Vec<u8>, io::Result<()>) {
+        let mut bytes = vec![0; size];
+        let mut numbers = 1..=u8::MAX;
+        let mut left = requests.iter();
+        let result = fill_by(&mut bytes, 20, |part| {
+            let (size, outcome) = *left.next().expect("a request too many");
+            assert_eq!(part.len(), size, "{requests:?}");
+            let count = outcome.map_err(io::Error::from_raw_os_error)?;
+            part[..count].fill_with(|| numbers.next().expect("a small number"));
+            Ok(count)
+        });
+        assert_eq!(left.len(), 0, "{requests:?}: some were not made");
+        (bytes, result)
+    }
+
+    #[test]
+    fn whole_fills() {
+        let rows: [(usize, &[Request]); 6] = [
+            (0, &[]),
+            (20, &[(20, Ok(20))]),
+            (21, &[(20, Ok(20)), (1, Ok(1))]),
+            (8, &[(8, Ok(3)), (5, Ok(1)), (4, Ok(4))]),
+            (45, &[(20, Ok(20)), (20, Ok(5)), (20, Ok(20))]),
+            (
+                8,
+                &[
+                    (8, Err(EINTR)),
+                    (8, Err(EINTR)),
+                    (8, Ok(2)),
+                    (6, Err(EINTR)),
+                    (6, Ok(6)),
+                ],
+            ),
+        ];
+        for (size, requests) in rows {
+            let (bytes, result) = filled_by(requests, size);
+            assert!(result.is_ok(), "{requests:?}");
+            assert!(bytes.into_iter().eq((1..).take(size)), "{requests:?}");
+        }
+    }
+
+    #[test]
+    fn failures() {
+        let rows: [&[Request]; 3] = [
+            &[(8, Err(EIO))],
+            &[(8, Ok(3)), (5, Err(EIO))],
+            &[(8, Err(EINTR)), (8, Err(EIO))],
+        ];
+        for requests in rows {
+            let error = filled_by(requests, 8).1.expect_err("a failure");
+            assert_eq!(error.raw_os_error(), Some(EIO), "{requests:?}");
+        }
+        for requests in [&[(8, Ok(0))][..], &[(8, Ok(7)), (1, Ok(0))]] {
+            let error = filled_by(requests, 8).1.expect_err("no byte");
+            assert_eq!(error.kind(), ErrorKind::UnexpectedEof, "{requests:?}");
+        }
+    }
+
+    // Linux refuses flags that it does not know.
+    #[cfg(all(target_os = "linux", not(miri)))]
+    #[test]
+    fn the_systems_own_error() {
+        const EINVAL: i32 = 22;
+        let error = super::call::request_with(&mut [0; 8], !0).expect_err("unknown flags");
+        assert_eq!(error.raw_os_error(), Some(EINVAL));
+    }
+}
