@@ -11,7 +11,7 @@ struct Color {
 
 impl<G: Rng<OUTPUT>, const OUTPUT: usize> RandomGen<G, OUTPUT> for Color {
     fn random(rng: &mut G) -> Self {
-        let [red, green, blue] = rng.generate();
+        let [red, green, blue]: [u8; 3] = rng.generate();
         Color { red, green, blue }
     }
 }

@@ -28,17 +28,17 @@ fn rows() -> impl Iterator<Item = Row<'static>> {
     let lines = TABLE.lines().filter(|line| !line.starts_with('#'));
     lines.map(|line| {
         let columns: Vec<&str> = line.split('\t').collect();
-        let [generator, before, call, arguments, status, result, after] = columns[..] else {
-            panic!("seven columns, not {line}");
-        };
-        Row {
-            generator,
-            before,
-            call,
-            arguments,
-            status,
-            result,
-            after,
+        match columns[..] {
+            [generator, before, call, arguments, status, result, after] => Row {
+                generator,
+                before,
+                call,
+                arguments,
+                status,
+                result,
+                after,
+            },
+            _ => panic!("seven columns, not {line}"),
         }
     })
 }
