@@ -8,6 +8,7 @@ import sys
 from pathlib import Path
 
 import documents
+import examples
 import join
 import shape
 from items import file_of
@@ -17,6 +18,7 @@ from writer import text_of
 ROOT = Path(__file__).resolve().parent.parent.parent
 TARGET = ROOT / "rust" / "src"
 LAYER = ROOT / "rust" / "erase" / "layer"
+EXAMPLES = ROOT / "rust" / "erase" / "examples"
 
 # The proved crates, in the order in which the files of one module follow one another.
 CRATES = ("nanorand", "nanorand_core", "nanorand_replay")
@@ -53,6 +55,9 @@ def module_in_rust(name, paths):
     if layer.exists():
         sources.append(Source.read(layer, ROOT))
         join.graft(sources[-1], file, file_of(sources[-1]))
+    text = EXAMPLES / f"{name}.md"
+    if text.exists():
+        examples.add(text.read_text(encoding="utf-8"), str(text.relative_to(ROOT)), file)
     join.sort_uses(file)
     origins = "".join(f"// {source.name}\n" for source in sources)
     return text_of(file, f"// Written by `python3 rust/erase` from:\n{origins}")
@@ -61,14 +66,16 @@ def module_in_rust(name, paths):
 def crate_in_rust():
     """The text of each file that is written, by its place in rust/src."""
     texts = {f"{name}.rs": module_in_rust(name, paths) for name, paths in modules().items()}
-    for text in (*documents.unused(), *shape.unused(), *layers_without_module()):
+    for text in (*documents.unused(), *shape.unused(), *without_module()):
         raise Unknown(f"rust/erase: nothing in the proved source has this any more: {text}")
     return texts
 
 
-def layers_without_module():
-    known = {LAYER / f"{name}.rs" for name in modules()}
-    return [path.name for path in LAYER.rglob("*.rs") if path not in known]
+def without_module():
+    """The files of the layer and of the examples that no module takes."""
+    known = {folder / f"{name}{end}" for name in modules() for folder, end in ((LAYER, ".rs"), (EXAMPLES, ".md"))}
+    there = (path for folder in (LAYER, EXAMPLES) for path in folder.rglob("*.*"))
+    return [path.name for path in there if path not in known]
 
 
 def strangers(texts):

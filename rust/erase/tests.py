@@ -4,6 +4,7 @@ import contextlib
 import importlib.util
 import io
 import re
+import shutil
 import sys
 import tempfile
 import unittest
@@ -14,6 +15,7 @@ HERE = Path(__file__).resolve().parent
 sys.path.insert(0, str(HERE))
 
 import documents
+import examples
 import join
 import shape
 from items import file_of, paths_of, split
@@ -330,6 +332,34 @@ class Documents(unittest.TestCase):
         self.assertEqual(self.written("A.\n\nThe law `partial_shuffles` says it."), [" A."])
 
 
+class Examples(unittest.TestCase):
+    """A text of examples, added to a file with the functions f and g."""
+
+    SECTION = "## {}\n\n```\na();\n\nb();\n```\n"
+
+    def docs(self, text):
+        file = file_of(source_of("/// Doc.\nfn f() {}\nstruct S;\n/// Doc.\nfn g() {}"))
+        examples.add(text, "x.md", file)
+        return [item.docs for item in file.items if item.__class__.__name__ == "Function"]
+
+    def test_sections_are_added(self):
+        added = [" Doc.", "", " # Examples", "", " ```", " a();", "", " b();", " ```"]
+        g, f = self.SECTION.format("g"), self.SECTION.format("f")
+        self.assertEqual(self.docs(g), [[" Doc."], added])
+        self.assertEqual(self.docs(f"{g}\n{f}"), [added, added])
+
+    def test_what_is_no_section_stops_it(self):
+        section = self.SECTION.format("f")
+        for text in ("", f"More.\n\n{section}", f"{section}\nMore.\n", "## f\n\nMore.\n", section[:-4], section[2:]):
+            with self.subTest(text), self.assertRaisesRegex(Unknown, "x.md: a heading and one block"):
+                self.docs(text)
+
+    def test_a_section_without_a_function_stops_it(self):
+        for name in ("gone", "S"):
+            with self.assertRaisesRegex(Unknown, f"x.md: nothing in the proved source has this any more: {name}"):
+                self.docs(self.SECTION.format(name))
+
+
 class Strangers(unittest.TestCase):
     """Whatever the eraser does not know stops it, with the file and the line."""
 
@@ -424,6 +454,14 @@ class Command(unittest.TestCase):
                 status, text = self.printed(self.command.main, ["--check"])
                 self.assertEqual(status, 1)
                 self.assertIn("nothing in the proved source has this any more", text)
+
+    def test_a_file_without_a_module_stops_it(self):
+        for folder, name in (("LAYER", "gone.rs"), ("EXAMPLES", "gone.md"), ("EXAMPLES", "values.rs")):
+            with self.subTest(name), tempfile.TemporaryDirectory() as room:
+                shutil.copytree(getattr(self.command, folder), room, dirs_exist_ok=True)
+                (Path(room) / name).touch()
+                with mock.patch.object(self.command, folder, Path(room)):
+                    self.assertEqual(self.command.without_module(), [name])
 
     def test_arguments(self):
         self.assertEqual(self.printed(self.command.main, ["--chek"])[0], 2)

@@ -1,11 +1,9 @@
-//! Generators are stored as numbers and bytes, and a shuffle as its choices: both go on as if nothing had
-//! happened.
+//! Generators are stored as numbers and bytes, and go on as if nothing had happened.
 
-use nanorand_proved::shuffles::{apply_choices, choices_of, shuffle_and_record};
 use nanorand_proved::{BufferedRng, ChaCha20, Pcg64, Rng, WyRand};
 use std::error::Error;
 
-fn generators() -> Result<(), Box<dyn Error>> {
+fn main() -> Result<(), Box<dyn Error>> {
     let mut wyrand = WyRand::new_seed(1);
     let _ = wyrand.generate::<u64>();
     let saved: u64 = wyrand.seed();
@@ -26,31 +24,7 @@ fn generators() -> Result<(), Box<dyn Error>> {
     let (saved, rest) = (buffered.inner().seed(), buffered.rest().to_vec());
     println!("seed {saved:#x}, bytes {rest:?}");
     let mut restored = BufferedRng::with_rest(WyRand::new_seed(saved), &rest)?;
-    assert_eq!(restored, buffered);
     assert_eq!(restored.generate::<u128>(), buffered.generate::<u128>());
+    assert_eq!(restored, buffered);
     Ok(())
-}
-
-/// The choices are applied again to another list, or found from the order that they made.
-fn choices() -> Result<(), Box<dyn Error>> {
-    let mut deck: Vec<usize> = (0..10).collect();
-    let mut choices = [0; 10];
-    shuffle_and_record(&mut WyRand::new_seed(42), &mut deck, &mut choices)?;
-    println!("{deck:?} by {choices:?}");
-    assert_eq!(deck, [6, 9, 8, 1, 0, 3, 4, 7, 5, 2]);
-
-    let mut letters: Vec<char> = ('a'..='j').collect();
-    apply_choices(&choices, &mut letters);
-    assert!(letters.iter().collect::<String>() == "gjibadehfc");
-
-    let mut found = [0; 10];
-    choices_of(&deck, &mut found, &mut [0; 10])?;
-    assert_eq!(found, choices);
-    assert!(choices_of(&[1, 1], &mut [0; 2], &mut [0; 2]).is_err());
-    Ok(())
-}
-
-fn main() -> Result<(), Box<dyn Error>> {
-    generators()?;
-    choices()
 }

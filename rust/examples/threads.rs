@@ -1,10 +1,13 @@
-//! One stream in parts that do not overlap: each thread jumps to its own, and the numbers are those of a
-//! single thread.
+//! Generators of threads: one stream in parts that do not overlap, to which each thread jumps, and one generator
+//! behind a lock, whose seed is a constant.
 
-use nanorand_proved::{Pcg64, Rng};
+use nanorand_proved::{Pcg64, Rng, WyRand};
+use std::sync::Mutex;
 use std::thread;
 
 const SHARE: usize = 1000;
+
+static SHARED: Mutex<WyRand> = Mutex::new(WyRand::new_seed(42));
 
 /// The part of a stream that belongs to a worker.
 fn part(worker: usize) -> Vec<u64> {
@@ -12,19 +15,19 @@ fn part(worker: usize) -> Vec<u64> {
     rng.jump(u128::try_from(worker * SHARE).expect("a small number"));
     let mut numbers = vec![0; SHARE];
     rng.fill(&mut numbers);
+    let ticket: u64 = SHARED.lock().expect("no thread panics").generate();
+    println!("worker {worker} has the ticket {ticket}");
     numbers
 }
 
 fn main() {
-    let workers: Vec<_> = (0..4)
-        .map(|worker| thread::spawn(move || part(worker)))
-        .collect();
+    let start = |worker| thread::spawn(move || part(worker));
+    let workers: Vec<_> = (0..4).map(start).collect();
     let parts: Vec<u64> = workers
         .into_iter()
         .flat_map(|worker| worker.join().expect("no panic"))
         .collect();
     let mut whole = vec![0_u64; 4 * SHARE];
     Pcg64::new_seed(99).fill(&mut whole);
-    println!("{} numbers", parts.len());
-    assert_eq!(parts, whole);
+    assert_eq!(parts, whole, "the numbers are those of a single thread");
 }

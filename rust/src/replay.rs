@@ -99,6 +99,26 @@ pub enum Answer {
 /// # Panics
 ///
 /// Panics unless `answers` is as long as `calls`.
+///
+/// # Examples
+///
+/// ```
+/// use nanorand_proved::replay::{replay, Answer, Call, Kind, Span};
+/// use nanorand_proved::WyRand;
+/// use std::ops::Bound::{Excluded, Included};
+///
+/// let calls = [
+///     Call::Gen(Kind::U64),
+///     Call::Range(Span::U8(Included(10), Included(12))),
+///     Call::Range(Span::I32(Included(0), Excluded(0))),
+///     Call::Shuffle,
+/// ];
+/// let (mut items, mut answers) = ([7, 8, 9], [Answer::Empty; 4]);
+/// replay(&mut WyRand::new_seed(42), &calls, &mut items, &mut answers);
+/// let [first, second] = [12_558_987_674_375_533_620, 12].map(Answer::Unsigned);
+/// assert_eq!(answers, [first, second, Answer::Empty, Answer::Shuffled]);
+/// assert_eq!(items, [9, 7, 8]);
+/// ```
 pub fn replay<G: Rng<OUTPUT>, const OUTPUT: usize>(
     rng: &mut G,
     calls: &[Call],

@@ -27,6 +27,19 @@ use core::ops::Bound;
 /// # Panics
 ///
 /// Panics unless there are at most `count` slots.
+///
+/// # Examples
+///
+/// ```
+/// use nanorand_proved::{samples, RangeError, Rng, WyRand};
+///
+/// let mut rng = WyRand::new_seed(42);
+/// let mut places = [0; 4];
+/// samples::sample(&mut rng, 1000, &mut places)?;
+/// assert_eq!(places, [678, 911, 793, 918]);
+/// rng.shuffle(&mut places)?; // now in random order
+/// # Ok::<(), RangeError>(())
+/// ```
 pub fn sample<G: Rng<OUTPUT>, const OUTPUT: usize>(
     rng: &mut G,
     count: usize,

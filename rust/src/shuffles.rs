@@ -30,6 +30,14 @@ impl std::error::Error for NotArrangement {}
 ///
 /// Panics unless there is one choice for each item, and the choice of index i is i or a later
 /// index.
+///
+/// # Examples
+///
+/// ```
+/// let mut items = ["ace", "king", "queen"];
+/// nanorand_proved::shuffles::apply_choices(&[2, 1, 2], &mut items);
+/// assert_eq!(items, ["queen", "king", "ace"]);
+/// ```
 pub fn apply_choices<T>(choices: &[usize], items: &mut [T]) {
     assert!(
         choices.len() == items.len(),
@@ -58,6 +66,18 @@ pub fn apply_choices<T>(choices: &[usize], items: &mut [T]) {
 /// # Panics
 ///
 /// Panics unless `out` and `scratch` are as long as `order`.
+///
+/// # Examples
+///
+/// ```
+/// use nanorand_proved::shuffles::{choices_of, NotArrangement};
+///
+/// let mut choices = [0; 3];
+/// choices_of(&[2, 1, 0], &mut choices, &mut [0; 3])?;
+/// assert_eq!(choices, [2, 1, 2]);
+/// assert_eq!(choices_of(&[1, 1], &mut [0; 2], &mut [0; 2]), Err(NotArrangement));
+/// # Ok::<(), NotArrangement>(())
+/// ```
 pub fn choices_of(
     order: &[usize],
     out: &mut [usize],
@@ -114,6 +134,21 @@ fn place_from(items: &[usize], from: usize, wanted: usize) -> Option<usize> {
 /// # Panics
 ///
 /// Panics unless `choices` is as long as `target`.
+///
+/// # Examples
+///
+/// ```
+/// use nanorand_proved::shuffles::{apply_choices, shuffle_and_record};
+/// use nanorand_proved::{RangeError, WyRand};
+///
+/// let (mut numbers, mut choices) = ([1, 2, 3, 4, 5], [0; 5]);
+/// shuffle_and_record(&mut WyRand::new_seed(42), &mut numbers, &mut choices)?;
+/// let mut letters = ['a', 'b', 'c', 'd', 'e'];
+/// apply_choices(&choices, &mut letters);
+/// assert_eq!(numbers, [4, 5, 2, 3, 1]);
+/// assert_eq!(letters, ['d', 'e', 'b', 'c', 'a']);
+/// # Ok::<(), RangeError>(())
+/// ```
 pub fn shuffle_and_record<G: Rng<OUTPUT>, T, const OUTPUT: usize>(
     rng: &mut G,
     target: &mut [T],
@@ -145,6 +180,19 @@ pub fn shuffle_and_record<G: Rng<OUTPUT>, T, const OUTPUT: usize>(
 ///
 /// It returns `Exhausted` if 128 words in a row were rejected for one index. The swaps before that
 /// stay, and so do all draws. A `count` of 0 draws nothing.
+///
+/// # Examples
+///
+/// ```
+/// use nanorand_proved::{shuffles::partial_shuffle, RangeError, WyRand};
+///
+/// let mut deck: Vec<u8> = (0..52).collect();
+/// partial_shuffle(&mut WyRand::new_seed(42), &mut deck, 5)?;
+/// let (hand, rest) = deck.split_at(5);
+/// assert_eq!(hand, [35, 47, 41, 48, 20]);
+/// assert!(hand.iter().all(|card| !rest.contains(card)));
+/// # Ok::<(), RangeError>(())
+/// ```
 pub fn partial_shuffle<G: Rng<OUTPUT>, T, const OUTPUT: usize>(
     rng: &mut G,
     target: &mut [T],
@@ -169,6 +217,17 @@ pub fn partial_shuffle<G: Rng<OUTPUT>, T, const OUTPUT: usize>(
 ///
 /// It returns `Exhausted` if 128 words in a row were rejected for one index. The swaps before that
 /// stay, and so do all draws. An empty slice draws nothing.
+///
+/// # Examples
+///
+/// ```
+/// use nanorand_proved::{shuffles::shuffle_full, RangeError, WyRand};
+///
+/// let mut items = [1, 2, 3, 4, 5];
+/// shuffle_full(&mut WyRand::new_seed(42), &mut items)?;
+/// assert_eq!(items, [4, 3, 1, 2, 5]);
+/// # Ok::<(), RangeError>(())
+/// ```
 #[inline]
 pub fn shuffle_full<G: Rng<OUTPUT>, T, const OUTPUT: usize>(
     rng: &mut G,

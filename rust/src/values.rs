@@ -60,6 +60,18 @@ impl<G: Rng<OUTPUT>, const OUTPUT: usize> RandomGen<G, OUTPUT> for bool {
 /// Fills the slice by a closure: calls `draw` once for each item, in the order of the items.
 ///
 /// It is `Rng::fill` for draws that are no type of their own, as a range or a choice.
+///
+/// # Examples
+///
+/// ```
+/// use nanorand_proved::{values::fill_with, Rng, WyRand};
+///
+/// let mut points = [(0, false); 3];
+/// fill_with(&mut WyRand::new_seed(42), &mut points, |rng: &mut WyRand| {
+///     (rng.generate::<i8>(), rng.generate::<bool>())
+/// });
+/// assert_eq!(points, [(52, false), (58, true), (-64, true)]);
+/// ```
 pub fn fill_with<G, T, F: FnMut(&mut G) -> T>(rng: &mut G, target: &mut [T], mut draw: F) {
     for item in target.iter_mut() {
         *item = draw(rng);

@@ -17,6 +17,16 @@ use core::ops::Bound;
 /// It returns `Empty` if the type has no number below `n`, and `Exhausted` if 128 words in a row
 /// were rejected. If 2^k numbers are below `n` (of an unsigned type: `n` is a power of two), no
 /// word is rejected.
+///
+/// # Examples
+///
+/// ```
+/// use nanorand_proved::{choices, RangeError, WyRand};
+///
+/// let card: u8 = choices::below(&mut WyRand::new_seed(42), 52)?;
+/// assert_eq!(card, 10);
+/// # Ok::<(), RangeError>(())
+/// ```
 #[inline]
 pub fn below<T: Number, G: Rng<OUTPUT>, const OUTPUT: usize>(
     rng: &mut G,
@@ -31,6 +41,22 @@ pub fn below<T: Number, G: Rng<OUTPUT>, const OUTPUT: usize>(
 ///
 /// It returns `Empty` for an empty slice, and draws nothing then. It returns `Exhausted` if 128
 /// words in a row were rejected; they stay drawn.
+///
+/// # Examples
+///
+/// ```
+/// use nanorand_proved::{choices, RangeError, WyRand};
+///
+/// // A name for a temporary file, not a password.
+/// let mut rng = WyRand::new_seed(42);
+/// let mut name = String::new();
+/// for _ in 0..8 {
+///     name.push(char::from(*choices::choose(&mut rng, b"0123456789abcdef")?));
+/// }
+/// assert_eq!(name, "aece5e31");
+/// assert_eq!(choices::choose(&mut rng, b""), Err(RangeError::Empty));
+/// # Ok::<(), RangeError>(())
+/// ```
 #[inline]
 pub fn choose<'a, T, G: Rng<OUTPUT>, const OUTPUT: usize>(
     rng: &mut G,
@@ -45,6 +71,17 @@ pub fn choose<'a, T, G: Rng<OUTPUT>, const OUTPUT: usize>(
 /// # Errors
 ///
 /// It returns `Empty` and `Exhausted` as `choose` does.
+///
+/// # Examples
+///
+/// ```
+/// use nanorand_proved::{choices, RangeError, WyRand};
+///
+/// let mut lamps = ["off"; 4];
+/// *choices::choose_mut(&mut WyRand::new_seed(42), &mut lamps)? = "on";
+/// assert_eq!(lamps, ["off", "off", "on", "off"]);
+/// # Ok::<(), RangeError>(())
+/// ```
 #[inline]
 pub fn choose_mut<'a, T, G: Rng<OUTPUT>, const OUTPUT: usize>(
     rng: &mut G,
@@ -63,6 +100,20 @@ pub fn choose_mut<'a, T, G: Rng<OUTPUT>, const OUTPUT: usize>(
 ///
 /// It returns `Empty` if `denominator` is 0, and draws nothing then. It returns `Exhausted` if 128
 /// words in a row were rejected; they stay drawn.
+///
+/// # Examples
+///
+/// ```
+/// use nanorand_proved::{choices, RangeError, WyRand};
+///
+/// let mut rng = WyRand::new_seed(42);
+/// let rain: bool = choices::ratio(&mut rng, 1, 3)?;
+/// assert!(choices::ratio(&mut rng, 3, 3)?, "three of three cases");
+/// assert!(!choices::ratio(&mut rng, 0, 3)?, "none of three cases");
+/// assert_eq!(choices::ratio(&mut rng, 1, 0), Err(RangeError::Empty));
+/// # let _ = rain;
+/// # Ok::<(), RangeError>(())
+/// ```
 #[inline]
 pub fn ratio<G: Rng<OUTPUT>, const OUTPUT: usize>(
     rng: &mut G,

@@ -40,6 +40,22 @@ impl std::error::Error for WeightError {}
 /// It returns `NoWeight` if there are no weights or all of them are 0, `TooHeavy` if they add up
 /// to 2^64 or more, and `Exhausted` if 128 words in a row were rejected. After `Exhausted` exactly
 /// 128 words were drawn; after any other error, none.
+///
+/// # Examples
+///
+/// ```
+/// use nanorand_proved::choices::{choose_weighted, WeightError};
+/// use nanorand_proved::WyRand;
+///
+/// let mut rng = WyRand::new_seed(42);
+/// let mut requests = [0; 4];
+/// for _ in 0..1600 {
+///     requests[choose_weighted(&mut rng, &[5, 0, 1, 10])?] += 1;
+/// }
+/// assert_eq!(requests, [490, 0, 111, 999]);
+/// assert_eq!(choose_weighted(&mut rng, &[0, 0]), Err(WeightError::NoWeight));
+/// # Ok::<(), WeightError>(())
+/// ```
 pub fn choose_weighted<G: Rng<OUTPUT>, const OUTPUT: usize>(
     rng: &mut G,
     weights: &[u64],
