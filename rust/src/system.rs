@@ -62,7 +62,6 @@ mod call {
     }
 }
 
-/// `getentropy`, which fills at most 256 bytes whole, or returns -1 and sets `errno`.
 #[cfg(any(
     target_os = "macos",
     target_os = "freebsd",
@@ -72,7 +71,21 @@ mod call {
     target_os = "illumos",
     target_os = "emscripten",
 ))]
-mod call {
+use getentropy as call;
+
+/// `getentropy`, which fills at most 256 bytes whole, or returns -1 and sets `errno`. Linux has it too, for the
+/// tests.
+#[cfg(any(
+    all(test, target_os = "linux"),
+    target_os = "macos",
+    target_os = "freebsd",
+    target_os = "netbsd",
+    target_os = "openbsd",
+    target_os = "solaris",
+    target_os = "illumos",
+    target_os = "emscripten",
+))]
+mod getentropy {
     use std::io;
     use std::os::raw::{c_int, c_void};
 
@@ -274,12 +287,25 @@ mod tests {
         }
     }
 
-    // Linux refuses flags that it does not know.
+    // Linux refuses flags that it does not know, and `getentropy` more than 256 bytes.
     #[cfg(all(target_os = "linux", not(miri)))]
     #[test]
     fn the_systems_own_error() {
         const EINVAL: i32 = 22;
-        let error = super::call::request_with(&mut [0; 8], !0).expect_err("unknown flags");
-        assert_eq!(error.raw_os_error(), Some(EINVAL));
+        let refused = super::call::request_with(&mut [0; 8], !0).expect_err("unknown flags");
+        assert_eq!(refused.raw_os_error(), Some(EINVAL));
+        let refused = super::getentropy::request(&mut [0; 257]).expect_err("too many bytes");
+        assert_eq!(refused.raw_os_error(), Some(EIO));
+    }
+
+    #[cfg(all(target_os = "linux", not(miri)))]
+    #[test]
+    fn long_fills_by_getentropy() {
+        use super::getentropy::{request, MOST};
+        let mut bytes = [0; 3000];
+        assert!(fill_by(&mut bytes, MOST, request).is_ok());
+        assert!(bytes
+            .chunks(100)
+            .all(|part| part.iter().any(|byte| *byte != 0)));
     }
 }
