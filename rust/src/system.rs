@@ -302,8 +302,13 @@ mod tests {
     #[test]
     fn long_fills_by_getentropy() {
         use super::getentropy::{request, MOST};
-        let mut bytes = [0; 3000];
-        assert!(fill_by(&mut bytes, MOST, request).is_ok());
+        let (mut bytes, mut requests) = ([0; 3000], 0);
+        let filled = fill_by(&mut bytes, MOST, |part| {
+            requests += 1;
+            assert!(requests <= 12, "a request too many");
+            request(part)
+        });
+        assert!(filled.is_ok());
         assert!(bytes
             .chunks(100)
             .all(|part| part.iter().any(|byte| *byte != 0)));
