@@ -462,6 +462,9 @@ class Command(unittest.TestCase):
                 (Path(room) / name).touch()
                 with mock.patch.object(self.command, folder, Path(room)):
                     self.assertEqual(self.command.without_module(), [name])
+        with mock.patch.object(self.command, "without_module", lambda: ["gone.md"]):
+            status, text = self.printed(self.command.main, ["--check"])
+        self.assertEqual((status, text.endswith("this any more: gone.md\n")), (1, True))
 
     def test_arguments(self):
         self.assertEqual(self.printed(self.command.main, ["--chek"])[0], 2)
