@@ -1,0 +1,3 @@
+//! The functions of the stream cipher ChaCha.
+
+pub mod chacha;

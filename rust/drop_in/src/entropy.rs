@@ -1,0 +1,83 @@
+//! Random bytes from the system.
+//!
+//! [`system`] is `linux::entropy`, `darwin::entropy`, `windows::entropy` or `windows_uwp::entropy` by the target: true
+//! if all bytes were filled. On other targets, and with the feature `getrandom`, it returns nothing and panics where
+//! there are none.
+
+mod source;
+
+macro_rules! systems {
+    ($($system:ident, $text:literal, $target:meta;)+) => { $(
+        #[doc = $text]
+        #[cfg(all(not(feature = "getrandom"), $target))]
+        pub mod $system {
+            /// Fills the slice from the system's source, and returns whether it could.
+            pub fn entropy(out: &mut [u8]) -> bool {
+                super::source::fill(out)
+            }
+        }
+
+        #[cfg(all(not(feature = "getrandom"), $target))]
+        pub use $system::entropy as system;
+    )+ };
+}
+
+systems! {
+    linux, "Linux and Android.", any(target_os = "linux", target_os = "android");
+    darwin, "Apple's systems.", target_vendor = "apple";
+    windows, "Windows.", all(windows, not(target_vendor = "uwp"));
+    windows_uwp, "Windows' universal platform.", all(windows, target_vendor = "uwp");
+}
+
+/// Fills the slice from the system's source.
+///
+/// # Panics
+///
+/// Panics if there is none.
+#[cfg(any(
+    feature = "getrandom",
+    not(any(
+        target_os = "linux",
+        target_os = "android",
+        target_vendor = "apple",
+        windows
+    ))
+))]
+pub fn system(out: &mut [u8]) {
+    if !source::fill(out) {
+        backup(out);
+    }
+}
+
+/// Stands for the processor's instruction, which is not run: always `None`, and the slice is unchanged.
+pub fn rdseed(out: &mut [u8]) -> Option<usize> {
+    nanorand_proved::entropy::rdseed(out)
+}
+
+/// Stands for a source of last resort, of which there is none.
+///
+/// # Panics
+///
+/// Always panics.
+pub fn backup(_: &mut [u8]) {
+    panic!("no source of random bytes is available");
+}
+
+/// [`backup`], as it is called without the feature `std`.
+///
+/// # Panics
+///
+/// Always panics.
+pub fn backup_entropy(out: &mut [u8]) {
+    backup(out);
+}
+
+// The seed of a generator. One of zeros, as in nanorand 0.7.0 where the system gives none, could be guessed.
+#[cfg(any(feature = "wyrand", feature = "pcg64", feature = "chacha"))]
+pub(crate) fn system_seed<const SIZE: usize>() -> [u8; SIZE] {
+    let mut seed = [0; SIZE];
+    if !source::fill(&mut seed) {
+        backup(&mut seed);
+    }
+    seed
+}

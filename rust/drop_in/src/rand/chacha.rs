@@ -1,0 +1,150 @@
+//! `ChaCha` as a generator: a block of 64 bytes per draw, from a 256-bit key.
+
+use crate::adapter::Lent;
+use crate::crypto::chacha::{chacha_block, chacha_increment_counter, chacha_init};
+use crate::entropy::system_seed;
+use crate::rand::{Rng, SeedableRng};
+use core::fmt::{self, Debug, Display, Formatter};
+use nanorand_proved as proved;
+use nanorand_proved::rand::fill_by_blocks;
+use nanorand_proved::Rng as _;
+#[cfg(feature = "zeroize")]
+use zeroize::Zeroize;
+
+/// ChaCha with 8 rounds, fewer than the standard's 20.
+pub type ChaCha8 = ChaCha<8>;
+
+/// ChaCha with 12 rounds, fewer than the standard's 20.
+pub type ChaCha12 = ChaCha<12>;
+
+/// ChaCha with the standard's 20 rounds.
+pub type ChaCha20 = ChaCha<20>;
+
+// The bytes that nanorand_proved computes side by side.
+const GROUP: usize = 256;
+
+/// The keystream of the stream cipher ChaCha, as [`nanorand_proved::ChaCha`] says. It was not audited.
+///
+/// With an odd number of rounds the first draw panics.
+#[derive(Clone)]
+#[cfg_attr(feature = "zeroize", derive(Zeroize), zeroize(drop))]
+pub struct ChaCha<const ROUNDS: u8> {
+    state: [u32; 16],
+}
+
+impl<const ROUNDS: u8> ChaCha<ROUNDS> {
+    /// A generator with a key and a nonce from the system.
+    ///
+    /// # Panics
+    ///
+    /// Panics if the system gives none.
+    #[must_use]
+    pub fn new() -> Self {
+        Self::new_key(system_seed(), system_seed())
+    }
+
+    /// A generator with this key and nonce and the counter 0.
+    #[must_use]
+    pub const fn new_key(key: [u8; 32], nonce: [u8; 8]) -> Self {
+        Self {
+            state: chacha_init(key, nonce),
+        }
+    }
+
+    fn counter(&self) -> u64 {
+        u64::from(self.state[12]) | u64::from(self.state[13]) << 32
+    }
+
+    fn set_counter(&mut self, counter: u64) {
+        let [low @ .., _, _, _, _] = counter.to_le_bytes();
+        let [_, _, _, _, high @ ..] = counter.to_le_bytes();
+        self.state[12] = u32::from_le_bytes(low);
+        self.state[13] = u32::from_le_bytes(high);
+    }
+
+    // Fills the whole groups of the buffer, and returns how many bytes they have.
+    fn fill_groups<const PROVED: u8>(&mut self, buffer: &mut [u8]) -> usize {
+        let filled = buffer.len() - buffer.len() % GROUP;
+        if filled > 0 {
+            let bytes = bytes_of(&self.state);
+            let mut key = [0; 32];
+            let mut nonce = [0; 8];
+            key.copy_from_slice(&bytes[16..48]);
+            nonce.copy_from_slice(&bytes[56..]);
+            let mut rng = proved::ChaCha::<PROVED>::at(key, nonce, self.counter());
+            rng.fill_bytes(&mut buffer[..filled]);
+            self.set_counter(rng.counter());
+        }
+        filled
+    }
+}
+
+/// [`ChaCha::new`].
+impl<const ROUNDS: u8> Default for ChaCha<ROUNDS> {
+    fn default() -> Self {
+        Self::new()
+    }
+}
+
+impl<const ROUNDS: u8> Rng<64> for ChaCha<ROUNDS> {
+    /// After the block of the greatest counter the counter is 0 again.
+    #[inline]
+    fn rand(&mut self) -> [u8; 64] {
+        let block = chacha_block::<ROUNDS>(self.state);
+        if !chacha_increment_counter(&mut self.state) {
+            self.set_counter(0);
+        }
+        bytes_of(&block)
+    }
+
+    fn fill_bytes<Bytes>(&mut self, mut buffer: Bytes)
+    where
+        Bytes: AsMut<[u8]>,
+    {
+        let buffer = buffer.as_mut();
+        let filled = match ROUNDS {
+            8 => self.fill_groups::<8>(buffer),
+            12 => self.fill_groups::<12>(buffer),
+            20 => self.fill_groups::<20>(buffer),
+            _ => 0,
+        };
+        fill_by_blocks(&mut Lent(self), &mut buffer[filled..]);
+    }
+}
+
+impl<const ROUNDS: u8> SeedableRng<40, 64> for ChaCha<ROUNDS> {
+    /// The first 32 bytes of the seed become the key and the other 8 the nonce. The counter is 0.
+    fn reseed(&mut self, seed: [u8; 40]) {
+        let mut key = [0; 32];
+        let mut nonce = [0; 8];
+        key.copy_from_slice(&seed[..32]);
+        nonce.copy_from_slice(&seed[32..]);
+        self.state = chacha_init(key, nonce);
+    }
+}
+
+/// The name, the address and the number of rounds.
+impl<const ROUNDS: u8> Display for ChaCha<ROUNDS> {
+    fn fmt(&self, f: &mut Formatter<'_>) -> fmt::Result {
+        write!(f, "ChaCha ({self:p}, {ROUNDS} rounds)")
+    }
+}
+
+/// The rounds and the counter, and no key. The name is `ChaCha20` for any number of rounds, as in `nanorand` 0.7.0.
+impl<const ROUNDS: u8> Debug for ChaCha<ROUNDS> {
+    fn fmt(&self, f: &mut Formatter<'_>) -> fmt::Result {
+        f.debug_struct("ChaCha20")
+            .field("rounds", &ROUNDS)
+            .field("counter", &self.counter())
+            .finish()
+    }
+}
+
+// The words as bytes, each least byte first.
+fn bytes_of(words: &[u32; 16]) -> [u8; 64] {
+    let mut bytes = [0; 64];
+    for (place, word) in bytes.chunks_exact_mut(4).zip(words) {
+        place.copy_from_slice(&word.to_le_bytes());
+    }
+    bytes
+}

@@ -1,0 +1,88 @@
+//! `Pcg64`: a 128-bit seed, and a 64-bit word per draw.
+
+use super::hexadecimal::Hexadecimal;
+use crate::entropy::system_seed;
+use crate::rand::{Rng, SeedableRng};
+use core::fmt::{self, Debug, Display, Formatter};
+use nanorand_proved as proved;
+use nanorand_proved::Rng as _;
+#[cfg(feature = "zeroize")]
+use zeroize::Zeroize;
+
+/// The generator `Pcg64` of `nanorand` 0.7.0, as [`nanorand_proved::Pcg64`] says.
+///
+/// **Not cryptographically secure:** its state can be recovered from its outputs.
+#[derive(Clone)]
+#[cfg_attr(feature = "zeroize", derive(Zeroize), zeroize(drop))]
+pub struct Pcg64 {
+    seed: u128,
+    // Of the last draw. The Debug text alone reads them.
+    state: u128,
+    inc: u128,
+}
+
+impl Pcg64 {
+    /// A generator with a seed from the system.
+    ///
+    /// # Panics
+    ///
+    /// Panics if the system gives none.
+    #[must_use]
+    pub fn new() -> Self {
+        Self::new_seed(u128::from_le_bytes(system_seed()))
+    }
+
+    /// A generator with this seed.
+    #[inline]
+    #[must_use]
+    pub const fn new_seed(seed: u128) -> Self {
+        Self {
+            seed,
+            state: 0,
+            inc: 0,
+        }
+    }
+}
+
+/// [`Pcg64::new`].
+impl Default for Pcg64 {
+    fn default() -> Self {
+        Self::new()
+    }
+}
+
+impl Rng<8> for Pcg64 {
+    #[inline]
+    fn rand(&mut self) -> [u8; 8] {
+        let mut rng = proved::Pcg64::new_seed(self.seed);
+        let block = rng.rand();
+        self.inc = self.seed << 1 | 1;
+        self.seed = rng.seed();
+        self.state = self.seed;
+        block
+    }
+}
+
+impl SeedableRng<16, 8> for Pcg64 {
+    /// The bytes are the new seed, least byte first.
+    fn reseed(&mut self, seed: [u8; 16]) {
+        self.seed = u128::from_le_bytes(seed);
+    }
+}
+
+/// The name and the address.
+impl Display for Pcg64 {
+    fn fmt(&self, f: &mut Formatter<'_>) -> fmt::Result {
+        write!(f, "Pcg64 ({self:p})")
+    }
+}
+
+impl Debug for Pcg64 {
+    fn fmt(&self, f: &mut Formatter<'_>) -> fmt::Result {
+        f.debug_struct("Pcg64")
+            .field("seed", &Hexadecimal(self.seed))
+            .field("state", &Hexadecimal(self.state))
+            .field("inc", &Hexadecimal(self.inc))
+            .finish()
+    }
+}

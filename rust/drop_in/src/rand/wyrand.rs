@@ -1,0 +1,77 @@
+//! `WyRand`: a 64-bit seed, and a 64-bit word per draw.
+
+use super::hexadecimal::Hexadecimal;
+use crate::entropy::system_seed;
+use crate::rand::{Rng, SeedableRng};
+use core::fmt::{self, Debug, Display, Formatter};
+use nanorand_proved as proved;
+use nanorand_proved::Rng as _;
+#[cfg(feature = "zeroize")]
+use zeroize::Zeroize;
+
+/// The generator wyrand, as [`nanorand_proved::WyRand`] says.
+///
+/// **Not cryptographically secure:** its state can be recovered from its outputs.
+#[derive(Clone)]
+#[cfg_attr(feature = "zeroize", derive(Zeroize), zeroize(drop))]
+pub struct WyRand {
+    seed: u64,
+}
+
+impl WyRand {
+    /// A generator with a seed from the system.
+    ///
+    /// # Panics
+    ///
+    /// Panics if the system gives none.
+    #[must_use]
+    pub fn new() -> Self {
+        Self::new_seed(u64::from_le_bytes(system_seed()))
+    }
+
+    /// A generator with this seed.
+    #[inline]
+    #[must_use]
+    pub const fn new_seed(seed: u64) -> Self {
+        Self { seed }
+    }
+}
+
+/// [`WyRand::new`].
+impl Default for WyRand {
+    fn default() -> Self {
+        Self::new()
+    }
+}
+
+impl Rng<8> for WyRand {
+    #[inline]
+    fn rand(&mut self) -> [u8; 8] {
+        let mut rng = proved::WyRand::new_seed(self.seed);
+        let block = rng.rand();
+        self.seed = rng.seed();
+        block
+    }
+}
+
+impl SeedableRng<8, 8> for WyRand {
+    /// The bytes are the new seed, least byte first.
+    fn reseed(&mut self, seed: [u8; 8]) {
+        self.seed = u64::from_le_bytes(seed);
+    }
+}
+
+/// The name and the address.
+impl Display for WyRand {
+    fn fmt(&self, f: &mut Formatter<'_>) -> fmt::Result {
+        write!(f, "WyRand ({self:p})")
+    }
+}
+
+impl Debug for WyRand {
+    fn fmt(&self, f: &mut Formatter<'_>) -> fmt::Result {
+        f.debug_struct("WyRand")
+            .field("seed", &Hexadecimal(self.seed))
+            .finish()
+    }
+}
