@@ -6,6 +6,11 @@ pub mod chacha;
 mod hexadecimal;
 #[cfg(feature = "pcg64")]
 pub mod pcg64;
+#[cfg(all(
+    feature = "zeroize",
+    any(feature = "wyrand", feature = "pcg64", feature = "chacha")
+))]
+mod wiped;
 #[cfg(feature = "wyrand")]
 pub mod wyrand;
 

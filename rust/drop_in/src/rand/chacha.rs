@@ -8,8 +8,6 @@ use core::fmt::{self, Debug, Display, Formatter};
 use nanorand_proved as proved;
 use nanorand_proved::rand::fill_by_blocks;
 use nanorand_proved::Rng as _;
-#[cfg(feature = "zeroize")]
-use zeroize::Zeroize;
 
 /// ChaCha with 8 rounds, fewer than the standard's 20.
 pub type ChaCha8 = ChaCha<8>;
@@ -27,10 +25,12 @@ const GROUP: usize = 256;
 ///
 /// With an odd number of rounds the first draw panics.
 #[derive(Clone)]
-#[cfg_attr(feature = "zeroize", derive(Zeroize), zeroize(drop))]
 pub struct ChaCha<const ROUNDS: u8> {
     state: [u32; 16],
 }
+
+#[cfg(feature = "zeroize")]
+super::wiped::wiped!([const ROUNDS: u8] ChaCha<ROUNDS>: state);
 
 impl<const ROUNDS: u8> ChaCha<ROUNDS> {
     /// A generator with a key and a nonce from the system.

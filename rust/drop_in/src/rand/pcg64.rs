@@ -6,20 +6,20 @@ use crate::rand::{Rng, SeedableRng};
 use core::fmt::{self, Debug, Display, Formatter};
 use nanorand_proved as proved;
 use nanorand_proved::Rng as _;
-#[cfg(feature = "zeroize")]
-use zeroize::Zeroize;
 
 /// The generator `Pcg64` of `nanorand` 0.7.0, as [`nanorand_proved::Pcg64`] says.
 ///
 /// **Not cryptographically secure:** its state can be recovered from its outputs.
 #[derive(Clone)]
-#[cfg_attr(feature = "zeroize", derive(Zeroize), zeroize(drop))]
 pub struct Pcg64 {
     seed: u128,
     // Of the last draw. The Debug text alone reads them.
     state: u128,
     inc: u128,
 }
+
+#[cfg(feature = "zeroize")]
+super::wiped::wiped!([] Pcg64: seed, state, inc);
 
 impl Pcg64 {
     /// A generator with a seed from the system.

@@ -6,17 +6,17 @@ use crate::rand::{Rng, SeedableRng};
 use core::fmt::{self, Debug, Display, Formatter};
 use nanorand_proved as proved;
 use nanorand_proved::Rng as _;
-#[cfg(feature = "zeroize")]
-use zeroize::Zeroize;
 
 /// The generator wyrand, as [`nanorand_proved::WyRand`] says.
 ///
 /// **Not cryptographically secure:** its state can be recovered from its outputs.
 #[derive(Clone)]
-#[cfg_attr(feature = "zeroize", derive(Zeroize), zeroize(drop))]
 pub struct WyRand {
     seed: u64,
 }
+
+#[cfg(feature = "zeroize")]
+super::wiped::wiped!([] WyRand: seed);
 
 impl WyRand {
     /// A generator with a seed from the system.
