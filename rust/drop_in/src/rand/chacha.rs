@@ -148,3 +148,25 @@ fn bytes_of(words: &[u32; 16]) -> [u8; 64] {
     }
     bytes
 }
+
+#[cfg(test)]
+mod tests {
+    use super::*;
+
+    /// A fill goes on over the carry of the counter and over its end as blocks do.
+    #[test]
+    fn counters() {
+        for counter in [0, u64::from(u32::MAX) - 1, (7 << 32) - 2, u64::MAX - 1] {
+            let mut blocks = ChaCha8::new_key([3; 32], [4; 8]);
+            blocks.set_counter(counter);
+            let mut filled = blocks.clone();
+            let mut bytes = [0; 600];
+            filled.fill_bytes(&mut bytes);
+            for block in bytes.chunks(64) {
+                assert_eq!(block, &blocks.rand()[..block.len()], "{counter}");
+            }
+            assert_eq!(filled.state, blocks.state, "{counter}");
+            assert_eq!(filled.counter(), counter.wrapping_add(10));
+        }
+    }
+}

@@ -1,0 +1,197 @@
+//! Ranges, and the calls in which nanorand 0.7.0 does otherwise than it documents.
+
+use crate::own::State;
+use crate::pair::{below, of_types, Pair};
+use nanorand_proved::{Rng, WyRand};
+use std::cell::Cell;
+use std::collections::BTreeMap;
+use std::fmt::Debug;
+use std::ops::Bound;
+use std::panic::{self, AssertUnwindSafe};
+
+/// A listed fault of nanorand 0.7.0.
+#[derive(Clone, Copy, Debug, PartialEq, Eq, PartialOrd, Ord)]
+pub enum Fault {
+    /// A range without a number returns one.
+    EmptyRange,
+    /// A range of several unsigned numbers never gives the type's greatest.
+    UnsignedWithoutMax,
+    /// A signed range is one too low.
+    SignedTooLow,
+    /// A signed range from the least number may give the greatest.
+    SignedFromMin,
+    /// A signed range to the greatest number lacks one.
+    SignedToMax,
+}
+
+/// How often a call showed each fault.
+pub type Faults = BTreeMap<Fault, u32>;
+
+/// The integers that have ranges.
+pub trait Number: Copy + PartialEq + Debug {
+    const LEAST: Self;
+    const GREATEST: Self;
+    fn wide(self) -> i128;
+    /// The number so many further on, modulo the type.
+    fn plus(self, count: i128) -> Self;
+    fn any(choices: &mut WyRand) -> Self;
+}
+
+macro_rules! numbers {
+    ($($number:ty),+) => { $(
+        impl Number for $number {
+            const LEAST: Self = <$number>::MIN;
+            const GREATEST: Self = <$number>::MAX;
+
+            fn wide(self) -> i128 {
+                self as i128
+            }
+
+            fn plus(self, count: i128) -> Self {
+                (self as i128 + count) as Self
+            }
+
+            fn any(choices: &mut WyRand) -> Self {
+                choices.generate()
+            }
+        }
+    )+ };
+}
+
+numbers!(u8, u16, u32, u64, usize, i8, i16, i32, i64, isize);
+
+thread_local! {
+    static EXPECTED: Cell<bool> = Cell::new(false);
+}
+
+/// The result, or nothing if the call panics. Other panics than these are shown.
+pub fn caught<T>(call: impl FnOnce() -> T) -> Option<T> {
+    EXPECTED.with(|expected| expected.set(true));
+    let result = panic::catch_unwind(AssertUnwindSafe(call)).ok();
+    EXPECTED.with(|expected| expected.set(false));
+    result
+}
+
+/// Has the panics of `caught` not be printed.
+pub fn quiet() {
+    let shown = panic::take_hook();
+    panic::set_hook(Box::new(move |panic| {
+        if !EXPECTED.with(Cell::get) {
+            shown(panic);
+        }
+    }));
+}
+
+/// A bound near an end of the type, near 0 or near `other`, or any.
+fn bound<T: Number>(choices: &mut WyRand, other: T) -> Bound<T> {
+    let near = i128::from(choices.generate::<u8>() % 8) - 4;
+    let number = match below(choices, 6) {
+        0 => T::LEAST.plus(near.max(0)),
+        1 => T::GREATEST.plus(near.min(0)),
+        2 => T::GREATEST.plus(-(T::GREATEST.wide() / 2)).plus(near),
+        3 | 4 => other.plus(near),
+        _ => T::any(choices),
+    };
+    match below(choices, 5) {
+        0 => Bound::Unbounded,
+        1 | 2 => Bound::Included(number),
+        _ => Bound::Excluded(number),
+    }
+}
+
+/// The first and the last number of a range, which is empty if the last is less.
+fn ends<T: Number>(low: Bound<T>, high: Bound<T>) -> (i128, i128) {
+    let first = match low {
+        Bound::Included(low) => low.wide(),
+        Bound::Excluded(low) => low.wide() + 1,
+        Bound::Unbounded => T::LEAST.wide(),
+    };
+    let last = match high {
+        Bound::Included(high) => high.wide(),
+        Bound::Excluded(high) => high.wide() - 1,
+        Bound::Unbounded => T::GREATEST.wide(),
+    };
+    (first, last)
+}
+
+/// Which fault the call has, by its bounds alone.
+fn fault_of<T: Number>(first: i128, last: i128) -> Option<Fault> {
+    let signed = T::LEAST.wide() < 0;
+    let to_max = last == T::GREATEST.wide();
+    if last < first {
+        Some(Fault::EmptyRange)
+    } else if signed && to_max {
+        Some(Fault::SignedToMax)
+    } else if signed && first == T::LEAST.wide() {
+        Some(Fault::SignedFromMin)
+    } else if signed {
+        Some(Fault::SignedTooLow)
+    } else if to_max && first < last {
+        Some(Fault::UnsignedWithoutMax)
+    } else {
+        None
+    }
+}
+
+impl<New, Old, const SEED: usize, const OUTPUT: usize> Pair<New, Old, SEED, OUTPUT>
+where
+    New: new::SeedableRng<SEED, OUTPUT> + State,
+    Old: old::SeedableRng<SEED, OUTPUT> + State,
+{
+    /// Draws from a range of a random type.
+    pub fn range(&mut self, choices: &mut WyRand, faults: &mut Faults) {
+        let draws: [fn(&mut Self, &mut WyRand, &mut Faults); 10] =
+            of_types!(number: u8, u16, u32, u64, usize, i8, i16, i32, i64, isize);
+        draws[below(choices, 10)](self, choices, faults);
+    }
+
+    fn number<T>(&mut self, choices: &mut WyRand, faults: &mut Faults)
+    where
+        T: Number + new::RandomRange<New, OUTPUT> + old::RandomRange<Old, OUTPUT>,
+    {
+        let start = T::any(choices);
+        let range = (bound(choices, start), bound(choices, start));
+        let (first, last) = ends(range.0, range.1);
+        let Some(fault) = fault_of::<T>(first, last) else {
+            let drawn: T = self.new.generate_range(range);
+            assert_eq!(drawn, self.old.generate_range(range), "{range:?}");
+            return;
+        };
+        let mut faulty = self.old.clone();
+        let faulty = caught(|| faulty.generate_range(range));
+        let drawn = if fault == Fault::EmptyRange {
+            let before = self.new.state();
+            assert_eq!(caught(|| self.new.generate_range(range)), None, "{range:?}");
+            assert_eq!(self.new.state(), before, "{range:?}");
+            None
+        } else {
+            let drawn: T = self.new.generate_range(range);
+            assert_eq!(drawn, self.right::<T>(first, last), "{range:?}");
+            Some(drawn)
+        };
+        if faulty != drawn {
+            *faults.entry(fault).or_default() += 1;
+        }
+    }
+
+    /// The number that the old crate draws from a range of as many numbers in which it has no fault, moved to the
+    /// range. A range of the whole type has the words themselves.
+    fn right<T>(&mut self, first: i128, last: i128) -> T
+    where
+        T: Number + old::RandomRange<Old, OUTPUT>,
+    {
+        let (least, signed) = (T::LEAST.wide(), T::LEAST.wide() < 0);
+        if last < T::GREATEST.wide() {
+            let low = T::LEAST.plus(first - least);
+            let drawn: T = self.old.generate_range(low..=T::LEAST.plus(last - least));
+            drawn.plus(i128::from(signed))
+        } else if first > least {
+            let low = T::LEAST.plus(first - least - 1);
+            let drawn: T = self.old.generate_range(low..=T::GREATEST.plus(-1));
+            drawn.plus(i128::from(signed) + 1)
+        } else {
+            let word: T = self.old.generate();
+            word.plus(least)
+        }
+    }
+}

@@ -1,0 +1,97 @@
+//! Compares this crate with nanorand 0.7.0 by ten million random calls, of the same generators in the same states.
+//!
+//! Results and states are the same, but for the calls that have a listed fault of 0.7.0. Whether a call has one is
+//! told by the call alone, what is right then comes from calls of 0.7.0 that have none, and each fault is met.
+
+mod blocks;
+mod faults;
+mod own;
+mod pair;
+
+use faults::{caught, quiet, Fault, Faults};
+use nanorand_proved::{Rng, WyRand};
+use own::{Own, State};
+use pair::Pair;
+
+const SEEDS: u64 = 36;
+const CALLS: usize = 20_000;
+
+/// Compares a generator alone and behind a buffer.
+fn check<New, Old, const SEED: usize, const OUTPUT: usize>(
+    pair: Pair<New, Old, SEED, OUTPUT>,
+    choices: &mut WyRand,
+    faults: &mut Faults,
+) where
+    New: new::SeedableRng<SEED, OUTPUT> + State,
+    Old: old::SeedableRng<SEED, OUTPUT> + State,
+{
+    pair.clone().agrees(CALLS, choices, faults);
+    let mut buffered = pair.buffered();
+    for _ in 0..10 {
+        buffered.agrees(CALLS / 10, choices, faults);
+        buffered.reads(choices);
+    }
+}
+
+macro_rules! check_all {
+    ($choices:ident, $faults:ident: $($generator:ident $(::<$rounds:literal>)? :: $new:ident($($seed:ident),+);)+) => { $({
+        $( let $seed = $choices.generate(); )+
+        let pair = Pair {
+            new: new::$generator $(::<$rounds>)? ::$new($($seed),+),
+            old: old::$generator $(::<$rounds>)? ::$new($($seed),+),
+        };
+        check(pair, &mut $choices, &mut $faults);
+    })+ };
+}
+
+#[test]
+fn ten_million_calls() {
+    quiet();
+    let mut faults = Faults::new();
+    for seed in 0..SEEDS {
+        let mut choices = WyRand::new_seed(seed);
+        check_all!(choices, faults:
+            WyRand::new_seed(seed);
+            Pcg64::new_seed(seed);
+            ChaCha::<6>::new_key(key, nonce);
+            ChaCha::<8>::new_key(key, nonce);
+            ChaCha::<12>::new_key(key, nonce);
+            ChaCha::<20>::new_key(key, nonce);
+        );
+        let own = Own { seed, stuck: 0 };
+        let pair = Pair {
+            new: own.clone(),
+            old: own,
+        };
+        check(pair.clone(), &mut choices, &mut faults);
+        check(pair.buffered(), &mut choices, &mut faults);
+    }
+    println!("{faults:?}");
+    for fault in [
+        Fault::EmptyRange,
+        Fault::UnsignedWithoutMax,
+        Fault::SignedTooLow,
+        Fault::SignedFromMin,
+        Fault::SignedToMax,
+    ] {
+        assert!(faults.contains_key(&fault), "{fault:?}");
+    }
+}
+
+/// 0.7.0 draws as long as the words are rejected.
+#[test]
+fn words_without_end() {
+    quiet();
+    for stuck in [0, 1, 127, 128, 129, 383, 384] {
+        let own = Own { seed: 1, stuck };
+        let (mut new, mut old) = (own.clone(), own);
+        let drawn = caught(|| new::Rng::generate_range(&mut new, 10_u8..=12));
+        let number = old::Rng::generate_range(&mut old, 10_u8..=12);
+        assert_eq!(drawn, (stuck < 128).then_some(number), "{stuck}");
+        assert_eq!(new.stuck, stuck.saturating_sub(128), "{stuck}");
+        assert_eq!(old.stuck, 0);
+        // A word of an index takes two blocks.
+        let shuffled = caught(|| new::Rng::shuffle(&mut new, &mut [1, 2, 3]));
+        assert_eq!(shuffled.is_some(), stuck < 128 + 2 * 128, "{stuck}");
+    }
+}

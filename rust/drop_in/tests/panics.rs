@@ -1,0 +1,69 @@
+//! The texts of the panics.
+#![cfg(feature = "std")]
+
+use nanorand::crypto::chacha::chacha_block;
+use nanorand::{ChaCha, Rng, WyRand};
+use std::io::Read;
+use std::ops::{Bound, RangeBounds};
+use std::panic::{catch_unwind, UnwindSafe};
+
+fn text<T>(call: impl FnOnce() -> T + UnwindSafe) -> String {
+    let panic = catch_unwind(call).err().expect("a panic");
+    let fixed = panic.downcast_ref::<&str>().map(ToString::to_string);
+    fixed
+        .or_else(|| panic.downcast_ref().cloned())
+        .expect("a text")
+}
+
+/// Zeros alone.
+#[derive(Clone)]
+struct Stuck;
+
+impl Rng<1> for Stuck {
+    fn rand(&mut self) -> [u8; 1] {
+        [0]
+    }
+}
+
+#[test]
+#[allow(clippy::reversed_empty_ranges)]
+fn ranges_without_a_number() {
+    fn check(range: impl RangeBounds<i16> + UnwindSafe, shown: &str) {
+        let panic = text(|| WyRand::new_seed(1).generate_range(range));
+        assert_eq!(panic, format!("the range {shown} contains no number"));
+    }
+    check(5..5, "5..5");
+    check(-5..=-6, "-5..=-6");
+    check(..i16::MIN, "..-32768");
+    check(
+        (Bound::Excluded(4), Bound::Included(4)),
+        "(Excluded(4), Included(4))",
+    );
+    check(
+        (Bound::Excluded(i16::MAX), Bound::Unbounded),
+        "(Excluded(32767), Unbounded)",
+    );
+}
+
+#[test]
+fn words_that_are_rejected() {
+    let rejected = "128 words in a row were rejected";
+    let ranged = text(|| Stuck.generate_range(10_u8..=12));
+    assert_eq!(ranged, format!("{rejected} for the range 10..=12"));
+    assert_eq!(text(|| Stuck.shuffle([1, 2, 3])), rejected);
+}
+
+#[test]
+fn others() {
+    let odd = "ChaCha has an even number of rounds, and not 7";
+    assert_eq!(text(|| ChaCha::<7>::new_key([0; 32], [0; 8]).rand()), odd);
+    assert_eq!(text(|| chacha_block::<7>([0; 16])), odd);
+    let read = text(|| nanorand::BufferedRng::new(Stuck).read_to_string(&mut String::new()));
+    assert_eq!(read, "a generator cannot be read into a string");
+    for backup in [nanorand::entropy::backup, nanorand::entropy::backup_entropy] {
+        assert_eq!(
+            text(|| backup(&mut [0; 4])),
+            "no source of random bytes is available"
+        );
+    }
+}
