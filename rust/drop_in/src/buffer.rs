@@ -1,13 +1,13 @@
 //! A generator that keeps the bytes that a request leaves over.
 
-use crate::adapter::Owned;
 use crate::rand::{Rng, SeedableRng};
 use nanorand_proved as proved;
 use nanorand_proved::{Rng as _, SeedableRng as _};
 #[cfg(feature = "std")]
 use std::io::{self, Read};
 
-/// A generator that delivers the blocks of another one as one stream, as [`nanorand_proved::BufferedRng`] says.
+/// A generator that delivers the blocks of another one as one stream, as
+/// [`nanorand_proved::BufferedRng`] says.
 ///
 /// ```
 /// use nanorand::{BufferedRng, Rng, WyRand};
@@ -17,80 +17,85 @@ use std::io::{self, Read};
 /// assert_eq!(rng.buffered(), 3); // of the 8 bytes of a block
 /// ```
 #[derive(Clone)]
-pub struct BufferedRng<InternalGenerator: Rng<OUTPUT>, const OUTPUT: usize> {
-    buffered: proved::BufferedRng<Owned<InternalGenerator>, OUTPUT>,
+pub struct BufferedRng<G: Rng<OUTPUT>, const OUTPUT: usize>(proved::BufferedRng<Owned<G>, OUTPUT>);
+
+/// A generator inside a proved buffer, which takes whole blocks alone.
+#[derive(Clone)]
+struct Owned<G>(G);
+
+impl<G: Rng<OUTPUT>, const OUTPUT: usize> proved::Rng<OUTPUT> for Owned<G> {
+    #[inline]
+    fn rand(&mut self) -> [u8; OUTPUT] {
+        self.0.rand()
+    }
 }
 
-impl<InternalGenerator: Rng<OUTPUT>, const OUTPUT: usize> BufferedRng<InternalGenerator, OUTPUT> {
+impl<G: Rng<OUTPUT>, const OUTPUT: usize> BufferedRng<G, OUTPUT> {
     /// Wraps a generator. Nothing is buffered yet, and nothing is drawn.
-    pub fn new(rng: InternalGenerator) -> Self {
-        Self {
-            buffered: proved::BufferedRng::new(Owned(rng)),
-        }
+    pub fn new(rng: G) -> Self {
+        Self(proved::BufferedRng::new(Owned(rng)))
     }
 
     /// The inner generator. The buffered bytes are dropped.
-    pub fn into_inner(self) -> InternalGenerator {
-        self.buffered.into_inner().0
+    pub fn into_inner(self) -> G {
+        self.0.into_inner().0
     }
 
     /// The number of buffered bytes.
     pub fn buffered(&self) -> usize {
-        self.buffered.buffered()
+        self.0.buffered()
     }
 }
 
-impl<InternalGenerator, const OUTPUT: usize> Rng<OUTPUT> for BufferedRng<InternalGenerator, OUTPUT>
-where
-    InternalGenerator: Rng<OUTPUT>,
-{
+impl<G: Rng<OUTPUT>, const OUTPUT: usize> Rng<OUTPUT> for BufferedRng<G, OUTPUT> {
     #[inline]
     fn rand(&mut self) -> [u8; OUTPUT] {
-        self.buffered.rand()
+        self.0.rand()
     }
 
     #[inline]
-    fn fill_bytes<Bytes>(&mut self, mut output: Bytes)
-    where
-        Bytes: AsMut<[u8]>,
-    {
-        self.buffered.fill_bytes(output.as_mut());
+    fn fill_bytes<Bytes: AsMut<[u8]>>(&mut self, mut buffer: Bytes) {
+        self.0.fill_bytes(buffer.as_mut());
     }
 }
 
-impl<InternalGenerator, const OUTPUT: usize, const SEED_SIZE: usize> SeedableRng<SEED_SIZE, OUTPUT>
-    for BufferedRng<InternalGenerator, OUTPUT>
+impl<G, const SEED_SIZE: usize, const OUTPUT: usize> proved::SeedableRng<SEED_SIZE, OUTPUT>
+    for Owned<G>
 where
-    InternalGenerator: SeedableRng<SEED_SIZE, OUTPUT>,
+    G: SeedableRng<SEED_SIZE, OUTPUT>,
+{
+    fn reseed(&mut self, seed: [u8; SEED_SIZE]) {
+        self.0.reseed(seed);
+    }
+}
+
+impl<G, const OUTPUT: usize, const SEED_SIZE: usize> SeedableRng<SEED_SIZE, OUTPUT>
+    for BufferedRng<G, OUTPUT>
+where
+    G: SeedableRng<SEED_SIZE, OUTPUT>,
 {
     /// Seeds the inner generator anew. The buffered bytes stay, and are delivered first.
     fn reseed(&mut self, seed: [u8; SEED_SIZE]) {
-        self.buffered.reseed(seed);
+        self.0.reseed(seed);
     }
 }
 
-impl<InternalGenerator, const OUTPUT: usize> Default for BufferedRng<InternalGenerator, OUTPUT>
-where
-    InternalGenerator: Rng<OUTPUT> + Default,
-{
+impl<G: Rng<OUTPUT> + Default, const OUTPUT: usize> Default for BufferedRng<G, OUTPUT> {
     fn default() -> Self {
-        Self::new(InternalGenerator::default())
+        Self::new(G::default())
     }
 }
 
 /// The stream has no end: `read` fills the whole slice.
 #[cfg(feature = "std")]
-impl<InternalGenerator, const OUTPUT: usize> Read for BufferedRng<InternalGenerator, OUTPUT>
-where
-    InternalGenerator: Rng<OUTPUT>,
-{
+impl<G: Rng<OUTPUT>, const OUTPUT: usize> Read for BufferedRng<G, OUTPUT> {
     fn read(&mut self, output: &mut [u8]) -> io::Result<usize> {
-        self.buffered.read(output)
+        self.0.read(output)
     }
 
     /// Appends the buffered bytes alone.
     fn read_to_end(&mut self, output: &mut std::vec::Vec<u8>) -> io::Result<usize> {
-        Read::read_to_end(&mut self.buffered, output)
+        Read::read_to_end(&mut self.0, output)
     }
 
     /// Always panics, as in `nanorand` 0.7.0: the stream has no end and is not text.

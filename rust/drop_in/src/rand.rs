@@ -2,8 +2,6 @@
 
 #[cfg(feature = "chacha")]
 pub mod chacha;
-#[cfg(any(feature = "wyrand", feature = "pcg64"))]
-mod hexadecimal;
 #[cfg(feature = "pcg64")]
 pub mod pcg64;
 #[cfg(all(
@@ -36,28 +34,22 @@ pub trait Rng<const OUTPUT: usize>: Clone {
 
     /// Draws a value, as [`RandomGen`] says for its type.
     #[inline]
-    fn generate<Generated>(&mut self) -> Generated
-    where
-        Generated: RandomGen<Self, OUTPUT>,
-    {
-        Generated::random(self)
+    fn generate<T: RandomGen<Self, OUTPUT>>(&mut self) -> T {
+        T::random(self)
     }
 
     /// Fills the bytes from the next blocks. What is left of the last block is dropped.
     #[inline]
-    fn fill_bytes<Bytes>(&mut self, mut buffer: Bytes)
-    where
-        Bytes: AsMut<[u8]>,
-    {
+    fn fill_bytes<Bytes: AsMut<[u8]>>(&mut self, mut buffer: Bytes) {
         fill_by_blocks(&mut Lent(self), buffer.as_mut());
     }
 
     /// Fills the items with values, drawn one after another.
     #[inline]
-    fn fill<Contents, Array>(&mut self, mut target: Array)
+    fn fill<T, Items>(&mut self, mut target: Items)
     where
-        Contents: RandomGen<Self, OUTPUT>,
-        Array: AsMut<[Contents]>,
+        T: RandomGen<Self, OUTPUT>,
+        Items: AsMut<[T]>,
     {
         for item in target.as_mut() {
             *item = self.generate();
@@ -72,12 +64,12 @@ pub trait Rng<const OUTPUT: usize>: Clone {
     /// 128 words in 10^38 has.
     #[inline]
     #[track_caller]
-    fn generate_range<Number, Bounds>(&mut self, range: Bounds) -> Number
+    fn generate_range<T, Bounds>(&mut self, range: Bounds) -> T
     where
-        Number: RandomRange<Self, OUTPUT>,
-        Bounds: RangeBounds<Number>,
+        T: RandomRange<Self, OUTPUT>,
+        Bounds: RangeBounds<T>,
     {
-        Number::random_range(self, range)
+        T::random_range(self, range)
     }
 
     /// Shuffles the items: swaps each, from the first on, with the one at an index drawn from all indices.
@@ -90,10 +82,7 @@ pub trait Rng<const OUTPUT: usize>: Clone {
     /// Panics if 128 words in a row were rejected for one index.
     #[inline]
     #[track_caller]
-    fn shuffle<Contents, Array>(&mut self, mut target: Array)
-    where
-        Array: AsMut<[Contents]>,
-    {
+    fn shuffle<T, Items: AsMut<[T]>>(&mut self, mut target: Items) {
         if let Err(error) = shuffle_full(&mut Lent(self), target.as_mut()) {
             panic!("{error}");
         }

@@ -10,13 +10,10 @@ use nanorand_proved::RangeError;
 
 macro_rules! proved_ranges {
     ($($number:ty),+) => { $(
-        impl<Generator, const OUTPUT: usize> RandomRange<Generator, OUTPUT> for $number
-        where
-            Generator: Rng<OUTPUT>,
-        {
+        impl<G: Rng<OUTPUT>, const OUTPUT: usize> RandomRange<G, OUTPUT> for $number {
             #[inline]
             #[track_caller]
-            fn random_range<Bounds: RangeBounds<Self>>(rng: &mut Generator, range: Bounds) -> Self {
+            fn random_range<Bounds: RangeBounds<Self>>(rng: &mut G, range: Bounds) -> Self {
                 let low = range.start_bound().cloned();
                 let high = range.end_bound().cloned();
                 let drawn = proved::RandomRange::<_, OUTPUT>::random_range(&mut Lent(rng), low, high);

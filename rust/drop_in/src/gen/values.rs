@@ -7,12 +7,9 @@ use nanorand_proved as proved;
 
 macro_rules! proved_values {
     ($($value:ty),+) => { $(
-        impl<Generator, const OUTPUT: usize> RandomGen<Generator, OUTPUT> for $value
-        where
-            Generator: Rng<OUTPUT>,
-        {
+        impl<G: Rng<OUTPUT>, const OUTPUT: usize> RandomGen<G, OUTPUT> for $value {
             #[inline]
-            fn random(rng: &mut Generator) -> Self {
+            fn random(rng: &mut G) -> Self {
                 <Self as proved::RandomGen<_, OUTPUT>>::random(&mut Lent(rng))
             }
         }
@@ -24,14 +21,11 @@ proved_values!(i8, i16, i32, i64, i128, isize, bool);
 
 macro_rules! quotients {
     ($($float:ident: $word:ident),+) => { $(
-        impl<Generator, const OUTPUT: usize> RandomGen<Generator, OUTPUT> for $float
-        where
-            Generator: Rng<OUTPUT>,
-        {
+        impl<G: Rng<OUTPUT>, const OUTPUT: usize> RandomGen<G, OUTPUT> for $float {
             // The rounding is that of `nanorand` 0.7.0.
             #[allow(clippy::cast_precision_loss)]
             #[inline]
-            fn random(rng: &mut Generator) -> Self {
+            fn random(rng: &mut G) -> Self {
                 let word: $word = rng.generate();
                 word as $float / <$word>::MAX as $float
             }

@@ -33,11 +33,7 @@ pub struct ChaCha<const ROUNDS: u8> {
 super::wiped::wiped!([const ROUNDS: u8] ChaCha<ROUNDS>: state);
 
 impl<const ROUNDS: u8> ChaCha<ROUNDS> {
-    /// A generator with a key and a nonce from the system.
-    ///
-    /// # Panics
-    ///
-    /// Panics if the system gives none.
+    /// A generator with a key and a nonce from the system. It panics if the system gives none.
     #[must_use]
     pub fn new() -> Self {
         Self::new_key(system_seed(), system_seed())
@@ -97,10 +93,7 @@ impl<const ROUNDS: u8> Rng<64> for ChaCha<ROUNDS> {
         bytes_of(&block)
     }
 
-    fn fill_bytes<Bytes>(&mut self, mut buffer: Bytes)
-    where
-        Bytes: AsMut<[u8]>,
-    {
+    fn fill_bytes<Bytes: AsMut<[u8]>>(&mut self, mut buffer: Bytes) {
         let buffer = buffer.as_mut();
         let filled = match ROUNDS {
             8 => self.fill_groups::<8>(buffer),

@@ -1,6 +1,5 @@
 //! `Pcg64`: a 128-bit seed, and a 64-bit word per draw.
 
-use super::hexadecimal::Hexadecimal;
 use crate::entropy::system_seed;
 use crate::rand::{Rng, SeedableRng};
 use core::fmt::{self, Debug, Display, Formatter};
@@ -22,11 +21,7 @@ pub struct Pcg64 {
 super::wiped::wiped!([] Pcg64: seed, state, inc);
 
 impl Pcg64 {
-    /// A generator with a seed from the system.
-    ///
-    /// # Panics
-    ///
-    /// Panics if the system gives none.
+    /// A generator with a seed from the system. It panics if the system gives none.
     #[must_use]
     pub fn new() -> Self {
         Self::new_seed(u128::from_le_bytes(system_seed()))
@@ -80,9 +75,9 @@ impl Display for Pcg64 {
 impl Debug for Pcg64 {
     fn fmt(&self, f: &mut Formatter<'_>) -> fmt::Result {
         f.debug_struct("Pcg64")
-            .field("seed", &Hexadecimal(self.seed))
-            .field("state", &Hexadecimal(self.state))
-            .field("inc", &Hexadecimal(self.inc))
+            .field("seed", &format_args!("{:#x}", self.seed))
+            .field("state", &format_args!("{:#x}", self.state))
+            .field("inc", &format_args!("{:#x}", self.inc))
             .finish()
     }
 }

@@ -1,6 +1,5 @@
 //! `WyRand`: a 64-bit seed, and a 64-bit word per draw.
 
-use super::hexadecimal::Hexadecimal;
 use crate::entropy::system_seed;
 use crate::rand::{Rng, SeedableRng};
 use core::fmt::{self, Debug, Display, Formatter};
@@ -19,11 +18,7 @@ pub struct WyRand {
 super::wiped::wiped!([] WyRand: seed);
 
 impl WyRand {
-    /// A generator with a seed from the system.
-    ///
-    /// # Panics
-    ///
-    /// Panics if the system gives none.
+    /// A generator with a seed from the system. It panics if the system gives none.
     #[must_use]
     pub fn new() -> Self {
         Self::new_seed(u64::from_le_bytes(system_seed()))
@@ -71,7 +66,7 @@ impl Display for WyRand {
 impl Debug for WyRand {
     fn fmt(&self, f: &mut Formatter<'_>) -> fmt::Result {
         f.debug_struct("WyRand")
-            .field("seed", &Hexadecimal(self.seed))
+            .field("seed", &format_args!("{:#x}", self.seed))
             .finish()
     }
 }
