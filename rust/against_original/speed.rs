@@ -1,6 +1,6 @@
-//! Times the library beside the old Rust crate, and beside `rand`, `rand_chacha`, `rand_pcg` and `fastrand`
-//! where they are there: `rust/bench FOLDER` builds and starts it. Prints the times of this build, or, as
-//! `speed table FILE..`, the table of the builds whose times the files have.
+//! Times the library, or the drop-in, beside the old Rust crate, and beside `rand`, `rand_chacha`, `rand_pcg` and
+//! `fastrand` where they are there: `rust/bench FOLDER` builds and starts it. Prints the times of this build, or,
+//! as `speed table FILE..`, the table of the builds whose times the files have.
 
 #[path = "../benches/parts/mixing.rs"]
 mod mixing;
@@ -9,30 +9,43 @@ mod row;
 #[path = "../benches/parts/table.rs"]
 mod table;
 
+#[cfg(not(feature = "drop_in"))]
 mod here {
     include!("../benches/parts/here.rs");
     include!("../benches/parts/works.rs");
 }
 
+/// The works by the calls of the old crate.
+macro_rules! by_its_calls {
+    ($library:ident) => {
+        use $library as library;
+
+        fn drawn<T>(number: T) -> T {
+            number
+        }
+
+        const GROUP: usize = 64;
+
+        fn stream<const ROUNDS: u8>() -> BufferedRng<ChaCha<ROUNDS>, 64> {
+            BufferedRng::new(chacha())
+        }
+
+        // Its `shuffle` draws from all indices.
+        fn shuffle_from_all<R: library::Rng<8>>(rng: &mut R, items: &mut [u64]) {
+            rng.shuffle(items);
+        }
+
+        include!("../benches/parts/works.rs");
+    };
+}
+
+#[cfg(feature = "drop_in")]
+mod here {
+    by_its_calls!(drop_in);
+}
+
 mod original {
-    use nanorand as library;
-
-    fn drawn<T>(number: T) -> T {
-        number
-    }
-
-    const GROUP: usize = 64;
-
-    fn stream<const ROUNDS: u8>() -> BufferedRng<ChaCha<ROUNDS>, 64> {
-        BufferedRng::new(chacha())
-    }
-
-    // Its `shuffle` draws from all indices.
-    fn shuffle_from_all<R: library::Rng<8>>(rng: &mut R, items: &mut [u64]) {
-        rng.shuffle(items);
-    }
-
-    include!("../benches/parts/works.rs");
+    by_its_calls!(nanorand);
 }
 
 #[cfg(not(feature = "peers"))]

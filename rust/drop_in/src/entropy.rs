@@ -75,9 +75,23 @@ pub fn backup_entropy(out: &mut [u8]) {
 // The seed of a generator. One of zeros, as in nanorand 0.7.0 where the system gives none, could be guessed.
 #[cfg(any(feature = "wyrand", feature = "pcg64", feature = "chacha"))]
 pub(crate) fn system_seed<const SIZE: usize>() -> [u8; SIZE] {
+    seed_from(source::fill)
+}
+
+#[cfg(any(feature = "wyrand", feature = "pcg64", feature = "chacha"))]
+fn seed_from<const SIZE: usize>(fill: fn(&mut [u8]) -> bool) -> [u8; SIZE] {
     let mut seed = [0; SIZE];
-    if !source::fill(&mut seed) {
+    if !fill(&mut seed) {
         backup(&mut seed);
     }
     seed
+}
+
+#[cfg(all(test, feature = "wyrand"))]
+mod tests {
+    #[test]
+    #[should_panic(expected = "no source of random bytes is available")]
+    fn systems_without_a_source() {
+        let _: [u8; 8] = super::seed_from(|_| false);
+    }
 }

@@ -1,6 +1,6 @@
 //! What comes from the system: seeds, bytes, and the generator of a thread.
 
-use nanorand::{entropy, BufferedRng, ChaCha20, Rng, WyRand};
+use nanorand::{entropy, BufferedRng, ChaCha, ChaCha20, Rng, WyRand};
 use std::fmt::Debug;
 
 /// Two generators of the system differ, also in each half of their seeds.
@@ -22,9 +22,10 @@ fn seeds() {
     differ([nanorand::Pcg64::new, nanorand::Pcg64::default]);
     differ([ChaCha20::new, ChaCha20::default]);
     assert_ne!(BufferedRng::<WyRand, 8>::default().rand(), [0; 8]);
-    let bytes: Vec<[u8; 8]> = (0..20).map(|_| WyRand::new().rand()).collect();
-    for place in 0..8 {
-        assert!(bytes.iter().any(|block| block[place] != bytes[0][place]));
+    // A block of no rounds is twice the state, which begins with the constants and has a counter of zeros.
+    let states: Vec<_> = (0..20).map(|_| ChaCha::<0>::new().rand()).collect();
+    for place in (16..48).chain(56..64) {
+        assert!(states.iter().any(|state| state[place] != states[0][place]));
     }
 }
 
