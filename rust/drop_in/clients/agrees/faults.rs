@@ -152,26 +152,35 @@ where
         let start = T::any(choices);
         let range = (bound(choices, start), bound(choices, start));
         let (first, last) = ends(range.0, range.1);
-        let Some(fault) = fault_of::<T>(first, last) else {
-            let drawn: T = self.new.generate_range(range);
-            assert_eq!(drawn, self.old.generate_range(range), "{range:?}");
-            return;
-        };
-        let mut faulty = self.old.clone();
-        let faulty = caught(|| faulty.generate_range(range));
-        let drawn = if fault == Fault::EmptyRange {
-            let before = self.new.state();
-            assert_eq!(caught(|| self.new.generate_range(range)), None, "{range:?}");
-            assert_eq!(self.new.state(), before, "{range:?}");
-            None
-        } else {
-            let drawn: T = self.new.generate_range(range);
-            assert_eq!(drawn, self.right::<T>(first, last), "{range:?}");
-            Some(drawn)
-        };
-        if faulty != drawn {
-            *faults.entry(fault).or_default() += 1;
+        match fault_of::<T>(first, last) {
+            None => {
+                let drawn: T = self.new.generate_range(range);
+                assert_eq!(drawn, self.old.generate_range(range), "{range:?}");
+            }
+            Some(fault) => {
+                let mut faulty = self.old.clone();
+                let faulty = caught(|| faulty.generate_range(range));
+                if faulty != self.right_number(range, first, last) {
+                    *faults.entry(fault).or_default() += 1;
+                }
+            }
         }
+    }
+
+    /// The number of this crate, which is the right one. An empty range has none, and draws nothing.
+    fn right_number<T>(&mut self, range: (Bound<T>, Bound<T>), first: i128, last: i128) -> Option<T>
+    where
+        T: Number + new::RandomRange<New, OUTPUT> + old::RandomRange<Old, OUTPUT>,
+    {
+        let before = self.new.clone();
+        let drawn = caught(|| self.new.generate_range(range));
+        if last < first {
+            let states = (self.new.state(), before.state());
+            assert_eq!((drawn, states.0), (None, states.1), "{range:?}");
+        } else {
+            assert_eq!(drawn, Some(self.right(first, last)), "{range:?}");
+        }
+        drawn
     }
 
     /// The number that the old crate draws from a range of as many numbers in which it has no fault, moved to the
