@@ -19,6 +19,7 @@ pub use chacha::{ChaCha, ChaCha12, ChaCha20, ChaCha8};
 use core::ops::RangeBounds;
 use nanorand_proved::rand::fill_by_blocks;
 use nanorand_proved::shuffles::shuffle_full;
+use nanorand_proved::RangeError;
 #[cfg(feature = "pcg64")]
 pub use pcg64::Pcg64;
 #[cfg(feature = "wyrand")]
@@ -83,10 +84,15 @@ pub trait Rng<const OUTPUT: usize>: Clone {
     #[inline]
     #[track_caller]
     fn shuffle<T, Items: AsMut<[T]>>(&mut self, mut target: Items) {
-        if let Err(error) = shuffle_full(&mut Lent(self), target.as_mut()) {
-            panic!("{error}");
-        }
+        let shuffled = shuffle_full(&mut Lent(self), target.as_mut());
+        shuffled.unwrap_or_else(|error| refused(error));
     }
+}
+
+#[cold]
+#[track_caller]
+fn refused(error: RangeError) -> ! {
+    panic!("{error}")
 }
 
 /// A generator that can be seeded anew from bytes.

@@ -11,7 +11,9 @@ use nanorand_proved::RangeError;
 macro_rules! proved_ranges {
     ($($number:ty),+) => { $(
         impl<G: Rng<OUTPUT>, const OUTPUT: usize> RandomRange<G, OUTPUT> for $number {
-            #[inline]
+            // In line, a range that the compiler knows costs less.
+            #[allow(clippy::inline_always)]
+            #[inline(always)]
             #[track_caller]
             fn random_range<Bounds: RangeBounds<Self>>(rng: &mut G, range: Bounds) -> Self {
                 let low = range.start_bound().cloned();

@@ -51,11 +51,11 @@ impl<const ROUNDS: u8> ChaCha<ROUNDS> {
         u64::from(self.state[12]) | u64::from(self.state[13]) << 32
     }
 
+    // A word has a half of the counter.
+    #[allow(clippy::cast_possible_truncation)]
     fn set_counter(&mut self, counter: u64) {
-        let [low @ .., _, _, _, _] = counter.to_le_bytes();
-        let [_, _, _, _, high @ ..] = counter.to_le_bytes();
-        self.state[12] = u32::from_le_bytes(low);
-        self.state[13] = u32::from_le_bytes(high);
+        self.state[12] = counter as u32;
+        self.state[13] = (counter >> 32) as u32;
     }
 
     // Fills the whole groups of the buffer, and returns how many bytes they have.
