@@ -183,13 +183,13 @@ pub fn wiped<const ROUNDS: u8>() {
     is_wiped::<nanorand::ChaCha<ROUNDS>>();
 }
 
-#[cfg(without_std)]
+#[cfg(feature = "without_std")]
 #[panic_handler]
 fn panic(_: &core::panic::PanicInfo<'_>) -> ! {
     loop {}
 }
 
-#[cfg(without_std)]
+#[cfg(feature = "without_std")]
 #[no_mangle]
 pub extern "C" fn program() -> u8 {
     let mut bytes = [0; 4];

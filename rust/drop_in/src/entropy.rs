@@ -63,11 +63,7 @@ pub fn backup(_: &mut [u8]) {
     panic!("no source of random bytes is available");
 }
 
-/// [`backup`], as it is called without the feature `std`.
-///
-/// # Panics
-///
-/// Always panics.
+/// [`backup`], as 0.7.0 names it without the feature `std`.
 pub fn backup_entropy(out: &mut [u8]) {
     backup(out);
 }

@@ -37,7 +37,11 @@ extern crate std;
 mod adapter;
 #[cfg(feature = "alloc")]
 pub mod buffer;
-pub mod crypto;
+pub mod crypto {
+    //! The functions of the stream cipher ChaCha.
+
+    pub mod chacha;
+}
 pub mod entropy;
 pub mod gen;
 pub mod rand;

@@ -1,4 +1,4 @@
-//! The functions of ChaCha alone.
+//! The functions of the stream cipher alone.
 
 use crate::faults::{caught, quiet};
 use nanorand_proved::{Rng, WyRand};

@@ -39,6 +39,8 @@ pub trait Number: Copy + PartialEq + Debug {
 
 macro_rules! numbers {
     ($($number:ty),+) => { $(
+        // All casts are meant modulo the type.
+        #[allow(clippy::cast_lossless, clippy::cast_possible_truncation, clippy::cast_sign_loss)]
         impl Number for $number {
             const LEAST: Self = <$number>::MIN;
             const GREATEST: Self = <$number>::MAX;
@@ -61,7 +63,7 @@ macro_rules! numbers {
 numbers!(u8, u16, u32, u64, usize, i8, i16, i32, i64, isize);
 
 thread_local! {
-    static EXPECTED: Cell<bool> = Cell::new(false);
+    static EXPECTED: Cell<bool> = const { Cell::new(false) };
 }
 
 /// The result, or nothing if the call panics. Other panics than these are shown.
@@ -158,9 +160,9 @@ where
                 assert_eq!(drawn, self.old.generate_range(range), "{range:?}");
             }
             Some(fault) => {
-                let mut faulty = self.old.clone();
-                let faulty = caught(|| faulty.generate_range(range));
-                if faulty != self.right_number(range, first, last) {
+                let mut old = self.old.clone();
+                let drawn = caught(|| old.generate_range(range));
+                if drawn != self.right_number(range, first, last) {
                     *faults.entry(fault).or_default() += 1;
                 }
             }
@@ -189,18 +191,18 @@ where
     where
         T: Number + old::RandomRange<Old, OUTPUT>,
     {
-        let (least, signed) = (T::LEAST.wide(), T::LEAST.wide() < 0);
+        let (start, signed) = (T::LEAST.wide(), T::LEAST.wide() < 0);
         if last < T::GREATEST.wide() {
-            let low = T::LEAST.plus(first - least);
-            let drawn: T = self.old.generate_range(low..=T::LEAST.plus(last - least));
+            let low = T::LEAST.plus(first - start);
+            let drawn: T = self.old.generate_range(low..=T::LEAST.plus(last - start));
             drawn.plus(i128::from(signed))
-        } else if first > least {
-            let low = T::LEAST.plus(first - least - 1);
+        } else if first > start {
+            let low = T::LEAST.plus(first - start - 1);
             let drawn: T = self.old.generate_range(low..=T::GREATEST.plus(-1));
             drawn.plus(i128::from(signed) + 1)
         } else {
             let word: T = self.old.generate();
-            word.plus(least)
+            word.plus(start)
         }
     }
 }

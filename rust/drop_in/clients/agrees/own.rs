@@ -11,13 +11,14 @@ pub struct Own {
 
 impl Own {
     fn block(&mut self) -> [u8; 5] {
+        let mut block = [0; 5];
         if self.stuck > 0 {
             self.stuck -= 1;
-            return [0; 5];
+        } else {
+            self.seed = self.seed.wrapping_mul(0x5851_f42d_4c95_7f2d) ^ 0x9e37;
+            block.copy_from_slice(&self.seed.to_be_bytes()[..5]);
         }
-        self.seed = self.seed.wrapping_mul(0x5851_f42d_4c95_7f2d) ^ 0x9e37;
-        let [a, b, c, d, e, ..] = self.seed.to_be_bytes();
-        [a, b, c, d, e]
+        block
     }
 }
 

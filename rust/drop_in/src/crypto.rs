@@ -1,3 +1,0 @@
-//! The functions of the stream cipher ChaCha.
-
-pub mod chacha;
