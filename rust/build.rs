@@ -1,5 +1,5 @@
-//! Sets `diagnostic_hints` where the compiler knows the attributes `diagnostic::..`: from Rust 1.80 on,
-//! whose cargo can also be told that there is such a name.
+//! Sets `diagnostic_hints` where the compiler knows the attributes `diagnostic::..`, from Rust 1.78 on. From
+//! 1.80 on cargo is told that there is such a name.
 
 use std::process::Command;
 
@@ -9,7 +9,7 @@ fn main() {
     if minor.map_or(true, |minor| 80 <= minor) {
         println!("cargo:rustc-check-cfg=cfg(diagnostic_hints)");
     }
-    if minor.map_or(false, |minor| 80 <= minor) {
+    if minor.map_or(false, |minor| 78 <= minor) {
         println!("cargo:rustc-cfg=diagnostic_hints");
     }
 }
