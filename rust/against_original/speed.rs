@@ -24,6 +24,10 @@ macro_rules! by_its_calls {
             number
         }
 
+        fn seeded() -> WyRand {
+            WyRand::new()
+        }
+
         const GROUP: usize = 64;
 
         fn stream<const ROUNDS: u8>() -> BufferedRng<ChaCha<ROUNDS>, 64> {
@@ -207,6 +211,14 @@ mod peers {
             "usize below 10" usize end = 10_usize => 0..end,
         );
         match row {
+            "WyRand, f32" => vec![
+                work("SmallRng", DRAWS, || draws(seeded(), SmallRng::gen::<f32>)),
+                work("fastrand", DRAWS, || draws(fast(), |rng| rng.f32())),
+            ],
+            "WyRand, f64" => vec![
+                work("SmallRng", DRAWS, || draws(seeded(), SmallRng::gen::<f64>)),
+                work("fastrand", DRAWS, || draws(fast(), |rng| rng.f64())),
+            ],
             "WyRand, bool" => vec![
                 work("SmallRng", DRAWS, || draws(seeded(), SmallRng::gen::<bool>)),
                 work("fastrand", DRAWS, || draws(fast(), |rng| rng.bool())),

@@ -11,6 +11,10 @@ fn drawn<T, E: Debug>(result: Result<T, E>) -> T {
     result.unwrap()
 }
 
+fn seeded() -> library::WyRand {
+    drawn(library::WyRand::from_entropy())
+}
+
 // The bytes that a stream draws at once.
 const GROUP: usize = 512;
 

@@ -38,6 +38,19 @@ macro_rules! mix_halves {
 
 mix_halves!(u128, i128);
 
+macro_rules! mix_bits {
+    ($($value:ty),+) => { $(
+        impl Mix for $value {
+            #[inline(always)]
+            fn number(self) -> u64 {
+                self.to_bits() as u64
+            }
+        }
+    )+ };
+}
+
+mix_bits!(f32, f64);
+
 #[inline(always)]
 pub fn mixed(all: u64, value: impl Mix) -> u64 {
     all.rotate_left(1) ^ value.number()

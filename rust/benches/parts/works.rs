@@ -1,6 +1,6 @@
 // The works. This text is compiled once for each library: the module that includes it names the
-// `library`, and says how a draw's number is taken (`drawn`), a shuffle from all indices is made and
-// ChaCha is buffered (`stream`).
+// `library`, and says how a draw's number is taken (`drawn`), a shuffle from all indices is made, ChaCha
+// is buffered (`stream`) and a generator is seeded by the system (`seeded`).
 //
 // Each function with a loop is compiled by itself, with its generator in a variable of its own, and
 // counts and seeds are not known to it.
@@ -13,6 +13,7 @@ use std::hint::black_box;
 pub const DRAWS: u32 = 1 << 18;
 pub const ITEMS: u32 = 400_000;
 pub const BYTES: u32 = 1 << 18;
+const SEEDS: u32 = 1 << 12;
 
 fn wyrand() -> WyRand {
     WyRand::new_seed(black_box(42))
@@ -57,7 +58,7 @@ macro_rules! values_of_all_types {
 
 fn all_values(works: &mut Vec<Work>) {
     values_of_all_types!(works, wyrand, "WyRand":
-        u8, u16, u32, u64, u128, usize, i8, i16, i32, i64, i128, isize, bool);
+        u8, u16, u32, u64, u128, usize, i8, i16, i32, i64, i128, isize, bool, f32, f64);
     values_of_all_types!(works, pcg64, "Pcg64":
         u8, u16, u32, u64, u128, usize, i8, i16, i32, i64, i128, isize, bool);
     works.push(work("ChaCha20, u64", 1.1, DRAWS / 16, || {
@@ -256,10 +257,19 @@ fn all_of_streams<const ROUNDS: u8>(works: &mut Vec<Work>) {
     works.push(bytes_of(&name, 64, stream::<ROUNDS>));
 }
 
+// The seeds differ, so nothing is mixed.
+fn seeds() -> u64 {
+    for _ in 0..black_box(SEEDS) {
+        black_box(seeded());
+    }
+    0
+}
+
 /// All works, in the table's order.
 pub fn works() -> Vec<Work> {
     let mut works = Vec::new();
     all_values(&mut works);
+    works.push(work("WyRand, a seed from the system", 1.2, SEEDS, seeds));
     all_ranges(&mut works);
     all_shuffles(&mut works);
     all_fills(&mut works);
