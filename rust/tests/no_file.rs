@@ -16,7 +16,9 @@ fn no_file_is_opened() {
     }
     let program = env::current_exe().expect("the path of this program");
     let mut limited = Command::new("sh");
-    limited.args(["-c", "ulimit -n 40 && exec \"$0\""]).arg(program);
+    limited
+        .args(["-c", "ulimit -n 40 && exec \"$0\""])
+        .arg(program);
     let status = limited.env(FEW_FILES, "").status().expect("a shell");
     assert!(status.success(), "{status}");
 }

@@ -50,6 +50,9 @@ mod tests {
     #[test]
     #[should_panic(expected = "no seed: the system is asleep")]
     fn without_a_source() {
-        seeded(Err::<u8, _>(Error::new(ErrorKind::Other, "the system is asleep")));
+        seeded(Err::<u8, _>(Error::new(
+            ErrorKind::Other,
+            "the system is asleep",
+        )));
     }
 }
