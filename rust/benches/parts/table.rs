@@ -65,7 +65,7 @@ pub fn print(paths: impl Iterator<Item = String>) -> Result<(), Box<dyn Error>> 
     let count = builds.len();
     println!("Nanoseconds: the least of {count} builds, and (the median).");
     println!();
-    println!("| Work | nanorand_proved | nanorand 0.7.0 | ratio | best peer | ratio |");
+    println!("| Work | here | nanorand 0.7.0 | ratio | best peer | ratio |");
     println!("|---|---|---|---|---|---|");
     let mut above = Vec::new();
     for (place, row) in first.iter().enumerate() {
