@@ -57,7 +57,7 @@ pub trait Rng<const OUTPUT: usize>: Clone {
         }
     }
 
-    /// Draws a number of the range, each with the same probability.
+    /// Draws a number of the range. Each is named by equally many words.
     ///
     /// # Panics
     ///
