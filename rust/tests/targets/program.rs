@@ -27,7 +27,7 @@ fn values() {
 // A word of 64 bits is drawn everywhere. Where `usize` has 32 bits, a value is its low half, and its high half
 // names the number of the whole range.
 fn whole_words() -> Outcome {
-    let mut rng = WyRand::new_seed(42);
+    let mut rng = BufferedRng::new(WyRand::new_seed(42));
     assert_eq!(rng.generate::<usize>(), FIRST as usize);
     let number: usize = rng.generate_range(..)?;
     assert_eq!(number as u64, SECOND >> (64 - usize::BITS));
