@@ -34,6 +34,22 @@ fn whole_words() -> Outcome {
     Ok(())
 }
 
+fn parts_and_letters() -> Outcome {
+    let mut rng = Pcg64::new_seed(42);
+    let (part, small): (f64, f32) = (rng.generate(), rng.generate());
+    assert_eq!(
+        (part.to_bits(), small.to_bits()),
+        (4_606_536_209_448_539_444, 1_057_140_734)
+    );
+    let between: f64 = rng.generate_range(-1.0..=1.0)?;
+    assert_eq!(between.to_bits(), 13_823_086_902_998_516_066);
+    let letters: [char; 2] = [rng.generate(), rng.generate_range('a'..='z')?];
+    assert_eq!(letters, ['\u{402d2}', 'n']);
+    let wide: u128 = rng.generate_range(..10_u128.pow(30))?;
+    assert_eq!(wide, 250_483_202_042_847_840_397_902_931_295);
+    Ok(())
+}
+
 fn indices() -> Outcome {
     let mut rng = Pcg64::new_seed(42);
     let mut drawn = [1, 2, 10, 52, 1000, 1_000_003, 0x7fff_ffff, 0xffff_ffff];
@@ -133,6 +149,7 @@ fn seeds() -> Outcome {
 fn main() -> Outcome {
     values();
     whole_words()?;
+    parts_and_letters()?;
     indices()?;
     permutations()?;
     choices()?;

@@ -9,7 +9,8 @@
 /// is k / 2^53 if `high` is excluded, and k / (2^53 - 1) if it is included, so that it can come. Of
 /// `f32` it is the same with 24 bits of 32. An unbounded side ends with the type's least or greatest
 /// finite number. A number that rounding moved to an excluded bound is drawn again, by the next of at
-/// most 128 words. The numbers are rounded, so they are not equally likely to the last bit.
+/// most 128 words. The numbers are rounded, so they are not equally likely to the last bit,
+/// which may differ on an x86 without SSE2.
 ///
 /// A type of your own defines what its bounds mean and when a draw fails.
 #[cfg_attr(diagnostic_hints, diagnostic::on_unimplemented(
