@@ -188,7 +188,7 @@ mod simd;
 #[forbid(unsafe_code)]
 mod swap;
 #[cfg(feature = "std")]
-mod system;
+pub mod system;
 #[forbid(unsafe_code)]
 pub mod values;
 

@@ -5,14 +5,15 @@
 
 use std::io::{self, ErrorKind};
 
-/// Fills the slice with the operating system's random bytes, and asks for nothing if it is empty.
+/// Fills the slice with the operating system's random bytes, and asks for nothing if it is empty. They are
+/// not proved to be random.
 ///
 /// # Errors
 ///
 /// The error of the system's call, or `Unsupported` where none is known. What the slice holds is then
 /// unspecified.
 #[inline]
-pub(crate) fn fill(bytes: &mut [u8]) -> io::Result<()> {
+pub fn fill(bytes: &mut [u8]) -> io::Result<()> {
     fill_by(bytes, call::MOST, call::request)
 }
 

@@ -5,16 +5,9 @@ pub(crate) fn fill(out: &mut [u8]) -> bool {
     getrandom::getrandom(out).is_ok()
 }
 
-// nanorand_proved gives the system's bytes as the key of a generator.
 #[cfg(all(feature = "std", not(feature = "getrandom")))]
 pub(crate) fn fill(out: &mut [u8]) -> bool {
-    out.chunks_mut(32).all(|part| {
-        let source = nanorand_proved::ChaCha20::from_entropy();
-        source.map_or(false, |source| {
-            part.copy_from_slice(&source.key()[..part.len()]);
-            true
-        })
-    })
+    nanorand_proved::system::fill(out).is_ok()
 }
 
 // nanorand_proved asks no system without std, where 0.7.0 calls libc. This is the crate's one use of unsafe code.
