@@ -52,7 +52,7 @@ where
 macro_rules! values_of_all_types {
     ($works:ident, $generator:ident, $name:literal: $($value:ty),+) => { $(
         let name = concat!($name, ", ", stringify!($value));
-        $works.push(work(name, 1.1, DRAWS, || values::<$value, _, 8>($generator())));
+        $works.push(work(name, 1.05, DRAWS, || values::<$value, _, 8>($generator())));
     )+ };
 }
 
@@ -61,7 +61,7 @@ fn all_values(works: &mut Vec<Work>) {
         u8, u16, u32, u64, u128, usize, i8, i16, i32, i64, i128, isize, bool, f32, f64);
     values_of_all_types!(works, pcg64, "Pcg64":
         u8, u16, u32, u64, u128, usize, i8, i16, i32, i64, i128, isize, bool);
-    works.push(work("ChaCha20, u64", 1.1, DRAWS / 16, || {
+    works.push(work("ChaCha20, u64", 1.05, DRAWS / 16, || {
         chacha20_words(chacha())
     }));
 }
@@ -78,7 +78,7 @@ fn chacha20_words(mut rng: ChaCha<20>) -> u64 {
 // A range that the compiler knows, and the same range by a number that it does not.
 macro_rules! ranges {
     ($works:ident: $($name:literal $end:ident = $number:expr => $range:expr),+ $(,)?) => { $(
-        $works.push(work($name, 1.1, DRAWS, || {
+        $works.push(work($name, 1.05, DRAWS, || {
             #[inline(never)]
             fn run(mut rng: WyRand) -> u64 {
                 let mut all = 0;
@@ -90,7 +90,7 @@ macro_rules! ranges {
             }
             run(wyrand())
         }));
-        $works.push(work(concat!($name, ", by a variable"), 1.1, DRAWS, || {
+        $works.push(work(concat!($name, ", by a variable"), 1.05, DRAWS, || {
             #[inline(never)]
             fn run(mut rng: WyRand) -> u64 {
                 let $end = black_box($number);
@@ -142,9 +142,9 @@ fn shuffled(length: u32, shuffle: fn(WyRand, &mut [u64], u32)) -> impl FnMut() -
 fn all_shuffles(works: &mut Vec<Work>) {
     for (length, text) in [(10, "10"), (1000, "1000"), (100_000, "100,000")] {
         let name = format!("shuffle of {text}, an item");
-        works.push(work(&name, 1.1, ITEMS, shuffled(length, shuffles)));
+        works.push(work(&name, 1.2, ITEMS, shuffled(length, shuffles)));
         let name = format!("shuffle of {text} from all indices, an item");
-        works.push(work(&name, 1.1, ITEMS, shuffled(length, shuffles_from_all)));
+        works.push(work(&name, 1.05, ITEMS, shuffled(length, shuffles_from_all)));
     }
 }
 
@@ -162,7 +162,7 @@ fn all_fills(works: &mut Vec<Work>) {
     let mut items = vec![0; 1000];
     works.push(work(
         "WyRand, fill of 1000 u32, an item",
-        1.1,
+        1.05,
         ITEMS,
         move || {
             fill(wyrand(), &mut items, black_box(ITEMS / 1000));
@@ -172,7 +172,7 @@ fn all_fills(works: &mut Vec<Work>) {
     let mut items = vec![0; 1000];
     works.push(work(
         "Pcg64, fill of 1000 u32, an item",
-        1.1,
+        1.05,
         ITEMS,
         move || {
             fill(pcg64(), &mut items, black_box(ITEMS / 1000));
@@ -196,14 +196,14 @@ fn bytes_of<R: Rng<OUTPUT> + 'static, const OUTPUT: usize>(
     rng: fn() -> R,
 ) -> Work {
     let mut bytes = vec![0; length as usize];
-    work(name, 1.1, BYTES, move || {
+    work(name, 1.05, BYTES, move || {
         fill_bytes(rng(), &mut bytes, black_box(BYTES / length));
         mixed_items(&bytes)
     })
 }
 
 fn all_bytes_of<const ROUNDS: u8>(works: &mut Vec<Work>) {
-    for (length, limit) in [(64, 1.1), (256, 0.5), (4096, 0.5)] {
+    for (length, limit) in [(64, 1.05), (256, 0.5), (4096, 0.5)] {
         let name = format!("ChaCha{ROUNDS}, fill of {length} bytes, a byte");
         let mut bytes = vec![0; length as usize];
         works.push(work(&name, limit, BYTES, move || {
@@ -236,13 +236,13 @@ fn all_buffered(works: &mut Vec<Work>) {
     }));
     works.push(work(
         "buffered WyRand, fill of 5 bytes",
-        1.1,
+        1.05,
         DRAWS / 4,
         || fives(BufferedRng::new(wyrand())),
     ));
     works.push(work(
         "buffered ChaCha20, fill of 5 bytes",
-        1.1,
+        1.05,
         DRAWS / 4,
         || fives(BufferedRng::new(chacha::<20>())),
     ));
@@ -250,7 +250,7 @@ fn all_buffered(works: &mut Vec<Work>) {
 
 fn all_of_streams<const ROUNDS: u8>(works: &mut Vec<Work>) {
     let name = format!("ChaCha{ROUNDS} stream, u64");
-    works.push(work(&name, 1.1, DRAWS, || {
+    works.push(work(&name, 1.05, DRAWS, || {
         values::<u64, _, GROUP>(stream::<ROUNDS>())
     }));
     let name = format!("ChaCha{ROUNDS} stream, fill of 64 bytes, a byte");
