@@ -54,6 +54,15 @@ SENTENCES = {
         "It allocates nothing itself."
     ),
     "Nothing is allocated, so it never fails.": "Nothing is allocated.",
+    "It fails as `draw` does.": "It returns an error as `draw` does.",
+    "With the error `Write`, how much of the text `out` took is unspecified. With any other error, nothing was"
+    " written.": (
+        "It returns an error for each reason that its type names. With `Write`, how much of the text `out` took is"
+        " unspecified. With any other, nothing was written."
+    ),
+    "The text of the lines, each ended by a line feed.": (
+        "The text of the lines, each ended by a line feed. It returns an error if memory is refused."
+    ),
     "Draws a value, as `RandomGen` defines it for the type.": (
         "Draws a value, as [`RandomGen`] says for the type."
     ),

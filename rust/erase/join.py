@@ -32,6 +32,13 @@ def sort_uses(file):
     file.items = [*modules, *uses.values(), *rest]
 
 
+def without_feature(file):
+    """Drops the condition that what needs std has, in a module that is not there without it."""
+    for item in file.items:
+        for one in (item, *getattr(item, "items", ())):
+            one.attributes = [attribute for attribute in one.attributes if attribute != WITH_STD]
+
+
 def use_like(use, attributes):
     return Use(use.place, [], use.comments, attributes, use.visibility, [])
 

@@ -7,18 +7,23 @@ import re
 
 import documents
 from items import Data, File, Function, Ghost, Implementation, Module, Plain, Trait, Use, split
-from source import tokens_of
+from source import Source, tokens_of
 
 # Modules of laws: their functions do nothing, and their contracts are the laws.
 LAWS = "laws"
 
 # What a use names, and what it names in Rust. None: Rust needs nothing in its place.
 PATHS = {
+    "sha2::Digest": None,
+    "sha2::Sha256": "crate::sha256",
     "std::alloc::AllocError": None,
+    "std::alloc::AllocFailed": None,
     "std::alloc::Allocator": None,
     "std::fmt": "core::fmt",
     "std::io": "std::io",
+    "std::io::ErrorKind": "std::io::ErrorKind",
     "std::io::Read": "std::io::Read",
+    "std::io::Write": "std::io::Write",
     "std::marker::Model": None,
     "std::ops::Bound": "core::ops::Bound",
     "std::simd::u32x4": "crate::simd::U32x4",
@@ -29,8 +34,13 @@ PATHS = {
 # Readers, vectors and errors of std are there with the feature std alone.
 WITH_STD = 'cfg(feature = "std")'
 
-# The proved crates, which are one crate in Rust.
-CRATES = ("nanorand_core", "nanorand_replay", "nanorand_fairness")
+# The proved crates that others name, by their names in Rust, where those of the library are one.
+CRATES = {
+    "nanorand": "nanorand_proved",
+    "nanorand_core": "crate",
+    "nanorand_fairness": "crate",
+    "nanorand_replay": "crate",
+}
 
 ATTRIBUTES = ("cold", "inline", "inline(always)", "inline(never)", "repr(C)")
 
@@ -43,6 +53,7 @@ TRAITS = (
     "Clone",
     "Default",
     "Eq",
+    "From",
     "Keystream",
     "Number",
     "PartialEq",
@@ -53,6 +64,7 @@ TRAITS = (
     "SeedableRng",
     "Vector",
     "Wide",
+    "Write",
     "fmt::Debug",
     "fmt::Display",
 )
@@ -60,22 +72,37 @@ TRAITS = (
 # Traits whose types have a size that is known: every type of Rattle has one.
 SIZED = ("RandomRange",)
 
-MACROS = ("unreachable", "write")
+MACROS = ("unreachable", "write", "writeln")
 
 # Names that Rust spells otherwise, in types and bodies.
 NAMES = {"u32x4": "U32x4", "u32x8": "U32x8"}
 
-# Types that allocate. They, and readers, are there with the feature std alone.
-ALLOCATING = {
-    "Vec<u8, A>": "std::vec::Vec<u8>",
-    "String<A>": "std::string::String",
-    "AllocError": "std::collections::TryReserveError",
+# The types of a refused allocation. They, allocators and readers are there with the feature std alone.
+ALLOCATING = {"AllocError": "std::collections::TryReserveError"}
+
+# How a type names its allocator, a function takes one, and a call passes it on. In Rust all memory is the program's.
+ALLOCATORS = {
+    "type": re.compile(r"(?:, |(?<=<))(?:&'\w+ )?A(?=>)"),
+    "parameter": re.compile(r"alloc: (?:&'\w+ )?A"),
+    "argument": re.compile(r"(?<=\()&?alloc(?:, |(?=\)))"),
 }
+
+# What Rattle does to an error that gives an item back, as a push that is refused does. In Rust it gives none.
+REFUSED_ITEMS = "From<AllocFailed<T>>"
 
 # Statements by which a vector grows: in Rattle each may be refused, in Rust it asks for room first.
 GROWTH = {
+    "entrants.push(line)?;": "entrants.try_reserve(1)?; entrants.push(line);",
     "out.reserve(count)?;": "out.try_reserve(count)?;",
     "out.extend_from_slice(&bytes[self.cursor..])?;": "out.extend_from_slice(&bytes[self.cursor..]);",
+    "text.extend_from_slice(line)?;": "text.try_reserve(line.len())?; text.extend_from_slice(line);",
+    "text.push(b'\\n')?;": "text.try_reserve(1)?; text.push(b'\\n');",
+}
+
+# Calls of what is written by hand in Rust: the kit's SHA-256, and a read for which std may end the process.
+BY_HAND = {
+    "Sha256::digest(seed)": "sha256::digest(seed.as_bytes())",
+    "input.read_to_end(&mut list)": "crate::reading::read_to_end(input, &mut list)",
 }
 
 # Functions that can run while a program is compiled.
@@ -183,8 +210,8 @@ used = set()
 
 def unused():
     """Rows of the tables above that nothing in the proved source has."""
-    rows = (*PATHS, *DERIVED, *NAMES, *ALLOCATING, *GROWTH, *CONSTANT, *INLINED, *WIDE, *PRECONDITIONS, *CHECKED_LAWS)
-    return [row for row in (*rows, *SIZED, *WIDTHS, *ARRAYS) if row not in used]
+    rows = (*PATHS, *DERIVED, *NAMES, *ALLOCATING, *GROWTH, *BY_HAND, *CONSTANT, *INLINED, *WIDE, *PRECONDITIONS)
+    return [row for row in (*rows, *CHECKED_LAWS, *SIZED, *WIDTHS, *ARRAYS) if row not in used]
 
 
 def rust_of(source, file):
@@ -223,7 +250,7 @@ def document(source, item, owner):
 
 def is_ghost(item):
     laws = isinstance(item, Module) and item.name == LAWS
-    model = isinstance(item, Implementation) and item.trait == "Model"
+    model = isinstance(item, Implementation) and item.trait in ("Model", REFUSED_ITEMS)
     return isinstance(item, Ghost) or laws or model
 
 
@@ -237,7 +264,7 @@ def path_in_rust(source, use, path):
     if rest.startswith(f"{LAWS}::") or path.endswith("::Blocks"):
         return None
     if head in CRATES:
-        return f"crate::{rest}"
+        return f"{CRATES[head]}::{rest}"
     if head in ("crate", "super") or head in source.modules:
         return path
     if path not in PATHS:
@@ -296,9 +323,9 @@ def data_in_rust(source, data, _):
         derives = DERIVED[data.name]
     if derives:
         data.attributes.insert(0, f"derive({', '.join(derives)})")
-    data.generics = [bound_in_rust(source, data, text) for text in data.generics]
+    data.generics = generics_in_rust(source, data)
     for part in data.parts:
-        part.text = renamed(part.text)
+        part.text = type_in_rust(part.text)
         part.attributes = []
     return [data, *error_items(data, texts)]
 
@@ -311,25 +338,46 @@ def error_texts(source, data):
         *((part.text, part.attributes) for part in data.parts if data.kind == "enum"),
     ]:
         for attribute in attributes:
-            if match := re.fullmatch(r'error\("([^"{}\\]*)"\)', attribute):
+            if match := re.fullmatch(r'error\("([^"\\]*)"\)', attribute):
                 texts[name] = match[1]
             elif not attribute.startswith("derive(") and attribute not in ATTRIBUTES:
                 raise source.unknown(f"an attribute '{attribute}'", data.place)
+    for name, text in texts.items():
+        if not set(re.findall(r"\{\w+\}|[{}]", text)) <= {f"{{{field}}}" for field in fields_of(name)}:
+            raise source.unknown(f"a text of an error with other fields: '{text}'", data.place)
     return texts
+
+
+def fields_of(variant):
+    """The names of the fields of a variant, as the text of an error writes them."""
+    if match := re.fullmatch(r"\w+ \{(.*)\}", " ".join(variant.split())):
+        return [field.partition(":")[0] for field in split(match[1])]
+    return ["0"] if re.fullmatch(r"\w+\(\w+\)", variant) else []
+
+
+def arm_of(name, variant, text):
+    """The arm of a match that writes the text of a variant of an error."""
+    fields = fields_of(variant)
+    if not fields:
+        return f'{name}::{variant} => f.write_str("{text}"),'
+    if fields == ["0"]:
+        return f'{name}::{head_of(variant)}(field) => write!(f, "{text.replace("{0}", "{field}")}"),'
+    return f'{name}::{head_of(variant)} {{ {", ".join(fields)} }} => write!(f, "{text}"),'
 
 
 def error_items(data, texts):
     if not texts:
         return []
-    if data.kind == "enum":
+    if any("{" in text for text in texts.values()):
+        body = f"match self {{ {''.join(arm_of(data.name, *row) for row in texts.items())} }}"
+    elif data.kind == "enum":
         arms = "".join(f'{data.name}::{name} => "{text}",' for name, text in texts.items())
-        chosen = f"match self {{ {arms} }}"
+        body = f"f.write_str(match self {{ {arms} }})"
     else:
-        chosen = f'"{texts[""]}"'
+        body = f'f.write_str("{texts[""]}")'
     fmt = Function(
         data.place, [], [], [], "", [], "fmt", [],
-        ["&self", "f: &mut core::fmt::Formatter<'_>"], "core::fmt::Result", [], [], 0,
-        f"f.write_str({chosen})",
+        ["&self", "f: &mut core::fmt::Formatter<'_>"], "core::fmt::Result", [], [], 0, body,
     )
     common = (data.place, [], [], [])
     return [
@@ -338,6 +386,12 @@ def error_items(data, texts):
             data.place, [], [], [WITH_STD], "", [], "std::error::Error", data.name, [], []
         ),
     ]
+
+
+def generics_in_rust(source, item):
+    """The parameters of a type or a function without that of an allocator."""
+    texts = [bound_in_rust(source, item, text) for text in item.generics]
+    return [text for text in texts if text != "A"]
 
 
 def bound_in_rust(source, item, text):
@@ -382,6 +436,9 @@ def implementation_in_rust(source, implementation, _):
         used.add(implementation.type)
         items, implementation.type = ARRAYS[implementation.type]
         implementation.generics.insert(0, items)
+    if trait and type_in_rust(trait) != trait:
+        implementation.trait = type_in_rust(trait)
+        implementation.attributes.append(WITH_STD)
     if trait == "Clone":
         # A generator need not be Clone in Rust, so that a borrowed one is a generator too.
         implementation.generics = [
@@ -397,18 +454,17 @@ def function_in_rust(source, function, owner):
     check_attributes(source, function)
     function.words = []
     allocates = mentions(function, "Read", "Allocator")
-    function.generics = [
-        text
-        for text in (bound_in_rust(source, function, text) for text in function.generics)
-        if text not in ("A", "W: fmt::Write")
-    ]
+    function.generics = [text for text in generics_in_rust(source, function) if text != "W: fmt::Write"]
     function.conditions = [
         text
         for text in (bound_in_rust(source, function, text) for text in function.conditions)
         if ":" in text
     ]
-    function.parameters = [type_in_rust(text) for text in function.parameters]
+    function.parameters = [
+        type_in_rust(text) for text in function.parameters if not ALLOCATORS["parameter"].fullmatch(text)
+    ]
     function.result = type_in_rust(function.result)
+    elide_lifetimes(function)
     if function.name == "clone" and owner.trait == "Clone":
         function.result = "Self"
         function.body = cloned(source, function)
@@ -439,7 +495,17 @@ def mentions(function, *names):
 def type_in_rust(text):
     for old, new in ALLOCATING.items():
         text = replaced(text, old, new)
-    return renamed(text)
+    return renamed(ALLOCATORS["type"].sub("", text).replace("<>", ""))
+
+
+def elide_lifetimes(function):
+    """Leaves out a lifetime that only an allocator had, or that is of the one parameter that borrows."""
+    borrows = [text for text in function.parameters if "&" in text or "'" in text]
+    for lifetime in [text for text in function.generics if text.startswith("'")]:
+        if not any(lifetime in text for text in borrows) or len(borrows) == 1 == borrows[0].count("&"):
+            function.generics.remove(lifetime)
+            function.parameters = [text.replace(f"&{lifetime} ", "&") for text in function.parameters]
+            function.result = function.result.replace(f"&{lifetime} ", "&")
 
 
 def cloned(source, function):
@@ -470,9 +536,25 @@ def body_in_rust(source, function):
                 raise source.unknown(f"a macro '{token.text}!'", function.place)
         if token.text in ("ghost", "proof", "unsafe", "await"):
             raise source.unknown(f"'{token.text}' in a body", function.place)
-    for old, new in (*GROWTH.items(), *WIDE.items(), *WIDTHS.items()):
+    for old, new in (*GROWTH.items(), *BY_HAND.items(), *WIDE.items(), *WIDTHS.items()):
         body = replaced(body, old, new)
-    return ranges_as_pairs(without_labels(body))
+    body = ALLOCATORS["argument"].sub("", body)
+    return ranges_as_pairs(bindings_or_else(without_labels(body)))
+
+
+def bindings_or_else(body):
+    """Each `let PATTERN = VALUE else` as an `if let`, as Rust has it since 1.65 alone."""
+    found = re.search(r"\blet ([^=;]*) = ([^;{]*?) else \{", body)
+    if not found:
+        return body
+    pattern, value = found.groups()
+    names = re.findall(r"\b[a-z]\w*", pattern)
+    bound = names[0] if len(names) == 1 else f"({', '.join(names)})"
+    rest = Source("", body[found.end() - 1 :])
+    otherwise = rest.group()
+    after = rest.text[rest.tokens[rest.next - 1].end :]
+    start = f"let {bound} = if let {pattern} = {value} {{ {bound} }} else {{{otherwise}}}"
+    return body[: found.start()] + start + bindings_or_else(after)
 
 
 def without_labels(body):

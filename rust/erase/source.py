@@ -118,7 +118,8 @@ class Source:
         return self.text[opening.end : token.start]
 
     def until(self, *stops):
-        """Takes all tokens before the first of these that stands outside brackets; their text."""
+        """Takes all tokens before the first of these that stands outside brackets; their text, without
+        comments at its end."""
         first = last = self.peek()
         depth = 0
         while True:
@@ -132,7 +133,7 @@ class Source:
             else:
                 depth += (token.text == "<") - (token.text == ">" and not self.is_arrow())
                 self.take()
-            last = self.tokens[self.next - 1]
+            last = last if token.kind == "comment" else self.tokens[self.next - 1]
 
     def is_arrow(self):
         """Whether the next token is the second character of '->' or '=>'."""

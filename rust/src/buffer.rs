@@ -9,6 +9,10 @@ use crate::rand::{fill_by_blocks, Rng, SeedableRng};
 use std::io;
 #[cfg(feature = "std")]
 use std::io::Read;
+#[cfg(feature = "std")]
+use std::string::String;
+#[cfg(feature = "std")]
+use std::vec::Vec;
 
 /// A generator that delivers the blocks of another one as one stream, and buffers the bytes that a
 /// request leaves over.
@@ -126,7 +130,7 @@ impl<G: Rng<OUTPUT>, const OUTPUT: usize> BufferedRng<G, OUTPUT> {
     #[cfg(feature = "std")]
     pub fn read_to_end(
         &mut self,
-        out: &mut std::vec::Vec<u8>,
+        out: &mut Vec<u8>,
     ) -> Result<usize, std::collections::TryReserveError> {
         let count = OUTPUT - self.cursor;
         if count == 0 {
@@ -146,7 +150,7 @@ impl<G: Rng<OUTPUT>, const OUTPUT: usize> BufferedRng<G, OUTPUT> {
     ///
     /// It always returns `TextRefused`.
     #[cfg(feature = "std")]
-    pub fn read_to_string(&mut self, out: &mut std::string::String) -> Result<usize, TextRefused> {
+    pub fn read_to_string(&mut self, out: &mut String) -> Result<usize, TextRefused> {
         let _ = out;
         Err(TextRefused)
     }
@@ -219,13 +223,13 @@ impl<G: Rng<OUTPUT>, const OUTPUT: usize> Read for BufferedRng<G, OUTPUT> {
     }
 
     /// Appends the buffered bytes alone, as the method of `BufferedRng` does: the stream has no end.
-    fn read_to_end(&mut self, buf: &mut std::vec::Vec<u8>) -> io::Result<usize> {
+    fn read_to_end(&mut self, buf: &mut Vec<u8>) -> io::Result<usize> {
         // An error of a kind alone: to say more would need memory, of which there is none.
         BufferedRng::read_to_end(self, buf).map_err(|_| io::ErrorKind::OutOfMemory.into())
     }
 
     /// Always an error: the stream has no end and is not text.
-    fn read_to_string(&mut self, buf: &mut std::string::String) -> io::Result<usize> {
+    fn read_to_string(&mut self, buf: &mut String) -> io::Result<usize> {
         BufferedRng::read_to_string(self, buf)
             .map_err(|error| io::Error::new(io::ErrorKind::Other, error))
     }

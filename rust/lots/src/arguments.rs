@@ -1,0 +1,58 @@
+// Written by `python3 rust/erase` from:
+// crates/lots_core/src/arguments.rt
+
+//! Reads the arguments of the command line: a seed and a count.
+
+/// How many entrants are asked for.
+#[derive(Clone, Copy)]
+pub enum Count {
+    /// All of them: a shuffle.
+    All,
+    /// This many.
+    Of(usize),
+}
+
+impl Count {
+    /// How many of the entrants are asked for.
+    #[must_use]
+    pub fn among(self, entrants: usize) -> usize {
+        match self {
+            Count::All => entrants,
+            Count::Of(count) => count,
+        }
+    }
+}
+
+/// What the arguments ask for.
+pub struct Request<'a> {
+    pub seed: &'a str,
+    pub count: Count,
+}
+
+/// The count that the text gives: `all`, or decimal digits of a number below 2^64.
+fn count_of(text: &str) -> Option<Count> {
+    if text == "all" {
+        return Some(Count::All);
+    }
+    if text.starts_with('+') {
+        return None;
+    }
+    text.parse().ok().map(Count::Of)
+}
+
+/// What the arguments ask for, or `None` if they are not a seed and a count.
+#[must_use]
+pub fn read(arguments: &[String]) -> Option<Request<'_>> {
+    let (seed, count) = if let [seed, count] = arguments {
+        (seed, count)
+    } else {
+        return None;
+    };
+    if seed.is_empty() {
+        return None;
+    }
+    Some(Request {
+        seed: seed.as_str(),
+        count: count_of(count.as_str())?,
+    })
+}

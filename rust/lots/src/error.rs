@@ -1,0 +1,66 @@
+// Written by `python3 rust/erase` from:
+// crates/lots_core/src/error.rt
+
+//! The ways in which a draw fails.
+
+/// Why nothing was drawn, or why the selection was not written.
+#[derive(Clone, Copy, Debug, PartialEq, Eq)]
+pub enum LotsError {
+    /// The arguments are not a seed and a count. Nothing was read.
+    Usage,
+    /// More entrants were asked for than there are.
+    TooFew { entrants: usize, count: usize },
+    /// The number, counted from 1, of the first empty line.
+    EmptyLine(usize),
+    /// Out of memory: an allocation was refused.
+    Memory,
+    /// The reader returned an error.
+    Read,
+    /// The writer returned an error, or took no bytes. How much of the text it took is unspecified.
+    Write,
+    /// 128 words in a row were rejected for one place: for a place among n, less than once in 2^128
+    /// draws.
+    Exhausted,
+}
+
+impl core::fmt::Display for LotsError {
+    fn fmt(&self, f: &mut core::fmt::Formatter<'_>) -> core::fmt::Result {
+        match self {
+            LotsError::Usage => f.write_str("usage: lots SEED COUNT|all < entrants"),
+            LotsError::TooFew { entrants, count } => {
+                write!(f, "{entrants} entrants, {count} asked for")
+            }
+            LotsError::EmptyLine(field) => write!(f, "line {field} is empty"),
+            LotsError::Memory => f.write_str("no memory"),
+            LotsError::Read => f.write_str("read failed"),
+            LotsError::Write => f.write_str("write failed"),
+            LotsError::Exhausted => f.write_str("128 words were rejected"),
+        }
+    }
+}
+
+#[cfg(feature = "std")]
+impl std::error::Error for LotsError {}
+
+impl LotsError {
+    /// The exit status that tells of the error.
+    #[must_use]
+    pub fn status(self) -> u8 {
+        match self {
+            LotsError::Usage => 2,
+            LotsError::TooFew { .. } => 3,
+            LotsError::EmptyLine(_) => 4,
+            LotsError::Memory => 5,
+            LotsError::Read => 6,
+            LotsError::Write => 7,
+            LotsError::Exhausted => 8,
+        }
+    }
+}
+
+#[cfg(feature = "std")]
+impl From<std::collections::TryReserveError> for LotsError {
+    fn from(_error: std::collections::TryReserveError) -> LotsError {
+        LotsError::Memory
+    }
+}

@@ -1,0 +1,26 @@
+//! Draws by lot from a list, so that anyone can repeat it: `lots SEED COUNT|all < entrants`.
+//!
+//! - SEED is any text that is not empty.
+//! - COUNT is how many entrants to draw, in decimal digits; `all` is all of them.
+//! - The entrants are the lines of standard input. No line may be empty.
+//!
+//! It prints the entrants drawn, one a line, in the order drawn. The exit status is 0 on success, 2 if
+//! the arguments are not these, 3 if there are too few entrants, 4 if a line is empty, 5 if out of
+//! memory, 6 if a read failed, 7 if a write failed, and 8 if 128 words in a row were rejected.
+#![forbid(unsafe_code)]
+
+use lots::run::{report, run};
+use lots::LotsError;
+use std::env;
+use std::ffi::OsString;
+use std::io;
+use std::process::ExitCode;
+
+fn main() -> ExitCode {
+    let arguments: Result<Vec<String>, OsString> = env::args_os().skip(1).map(OsString::into_string).collect();
+    let outcome = match arguments {
+        Ok(arguments) => run(&arguments, &mut io::stdin(), &mut io::stdout()),
+        Err(_) => Err(LotsError::Usage),
+    };
+    ExitCode::from(report(outcome, &mut io::stderr()))
+}

@@ -1,0 +1,62 @@
+// Written by `python3 rust/erase` from:
+// crates/lots_core/src/run.rt
+
+//! The whole run: from the arguments and the list to the text that is written.
+
+use crate::arguments::{read, Request};
+use crate::draws::draw;
+use crate::entrants::entrants_of;
+use crate::error::LotsError;
+use crate::text::text_of;
+use std::io::{ErrorKind, Read, Write};
+
+/// All bytes of the reader.
+fn read_list<R: Read>(input: &mut R) -> Result<Vec<u8>, LotsError> {
+    let mut list = Vec::new();
+    match crate::reading::read_to_end(input, &mut list) {
+        Ok(_) => Ok(list),
+        Err(error) if error.kind() == ErrorKind::OutOfMemory => Err(LotsError::Memory),
+        Err(_) => Err(LotsError::Read),
+    }
+}
+
+/// The text of the selection that the request makes from the list, or why there is none.
+fn select(request: &Request<'_>, list: &[u8]) -> Result<Vec<u8>, LotsError> {
+    let mut entrants = entrants_of(list)?;
+    let count = request.count.among(entrants.len());
+    draw(request.seed, &mut entrants, count)?;
+    Ok(text_of(&entrants[..count])?)
+}
+
+/// Draws what the arguments ask for from the list that `input` has, and writes it to `out`, all at
+/// once, and then flushes. The arguments are those after the name of the program.
+///
+/// Everything is read and drawn before anything is written.
+///
+/// # Errors
+///
+/// It returns an error for each reason that its type names. With `Write`, how much of the text
+/// `out` took is unspecified. With any other, nothing was written.
+pub fn run<R: Read, W: Write>(
+    arguments: &[String],
+    input: &mut R,
+    out: &mut W,
+) -> Result<(), LotsError> {
+    let request = read(arguments).ok_or(LotsError::Usage)?;
+    let list = read_list(input)?;
+    let text = select(&request, &list)?;
+    out.write_all(&text).map_err(|_| LotsError::Write)?;
+    out.flush().map_err(|_| LotsError::Write)
+}
+
+/// Returns the exit status of an outcome, and writes an error as one line to `err`. A failure to
+/// write that line is ignored.
+pub fn report<W: Write>(outcome: Result<(), LotsError>, err: &mut W) -> u8 {
+    let error = if let Err(error) = outcome {
+        error
+    } else {
+        return 0;
+    };
+    let _ = writeln!(err, "lots: {error}");
+    error.status()
+}

@@ -1,0 +1,20 @@
+// Written by `python3 rust/erase` from:
+// crates/lots_core/src/text.rt
+
+//! The text of the entrants drawn.
+
+/// The text of the lines, each ended by a line feed.
+///
+/// # Errors
+///
+/// It returns an error if memory is refused.
+pub fn text_of(lines: &[&[u8]]) -> Result<Vec<u8>, std::collections::TryReserveError> {
+    let mut text = Vec::new();
+    for line in lines {
+        text.try_reserve(line.len())?;
+        text.extend_from_slice(line);
+        text.try_reserve(1)?;
+        text.push(b'\n');
+    }
+    Ok(text)
+}
