@@ -55,6 +55,14 @@ SENTENCES = {
     ),
     "Nothing is allocated, so it never fails.": "Nothing is allocated.",
     "It fails as `draw` does.": "It returns an error as `draw` does.",
+    "Fails with `BadWord` or `Memory`.": "It returns `BadWord` or `Memory`.",
+    "Runs the calls on the generator with its seed, or on a buffer around it in buffered mode.": (
+        "Runs the calls on the generator with its seed, or on a buffer around it in buffered mode. Precondition: there"
+        " is one answer for each call."
+    ),
+    "a line for each answer, and one for the items if there are any.": (
+        "a line for each answer, and one for the items if there are any. It returns an error if memory is refused."
+    ),
     "With the error `Write`, how much of the text `out` took is unspecified. With any other error, nothing was"
     " written.": (
         "It returns an error for each reason that its type names. With `Write`, how much of the text `out` took is"

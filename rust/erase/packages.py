@@ -68,4 +68,12 @@ LOTS = Package(
     with_std=("arguments", "run", "text"),
 )
 
-PACKAGES = (LIBRARY, LOTS)
+DRAW = Package(
+    target=ROOT / "rust/draw/src",
+    crates=("draw_core",),
+    left_out=ROOTS_AND_LAWS,
+    by_hand=("lib.rs", "main.rs", "growing.rs", "hex.rs"),
+    with_std=("*",),
+)
+
+PACKAGES = (LIBRARY, LOTS, DRAW)

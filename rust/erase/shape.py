@@ -14,6 +14,7 @@ LAWS = "laws"
 
 # What a use names, and what it names in Rust. None: Rust needs nothing in its place.
 PATHS = {
+    "hex::FromHex": "crate::hex",
     "sha2::Digest": None,
     "sha2::Sha256": "crate::sha256",
     "std::alloc::AllocError": None,
@@ -60,6 +61,7 @@ TRAITS = (
     "RandomGen",
     "RandomRange",
     "Read",
+    "ReadNumber",
     "Rng",
     "SeedableRng",
     "Vector",
@@ -92,17 +94,32 @@ REFUSED_ITEMS = "From<AllocFailed<T>>"
 
 # Statements by which a vector grows: in Rattle each may be refused, in Rust it asks for room first.
 GROWTH = {
+    "calls.push(call)?;": "calls.try_reserve(1)?; calls.push(call);",
     "entrants.push(line)?;": "entrants.try_reserve(1)?; entrants.push(line);",
+    "items.push(item)?;": "items.try_reserve(1)?; items.push(item);",
+    "let mut answers = vec![in alloc; Answer::Truth(false); calls.len()]?;": (
+        "let mut answers = Vec::new();\n"
+        "answers.try_reserve(calls.len())?;\n"
+        "answers.resize(calls.len(), Answer::Truth(false));"
+    ),
     "out.reserve(count)?;": "out.try_reserve(count)?;",
     "out.extend_from_slice(&bytes[self.cursor..])?;": "out.extend_from_slice(&bytes[self.cursor..]);",
     "text.extend_from_slice(line)?;": "text.try_reserve(line.len())?; text.extend_from_slice(line);",
+    "text.push('\\n')?;": "text.try_reserve(1)?; text.push('\\n');",
     "text.push(b'\\n')?;": "text.try_reserve(1)?; text.push(b'\\n');",
+    'text.push_str("items:")?;': 'text.try_reserve("items:".len())?; text.push_str("items:");',
 }
 
-# Calls of what is written by hand in Rust: the kit's SHA-256, and a read for which std may end the process.
+# Calls of what is written by hand in Rust: in place of the kit's crates, and of what ends the process in std where
+# memory is refused.
 BY_HAND = {
+    "<[u8; 8]>::from_hex(seed).ok()?": "hex::bytes_of(seed)?",
+    "<[u8; 16]>::from_hex(seed).ok()?": "hex::bytes_of(seed)?",
+    "<[u8; 40]>::from_hex(seed).ok()?": "hex::bytes_of(seed)?",
     "Sha256::digest(seed)": "sha256::digest(seed.as_bytes())",
     "input.read_to_end(&mut list)": "crate::reading::read_to_end(input, &mut list)",
+    "write!(text, ": "write!(crate::growing::Growing(text), ",
+    "writeln!(text, ": "writeln!(crate::growing::Growing(text), ",
 }
 
 # Functions that can run while a program is compiled.
@@ -404,7 +421,7 @@ def bound_in_rust(source, item, text):
         head = head_of(bound)
         if head == "Blocks":
             bound = bound.replace("Blocks", "Rng", 1)
-        elif head not in (*TRAITS, "Copy", "Drop", "FnMut", "Allocator", "fmt::Write"):
+        elif head not in (*TRAITS, "Copy", "Drop", "FnMut", "Allocator", "Sized", "fmt::Write"):
             raise source.unknown(f"a bound '{bound}'", item.place)
         if head not in ("Drop", "Allocator"):
             kept.append(bound)
@@ -529,6 +546,8 @@ def head_of(text):
 
 def body_in_rust(source, function):
     body = renamed(function.body)
+    for old, new in (*GROWTH.items(), *BY_HAND.items(), *WIDE.items(), *WIDTHS.items()):
+        body = replaced(body, old, new)
     for token, following in zip(tokens_of(body), tokens_of(body)[1:]):
         if following.text == "!" and token.kind == "name" and body[token.end] == "!":
             after = body[following.end : following.end + 1]
@@ -536,8 +555,6 @@ def body_in_rust(source, function):
                 raise source.unknown(f"a macro '{token.text}!'", function.place)
         if token.text in ("ghost", "proof", "unsafe", "await"):
             raise source.unknown(f"'{token.text}' in a body", function.place)
-    for old, new in (*GROWTH.items(), *BY_HAND.items(), *WIDE.items(), *WIDTHS.items()):
-        body = replaced(body, old, new)
     body = ALLOCATORS["argument"].sub("", body)
     return ranges_as_pairs(bindings_or_else(without_labels(body)))
 

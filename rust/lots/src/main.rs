@@ -11,16 +11,14 @@
 
 use lots::run::{report, run};
 use lots::LotsError;
-use std::env;
-use std::ffi::OsString;
-use std::io;
+use nanorand_program::{arguments, input, output};
+use std::io::stderr;
 use std::process::ExitCode;
 
 fn main() -> ExitCode {
-    let arguments: Result<Vec<String>, OsString> = env::args_os().skip(1).map(OsString::into_string).collect();
-    let outcome = match arguments {
-        Ok(arguments) => run(&arguments, &mut io::stdin(), &mut io::stdout()),
-        Err(_) => Err(LotsError::Usage),
+    let outcome = match arguments() {
+        Some(arguments) => run(&arguments, &mut input(), &mut output()),
+        None => Err(LotsError::Usage),
     };
-    ExitCode::from(report(outcome, &mut io::stderr()))
+    ExitCode::from(report(outcome, &mut stderr()))
 }

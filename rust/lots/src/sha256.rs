@@ -12,7 +12,14 @@ const LENGTH: usize = 8;
 /// The state before the first block: the first 32 bits after the point of the square roots of the first
 /// eight primes.
 const START: [u32; 8] = [
-    0x6a09_e667, 0xbb67_ae85, 0x3c6e_f372, 0xa54f_f53a, 0x510e_527f, 0x9b05_688c, 0x1f83_d9ab, 0x5be0_cd19,
+    0x6a09_e667,
+    0xbb67_ae85,
+    0x3c6e_f372,
+    0xa54f_f53a,
+    0x510e_527f,
+    0x9b05_688c,
+    0x1f83_d9ab,
+    0x5be0_cd19,
 ];
 
 /// What each round adds: the first 32 bits after the point of the cube roots of the first 64 primes.
@@ -86,7 +93,8 @@ fn words_of(block: &[u8]) -> [u32; 16] {
     words
 }
 
-/// The state after one round, to which `added` is the sum of its word and its constant.
+/// The state after one round, where `added` is the sum of the round's word and its constant.
+#[allow(clippy::many_single_char_names)]
 fn round([a, b, c, d, e, f, g, h]: [u32; 8], added: u32) -> [u32; 8] {
     let choice = (e & f) ^ (!e & g);
     let majority = (a & b) ^ (a & c) ^ (b & c);
@@ -94,7 +102,8 @@ fn round([a, b, c, d, e, f, g, h]: [u32; 8], added: u32) -> [u32; 8] {
         .wrapping_add(e.rotate_right(6) ^ e.rotate_right(11) ^ e.rotate_right(25))
         .wrapping_add(choice)
         .wrapping_add(added);
-    let second = (a.rotate_right(2) ^ a.rotate_right(13) ^ a.rotate_right(22)).wrapping_add(majority);
+    let second =
+        (a.rotate_right(2) ^ a.rotate_right(13) ^ a.rotate_right(22)).wrapping_add(majority);
     let (new_a, new_e) = (first.wrapping_add(second), d.wrapping_add(first));
     [new_a, a, b, c, new_e, e, f, g]
 }

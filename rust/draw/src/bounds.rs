@@ -1,0 +1,34 @@
+// Written by `python3 rust/erase` from:
+// crates/draw_core/src/bounds.rt
+
+//! The two bounds of a range, LOW..HIGH or LOW..=HIGH.
+
+use crate::numbers::ReadNumber;
+use core::ops::Bound;
+
+/// The bounds that the text gives. A missing bound is unbounded.
+#[must_use]
+pub fn bounds<N: ReadNumber>(text: &str) -> Option<(Bound<N>, Bound<N>)> {
+    let (low, high) = text.split_once("..")?;
+    Some((low_bound(low)?, high_bound(high)?))
+}
+
+/// The low bound, from the text before the dots. It is included.
+fn low_bound<N: ReadNumber>(text: &str) -> Option<Bound<N>> {
+    if text.is_empty() {
+        return Some(Bound::Unbounded);
+    }
+    Some(Bound::Included(N::read(text)?))
+}
+
+/// The high bound, from the text after the dots. It is included if the text begins with `=`, and
+/// excluded otherwise.
+fn high_bound<N: ReadNumber>(text: &str) -> Option<Bound<N>> {
+    if text.is_empty() {
+        return Some(Bound::Unbounded);
+    }
+    match text.strip_prefix('=') {
+        Some(greatest) => Some(Bound::Included(N::read(greatest)?)),
+        None => Some(Bound::Excluded(N::read(text)?)),
+    }
+}

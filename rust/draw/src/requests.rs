@@ -1,0 +1,36 @@
+// Written by `python3 rust/erase` from:
+// crates/draw_core/src/requests.rt
+
+//! Requests: a type, a range of a type, or a shuffle.
+
+use crate::bounds::bounds;
+use crate::kinds::kind_of;
+use nanorand_proved::replay::{Call, Kind, Span};
+
+/// The call that a request asks for, or `None` if the text is no request.
+#[must_use]
+pub fn call_of(text: &str) -> Option<Call> {
+    match text.split_once(':') {
+        Some((name, range)) => Some(Call::Range(span_of(kind_of(name)?, range)?)),
+        None if text == "shuffle" => Some(Call::Shuffle),
+        None => Some(Call::Gen(kind_of(text)?)),
+    }
+}
+
+/// The range of that type with the bounds that the text gives. `i128`, `u128` and `bool` have
+/// none.
+fn span_of(kind: Kind, range: &str) -> Option<Span> {
+    match kind {
+        Kind::I8 => bounds(range).map(|(low, high)| Span::I8(low, high)),
+        Kind::I16 => bounds(range).map(|(low, high)| Span::I16(low, high)),
+        Kind::I32 => bounds(range).map(|(low, high)| Span::I32(low, high)),
+        Kind::I64 => bounds(range).map(|(low, high)| Span::I64(low, high)),
+        Kind::Isize => bounds(range).map(|(low, high)| Span::Isize(low, high)),
+        Kind::U8 => bounds(range).map(|(low, high)| Span::U8(low, high)),
+        Kind::U16 => bounds(range).map(|(low, high)| Span::U16(low, high)),
+        Kind::U32 => bounds(range).map(|(low, high)| Span::U32(low, high)),
+        Kind::U64 => bounds(range).map(|(low, high)| Span::U64(low, high)),
+        Kind::Usize => bounds(range).map(|(low, high)| Span::Usize(low, high)),
+        Kind::I128 | Kind::U128 | Kind::Bool => None,
+    }
+}
