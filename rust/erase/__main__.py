@@ -21,10 +21,10 @@ def module_in_rust(package, name, paths):
     files = [shape.rust_of(source, file_of(source)) for source in sources]
     file = join.one_module("crate::" + name.replace("/", "::"), files)
     join.blocks_in_generators(file)
-    if layer := package.additions("layer").get(name):
+    if layer := package.addition("layer", name):
         sources.append(Source.read(layer, ROOT))
         join.graft(sources[-1], file, file_of(sources[-1]))
-    if text := package.additions("examples").get(name):
+    if text := package.addition("examples", name):
         examples.add(text.read_text(encoding="utf-8"), str(text.relative_to(ROOT)), file)
     join.sort_uses(file)
     if package.needs_std(name):
@@ -35,18 +35,14 @@ def module_in_rust(package, name, paths):
 
 def package_in_rust(package):
     """The text of each file of a package that is written, by its place in the target."""
-    modules = package.modules()
-    for folder in ("layer", "examples"):
-        for name, path in package.additions(folder).items():
-            if name not in modules:
-                raise Unknown(f"rust/erase: no module takes {folder}/{path.name}")
-    return {f"{name}.rs": module_in_rust(package, name, paths) for name, paths in modules.items()}
+    return {f"{name}.rs": module_in_rust(package, name, paths) for name, paths in package.modules().items()}
 
 
 def all_in_rust():
     """The texts of each package."""
     texts = {package: package_in_rust(package) for package in PACKAGES}
-    for text in (*documents.unused(), *shape.unused()):
+    strays = [name for package in PACKAGES for name in package.without_module()]
+    for text in (*documents.unused(), *shape.unused(), *strays):
         raise Unknown(f"rust/erase: nothing in the proved source has this any more: {text}")
     return texts
 
@@ -72,11 +68,11 @@ def write(package, texts):
 
 def differences(package, texts):
     """What differs between the target and what would be written, a line a file."""
-    different = [f"{package.name_of(name)}: nothing writes it" for name in strangers(package, texts)]
+    different = [f"{package.folder}/{name}: nothing writes it" for name in strangers(package, texts)]
     for name, text in texts.items():
         path = package.target / name
         if not path.exists() or path.read_text(encoding="utf-8") != text:
-            different.append(f"{package.name_of(name)}: python3 rust/erase writes it otherwise")
+            different.append(f"{package.folder}/{name}: python3 rust/erase writes it otherwise")
     return different
 
 

@@ -7,7 +7,7 @@ import re
 
 import documents
 from items import Data, File, Function, Ghost, Implementation, Module, Plain, Trait, Use, split
-from source import Source, tokens_of
+from source import tokens_of
 
 # Modules of laws: their functions do nothing, and their contracts are the laws.
 LAWS = "laws"
@@ -82,12 +82,14 @@ NAMES = {"u32x4": "U32x4", "u32x8": "U32x8"}
 # The types of a refused allocation. They, allocators and readers are there with the feature std alone.
 ALLOCATING = {"AllocError": "std::collections::TryReserveError"}
 
-# How a type names its allocator, a function takes one, and a call passes it on. In Rust all memory is the program's.
-ALLOCATORS = {
-    "type": re.compile(r"(?:, |(?<=<))(?:&'\w+ )?A(?=>)"),
-    "parameter": re.compile(r"alloc: (?:&'\w+ )?A"),
-    "argument": re.compile(r"(?<=\()&?alloc(?:, |(?=\)))"),
-}
+# How a type names its allocator, how a function takes one, and how calls of functions and of `new` pass it on. In Rust
+# all memory is the program's.
+ALLOCATOR_OF_TYPE = re.compile(r"(?:, |(?<=<))(?:&'\w+ )?A(?=>)")
+ALLOCATOR_TAKEN = re.compile(r"alloc: (?:&'\w+ )?A")
+ALLOCATOR_PASSED = re.compile(r"(?<![\w.:])((?:Vec::|String::)?[a-z]\w*\()&?alloc(?:, |(?=\)))")
+
+# Growth that may be refused: what of it stands in no row below stops the eraser.
+GROWS = re.compile(r"\.(?:push|push_str|extend_from_slice|reserve)\([^;]*\)\?")
 
 # What Rattle does to an error that gives an item back, as a push that is refused does. In Rust it gives none.
 REFUSED_ITEMS = "From<AllocFailed<T>>"
@@ -407,8 +409,15 @@ def error_items(data, texts):
 
 def generics_in_rust(source, item):
     """The parameters of a type or a function without that of an allocator."""
-    texts = [bound_in_rust(source, item, text) for text in item.generics]
-    return [text for text in texts if text != "A"]
+    return [bound_in_rust(source, item, text) for text in item.generics if not is_allocator(source, item, text)]
+
+
+def is_allocator(source, item, text):
+    """Whether a parameter is that of an allocator, which always has one name."""
+    name, _, bounds = text.partition(":")
+    if (name == "A") != ("Allocator" in bounds):
+        raise source.unknown(f"an allocator that is not called A, or another A: '{text}'", item.place)
+    return name == "A"
 
 
 def bound_in_rust(source, item, text):
@@ -421,9 +430,9 @@ def bound_in_rust(source, item, text):
         head = head_of(bound)
         if head == "Blocks":
             bound = bound.replace("Blocks", "Rng", 1)
-        elif head not in (*TRAITS, "Copy", "Drop", "FnMut", "Allocator", "Sized", "fmt::Write"):
+        elif head not in (*TRAITS, "Copy", "Drop", "FnMut", "Sized", "fmt::Write"):
             raise source.unknown(f"a bound '{bound}'", item.place)
-        if head not in ("Drop", "Allocator"):
+        if head != "Drop":
             kept.append(bound)
     return f"{name}: {' + '.join(kept)}" if kept else name
 
@@ -478,9 +487,11 @@ def function_in_rust(source, function, owner):
         if ":" in text
     ]
     function.parameters = [
-        type_in_rust(text) for text in function.parameters if not ALLOCATORS["parameter"].fullmatch(text)
+        type_in_rust(text) for text in function.parameters if not ALLOCATOR_TAKEN.fullmatch(text)
     ]
     function.result = type_in_rust(function.result)
+    if re.search(r"\bA\b", " ".join([*function.parameters, function.result])):
+        raise source.unknown("an allocator that is left", function.place)
     elide_lifetimes(function)
     if function.name == "clone" and owner.trait == "Clone":
         function.result = "Self"
@@ -512,7 +523,7 @@ def mentions(function, *names):
 def type_in_rust(text):
     for old, new in ALLOCATING.items():
         text = replaced(text, old, new)
-    return renamed(ALLOCATORS["type"].sub("", text).replace("<>", ""))
+    return renamed(ALLOCATOR_OF_TYPE.sub("", text).replace("<>", ""))
 
 
 def elide_lifetimes(function):
@@ -548,30 +559,40 @@ def body_in_rust(source, function):
     body = renamed(function.body)
     for old, new in (*GROWTH.items(), *BY_HAND.items(), *WIDE.items(), *WIDTHS.items()):
         body = replaced(body, old, new)
+    body = ALLOCATOR_PASSED.sub(r"\1", body)
+    if found := GROWS.search(body):
+        raise source.unknown(f"a growth '{found[0]}'", function.place)
     for token, following in zip(tokens_of(body), tokens_of(body)[1:]):
         if following.text == "!" and token.kind == "name" and body[token.end] == "!":
             after = body[following.end : following.end + 1]
             if after in "([{" and token.text not in MACROS:
                 raise source.unknown(f"a macro '{token.text}!'", function.place)
-        if token.text in ("ghost", "proof", "unsafe", "await"):
+        if token.text in ("alloc", "ghost", "proof", "unsafe", "await"):
             raise source.unknown(f"'{token.text}' in a body", function.place)
-    body = ALLOCATORS["argument"].sub("", body)
     return ranges_as_pairs(bindings_or_else(without_labels(body)))
 
 
 def bindings_or_else(body):
-    """Each `let PATTERN = VALUE else` as an `if let`, as Rust has it since 1.65 alone."""
-    found = re.search(r"\blet ([^=;]*) = ([^;{]*?) else \{", body)
-    if not found:
-        return body
-    pattern, value = found.groups()
-    names = re.findall(r"\b[a-z]\w*", pattern)
-    bound = names[0] if len(names) == 1 else f"({', '.join(names)})"
-    rest = Source("", body[found.end() - 1 :])
-    otherwise = rest.group()
-    after = rest.text[rest.tokens[rest.next - 1].end :]
-    start = f"let {bound} = if let {pattern} = {value} {{ {bound} }} else {{{otherwise}}}"
-    return body[: found.start()] + start + bindings_or_else(after)
+    """Each `let PATTERN = VALUE else` as an `if let`: Rust has the one since 1.65."""
+    for match in re.finditer(r"(?<!if )(?<!while )\blet ", body):
+        stop = first_outside(body[match.end() :], "else", ";")
+        pattern, _, value = body[match.end() : match.end() + stop.start].rstrip().partition(" = ")
+        if stop.text == "else" and not value.endswith("}"):
+            names = re.findall(r"\b[a-z]\w*", pattern)
+            bound = names[0] if len(names) == 1 else f"({', '.join(names)})"
+            start = f"{body[:match.start()]}let {bound} = if let {pattern} = {value} {{ {bound} }} "
+            return start + bindings_or_else(body[match.end() + stop.start :])
+    return body
+
+
+def first_outside(text, *stops):
+    """The first of these tokens that stands outside brackets."""
+    depth = 0
+    for token in tokens_of(text):
+        if depth == 0 and token.text in stops:
+            return token
+        depth += (token.text in "([{") - (token.text in ")]}")
+    return None
 
 
 def without_labels(body):
@@ -586,13 +607,7 @@ def ranges_as_pairs(body):
     """The two bounds of each ranged draw as one pair, which is a range of Rust."""
     result, start = "", 0
     for match in re.finditer(r"\.generate_range(::<\w+>)?\(", body):
-        tokens = tokens_of(body[match.end() - 1 :])
-        depth = 0
-        for token in tokens:
-            depth += (token.text in "([{") - (token.text in ")]}")
-            if depth == 0:
-                break
-        end = match.end() - 1 + token.start
+        end = match.end() + first_outside(body[match.end() :], ")").start
         low, high = split(body[match.end() : end])
         result += f"{body[start:match.end()]}({low}, {high})"
         start = end

@@ -1,6 +1,7 @@
 """Tests of the eraser: python3 rust/erase/tests.py. The last line counts them."""
 
 import contextlib
+import dataclasses
 import importlib.util
 import io
 import re
@@ -17,12 +18,21 @@ sys.path.insert(0, str(HERE))
 import documents
 import examples
 import join
+import packages
 import shape
 from items import file_of, paths_of, split
 from source import Source, Unknown, tokens_of
 from writer import text_of
 
 ROOT = HERE.parent.parent
+
+# The proved crates of each package, and their files that are left out.
+PROVED = {
+    "rust/src": ("nanorand_core", "nanorand_replay", "nanorand"),
+    "rust/lots/src": ("lots_core",),
+    "rust/draw/src": ("draw_core",),
+}
+LEFT_OUT = ("lib.rt", "laws.rt", "swap.rt", "wide.rt")
 
 
 def command():
@@ -166,6 +176,17 @@ class Differences(Same):
             ' #[cfg(feature = "std")] impl std::error::Error for E {}',
         )
 
+    def test_errors_with_fields(self):
+        self.same(
+            '#[derive(Error)]\nenum E {\n #[error("a")]\n A,\n #[error("{x} of {y}")]\n B { x: u8, y: u8 },\n'
+            ' #[error("{0} is b")]\n C(u8),\n}',
+            "enum E { A, B { x: u8, y: u8 }, C(u8), }"
+            " impl core::fmt::Display for E { fn fmt(&self, f: &mut core::fmt::Formatter<'_>) -> core::fmt::Result"
+            ' { match self { E::A => f.write_str("a"), E::B { x, y } => write!(f, "{x} of {y}"),'
+            ' E::C(field) => write!(f, "{field} is b"), } } }'
+            ' #[cfg(feature = "std")] impl std::error::Error for E {}',
+        )
+
     def test_drop_goes(self):
         self.same(
             "#[derive(Drop)]\npub struct X<T: Drop> { t: T }\nfn f<T: Drop + Copy>(t: T) { t; }",
@@ -176,8 +197,63 @@ class Differences(Same):
         self.same(
             "use std::alloc::{AllocError, Allocator};\nimpl X { pub fn f<A: Allocator>(&mut self, out: &mut Vec<u8, A>)"
             " { g(out); } }",
-            'impl X { #[cfg(feature = "std")] pub fn f(&mut self, out: &mut std::vec::Vec<u8>) { g(out); } }',
+            'impl X { #[cfg(feature = "std")] pub fn f(&mut self, out: &mut Vec<u8>) { g(out); } }',
         )
+        self.same(
+            "fn f<'a, A: Allocator>(alloc: &'a A, c: &C<&'a A>, t: &str) -> Result<(Vec<[u8; 2], &'a A>, String<A>), E>\n"
+            "{ let v = Vec::new(alloc); let s = String::new(&alloc); g(&alloc, h(alloc, c))?; }",
+            '#[cfg(feature = "std")] fn f(c: &C, t: &str) -> Result<(Vec<[u8; 2]>, String), E>'
+            " { let v = Vec::new(); let s = String::new(); g(h(c))?; }",
+        )
+        self.same("pub struct C<A: Allocator> { pub n: u8, pub v: Vec<D, A> }", "pub struct C { pub n: u8, pub v: Vec<D>, }")
+
+    def test_growth_asks_first(self):
+        for rattle, rust in shape.GROWTH.items():
+            self.same(f"fn f() {{ {rattle} }}", f"fn f() {{ {rust} }}")
+            # One takes what its function has reserved.
+            self.assertEqual(".try_reserve(" in rust, "self.cursor" not in rust)
+
+    def test_what_is_by_hand(self):
+        for rattle, rust in shape.BY_HAND.items():
+            after = '"");' if rattle.endswith(" ") else ";"
+            self.same(f"fn f() {{ {rattle}{after} }}", f"fn f() {{ {rust}{after} }}")
+
+    def test_refused_items_are_no_error(self):
+        self.same(
+            "impl From<AllocError> for E { ghost from_gives = { a }; fn from(e: AllocError) -> E { E::M } }\n"
+            "impl<T: Drop> From<AllocFailed<T>> for E { fn from(e: AllocFailed<T>) -> E { E::M } }",
+            '#[cfg(feature = "std")] impl From<std::collections::TryReserveError> for E {'
+            " fn from(e: std::collections::TryReserveError) -> E { E::M } }",
+        )
+
+    def test_lifetimes(self):
+        for rattle, rust in {
+            "fn f<'a>(x: &'a [u8]) -> Vec<&'a [u8]> { g(x) }": "fn f(x: &[u8]) -> Vec<&[u8]> { g(x) }",
+            "fn f<'a>(x: &'a [u8], n: u8) -> &'a u8 { g(x) }": "fn f(x: &[u8], n: u8) -> &u8 { g(x) }",
+            "fn f<'a>(x: &'a [u8], y: &u8) -> &'a u8 { g(x) }": "fn f<'a>(x: &'a [u8], y: &u8) -> &'a u8 { g(x) }",
+            "fn f<'a>(x: &'a [&u8]) -> &'a u8 { g(x) }": "fn f<'a>(x: &'a [&u8]) -> &'a u8 { g(x) }",
+            "fn f<'a>(x: &'a [u8], y: X<'_>) -> &'a u8 { g(x) }": "fn f<'a>(x: &'a [u8], y: X<'_>) -> &'a u8 { g(x) }",
+        }.items():
+            self.same(rattle, rust)
+
+    def test_bindings_or_else(self):
+        for rattle, rust in {
+            "let Some(x) = f(y) else { return 1; }; g(x)": "let x = if let Some(x) = f(y) { x } else { return 1; }; g(x)",
+            "let [a, b] = c else { return; }; let Ok(d) = a else { h(b); return; }; g(d)":
+                "let (a, b) = if let [a, b] = c { (a, b) } else { return; };"
+                " let d = if let Ok(d) = a { d } else { h(b); return; }; g(d)",
+            "for a in b { let E::X(c) = a else { return f(|d| { d; }); }; g(c); }":
+                "for a in b { let c = if let E::X(c) = a { c } else { return f(|d| { d; }); }; g(c); }",
+            "let Some(x) = f(X { a: 1 }, |b| { b; }) else { return; }; g(x)":
+                "let x = if let Some(x) = f(X { a: 1 }, |b| { b; }) { x } else { return; }; g(x)",
+            "let x = if a { b } else { c }; if let Some(y) = x { g(y) } else { h() }": None,
+            "while let Some(y) = x { if y < 2 { g(y) } else { h() } }": None,
+            "let x = match y { A => 1, B => f(if c { 2 } else { 3 }), }; g(x)": None,
+        }.items():
+            self.same(f"fn f() {{ {rattle} }}", f"fn f() {{ {rust or rattle} }}")
+
+    def test_comments_before_clauses_go(self):
+        self.same("fn f() -> u8\n // Why.\n ensures { a }\n // Why not.\n ensures { b }\n{ 1 }", "fn f() -> u8 { 1 }")
 
     def test_readers_need_std(self):
         self.same(
@@ -212,7 +288,15 @@ class Differences(Same):
             "fn f() { a.generate_range((B::I(g(1, 2)), B::E([3, 4])))?; b.generate_range::<i8>((*l, *h)).map(k); }",
         )
 
+    def test_a_module_that_needs_std(self):
+        file = file_of(source_of("fn f() {}\nimpl X { fn g() {} }"))
+        for item in (*file.items, *file.items[1].items):
+            item.attributes += [shape.WITH_STD, "inline"]
+        join.without_feature(file)
+        self.assertEqual([item.attributes for item in (*file.items, *file.items[1].items)], [["inline"]] * 3)
+
     def test_crates_are_one(self):
+        self.same("use nanorand::rand::A;", "use nanorand_proved::rand::A;")
         self.same("use nanorand_core::rand::{Blocks, Rng};\npub use nanorand_replay::buffer;",
                   "pub use crate::buffer; use crate::rand::Rng;")
         self.same("pub use nanorand_core::x::{A, B};", "")
@@ -377,8 +461,17 @@ class Strangers(unittest.TestCase):
             "an implementation of 'Iterator'": "impl Iterator for X { fn next(&mut self) {} }",
             "a bound 'Send'": "fn f<T: Send>(t: T) {}",
             "a use of 'std::thread'": "use std::thread;",
-            "a use of 'std::io::Write'": "use std::io::{Read, Write};",
+            "a use of 'std::io::Seek'": "use std::io::{Read, Seek};",
             "a use of 'hex::encode'": "use hex::encode;",
+            "a use of 'sha2::Sha512'": "use sha2::Sha512;",
+            "an allocator that is not called A": "fn f<B: Allocator>(alloc: B) {}",
+            "or another A": "fn f<A: Copy>(x: A) {}",
+            "an allocator that is left": "fn f<A: Allocator>(memory: A) {}",
+            "'alloc' in a body": "fn f() { x.g(alloc); }",
+            "a growth '.push\\(x\\)\\?'": "fn f() { y.push(x)?; }",
+            "a growth '.push_str\\(": 'fn f() { y.push_str("x")?; }',
+            "a growth '.extend_from_slice\\(": "fn f() { y.extend_from_slice(&x[..2])?; }",
+            "a growth '.reserve\\(": "fn f() { y.reserve(z(2))?; }",
             "a macro 'panic!'": 'fn f() { panic!("x"); }',
             "a macro 'vec!'": "fn f() { g(vec![1]); }",
             "'unsafe' in a body": "fn f() { unsafe { g(); } }",
@@ -389,7 +482,11 @@ class Strangers(unittest.TestCase):
             "a clone whose body is no Ok": "impl Clone for X { fn clone(&self) -> Result<Self, AllocError> { g() } }",
             "an inner attribute 'no_std'": "#![no_std]\nfn f() {}",
             "a trait with a where": "trait T where Self: Copy { }",
-            "an attribute 'error\\(": '#[derive(Error)]\n#[error("{0}")]\nstruct X;',
+            "an attribute 'error\\(": '#[derive(Error)]\n#[error(x)]\nstruct X;',
+            "a text of an error with other fields: '.0}'": '#[derive(Error)]\n#[error("{0}")]\nstruct X;',
+            "a text of an error with other fields: '{x}'": 'enum X { #[error("{x}")]\n Y { z: u8 } }',
+            "a text of an error with other fields: '.1}'": 'enum X { #[error("{1}")]\n Y(u8, u8) }',
+            "a text of an error with other fields: '{0:x}'": 'enum X { #[error("{0:x}")]\n Y(u8) }',
             "the file ends here": "fn f() {",
             "should follow": "/// lost",
         }.items():
@@ -410,7 +507,21 @@ class Command(unittest.TestCase):
         folder = tempfile.TemporaryDirectory()
         self.addCleanup(folder.cleanup)
         self.command = command()
-        self.command.TARGET = self.target = Path(folder.name)
+        self.package = dataclasses.replace(packages.LIBRARY, folder="rust/x", crates=("x",))
+        self.root = Path(folder.name)
+        self.target = self.root / "rust/x"
+
+    def here(self):
+        """Has the folders of packages in the folder of this test."""
+        return mock.patch.object(packages, "ROOT", self.root)
+
+    def write(self, texts):
+        with self.here():
+            self.command.write(self.package, texts)
+
+    def check(self, texts):
+        with self.here():
+            return self.printed(self.command.check, {self.package: texts})
 
     def printed(self, call, *arguments):
         with contextlib.redirect_stdout(io.StringIO()) as out, contextlib.redirect_stderr(io.StringIO()) as err:
@@ -418,51 +529,55 @@ class Command(unittest.TestCase):
         return status, out.getvalue() + err.getvalue()
 
     def test_what_is_written_is_the_same(self):
-        self.printed(self.command.write, self.TEXTS)
-        self.assertEqual(self.printed(self.command.check, self.TEXTS), (0, "2 passed, 0 failed\n"))
+        self.write(self.TEXTS)
+        self.assertEqual(self.check(self.TEXTS), (0, "2 passed, 0 failed\n"))
 
     def test_a_changed_or_missing_file_fails(self):
-        self.printed(self.command.write, self.TEXTS)
+        self.write(self.TEXTS)
         (self.target / "a.rs").write_text("fn a() { b() }\n")
         (self.target / "b/c.rs").unlink()
-        status, text = self.printed(self.command.check, self.TEXTS)
+        status, text = self.check(self.TEXTS)
         self.assertEqual((status, text.splitlines()[-1]), (1, "0 passed, 2 failed"))
 
     def test_a_file_that_nothing_writes_fails_and_goes(self):
-        self.printed(self.command.write, self.TEXTS)
+        self.write(self.TEXTS)
         for name in ("lib.rs", "layer/seeds.rs"):
             (self.target / name).parent.mkdir(exist_ok=True)
             (self.target / name).write_text("by hand")
         (self.target / "b/old.rs").write_text("fn old() {}\n")
-        status, text = self.printed(self.command.check, self.TEXTS)
+        status, text = self.check(self.TEXTS)
         self.assertEqual(status, 1)
-        self.assertIn("rust/src/b/old.rs: nothing writes it", text)
-        self.printed(self.command.write, self.TEXTS)
+        self.assertIn("rust/x/b/old.rs: nothing writes it", text)
+        self.write(self.TEXTS)
         self.assertFalse((self.target / "b/old.rs").exists())
         self.assertTrue((self.target / "lib.rs").exists())
-        self.assertEqual(self.printed(self.command.check, self.TEXTS)[0], 0)
+        self.assertEqual(self.check(self.TEXTS)[0], 0)
 
     def test_a_row_that_nothing_uses_stops_it(self):
         tables = [
             (shape.PATHS, {"std::gone": None}), (shape.PRECONDITIONS, {"a < b": None}), (shape.NAMES, {"gone": "x"}),
             (shape.DERIVED, {"Gone": ()}), (shape.GROWTH, {"gone();": ""}), (shape.ALLOCATING, {"Gone<A>": "Gone"}),
-            (shape.CHECKED_LAWS, {"gone": ""}), (shape.WIDE, {"gone(": "("}),
+            (shape.CHECKED_LAWS, {"gone": ""}), (shape.WIDE, {"gone(": "("}), (shape.BY_HAND, {"gone()": ""}),
             (shape.WIDTHS, {"gone": ""}), (shape.ARRAYS, {"[gone; N]": ("", "")}), (documents.SENTENCES, {"Gone.": ""}),
         ]
+        self.command.all_in_rust()
         for table, row in tables:
             with self.subTest(row), mock.patch.dict(table, row):
-                status, text = self.printed(self.command.main, ["--check"])
-                self.assertEqual(status, 1)
-                self.assertIn("nothing in the proved source has this any more", text)
+                self.assertEqual([*shape.unused(), *documents.unused()], list(row))
+        with mock.patch.dict(*tables[0]):
+            status, text = self.printed(self.command.main, ["--check"])
+        self.assertEqual((status, text.endswith("has this any more: std::gone\n")), (1, True))
 
     def test_a_file_without_a_module_stops_it(self):
-        for folder, name in (("LAYER", "gone.rs"), ("EXAMPLES", "gone.md"), ("EXAMPLES", "values.rs")):
+        for name in ("layer/gone.rs", "examples/gone.md", "examples/values.rs"):
             with self.subTest(name), tempfile.TemporaryDirectory() as room:
-                shutil.copytree(getattr(self.command, folder), room, dirs_exist_ok=True)
+                for kind in packages.ADDED:
+                    shutil.copytree(packages.LIBRARY.added / kind, Path(room) / kind)
+                package = dataclasses.replace(packages.LIBRARY, added=Path(room))
+                self.assertEqual(package.without_module(), [])
                 (Path(room) / name).touch()
-                with mock.patch.object(self.command, folder, Path(room)):
-                    self.assertEqual(self.command.without_module(), [name])
-        with mock.patch.object(self.command, "without_module", lambda: ["gone.md"]):
+                self.assertEqual(package.without_module(), [Path(name).name])
+        with mock.patch.object(packages.Package, "without_module", lambda package: ["gone.md"]):
             status, text = self.printed(self.command.main, ["--check"])
         self.assertEqual((status, text.endswith("this any more: gone.md\n")), (1, True))
 
@@ -470,39 +585,52 @@ class Command(unittest.TestCase):
         self.assertEqual(self.printed(self.command.main, ["--chek"])[0], 2)
 
     def test_what_is_unknown_is_printed(self):
-        with mock.patch.object(shape, "MACROS", ("write",)):
+        with mock.patch.object(shape, "MACROS", ("write",)), mock.patch.object(self.command, "write") as write:
             status, text = self.printed(self.command.main, [])
         self.assertEqual(status, 1)
         self.assertRegex(text, r"crates/nanorand_core/src/choices/weighted\.rt:\d+: a macro 'unreachable!'")
-        self.assertEqual(list(self.target.iterdir()), [])
+        write.assert_not_called()
+
+    def test_each_package_is_written_and_compared(self):
+        folders = [package.folder for package in packages.PACKAGES]
+        self.assertEqual(folders, list(PROVED))
+        with mock.patch.object(self.command, "write") as write:
+            self.assertEqual(self.printed(self.command.main, [])[0], 0)
+        self.assertEqual([call.args[0].folder for call in write.call_args_list], folders)
+        for package in packages.PACKAGES:
+            with self.subTest(package.folder), mock.patch.object(self.command, "strangers") as strangers:
+                strangers.side_effect = lambda one, _: ["a.rs"] if one is package else []
+                status, text = self.printed(self.command.main, ["--check"])
+                self.assertEqual((status, text.split(":")[0]), (1, f"{package.folder}/a.rs"))
 
 
 class Whole(unittest.TestCase):
-    """What is written for the library, compared with the proved source by other means."""
+    """What is written for each package, compared with the proved source by other means."""
 
     # Functions whose bodies the tables change.
-    CHANGED = {"clone", "fill_wide", "generate_range", "next_group", "read_to_end"}
+    CHANGED = {"clone", "fill_wide", "generate_range", "next_group"}
 
     # Functions that check a precondition first, and then do what the proved body does.
     CHECKED = {
         "apply_choices", "at", "chacha_block", "chacha_rounds", "chacha_unrounds", "choices_of",
-        "draw_below", "fill_by_blocks", "new", "new_key", "pick_word", "replay", "sample",
+        "draw_below", "fill_by_blocks", "new", "new_key", "pick_word", "replay", "replay_seeded", "sample",
         "shuffle_and_record",
     }
 
     # Functions that stand elsewhere in Rust, by another name: of bytes, and of any values.
-    MOVED = {("values/bytes", "random"): ("values/unsigned", "array")}
+    MOVED = {("rust/src/values/bytes", "random"): ("rust/src/values/unsigned", "array")}
 
     @classmethod
     def setUpClass(cls):
         cls.proved, cls.written = {}, {}
-        for crate in ("nanorand_core", "nanorand_replay", "nanorand"):
-            for path in sorted((ROOT / "crates" / crate / "src").rglob("*.rt")):
-                if path.name not in ("lib.rt", "laws.rt", "swap.rt", "wide.rt"):
-                    key = path.relative_to(ROOT / "crates" / crate / "src").with_suffix("")
-                    cls.proved.setdefault(str(key), []).append(path.read_text(encoding="utf-8"))
+        for folder, crates in PROVED.items():
+            for source in (ROOT / "crates" / crate / "src" for crate in crates):
+                for path in sorted(source.rglob("*.rt")):
+                    if path.name not in LEFT_OUT:
+                        key = f"{folder}/{path.relative_to(source).with_suffix('')}"
+                        cls.proved.setdefault(key, []).append(path.read_text(encoding="utf-8"))
         for key in cls.proved:
-            cls.written[key] = (ROOT / "rust/src" / f"{key}.rs").read_text(encoding="utf-8")
+            cls.written[key] = (ROOT / f"{key}.rs").read_text(encoding="utf-8")
 
     @staticmethod
     def bodies(text):
@@ -532,11 +660,13 @@ class Whole(unittest.TestCase):
 
     @staticmethod
     def plain(body):
-        for old, new in (*shape.NAMES.items(), *shape.WIDTHS.items()):
-            body = body.replace(old, new)
+        for old, new in (*shape.NAMES.items(), *shape.WIDTHS.items(), *shape.GROWTH.items(), *shape.BY_HAND.items()):
+            body = re.sub(rf"(?<!\w){re.escape(old)}", lambda _: new, body)
         body = re.sub(r"'\w+: ", "", body)
+        body = re.sub(r"&?\balloc\b(, )?", "", body)
         body = re.sub(r"\.generate_range(::<\w+>)?\(\((.*?)\)\)", r".generate_range\1(\2)", "".join(body.split()))
         body = re.sub(r"=>\{([^{};]*)\}", r"=>\1,", body)
+        body = re.sub(r"let(\(?[\w,]+\)?)=iflet([^{}]*)\{\1\}else\{", r"let\2else{", body)
         return body.replace(",)", ")").replace(",}", "}").replace(",]", "]")
 
     def test_bodies_are_the_proved_ones(self):
@@ -548,7 +678,7 @@ class Whole(unittest.TestCase):
                     written = [(n, self.plain(b)) for n, b in self.bodies(self.written[place])]
                     self.assertTrue(self.stands(known, self.plain(body), written), f"{key}: {name}")
                     compared += 1
-        self.assertGreater(compared, 170)
+        self.assertGreater(compared, 220)
 
     def stands(self, name, body, written):
         """Whether a function of this name has this body, or checks something first and then has it."""
@@ -560,6 +690,8 @@ class Whole(unittest.TestCase):
         for key, texts in self.proved.items():
             written = [name for name, _ in self.bodies(self.written[key])]
             for text in texts:
+                if "AllocFailed<T>>" in text:
+                    written.append("from")
                 for name, _ in self.bodies(text):
                     self.assertIn(name, written, key)
                     written.remove(name)
@@ -581,13 +713,14 @@ class Whole(unittest.TestCase):
                 if head[0] not in self.CHANGED and "fill_bytes" != head[0]:
                     self.assertIn(head, written, key)
                     compared += 1
-        self.assertGreater(compared, 170)
+        self.assertGreater(compared, 220)
 
     def test_each_file_says_from_what_it_is_written(self):
         for key, texts in self.proved.items():
             lines = self.written[key].split("\n")
             self.assertEqual(lines[0], "// Written by `python3 rust/erase` from:")
-            named = [line for line in lines[1 : lines.index("")] if line.endswith(f"/src/{key}.rt")]
+            module = key.partition("/src/")[2]
+            named = [line for line in lines[1 : lines.index("")] if line.endswith(f"/src/{module}.rt")]
             self.assertEqual(len(named), len(texts), key)
 
     def test_a_row_leaves_out_one_paragraph(self):
@@ -630,7 +763,7 @@ class Whole(unittest.TestCase):
     def test_no_contract_is_left(self):
         for key, text in self.written.items():
             code = re.sub(r"//[^\n]*", "", text)
-            self.assertIsNone(re.search(r"\b(ghost|requires|ensures|tactic|AllocError|thiserror)\b|[^\x00-\x7f]", code), key)
+            self.assertIsNone(re.search(r"\b(ghost|requires|ensures|tactic|alloc|AllocError|thiserror)\b|[^\x00-\x7f]", code), key)
 
     def test_documents_speak_of_rust(self):
         for key, text in self.written.items():
