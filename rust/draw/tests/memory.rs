@@ -1,0 +1,58 @@
+//! A run whose memory is refused at any request ends with `Memory`, and writes nothing.
+
+#[path = "../../program/tests/common/refusing.rs"]
+mod refusing;
+
+use draw::run::run;
+use draw::DrawError;
+use refusing::refused_after;
+
+/// The outcome after so many requests for memory, and how much was written. `words` are the requests of the
+/// program, each of which is made 300 times.
+fn run_after(requests: usize, count: &str, words: &[&str]) -> (Result<(), DrawError>, usize) {
+    let head = ["wyrand", "d29b42879be2895f", "plain", count];
+    let words = words.iter().flat_map(|word| [*word; 300]);
+    let arguments: Vec<String> = head.into_iter().chain(words).map(String::from).collect();
+    let mut out = vec![0; 100_000];
+    let mut rest = out.as_mut_slice();
+    let outcome = refused_after(requests, || run(&arguments, &mut rest));
+    let left = rest.len();
+    (outcome, 100_000 - left)
+}
+
+/// How many requests are refused one by one until there is a text.
+fn refusals(count: &str, words: &[&str]) -> usize {
+    let outcomes = (0..).map(|requests| run_after(requests, count, words));
+    let mut refused = 0;
+    for outcome in outcomes.take_while(|outcome| outcome.0.is_err()) {
+        assert_eq!(outcome, (Err(DrawError::Memory), 0));
+        refused += 1;
+    }
+    refused
+}
+
+#[test]
+fn each_request_may_be_refused() {
+    // A list of calls, one of answers, one of items, and a text grow.
+    for (count, words, least) in [
+        (
+            "1000",
+            &["u128", "i128", "bool", "u8:3..3", "shuffle"][..],
+            25,
+        ),
+        ("1000", &[], 10),
+        ("0", &["u64"], 10),
+    ] {
+        let refused = refusals(count, words);
+        assert!(refused > least, "{refused}");
+    }
+}
+
+#[test]
+fn the_first_four_arguments_take_no_memory() {
+    assert_eq!(
+        run_after(0, "1001", &["u8"]),
+        (Err(DrawError::BadWord(4)), 0)
+    );
+    assert_eq!(run_after(0, "0", &[]), (Ok(()), 0));
+}

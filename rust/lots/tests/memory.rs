@@ -1,0 +1,47 @@
+//! A run whose memory is refused at any request ends with `Memory`, and writes nothing.
+
+#[path = "../../program/tests/common/refusing.rs"]
+mod refusing;
+
+use lots::run::run;
+use lots::{draw_places, LotsError};
+use refusing::refused_after;
+
+/// The outcome after so many requests for memory, and how much was written.
+fn run_after(requests: usize) -> (Result<(), LotsError>, usize) {
+    let arguments = ["seed".to_string(), "all".to_string()];
+    let list: Vec<u8> = (0..5000)
+        .flat_map(|number| format!("{number}\n").into_bytes())
+        .collect();
+    let mut out = vec![0; list.len()];
+    let mut rest = out.as_mut_slice();
+    let outcome = refused_after(requests, || {
+        run(&arguments, &mut list.as_slice(), &mut rest)
+    });
+    let left = rest.len();
+    (outcome, list.len() - left)
+}
+
+#[test]
+fn each_request_may_be_refused() {
+    let mut count = 0;
+    for outcome in (0..)
+        .map(run_after)
+        .take_while(|outcome| outcome.0.is_err())
+    {
+        assert_eq!(outcome, (Err(LotsError::Memory), 0));
+        count += 1;
+    }
+    // Two lists and a text grow.
+    assert!(count > 20, "{count}");
+    assert_eq!(run_after(count), (Ok(()), 23890));
+}
+
+#[test]
+fn a_draw_of_places_takes_no_memory() {
+    let mut places = [0; 100];
+    assert_eq!(
+        refused_after(0, || draw_places("a seed", &mut places, 100)),
+        Ok(())
+    );
+}

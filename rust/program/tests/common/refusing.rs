@@ -1,0 +1,55 @@
+//! An allocator that refuses on demand. Memory that is taken without asking ends the test's process then.
+
+use std::alloc::{GlobalAlloc, Layout, System};
+use std::cell::Cell;
+use std::ptr::null_mut;
+
+struct Refusing;
+
+#[global_allocator]
+static ALLOCATOR: Refusing = Refusing;
+
+thread_local! {
+    /// How many requests of this thread are granted.
+    static GRANTED: Cell<usize> = const { Cell::new(usize::MAX) };
+}
+
+/// What the call returns if memory is refused after so many requests.
+pub fn refused_after<T>(requests: usize, call: impl FnOnce() -> T) -> T {
+    GRANTED.with(|granted| granted.set(requests));
+    let result = call();
+    GRANTED.with(|granted| granted.set(usize::MAX));
+    result
+}
+
+/// Whether this request is granted.
+fn granted() -> bool {
+    GRANTED.with(|granted| {
+        let left = granted.get();
+        granted.set(left.saturating_sub(1));
+        left > 0
+    })
+}
+
+// SAFETY: what is granted is done by the system's allocator, with the same arguments.
+unsafe impl GlobalAlloc for Refusing {
+    unsafe fn alloc(&self, layout: Layout) -> *mut u8 {
+        if granted() {
+            System.alloc(layout)
+        } else {
+            null_mut()
+        }
+    }
+
+    unsafe fn realloc(&self, place: *mut u8, layout: Layout, size: usize) -> *mut u8 {
+        if granted() {
+            System.realloc(place, layout, size)
+        } else {
+            null_mut()
+        }
+    }
+
+    unsafe fn dealloc(&self, place: *mut u8, layout: Layout) {
+        System.dealloc(place, layout);
+    }
+}
