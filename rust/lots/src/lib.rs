@@ -1,4 +1,18 @@
 //! A public draw that anyone can repeat: from a seed and a list of entrants, a selection in an order.
+//!
+//! ```
+//! let mut entrants = ["Ann", "Ben", "Cid", "Dot", "Eve"];
+//! lots::draw("a public seed", &mut entrants, 3)?;
+//! assert_eq!(entrants[..3], ["Ben", "Ann", "Dot"]);
+//! # Ok::<(), lots::LotsError>(())
+//! ```
+//!
+//! The functions are the proved source of the crate `lots_core` in Rattle, with its contracts erased;
+//! `sha256` and `reading` are written by hand. The program `lots` calls `run::run` and `run::report`, and
+//! nothing else.
+//!
+//! The feature `std`, on by default, has `entrants_of`, `run` and the program. Without it the crate is
+//! `no_std`, and allocates nothing.
 #![cfg_attr(not(feature = "std"), no_std)]
 #![forbid(unsafe_code)]
 
@@ -14,6 +28,10 @@ pub mod run;
 pub mod sha256;
 #[cfg(feature = "std")]
 mod text;
+
+#[cfg(doctest)]
+#[doc = include_str!("../README.md")]
+struct Readme;
 
 pub use draws::{draw, draw_places};
 pub use entrants::count_entrants;

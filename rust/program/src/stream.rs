@@ -53,3 +53,40 @@ impl Write for Stream {
         Ok(())
     }
 }
+
+#[cfg(test)]
+mod tests {
+    use super::*;
+    use std::os::unix::net::UnixStream;
+
+    #[test]
+    fn an_open_stream_is_its_descriptor() {
+        let (near, far) = UnixStream::pair().unwrap();
+        let open = AtomicBool::new(false);
+        let (mut near, mut far) = (Stream::of(&near, &open), Stream::of(&far, &open));
+        let mut bytes = [0; 3];
+        assert_eq!(near.write(b"abc").unwrap(), 3);
+        near.flush().unwrap();
+        assert_eq!(far.read(&mut bytes).unwrap(), 3);
+        assert_eq!(&bytes, b"abc");
+    }
+
+    #[test]
+    fn a_stream_that_is_open_the_other_way_fails() {
+        let open = AtomicBool::new(false);
+        let read_only = File::open("/dev/null").unwrap();
+        assert!(Stream::of(&read_only, &open).write(b"a").is_err());
+        let write_only = File::options().write(true).open("/dev/null").unwrap();
+        assert!(Stream::of(&write_only, &open).read(&mut [0]).is_err());
+    }
+
+    #[test]
+    fn a_stream_that_was_closed_fails() {
+        let (near, _far) = UnixStream::pair().unwrap();
+        let mut stream = Stream::of(&near, &AtomicBool::new(true));
+        let kind = ErrorKind::NotConnected;
+        assert_eq!(stream.write(b"a").unwrap_err().kind(), kind);
+        assert_eq!(stream.read(&mut [0]).unwrap_err().kind(), kind);
+        stream.flush().unwrap();
+    }
+}

@@ -1,0 +1,84 @@
+//! The program as a process: its arguments, its streams, and its status.
+#![cfg(target_os = "linux")]
+
+#[path = "../../program/tests/common/process.rs"]
+mod process;
+
+use process::shell;
+
+/// Ends with the status of the commands and what they wrote to each stream.
+fn ends(commands: &str, status: i32, out: &str, err: &str) {
+    let program = env!("CARGO_BIN_EXE_lots");
+    let wanted = (status, out.into(), err.into());
+    assert_eq!(shell(program, commands), wanted, "{commands}");
+}
+
+#[test]
+fn a_draw() {
+    ends("printf 'a\\nb\\n' | \"$0\" seed all", 0, "b\na\n", "");
+    ends("printf 'a\\nb' | \"$0\" seed 001", 0, "b\n", "");
+    ends("printf '\\377\\0' | \"$0\" seed 0", 0, "", "");
+}
+
+#[test]
+fn refusals() {
+    let usage = "lots: usage: lots SEED COUNT|all < entrants\n";
+    for arguments in [
+        "",
+        "seed",
+        "seed all all",
+        "'' all",
+        "seed -1",
+        "\"$(printf 'seed\\303')\" all",
+        "seed \"$(printf '\\377')\"",
+    ] {
+        ends(&format!("\"$0\" {arguments} </dev/null"), 2, "", usage);
+    }
+    ends(
+        "\"$0\" seed 1 </dev/null",
+        3,
+        "",
+        "lots: 0 entrants, 1 asked for\n",
+    );
+    ends(
+        "printf 'a\\n\\nb' | \"$0\" seed 1",
+        4,
+        "",
+        "lots: line 2 is empty\n",
+    );
+}
+
+#[test]
+fn standard_input_that_cannot_be_read() {
+    let failed = "lots: read failed\n";
+    ends("\"$0\" seed all <&-", 6, "", failed);
+    ends("\"$0\" seed all <.", 6, "", failed);
+    ends("\"$0\" seed all 0>/dev/null", 6, "", failed);
+    // Nothing is read where the arguments are refused.
+    ends(
+        "\"$0\" seed <&-",
+        2,
+        "",
+        "lots: usage: lots SEED COUNT|all < entrants\n",
+    );
+}
+
+#[test]
+fn standard_output_that_cannot_be_written() {
+    let failed = "lots: write failed\n";
+    for out in [">&-", ">/dev/full", "1</dev/null"] {
+        ends(&format!("echo a | \"$0\" seed all {out}"), 7, "", failed);
+        ends(&format!("echo a | \"$0\" seed 0 {out}"), 0, "", "");
+        ends(&format!("echo a | \"$0\" seed all {out} 2>&-"), 7, "", "");
+        ends(
+            &format!("echo a | \"$0\" seed 2 {out}"),
+            3,
+            "",
+            "lots: 1 entrants, 2 asked for\n",
+        );
+    }
+    ends("\"$0\" seed all <&- >&-", 6, "", "lots: read failed\n");
+    ends("\"$0\" seed all <&- >&- 2>&-", 6, "", "");
+    // `/dev/null` that is open both ways, as std opens it in place of a closed stream, is no closed stream.
+    ends("\"$0\" seed all <>/dev/null 1<>/dev/null", 0, "", "");
+}
