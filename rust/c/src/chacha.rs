@@ -1,0 +1,43 @@
+//! `ChaCha`, whose state in C is its key, its nonce and its counter.
+
+use crate::calls::State;
+use nanorand_proved::{ChaCha, Rng};
+
+/// A generator: its key, its nonce, and the number of its next block.
+#[repr(C)]
+pub struct ChaChaState<const ROUNDS: u8> {
+    pub key: [u8; 32],
+    pub nonce: [u8; 8],
+    pub counter: u64,
+}
+
+impl<const ROUNDS: u8> State<64> for ChaChaState<ROUNDS> {
+    type Generator = ChaCha<ROUNDS>;
+
+    /// No call changes the key or the nonce.
+    fn call<T>(&mut self, call: impl FnOnce(&mut ChaCha<ROUNDS>) -> T) -> T {
+        let mut rng = ChaCha::at(self.key, self.nonce, self.counter);
+        let result = call(&mut rng);
+        self.counter = rng.counter();
+        result
+    }
+}
+
+export_calls!("chacha8", ChaChaState<8>);
+export_calls!("chacha12", ChaChaState<12>);
+export_calls!("chacha20", ChaChaState<20>);
+
+#[no_mangle]
+extern "C" fn nanorand_v1_chacha8_block(state: &mut ChaChaState<8>, out: &mut [u8; 64]) {
+    *out = state.call(Rng::rand);
+}
+
+#[no_mangle]
+extern "C" fn nanorand_v1_chacha12_block(state: &mut ChaChaState<12>, out: &mut [u8; 64]) {
+    *out = state.call(Rng::rand);
+}
+
+#[no_mangle]
+extern "C" fn nanorand_v1_chacha20_block(state: &mut ChaChaState<20>, out: &mut [u8; 64]) {
+    *out = state.call(Rng::rand);
+}

@@ -1,0 +1,28 @@
+//! The C library that `include/nanorand.h` declares, over the crate `nanorand-proved`.
+//!
+//! Each function has the body of the proved one of the same name in `crates/nanorand_c`, and the header says
+//! what it does. The state of a generator is the caller's memory, lent for the call; nothing is allocated.
+#![cfg_attr(not(test), no_std)]
+#![deny(missing_docs)]
+
+mod boundary;
+#[macro_use]
+mod calls;
+mod chacha;
+mod lots;
+mod pcg64;
+mod stream;
+mod wyrand;
+
+/// The version of the library: 10000 times the major number, and 100 times the minor one, and the patch.
+#[no_mangle]
+pub extern "C" fn nanorand_v1_version() -> u32 {
+    10000
+}
+
+#[test]
+fn the_version_is_that_of_the_package() {
+    let version = nanorand_v1_version();
+    let parts = [version / 10000, version / 100 % 100, version % 100].map(|part| part.to_string());
+    assert_eq!(parts.join("."), env!("CARGO_PKG_VERSION"));
+}

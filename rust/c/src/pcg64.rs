@@ -1,0 +1,43 @@
+//! `Pcg64`, whose state in C is its seed. Not cryptographically secure.
+
+use crate::calls::State;
+use nanorand_proved::Pcg64;
+
+/// A 128-bit number, as its low and its high 64 bits.
+#[repr(C)]
+pub struct Wide {
+    low: u64,
+    high: u64,
+}
+
+impl Wide {
+    fn joined(&self) -> u128 {
+        u128::from(self.low) | u128::from(self.high) << 64
+    }
+
+    #[allow(clippy::cast_possible_truncation)] // The low half is what stays.
+    fn split(number: u128) -> Wide {
+        Wide {
+            low: number as u64,
+            high: (number >> 64) as u64,
+        }
+    }
+}
+
+impl State<8> for Wide {
+    type Generator = Pcg64;
+
+    fn call<T>(&mut self, call: impl FnOnce(&mut Pcg64) -> T) -> T {
+        let mut rng = Pcg64::new_seed(self.joined());
+        let result = call(&mut rng);
+        *self = Wide::split(rng.seed());
+        result
+    }
+}
+
+export_calls!("pcg64", Wide);
+
+#[no_mangle]
+extern "C" fn nanorand_v1_pcg64_jump(seed: &mut Wide, draws: &Wide) {
+    seed.call(|rng| rng.jump(draws.joined()));
+}

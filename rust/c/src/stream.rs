@@ -1,0 +1,105 @@
+//! The keystream of ChaCha with 20 rounds without a gap, by single blocks or by groups of eight.
+
+use crate::calls::State;
+use crate::chacha::ChaChaState;
+use nanorand_proved::{BufferedRng, ChaChaGroups, Rng};
+
+/// A generator of groups: its key, its nonce, and the number of the first block of its next group.
+#[repr(transparent)]
+pub struct Groups(ChaChaState<20>);
+
+impl State<512> for Groups {
+    type Generator = ChaChaGroups<20>;
+
+    /// No call changes the key or the nonce.
+    fn call<T>(&mut self, call: impl FnOnce(&mut ChaChaGroups<20>) -> T) -> T {
+        let mut rng = ChaChaGroups::at(self.0.key, self.0.nonce, self.0.counter);
+        let result = call(&mut rng);
+        self.0.counter = rng.counter();
+        result
+    }
+}
+
+/// A stream: its generator, and a block whose last `buffered` bytes are delivered first.
+#[repr(C)]
+pub struct Gapless<C, const OUTPUT: usize> {
+    chacha: C,
+    block: [u8; OUTPUT],
+    buffered: u64,
+}
+
+impl<C: State<OUTPUT>, const OUTPUT: usize> Gapless<C, OUTPUT> {
+    /// Where the buffered bytes begin. They are fewer than the block has.
+    #[allow(clippy::cast_possible_truncation)]
+    fn start(&self) -> usize {
+        OUTPUT - self.buffered as usize
+    }
+
+    /// Fills the buffer as a `BufferedRng` in this state does, and keeps the state that it leaves.
+    #[inline(never)]
+    fn deliver(&mut self, buffer: &mut [u8]) {
+        let start = self.start();
+        let block = &mut self.block[..];
+        self.buffered = self.chacha.call(|rng| {
+            let mut rng = BufferedRng::with_rest(rng, &block[start..]).expect("less than a block");
+            rng.fill_bytes(buffer);
+            let rest = rng.rest();
+            block[OUTPUT - rest.len()..].copy_from_slice(rest);
+            rest.len() as u64
+        });
+    }
+}
+
+impl<C: State<OUTPUT>, const OUTPUT: usize> Rng<OUTPUT> for Gapless<C, OUTPUT> {
+    fn rand(&mut self) -> [u8; OUTPUT] {
+        let mut block = [0; OUTPUT];
+        self.fill_bytes(&mut block);
+        block
+    }
+
+    /// A request that the buffered bytes serve makes no generator.
+    #[inline]
+    fn fill_bytes(&mut self, buffer: &mut [u8]) {
+        let rest = &self.block[self.start()..];
+        if buffer.len() <= rest.len() {
+            buffer.copy_from_slice(&rest[..buffer.len()]);
+            self.buffered -= buffer.len() as u64;
+        } else {
+            self.deliver(buffer);
+        }
+    }
+}
+
+impl<C: State<OUTPUT>, const OUTPUT: usize> State<OUTPUT> for Gapless<C, OUTPUT> {
+    type Generator = Self;
+
+    /// A number of buffered bytes that no call leaves counts as the greatest that one leaves.
+    fn call<T>(&mut self, call: impl FnOnce(&mut Self) -> T) -> T {
+        self.buffered = self.buffered.min(OUTPUT as u64 - 1);
+        call(self)
+    }
+}
+
+type Stream = Gapless<ChaChaState<20>, 64>;
+type GroupStream = Gapless<Groups, 512>;
+
+export_calls!("stream", Stream);
+export_calls!("keystream", GroupStream);
+
+#[test]
+fn a_block_is_the_next_bytes() {
+    let stream = || Stream {
+        chacha: ChaChaState {
+            key: [1; 32],
+            nonce: [2; 8],
+            counter: 3,
+        },
+        block: [0; 64],
+        buffered: 0,
+    };
+    let (mut rng, mut bytes) = (stream(), [0; 70]);
+    stream().fill_bytes(&mut bytes);
+    rng.fill_bytes(&mut [0; 5]);
+    assert_eq!(rng.rand(), bytes[5..69]);
+    assert_eq!(rng.generate::<u8>(), bytes[69]);
+}

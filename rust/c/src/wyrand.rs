@@ -1,0 +1,24 @@
+//! `WyRand`, whose state in C is the generator itself. Not cryptographically secure.
+
+use crate::calls::State;
+use nanorand_proved::WyRand;
+
+impl State<8> for WyRand {
+    type Generator = WyRand;
+
+    fn call<T>(&mut self, call: impl FnOnce(&mut WyRand) -> T) -> T {
+        call(self)
+    }
+}
+
+export_calls!("wyrand", WyRand);
+
+#[no_mangle]
+extern "C" fn nanorand_v1_wyrand_new_seed(seed: u64) -> WyRand {
+    WyRand::new_seed(seed)
+}
+
+#[no_mangle]
+extern "C" fn nanorand_v1_wyrand_jump(rng: &mut WyRand, draws: u64) {
+    rng.jump(draws);
+}
