@@ -116,6 +116,15 @@
 #define nanorand_lots_draw nanorand_v1_lots_draw
 #define nanorand_version nanorand_v1_version
 
+/* What compilers are told: which parameters are not null, by their numbers, and that a status is to be used. */
+#ifdef __GNUC__
+#define NANORAND_NOT_NULL(numbers) __attribute__((nonnull numbers))
+#define NANORAND_USE_STATUS __attribute__((warn_unused_result))
+#else
+#define NANORAND_NOT_NULL(numbers)
+#define NANORAND_USE_STATUS
+#endif
+
 #ifdef __cplusplus
 extern "C" {
 #endif
@@ -164,454 +173,279 @@ typedef struct nanorand_v1_keystream {
     uint64_t buffered;
 } nanorand_keystream;
 
+/* ---- The nine calls that every generator has. ---- */
+
+/*
+ * `..` stands for the name of a generator: wyrand, pcg64, chacha8, chacha12, chacha20, stream or
+ * keystream.
+ *
+ * nanorand_.._u64: Draws a number of 64 bits: the next 8 bytes, least byte first.
+ *
+ * nanorand_.._fill_bytes: Fills `buffer` with the next bytes, by one request.
+ *
+ * nanorand_.._range_u32: Draws a number from `first` to `last`, both included, by words of 32 bits,
+ * and returns a status: 0 if `number` was written, 1 if the range is empty, 2 if 128 words in a row
+ * were rejected. After 1 and 2 `number` is unchanged. After 1 nothing was drawn; after 2 the words
+ * stay drawn.
+ *
+ * nanorand_.._range_u64: Draws a number from `first` to `last`, both included, by words of 64 bits.
+ * The status is that of a range of `uint32_t`.
+ *
+ * nanorand_.._range_i64: Draws a signed number from `first` to `last`, both included, by words of
+ * 64 bits. The status is that of a range of `uint32_t`.
+ *
+ * nanorand_.._range_usize: Draws an index or a length from `first` to `last`, both included, by
+ * words of 64 bits. The status is that of a range of `uint32_t`.
+ *
+ * nanorand_.._shuffle: Shuffles the items: each, from the first on, is exchanged with one drawn
+ * from it and those after it. It returns 0, or 2 if 128 words in a row were rejected for one index;
+ * the exchanges before that stay.
+ *
+ * nanorand_.._shuffle_full: Shuffles the items as the crate nanorand 0.7.0 did: each is exchanged
+ * with one drawn from all, and the orders are not equally frequent. The status is that of
+ * `shuffle`.
+ *
+ * nanorand_.._sample: Samples different numbers below `count`, one for each place, by Floyd's
+ * algorithm; each set of them has equally many words, their order is not uniform. It returns 0, or
+ * 1 if there are more places than numbers (nothing is drawn or written), or 2 if 128 words in a row
+ * were rejected for one place; the places before it are then written, and the draws stay.
+ */
+
 /* ---- WyRand: 64 bits of state, the fastest. Not cryptographically secure. ---- */
 
 /* The generator with this seed. */
 nanorand_wyrand nanorand_wyrand_new_seed(uint64_t seed);
 
-/* Draws a number of 64 bits: the next 8 bytes, least byte first. */
-uint64_t nanorand_wyrand_u64(nanorand_wyrand *rng);
-
-/* Fills `buffer` with the next bytes, by one request. */
-void nanorand_wyrand_fill_bytes(nanorand_wyrand *rng, uint8_t *buffer, size_t length);
-
-/*
- * Draws a number from `first` to `last`, both included, by words of 32 bits, and returns a status:
- * 0 if `number` was written, 1 if the range is empty, 2 if 128 words in a row were rejected. After
- * 1 and 2 `number` is unchanged. After 1 nothing was drawn; after 2 the words stay drawn.
- */
+uint64_t nanorand_wyrand_u64(nanorand_wyrand *rng) NANORAND_NOT_NULL((1));
+void nanorand_wyrand_fill_bytes(
+    nanorand_wyrand *rng, uint8_t *buffer, size_t length) NANORAND_NOT_NULL((1));
 uint8_t nanorand_wyrand_range_u32(
-    nanorand_wyrand *rng, uint32_t first, uint32_t last, uint32_t *number);
-
-/*
- * Draws a number from `first` to `last`, both included, by words of 64 bits. The status is that of
- * a range of `uint32_t`.
- */
+    nanorand_wyrand *rng, uint32_t first, uint32_t last, uint32_t *number)
+    NANORAND_NOT_NULL((1, 4)) NANORAND_USE_STATUS;
 uint8_t nanorand_wyrand_range_u64(
-    nanorand_wyrand *rng, uint64_t first, uint64_t last, uint64_t *number);
-
-/*
- * Draws a signed number from `first` to `last`, both included, by words of 64 bits. The status is
- * that of a range of `uint32_t`.
- */
+    nanorand_wyrand *rng, uint64_t first, uint64_t last, uint64_t *number)
+    NANORAND_NOT_NULL((1, 4)) NANORAND_USE_STATUS;
 uint8_t nanorand_wyrand_range_i64(
-    nanorand_wyrand *rng, int64_t first, int64_t last, int64_t *number);
-
-/*
- * Draws an index or a length from `first` to `last`, both included, by words of 64 bits. The status
- * is that of a range of `uint32_t`.
- */
+    nanorand_wyrand *rng, int64_t first, int64_t last, int64_t *number)
+    NANORAND_NOT_NULL((1, 4)) NANORAND_USE_STATUS;
 uint8_t nanorand_wyrand_range_usize(
-    nanorand_wyrand *rng, size_t first, size_t last, size_t *number);
-
-/*
- * Shuffles the items: each, from the first on, is exchanged with one drawn from it and those after
- * it. It returns 0, or 2 if 128 words in a row were rejected for one index; the exchanges before
- * that stay.
- */
-uint8_t nanorand_wyrand_shuffle(nanorand_wyrand *rng, size_t *items, size_t length);
-
-/*
- * Shuffles the items as the crate nanorand 0.7.0 did: each is exchanged with one drawn from all,
- * and the orders are not equally frequent. The status is that of `shuffle`.
- */
-uint8_t nanorand_wyrand_shuffle_full(nanorand_wyrand *rng, size_t *items, size_t length);
-
-/*
- * Samples different numbers below `count`, one for each place, by Floyd's algorithm; each set of
- * them has equally many words, their order is not uniform. It returns 0, or 1 if there are more
- * places than numbers (nothing is drawn or written), or 2 if 128 words in a row were rejected for
- * one place; the places before it are then written, and the draws stay.
- */
-uint8_t nanorand_wyrand_sample(nanorand_wyrand *rng, size_t count, size_t *places, size_t length);
+    nanorand_wyrand *rng, size_t first, size_t last, size_t *number)
+    NANORAND_NOT_NULL((1, 4)) NANORAND_USE_STATUS;
+uint8_t nanorand_wyrand_shuffle(
+    nanorand_wyrand *rng, size_t *items, size_t length) NANORAND_NOT_NULL((1)) NANORAND_USE_STATUS;
+uint8_t nanorand_wyrand_shuffle_full(
+    nanorand_wyrand *rng, size_t *items, size_t length) NANORAND_NOT_NULL((1)) NANORAND_USE_STATUS;
+uint8_t nanorand_wyrand_sample(
+    nanorand_wyrand *rng, size_t count, size_t *places, size_t length)
+    NANORAND_NOT_NULL((1)) NANORAND_USE_STATUS;
 
 /* Advances by so many draws, in one step. */
-void nanorand_wyrand_jump(nanorand_wyrand *rng, uint64_t draws);
+void nanorand_wyrand_jump(nanorand_wyrand *rng, uint64_t draws) NANORAND_NOT_NULL((1));
 
 /* ---- Pcg64: a seed of 128 bits. Not cryptographically secure. ---- */
 
-/* Draws a number of 64 bits: the next 8 bytes, least byte first. */
-uint64_t nanorand_pcg64_u64(nanorand_pcg64 *seed);
-
-/* Fills `buffer` with the next bytes, by one request. */
-void nanorand_pcg64_fill_bytes(nanorand_pcg64 *seed, uint8_t *buffer, size_t length);
-
-/*
- * Draws a number from `first` to `last`, both included, by words of 32 bits, and returns a status:
- * 0 if `number` was written, 1 if the range is empty, 2 if 128 words in a row were rejected. After
- * 1 and 2 `number` is unchanged. After 1 nothing was drawn; after 2 the words stay drawn.
- */
+uint64_t nanorand_pcg64_u64(nanorand_pcg64 *seed) NANORAND_NOT_NULL((1));
+void nanorand_pcg64_fill_bytes(
+    nanorand_pcg64 *seed, uint8_t *buffer, size_t length) NANORAND_NOT_NULL((1));
 uint8_t nanorand_pcg64_range_u32(
-    nanorand_pcg64 *seed, uint32_t first, uint32_t last, uint32_t *number);
-
-/*
- * Draws a number from `first` to `last`, both included, by words of 64 bits. The status is that of
- * a range of `uint32_t`.
- */
+    nanorand_pcg64 *seed, uint32_t first, uint32_t last, uint32_t *number)
+    NANORAND_NOT_NULL((1, 4)) NANORAND_USE_STATUS;
 uint8_t nanorand_pcg64_range_u64(
-    nanorand_pcg64 *seed, uint64_t first, uint64_t last, uint64_t *number);
-
-/*
- * Draws a signed number from `first` to `last`, both included, by words of 64 bits. The status is
- * that of a range of `uint32_t`.
- */
+    nanorand_pcg64 *seed, uint64_t first, uint64_t last, uint64_t *number)
+    NANORAND_NOT_NULL((1, 4)) NANORAND_USE_STATUS;
 uint8_t nanorand_pcg64_range_i64(
-    nanorand_pcg64 *seed, int64_t first, int64_t last, int64_t *number);
-
-/*
- * Draws an index or a length from `first` to `last`, both included, by words of 64 bits. The status
- * is that of a range of `uint32_t`.
- */
-uint8_t nanorand_pcg64_range_usize(nanorand_pcg64 *seed, size_t first, size_t last, size_t *number);
-
-/*
- * Shuffles the items: each, from the first on, is exchanged with one drawn from it and those after
- * it. It returns 0, or 2 if 128 words in a row were rejected for one index; the exchanges before
- * that stay.
- */
-uint8_t nanorand_pcg64_shuffle(nanorand_pcg64 *seed, size_t *items, size_t length);
-
-/*
- * Shuffles the items as the crate nanorand 0.7.0 did: each is exchanged with one drawn from all,
- * and the orders are not equally frequent. The status is that of `shuffle`.
- */
-uint8_t nanorand_pcg64_shuffle_full(nanorand_pcg64 *seed, size_t *items, size_t length);
-
-/*
- * Samples different numbers below `count`, one for each place, by Floyd's algorithm; each set of
- * them has equally many words, their order is not uniform. It returns 0, or 1 if there are more
- * places than numbers (nothing is drawn or written), or 2 if 128 words in a row were rejected for
- * one place; the places before it are then written, and the draws stay.
- */
-uint8_t nanorand_pcg64_sample(nanorand_pcg64 *seed, size_t count, size_t *places, size_t length);
+    nanorand_pcg64 *seed, int64_t first, int64_t last, int64_t *number)
+    NANORAND_NOT_NULL((1, 4)) NANORAND_USE_STATUS;
+uint8_t nanorand_pcg64_range_usize(
+    nanorand_pcg64 *seed, size_t first, size_t last, size_t *number)
+    NANORAND_NOT_NULL((1, 4)) NANORAND_USE_STATUS;
+uint8_t nanorand_pcg64_shuffle(
+    nanorand_pcg64 *seed, size_t *items, size_t length) NANORAND_NOT_NULL((1)) NANORAND_USE_STATUS;
+uint8_t nanorand_pcg64_shuffle_full(
+    nanorand_pcg64 *seed, size_t *items, size_t length) NANORAND_NOT_NULL((1)) NANORAND_USE_STATUS;
+uint8_t nanorand_pcg64_sample(
+    nanorand_pcg64 *seed, size_t count, size_t *places, size_t length)
+    NANORAND_NOT_NULL((1)) NANORAND_USE_STATUS;
 
 /* Advances by so many draws, in at most 128 steps and one draw. */
-void nanorand_pcg64_jump(nanorand_pcg64 *seed, const nanorand_pcg64 *draws);
+void nanorand_pcg64_jump(
+    nanorand_pcg64 *seed, const nanorand_pcg64 *draws) NANORAND_NOT_NULL((1, 2));
 
 /* ---- ChaCha with 8 rounds. Each call begins a new block, also for a single number. ---- */
 
 /* Writes the block at the counter, and adds 1 to the counter. */
-void nanorand_chacha8_block(nanorand_chacha *state, uint8_t out[64]);
+void nanorand_chacha8_block(nanorand_chacha *state, uint8_t out[64]) NANORAND_NOT_NULL((1, 2));
 
-/* Draws a number of 64 bits: the next 8 bytes, least byte first. */
-uint64_t nanorand_chacha8_u64(nanorand_chacha *state);
+uint64_t nanorand_chacha8_u64(nanorand_chacha *state) NANORAND_NOT_NULL((1));
 
 /*
  * Fills `buffer` with the blocks from the counter on, by one request. The counter advances by the
  * number of blocks that `buffer` takes, the last one counted whole.
  */
-void nanorand_chacha8_fill_bytes(nanorand_chacha *state, uint8_t *buffer, size_t length);
+void nanorand_chacha8_fill_bytes(
+    nanorand_chacha *state, uint8_t *buffer, size_t length) NANORAND_NOT_NULL((1));
 
-/*
- * Draws a number from `first` to `last`, both included, by words of 32 bits, and returns a status:
- * 0 if `number` was written, 1 if the range is empty, 2 if 128 words in a row were rejected. After
- * 1 and 2 `number` is unchanged. After 1 nothing was drawn; after 2 the words stay drawn.
- */
 uint8_t nanorand_chacha8_range_u32(
-    nanorand_chacha *state, uint32_t first, uint32_t last, uint32_t *number);
-
-/*
- * Draws a number from `first` to `last`, both included, by words of 64 bits. The status is that of
- * a range of `uint32_t`.
- */
+    nanorand_chacha *state, uint32_t first, uint32_t last, uint32_t *number)
+    NANORAND_NOT_NULL((1, 4)) NANORAND_USE_STATUS;
 uint8_t nanorand_chacha8_range_u64(
-    nanorand_chacha *state, uint64_t first, uint64_t last, uint64_t *number);
-
-/*
- * Draws a signed number from `first` to `last`, both included, by words of 64 bits. The status is
- * that of a range of `uint32_t`.
- */
+    nanorand_chacha *state, uint64_t first, uint64_t last, uint64_t *number)
+    NANORAND_NOT_NULL((1, 4)) NANORAND_USE_STATUS;
 uint8_t nanorand_chacha8_range_i64(
-    nanorand_chacha *state, int64_t first, int64_t last, int64_t *number);
-
-/*
- * Draws an index or a length from `first` to `last`, both included, by words of 64 bits. The status
- * is that of a range of `uint32_t`.
- */
+    nanorand_chacha *state, int64_t first, int64_t last, int64_t *number)
+    NANORAND_NOT_NULL((1, 4)) NANORAND_USE_STATUS;
 uint8_t nanorand_chacha8_range_usize(
-    nanorand_chacha *state, size_t first, size_t last, size_t *number);
-
-/*
- * Shuffles the items: each, from the first on, is exchanged with one drawn from it and those after
- * it. It returns 0, or 2 if 128 words in a row were rejected for one index; the exchanges before
- * that stay.
- */
-uint8_t nanorand_chacha8_shuffle(nanorand_chacha *state, size_t *items, size_t length);
-
-/*
- * Shuffles the items as the crate nanorand 0.7.0 did: each is exchanged with one drawn from all,
- * and the orders are not equally frequent. The status is that of `shuffle`.
- */
-uint8_t nanorand_chacha8_shuffle_full(nanorand_chacha *state, size_t *items, size_t length);
-
-/*
- * Samples different numbers below `count`, one for each place, by Floyd's algorithm; each set of
- * them has equally many words, their order is not uniform. It returns 0, or 1 if there are more
- * places than numbers (nothing is drawn or written), or 2 if 128 words in a row were rejected for
- * one place; the places before it are then written, and the draws stay.
- */
+    nanorand_chacha *state, size_t first, size_t last, size_t *number)
+    NANORAND_NOT_NULL((1, 4)) NANORAND_USE_STATUS;
+uint8_t nanorand_chacha8_shuffle(
+    nanorand_chacha *state, size_t *items, size_t length)
+    NANORAND_NOT_NULL((1)) NANORAND_USE_STATUS;
+uint8_t nanorand_chacha8_shuffle_full(
+    nanorand_chacha *state, size_t *items, size_t length)
+    NANORAND_NOT_NULL((1)) NANORAND_USE_STATUS;
 uint8_t nanorand_chacha8_sample(
-    nanorand_chacha *state, size_t count, size_t *places, size_t length);
+    nanorand_chacha *state, size_t count, size_t *places, size_t length)
+    NANORAND_NOT_NULL((1)) NANORAND_USE_STATUS;
 
 /* ---- ChaCha with 12 rounds. Each call begins a new block, also for a single number. ---- */
 
 /* Writes the block at the counter, and adds 1 to the counter. */
-void nanorand_chacha12_block(nanorand_chacha *state, uint8_t out[64]);
+void nanorand_chacha12_block(nanorand_chacha *state, uint8_t out[64]) NANORAND_NOT_NULL((1, 2));
 
-/* Draws a number of 64 bits: the next 8 bytes, least byte first. */
-uint64_t nanorand_chacha12_u64(nanorand_chacha *state);
+uint64_t nanorand_chacha12_u64(nanorand_chacha *state) NANORAND_NOT_NULL((1));
 
 /*
  * Fills `buffer` with the blocks from the counter on, by one request. The counter advances by the
  * number of blocks that `buffer` takes, the last one counted whole.
  */
-void nanorand_chacha12_fill_bytes(nanorand_chacha *state, uint8_t *buffer, size_t length);
+void nanorand_chacha12_fill_bytes(
+    nanorand_chacha *state, uint8_t *buffer, size_t length) NANORAND_NOT_NULL((1));
 
-/*
- * Draws a number from `first` to `last`, both included, by words of 32 bits, and returns a status:
- * 0 if `number` was written, 1 if the range is empty, 2 if 128 words in a row were rejected. After
- * 1 and 2 `number` is unchanged. After 1 nothing was drawn; after 2 the words stay drawn.
- */
 uint8_t nanorand_chacha12_range_u32(
-    nanorand_chacha *state, uint32_t first, uint32_t last, uint32_t *number);
-
-/*
- * Draws a number from `first` to `last`, both included, by words of 64 bits. The status is that of
- * a range of `uint32_t`.
- */
+    nanorand_chacha *state, uint32_t first, uint32_t last, uint32_t *number)
+    NANORAND_NOT_NULL((1, 4)) NANORAND_USE_STATUS;
 uint8_t nanorand_chacha12_range_u64(
-    nanorand_chacha *state, uint64_t first, uint64_t last, uint64_t *number);
-
-/*
- * Draws a signed number from `first` to `last`, both included, by words of 64 bits. The status is
- * that of a range of `uint32_t`.
- */
+    nanorand_chacha *state, uint64_t first, uint64_t last, uint64_t *number)
+    NANORAND_NOT_NULL((1, 4)) NANORAND_USE_STATUS;
 uint8_t nanorand_chacha12_range_i64(
-    nanorand_chacha *state, int64_t first, int64_t last, int64_t *number);
-
-/*
- * Draws an index or a length from `first` to `last`, both included, by words of 64 bits. The status
- * is that of a range of `uint32_t`.
- */
+    nanorand_chacha *state, int64_t first, int64_t last, int64_t *number)
+    NANORAND_NOT_NULL((1, 4)) NANORAND_USE_STATUS;
 uint8_t nanorand_chacha12_range_usize(
-    nanorand_chacha *state, size_t first, size_t last, size_t *number);
-
-/*
- * Shuffles the items: each, from the first on, is exchanged with one drawn from it and those after
- * it. It returns 0, or 2 if 128 words in a row were rejected for one index; the exchanges before
- * that stay.
- */
-uint8_t nanorand_chacha12_shuffle(nanorand_chacha *state, size_t *items, size_t length);
-
-/*
- * Shuffles the items as the crate nanorand 0.7.0 did: each is exchanged with one drawn from all,
- * and the orders are not equally frequent. The status is that of `shuffle`.
- */
-uint8_t nanorand_chacha12_shuffle_full(nanorand_chacha *state, size_t *items, size_t length);
-
-/*
- * Samples different numbers below `count`, one for each place, by Floyd's algorithm; each set of
- * them has equally many words, their order is not uniform. It returns 0, or 1 if there are more
- * places than numbers (nothing is drawn or written), or 2 if 128 words in a row were rejected for
- * one place; the places before it are then written, and the draws stay.
- */
+    nanorand_chacha *state, size_t first, size_t last, size_t *number)
+    NANORAND_NOT_NULL((1, 4)) NANORAND_USE_STATUS;
+uint8_t nanorand_chacha12_shuffle(
+    nanorand_chacha *state, size_t *items, size_t length)
+    NANORAND_NOT_NULL((1)) NANORAND_USE_STATUS;
+uint8_t nanorand_chacha12_shuffle_full(
+    nanorand_chacha *state, size_t *items, size_t length)
+    NANORAND_NOT_NULL((1)) NANORAND_USE_STATUS;
 uint8_t nanorand_chacha12_sample(
-    nanorand_chacha *state, size_t count, size_t *places, size_t length);
+    nanorand_chacha *state, size_t count, size_t *places, size_t length)
+    NANORAND_NOT_NULL((1)) NANORAND_USE_STATUS;
 
 /* ---- ChaCha with 20 rounds. Each call begins a new block, also for a single number. ---- */
 
 /* Writes the block at the counter, and adds 1 to the counter. */
-void nanorand_chacha20_block(nanorand_chacha *state, uint8_t out[64]);
+void nanorand_chacha20_block(nanorand_chacha *state, uint8_t out[64]) NANORAND_NOT_NULL((1, 2));
 
-/* Draws a number of 64 bits: the next 8 bytes, least byte first. */
-uint64_t nanorand_chacha20_u64(nanorand_chacha *state);
+uint64_t nanorand_chacha20_u64(nanorand_chacha *state) NANORAND_NOT_NULL((1));
 
 /*
  * Fills `buffer` with the blocks from the counter on, by one request. The counter advances by the
  * number of blocks that `buffer` takes, the last one counted whole.
  */
-void nanorand_chacha20_fill_bytes(nanorand_chacha *state, uint8_t *buffer, size_t length);
+void nanorand_chacha20_fill_bytes(
+    nanorand_chacha *state, uint8_t *buffer, size_t length) NANORAND_NOT_NULL((1));
 
-/*
- * Draws a number from `first` to `last`, both included, by words of 32 bits, and returns a status:
- * 0 if `number` was written, 1 if the range is empty, 2 if 128 words in a row were rejected. After
- * 1 and 2 `number` is unchanged. After 1 nothing was drawn; after 2 the words stay drawn.
- */
 uint8_t nanorand_chacha20_range_u32(
-    nanorand_chacha *state, uint32_t first, uint32_t last, uint32_t *number);
-
-/*
- * Draws a number from `first` to `last`, both included, by words of 64 bits. The status is that of
- * a range of `uint32_t`.
- */
+    nanorand_chacha *state, uint32_t first, uint32_t last, uint32_t *number)
+    NANORAND_NOT_NULL((1, 4)) NANORAND_USE_STATUS;
 uint8_t nanorand_chacha20_range_u64(
-    nanorand_chacha *state, uint64_t first, uint64_t last, uint64_t *number);
-
-/*
- * Draws a signed number from `first` to `last`, both included, by words of 64 bits. The status is
- * that of a range of `uint32_t`.
- */
+    nanorand_chacha *state, uint64_t first, uint64_t last, uint64_t *number)
+    NANORAND_NOT_NULL((1, 4)) NANORAND_USE_STATUS;
 uint8_t nanorand_chacha20_range_i64(
-    nanorand_chacha *state, int64_t first, int64_t last, int64_t *number);
-
-/*
- * Draws an index or a length from `first` to `last`, both included, by words of 64 bits. The status
- * is that of a range of `uint32_t`.
- */
+    nanorand_chacha *state, int64_t first, int64_t last, int64_t *number)
+    NANORAND_NOT_NULL((1, 4)) NANORAND_USE_STATUS;
 uint8_t nanorand_chacha20_range_usize(
-    nanorand_chacha *state, size_t first, size_t last, size_t *number);
-
-/*
- * Shuffles the items: each, from the first on, is exchanged with one drawn from it and those after
- * it. It returns 0, or 2 if 128 words in a row were rejected for one index; the exchanges before
- * that stay.
- */
-uint8_t nanorand_chacha20_shuffle(nanorand_chacha *state, size_t *items, size_t length);
-
-/*
- * Shuffles the items as the crate nanorand 0.7.0 did: each is exchanged with one drawn from all,
- * and the orders are not equally frequent. The status is that of `shuffle`.
- */
-uint8_t nanorand_chacha20_shuffle_full(nanorand_chacha *state, size_t *items, size_t length);
-
-/*
- * Samples different numbers below `count`, one for each place, by Floyd's algorithm; each set of
- * them has equally many words, their order is not uniform. It returns 0, or 1 if there are more
- * places than numbers (nothing is drawn or written), or 2 if 128 words in a row were rejected for
- * one place; the places before it are then written, and the draws stay.
- */
+    nanorand_chacha *state, size_t first, size_t last, size_t *number)
+    NANORAND_NOT_NULL((1, 4)) NANORAND_USE_STATUS;
+uint8_t nanorand_chacha20_shuffle(
+    nanorand_chacha *state, size_t *items, size_t length)
+    NANORAND_NOT_NULL((1)) NANORAND_USE_STATUS;
+uint8_t nanorand_chacha20_shuffle_full(
+    nanorand_chacha *state, size_t *items, size_t length)
+    NANORAND_NOT_NULL((1)) NANORAND_USE_STATUS;
 uint8_t nanorand_chacha20_sample(
-    nanorand_chacha *state, size_t count, size_t *places, size_t length);
+    nanorand_chacha *state, size_t count, size_t *places, size_t length)
+    NANORAND_NOT_NULL((1)) NANORAND_USE_STATUS;
 
 /* ---- The keystream of ChaCha with 20 rounds, without a gap between calls. ---- */
 
-/* Draws a number of 64 bits: the next 8 bytes, least byte first. */
-uint64_t nanorand_stream_u64(nanorand_stream *stream);
-
-/* Fills `buffer` with the next bytes, by one request. */
-void nanorand_stream_fill_bytes(nanorand_stream *stream, uint8_t *buffer, size_t length);
-
-/*
- * Draws a number from `first` to `last`, both included, by words of 32 bits, and returns a status:
- * 0 if `number` was written, 1 if the range is empty, 2 if 128 words in a row were rejected. After
- * 1 and 2 `number` is unchanged. After 1 nothing was drawn; after 2 the words stay drawn.
- */
+uint64_t nanorand_stream_u64(nanorand_stream *stream) NANORAND_NOT_NULL((1));
+void nanorand_stream_fill_bytes(
+    nanorand_stream *stream, uint8_t *buffer, size_t length) NANORAND_NOT_NULL((1));
 uint8_t nanorand_stream_range_u32(
-    nanorand_stream *stream, uint32_t first, uint32_t last, uint32_t *number);
-
-/*
- * Draws a number from `first` to `last`, both included, by words of 64 bits. The status is that of
- * a range of `uint32_t`.
- */
+    nanorand_stream *stream, uint32_t first, uint32_t last, uint32_t *number)
+    NANORAND_NOT_NULL((1, 4)) NANORAND_USE_STATUS;
 uint8_t nanorand_stream_range_u64(
-    nanorand_stream *stream, uint64_t first, uint64_t last, uint64_t *number);
-
-/*
- * Draws a signed number from `first` to `last`, both included, by words of 64 bits. The status is
- * that of a range of `uint32_t`.
- */
+    nanorand_stream *stream, uint64_t first, uint64_t last, uint64_t *number)
+    NANORAND_NOT_NULL((1, 4)) NANORAND_USE_STATUS;
 uint8_t nanorand_stream_range_i64(
-    nanorand_stream *stream, int64_t first, int64_t last, int64_t *number);
-
-/*
- * Draws an index or a length from `first` to `last`, both included, by words of 64 bits. The status
- * is that of a range of `uint32_t`.
- */
+    nanorand_stream *stream, int64_t first, int64_t last, int64_t *number)
+    NANORAND_NOT_NULL((1, 4)) NANORAND_USE_STATUS;
 uint8_t nanorand_stream_range_usize(
-    nanorand_stream *stream, size_t first, size_t last, size_t *number);
-
-/*
- * Shuffles the items: each, from the first on, is exchanged with one drawn from it and those after
- * it. It returns 0, or 2 if 128 words in a row were rejected for one index; the exchanges before
- * that stay.
- */
-uint8_t nanorand_stream_shuffle(nanorand_stream *stream, size_t *items, size_t length);
-
-/*
- * Shuffles the items as the crate nanorand 0.7.0 did: each is exchanged with one drawn from all,
- * and the orders are not equally frequent. The status is that of `shuffle`.
- */
-uint8_t nanorand_stream_shuffle_full(nanorand_stream *stream, size_t *items, size_t length);
-
-/*
- * Samples different numbers below `count`, one for each place, by Floyd's algorithm; each set of
- * them has equally many words, their order is not uniform. It returns 0, or 1 if there are more
- * places than numbers (nothing is drawn or written), or 2 if 128 words in a row were rejected for
- * one place; the places before it are then written, and the draws stay.
- */
+    nanorand_stream *stream, size_t first, size_t last, size_t *number)
+    NANORAND_NOT_NULL((1, 4)) NANORAND_USE_STATUS;
+uint8_t nanorand_stream_shuffle(
+    nanorand_stream *stream, size_t *items, size_t length)
+    NANORAND_NOT_NULL((1)) NANORAND_USE_STATUS;
+uint8_t nanorand_stream_shuffle_full(
+    nanorand_stream *stream, size_t *items, size_t length)
+    NANORAND_NOT_NULL((1)) NANORAND_USE_STATUS;
 uint8_t nanorand_stream_sample(
-    nanorand_stream *stream, size_t count, size_t *places, size_t length);
+    nanorand_stream *stream, size_t count, size_t *places, size_t length)
+    NANORAND_NOT_NULL((1)) NANORAND_USE_STATUS;
 
 /* ---- The same keystream, eight blocks at once: the one to take where speed counts. ---- */
 
-/* Draws a number of 64 bits: the next 8 bytes, least byte first. */
-uint64_t nanorand_keystream_u64(nanorand_keystream *stream);
-
-/* Fills `buffer` with the next bytes, by one request. */
-void nanorand_keystream_fill_bytes(nanorand_keystream *stream, uint8_t *buffer, size_t length);
-
-/*
- * Draws a number from `first` to `last`, both included, by words of 32 bits, and returns a status:
- * 0 if `number` was written, 1 if the range is empty, 2 if 128 words in a row were rejected. After
- * 1 and 2 `number` is unchanged. After 1 nothing was drawn; after 2 the words stay drawn.
- */
+uint64_t nanorand_keystream_u64(nanorand_keystream *stream) NANORAND_NOT_NULL((1));
+void nanorand_keystream_fill_bytes(
+    nanorand_keystream *stream, uint8_t *buffer, size_t length) NANORAND_NOT_NULL((1));
 uint8_t nanorand_keystream_range_u32(
-    nanorand_keystream *stream, uint32_t first, uint32_t last, uint32_t *number);
-
-/*
- * Draws a number from `first` to `last`, both included, by words of 64 bits. The status is that of
- * a range of `uint32_t`.
- */
+    nanorand_keystream *stream, uint32_t first, uint32_t last, uint32_t *number)
+    NANORAND_NOT_NULL((1, 4)) NANORAND_USE_STATUS;
 uint8_t nanorand_keystream_range_u64(
-    nanorand_keystream *stream, uint64_t first, uint64_t last, uint64_t *number);
-
-/*
- * Draws a signed number from `first` to `last`, both included, by words of 64 bits. The status is
- * that of a range of `uint32_t`.
- */
+    nanorand_keystream *stream, uint64_t first, uint64_t last, uint64_t *number)
+    NANORAND_NOT_NULL((1, 4)) NANORAND_USE_STATUS;
 uint8_t nanorand_keystream_range_i64(
-    nanorand_keystream *stream, int64_t first, int64_t last, int64_t *number);
-
-/*
- * Draws an index or a length from `first` to `last`, both included, by words of 64 bits. The status
- * is that of a range of `uint32_t`.
- */
+    nanorand_keystream *stream, int64_t first, int64_t last, int64_t *number)
+    NANORAND_NOT_NULL((1, 4)) NANORAND_USE_STATUS;
 uint8_t nanorand_keystream_range_usize(
-    nanorand_keystream *stream, size_t first, size_t last, size_t *number);
-
-/*
- * Shuffles the items: each, from the first on, is exchanged with one drawn from it and those after
- * it. It returns 0, or 2 if 128 words in a row were rejected for one index; the exchanges before
- * that stay.
- */
-uint8_t nanorand_keystream_shuffle(nanorand_keystream *stream, size_t *items, size_t length);
-
-/*
- * Shuffles the items as the crate nanorand 0.7.0 did: each is exchanged with one drawn from all,
- * and the orders are not equally frequent. The status is that of `shuffle`.
- */
-uint8_t nanorand_keystream_shuffle_full(nanorand_keystream *stream, size_t *items, size_t length);
-
-/*
- * Samples different numbers below `count`, one for each place, by Floyd's algorithm; each set of
- * them has equally many words, their order is not uniform. It returns 0, or 1 if there are more
- * places than numbers (nothing is drawn or written), or 2 if 128 words in a row were rejected for
- * one place; the places before it are then written, and the draws stay.
- */
+    nanorand_keystream *stream, size_t first, size_t last, size_t *number)
+    NANORAND_NOT_NULL((1, 4)) NANORAND_USE_STATUS;
+uint8_t nanorand_keystream_shuffle(
+    nanorand_keystream *stream, size_t *items, size_t length)
+    NANORAND_NOT_NULL((1)) NANORAND_USE_STATUS;
+uint8_t nanorand_keystream_shuffle_full(
+    nanorand_keystream *stream, size_t *items, size_t length)
+    NANORAND_NOT_NULL((1)) NANORAND_USE_STATUS;
 uint8_t nanorand_keystream_sample(
-    nanorand_keystream *stream, size_t count, size_t *places, size_t length);
+    nanorand_keystream *stream, size_t count, size_t *places, size_t length)
+    NANORAND_NOT_NULL((1)) NANORAND_USE_STATUS;
 
 /* ---- The public draw by lot. ---- */
 
 /* Writes the SHA-256 of the text to `digest`. */
-void nanorand_lots_digest(const uint8_t *text, size_t length, uint8_t digest[32]);
+void nanorand_lots_digest(
+    const uint8_t *text, size_t length, uint8_t digest[32]) NANORAND_NOT_NULL((3));
 
 /*
  * Counts the entrants of a list, one a line; the last line may lack its line feed. It returns 0,
  * with their number in `number`, or 4 if a line is empty, with the number of the first such line,
  * counted from 1.
  */
-uint8_t nanorand_lots_count(const uint8_t *list, size_t length, size_t *number);
+uint8_t nanorand_lots_count(
+    const uint8_t *list, size_t length, size_t *number) NANORAND_NOT_NULL((3)) NANORAND_USE_STATUS;
 
 /*
  * Draws `count` of the places 0, 1, .. by the seed, as many places as there are items. The first
@@ -622,7 +456,8 @@ uint8_t nanorand_lots_count(const uint8_t *list, size_t length, size_t *number);
  * and 8 the items are the places in some order, and no selection.
  */
 uint8_t nanorand_lots_draw(
-    const uint8_t *seed, size_t seed_length, size_t *places, size_t length, size_t count);
+    const uint8_t *seed, size_t seed_length, size_t *places, size_t length, size_t count)
+    NANORAND_USE_STATUS;
 
 /* ---- The version. ---- */
 
@@ -635,5 +470,8 @@ uint32_t nanorand_version(void);
 #ifdef __cplusplus
 }
 #endif
+
+#undef NANORAND_NOT_NULL
+#undef NANORAND_USE_STATUS
 
 #endif

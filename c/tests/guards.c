@@ -107,19 +107,53 @@ static void lots(int at_end)
     check("lots: places", holds);
 }
 
-/* A number of buffered bytes that no call leaves counts as the greatest that one leaves. */
+/* Each call, and some that do nothing or are refused. What it gives is in `out`. */
+#define CALLS(G)                                                                                   \
+    static void make_call_##G(nanorand_##G *state, int call, uint64_t out[4])                      \
+    {                                                                                              \
+        uint32_t narrow = 7;                                                                       \
+        size_t place = 7, items[3] = {1, 2, 3};                                                    \
+        int64_t number = 7;                                                                        \
+        switch (call) {                                                                            \
+        case 0: out[0] = nanorand_##G##_u64(state); break;                                         \
+        case 1: nanorand_##G##_fill_bytes(state, (uint8_t *)out, 32); break;                       \
+        case 2: nanorand_##G##_fill_bytes(state, NULL, 0); break;                                  \
+        case 3: out[3] = nanorand_##G##_range_u32(state, 1, UINT32_MAX, &narrow); break;           \
+        case 4: out[3] = nanorand_##G##_range_u64(state, 1, UINT64_MAX, &out[0]); break;           \
+        case 5: out[3] = nanorand_##G##_range_i64(state, -5, INT64_MAX, &number); break;           \
+        case 6: out[3] = nanorand_##G##_range_usize(state, 1, SIZE_MAX, &place); break;            \
+        case 7: out[3] = nanorand_##G##_range_i64(state, 1, -1, &number); break;                   \
+        case 8: out[3] = nanorand_##G##_shuffle(state, items, 3); break;                           \
+        case 9: out[3] = nanorand_##G##_shuffle_full(state, items, 3); break;                      \
+        case 10: out[3] = nanorand_##G##_sample(state, 1000, items, 3); break;                     \
+        case 11: out[3] = nanorand_##G##_sample(state, 2, items, 3); break;                        \
+        }                                                                                          \
+        out[1] += narrow + place + (uint64_t)number;                                               \
+        out[2] += items[0] + 1000 * items[1] + 1000000 * items[2];                                 \
+    }
+
+CALLS(stream)
+CALLS(keystream)
+
+/* For each call a number of buffered bytes that none leaves counts as the greatest that one leaves. */
 #define TOO_MANY_BUFFERED(G, MOST)                                                                 \
     static void too_many_buffered_##G(uint64_t buffered)                                           \
     {                                                                                              \
-        nanorand_##G state, other;                                                                 \
-        uint8_t some[600], same[600];                                                              \
-        memset(&state, 0x5a, sizeof state);                                                        \
-        other = state;                                                                             \
-        state.buffered = buffered;                                                                 \
-        other.buffered = MOST;                                                                     \
-        nanorand_##G##_fill_bytes(&state, some, sizeof some);                                      \
-        nanorand_##G##_fill_bytes(&other, same, sizeof same);                                      \
-        check(#G ": too many buffered", memcmp(some, same, sizeof some) == 0);                     \
+        for (int call = 0; call < 12; call++) {                                                    \
+            nanorand_##G state, other;                                                             \
+            uint64_t some[4] = {0}, same[4] = {0};                                                 \
+            memset(&state, 0x5a, sizeof state);                                                    \
+            for (size_t place = 0; place < MOST; place++) {                                        \
+                ((uint8_t *)&state)[sizeof state.chacha + place] = (uint8_t)(place * 7);           \
+            }                                                                                      \
+            other = state;                                                                         \
+            state.buffered = buffered;                                                             \
+            other.buffered = MOST;                                                                 \
+            make_call_##G(&state, call, some);                                                     \
+            make_call_##G(&other, call, same);                                                     \
+            check(#G ": too many buffered", memcmp(some, same, sizeof some) == 0                   \
+                && memcmp(&state, &other, sizeof state) == 0 && state.buffered <= MOST);           \
+        }                                                                                          \
     }
 
 TOO_MANY_BUFFERED(stream, 63)
