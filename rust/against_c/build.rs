@@ -1,8 +1,12 @@
-//! Links the archive that `rt lib` makes in `crates/nanorand_c`.
+//! Links the archives that `tests/against_c` puts in `target/archives`: `libone.a`, and `libother.a` where it is.
 
 fn main() {
-    let folder = concat!(env!("CARGO_MANIFEST_DIR"), "/../../crates/nanorand_c/out");
-    println!("cargo:rerun-if-changed={folder}/libnanorand_c.a");
+    let folder = concat!(env!("CARGO_MANIFEST_DIR"), "/target/archives");
+    println!("cargo:rerun-if-changed={folder}");
     println!("cargo:rustc-link-search=native={folder}");
-    println!("cargo:rustc-link-lib=static=nanorand_c");
+    for name in ["one", "other"] {
+        if std::path::Path::new(&format!("{folder}/lib{name}.a")).exists() {
+            println!("cargo:rustc-link-lib=static={name}");
+        }
+    }
 }
