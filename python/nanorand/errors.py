@@ -8,7 +8,7 @@ type, a float for one, is a `TypeError`.
 ...     WyRand(42).range(6, 1)
 ... except EmptyRange as error:
 ...     print(error)
-there is no number or item to draw
+no number from 6 to 1
 """
 
 __all__ = [
@@ -42,7 +42,7 @@ class EmptyRange(NanorandError, ValueError):
     """
 
     def __str__(self) -> str:
-        return "there is no number or item to draw"
+        return super().__str__() or "there is no number or item to draw"
 
 
 class Exhausted(NanorandError, RuntimeError):
@@ -62,7 +62,7 @@ class OutOfBounds(NanorandError, OverflowError, ValueError):
     >>> from nanorand import WyRand
     >>> WyRand(2**64)
     Traceback (most recent call last):
-    nanorand.errors.OutOfBounds: seed is not in 0..=18446744073709551615
+    nanorand.errors.OutOfBounds: seed is 18446744073709551616, not in 0..=18446744073709551615
     """
 
 

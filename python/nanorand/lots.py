@@ -6,19 +6,16 @@
 """
 
 from collections.abc import Sequence
-from ctypes import byref, c_char, c_size_t
-from typing import Any, Optional, SupportsIndex, TypeVar, Union, cast, overload
+from typing import Any, Optional, SupportsIndex, TypeVar, Union, overload
 
-from nanorand import _library
-from nanorand._checks import U64_LAST, Buffer, indexed, number, octets
-from nanorand.errors import EmptyLine, EmptySeed, Exhausted, SeedNotText, TooFew
+from nanorand._native import check_count, check_entrants, check_seed, lots_count, lots_digest, lots_places
+from nanorand.errors import EmptySeed, SeedNotText, TooFew
 
 __all__ = ["count", "digest", "draw"]
 
 Item = TypeVar("Item")
+Buffer = Union[bytes, bytearray, memoryview]
 Seed = Union[str, Buffer]
-
-SEED_REFUSED, TOO_FEW, EMPTY_LINE = 2, 3, 4
 
 
 def digest(text: Buffer) -> bytes:
@@ -27,10 +24,7 @@ def digest(text: Buffer) -> bytes:
     >>> digest(b"a\\nb\\n").hex()[:8]
     '911169dd'
     """
-    given = octets("text", text)
-    result = (c_char * 32)()
-    _library.lots_digest(given, len(given), result)
-    return result.raw
+    return lots_digest(text)
 
 
 def count(text: Buffer) -> int:
@@ -42,11 +36,7 @@ def count(text: Buffer) -> int:
     Traceback (most recent call last):
     nanorand.errors.EmptyLine: line 2 is empty
     """
-    given = octets("text", text)
-    found = c_size_t()
-    if _library.lots_count(given, len(given), byref(found)) == EMPTY_LINE:
-        raise EmptyLine(int(found.value))
-    return int(found.value)
+    return lots_count(text)
 
 
 # Bytes are a sequence of numbers too, so the first of these hides a part of the second.
@@ -75,21 +65,19 @@ def draw(seed: Seed, entrants: object, count: Optional[SupportsIndex] = None) ->
     Traceback (most recent call last):
     nanorand.errors.TooFew: 3 entrants, 4 asked for
     """
-    wanted = None if count is None else number("count", count, 0, U64_LAST)
+    wanted = None if count is None else check_count(count)
     text = _seed(seed)
     items = _entrants(entrants)
     drawn = len(items) if wanted is None else wanted
     if drawn > len(items):
         raise TooFew(len(items), drawn)
-    places = _library.places(len(items))
-    _check(_library.lots_draw(text, len(text), places, len(items), drawn), len(items), drawn)
-    return [items[place] for place in places[:drawn]]
+    return [items[place] for place in lots_places(text, len(items), drawn)]
 
 
 def _seed(seed: Seed) -> bytes:
     """The bytes of a seed, if it has some and they are UTF-8."""
     try:
-        text = seed.encode() if isinstance(seed, str) else octets("seed", seed)
+        text = seed.encode() if isinstance(seed, str) else check_seed(seed)
         text.decode()
     except UnicodeError:
         raise SeedNotText from None
@@ -103,8 +91,7 @@ def _entrants(entrants: object) -> "Sequence[Any]":
         return _lines(bytes(entrants))
     if isinstance(entrants, str):
         raise TypeError("entrants is a str: give a list's bytes, or a sequence of entrants")
-    indexed("entrants", entrants)
-    return cast("Sequence[Any]", entrants)
+    return check_entrants(entrants)
 
 
 def _lines(text: bytes) -> "list[bytes]":
@@ -113,12 +100,3 @@ def _lines(text: bytes) -> "list[bytes]":
     if not lines[-1]:
         lines.pop()  # the last line feed begins no line
     return lines
-
-
-def _check(status: int, entrants: int, count: int) -> None:
-    if status == SEED_REFUSED:
-        raise SeedNotText
-    if status == TOO_FEW:
-        raise TooFew(entrants, count)
-    if status != 0:
-        raise Exhausted

@@ -1,13 +1,11 @@
-"""The whole table of answers, by the public calls, and by the functions that no public call takes."""
+"""The whole table of answers, by the public calls."""
 
-import ctypes
 import unittest
-from ctypes import POINTER, byref, c_size_t, c_uint8, c_uint64
 from pathlib import Path
 
 from makers import CLASSES
 
-from nanorand import EmptyRange, WyRand, _library, lots
+from nanorand import EmptyRange, WyRand, lots
 from nanorand.errors import EmptyLine, EmptySeed, SeedNotText, TooFew
 
 TABLE = Path(__file__).resolve().parents[2] / "answers/answers.tsv"
@@ -118,48 +116,9 @@ class Answers(unittest.TestCase):
                 tried.add((call, status))
         self.assertEqual(len(tried), 6)
 
-    def test_ranges_of_usize(self):
-        """No public call takes them, as they are ranges of u64 where usize has 64 bits."""
-        tried = 0
-        for generator, before, call, arguments, status, result, after in rows():
-            if call != "range_usize":
-                continue
-            rng = CLASSES[generator].from_state(bytes.fromhex(before))
-            name = "keystream" if generator == "stream" else generator
-            draw = _library.function(
-                *(f"{name}_range_usize", c_uint8, POINTER(rng._structure)),
-                *(c_size_t, c_size_t, POINTER(c_size_t)),
-            )
-            number = c_size_t(7)
-            self.assertEqual(draw(rng._c, *numbers(arguments), byref(number)), int(status))
-            self.assertEqual(str(number.value), "7" if status == "1" else result)
-            self.assertEqual(rng.state.hex(), after)
-            tried += 1
-        self.assertGreater(tried, 50)
-
-    def test_new_seed(self):
-        """The package makes the structure itself."""
-        new_seed = _library.function("wyrand_new_seed", _library.WyRandState, c_uint64)
-        for seed in (0, 42, 2**64 - 1):
-            self.assertEqual(new_seed(seed).seed, seed)
-
-    def test_statuses_of_lots(self):
-        """The library refuses what the package refuses before it calls."""
-        for generator, _, call, arguments, status, result, _ in rows():
-            if generator != "lots" or call != "draw":
-                continue
-            seed, length, count = arguments.split(",")
-            places = (c_size_t * int(length))()
-            text = octets(seed)
-            drawn = _library.lots_draw(text, len(text), places, int(length), int(count))
-            self.assertEqual(drawn, int(status), arguments)
-            if drawn == 0:
-                self.assertEqual(listed(places), result)
-
     def test_the_table_is_whole(self):
         self.assertGreater(len(list(rows())), 1000)
         self.assertEqual({len(row) for row in rows()}, {7})
-        self.assertEqual(ctypes.sizeof(_library.KeystreamState), 568)
 
 
 if __name__ == "__main__":

@@ -6,7 +6,7 @@ import unittest
 from pathlib import Path
 
 import nanorand
-from nanorand import _checks, _library, errors, generators, lots, randoms
+from nanorand import _native, errors, generators, lots, randoms
 
 README = Path(__file__).resolve().parents[1] / "README.md"
 MODULES = [nanorand, generators, lots, randoms, errors]
@@ -34,7 +34,7 @@ def members(kind):
         if not base.__module__.startswith("nanorand"):
             continue
         for name, member in vars(base).items():
-            if not name.startswith("_") and (callable(member) or isinstance(member, (property, classmethod))):
+            if not name.startswith("_") and (callable(member) or inspect.isdatadescriptor(member)):
                 yield f"{base.__name__}.{name}", getattr(base, name)
 
 
@@ -46,11 +46,13 @@ class Documents(unittest.TestCase):
 
     def test_examples_of_the_docstrings(self):
         attempted = 0
-        for module in MODULES:
-            result = doctest.testmod(module)
-            self.assertEqual(result.failed, 0, module.__name__)
+        runner = doctest.DocTestRunner()
+        for name, thing in public_things():
+            names = {**vars(inspect.getmodule(thing) or nanorand)}
+            result = runner.run(doctest.DocTestParser().get_doctest(thing.__doc__, names, name, None, 0))
+            self.assertEqual(result.failed, 0, name)
             attempted += result.attempted
-        self.assertGreater(attempted, 100)
+        self.assertGreater(attempted, 150)
 
     def test_every_public_thing_has_an_example(self):
         names = set()
@@ -62,8 +64,7 @@ class Documents(unittest.TestCase):
         self.assertGreater(len(names), 60)
 
     def test_private_modules_say_what_they_are(self):
-        for module in (_checks, _library):
-            self.assertTrue(module.__doc__)
+        self.assertTrue(_native.__doc__)
 
     def test_who_is_not_secure_says_so(self):
         for thing in INSECURE:

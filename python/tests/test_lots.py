@@ -3,10 +3,9 @@
 import hashlib
 import random
 import unittest
-from unittest import mock
 
 from makers import views_of
-from nanorand import Exhausted, NanorandError, OutOfBounds, _library, lots
+from nanorand import NanorandError, OutOfBounds, lots
 from nanorand.errors import EmptyLine, EmptySeed, SeedNotText, TooFew
 
 NAMES = ["Ada", "Barbara", "Chidi", "Dmitri", "Elif", "Farid"]
@@ -133,13 +132,6 @@ class Lots(unittest.TestCase):
             for call in (lots.digest, lots.count):
                 with self.assertRaises(TypeError):
                     call(text)
-
-    def test_statuses(self):
-        """The package looks first, so the library's own refusals are put in its place."""
-        for status, error in ((2, SeedNotText), (3, TooFew), (8, Exhausted)):
-            with mock.patch.object(_library, "lots_draw", lambda *arguments, status=status: status):
-                with self.assertRaises(error):
-                    lots.draw("seed", NAMES, 1)
 
     def test_a_long_list(self):
         text = b"".join(b"%d\n" % number for number in range(100_000))

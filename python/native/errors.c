@@ -1,0 +1,58 @@
+/* The errors of nanorand.errors. Each is looked up when it is raised, so the module keeps no object of its own. */
+#include "native.h"
+
+#include <string.h>
+
+static PyObject *error_class(const char *error)
+{
+    PyObject *errors = PyImport_ImportModule("nanorand.errors");
+    if (errors == NULL) {
+        return NULL;
+    }
+    PyObject *found = PyObject_GetAttrString(errors, error);
+    Py_DECREF(errors);
+    return found;
+}
+
+/* Raises the error with this one argument, which it takes over. */
+static void raise_with(const char *error, PyObject *argument)
+{
+    PyObject *raised = argument == NULL ? NULL : error_class(error);
+    if (raised != NULL) {
+        PyErr_SetObject(raised, argument);
+        Py_DECREF(raised);
+    }
+    Py_XDECREF(argument);
+}
+
+/* Raises the error with a text. */
+void raise_text(const char *error, const char *format, ...)
+{
+    va_list values;
+    va_start(values, format);
+    PyObject *text = PyUnicode_FromFormatV(format, values);
+    va_end(values);
+    raise_with(error, text);
+}
+
+/* Raises the error with the arguments that Py_BuildValue makes: a tuple, by a format in parentheses. */
+void raise_made(const char *error, const char *format, ...)
+{
+    va_list values;
+    va_start(values, format);
+    PyObject *arguments = Py_VaBuildValue(format, values);
+    va_end(values);
+    raise_with(error, arguments);
+}
+
+void raise_status(uint8_t status)
+{
+    raise_made(status == NANORAND_EMPTY ? "EmptyRange" : "Exhausted", "()");
+}
+
+const char *type_name(PyObject *value)
+{
+    const char *name = Py_TYPE(value)->tp_name;
+    const char *dot = strrchr(name, '.');
+    return dot == NULL ? name : dot + 1;
+}

@@ -1,0 +1,378 @@
+/* The object `Generator`: its life, its state as bytes, copies, and turns of threads. */
+#include "native.h"
+
+#include <string.h>
+#include <structmember.h>
+
+/* ---- Life. ---- */
+
+PyObject *make_generator(PyTypeObject *type, const Kind *kind)
+{
+    PyObject *made = type->tp_alloc(type, 0);
+    if (made != NULL) {
+        Generator *rng = (Generator *)made;
+        rng->kind = kind;
+        rng->condition = UNMADE;
+    }
+    return made;
+}
+
+static PyObject *make_none(PyTypeObject *type, PyObject *Py_UNUSED(placed), PyObject *Py_UNUSED(named))
+{
+    PyErr_Format(PyExc_TypeError, "%s is no generator: take WyRand, Pcg64, Stream, or a ChaCha", type->tp_name);
+    return NULL;
+}
+
+static void free_generator(PyObject *self)
+{
+    Generator *rng = (Generator *)self;
+    PyTypeObject *type = Py_TYPE(self);
+    if (rng->weak_references != NULL) {
+        PyObject_ClearWeakRefs(self);
+    }
+    if (rng->lock != NULL) {
+        PyThread_free_lock(rng->lock);
+    }
+    type->tp_free(self);
+    Py_DECREF(type);
+}
+
+/* Every generator is freed here, also one of a class of the user's: among the bases of its class is ours. */
+Generator *take_generator(const char *name, PyObject *value)
+{
+    for (PyTypeObject *type = Py_TYPE(value); type != NULL; type = type->tp_base) {
+        if (type->tp_dealloc == free_generator) {
+            return (Generator *)value;
+        }
+    }
+    PyErr_Format(PyExc_TypeError, "%s is a %s, not a generator", name, type_name(value));
+    return NULL;
+}
+
+/* ---- Turns. ---- */
+
+static void await_turn(Generator *rng)
+{
+    while (rng->condition == AWAY) {
+        Py_BEGIN_ALLOW_THREADS
+        PyThread_acquire_lock(rng->lock, WAIT_LOCK);
+        PyThread_release_lock(rng->lock);
+        Py_END_ALLOW_THREADS
+    }
+}
+
+int await_state(Generator *rng)
+{
+    await_turn(rng);
+    if (rng->condition == READY) {
+        return 0;
+    }
+    PyErr_Format(PyExc_RuntimeError, "%s has no state: its __init__ was not called", type_name((PyObject *)rng));
+    return -1;
+}
+
+int begin_turn(Generator *rng, size_t bytes, Turn *turn)
+{
+    turn->apart = NULL;
+    if (ready(rng) < 0) {
+        return -1;
+    }
+    if (bytes <= LONG) {
+        return 0;
+    }
+    if (rng->lock == NULL) {
+        rng->lock = PyThread_allocate_lock();
+    }
+    if (rng->lock == NULL) {
+        PyErr_NoMemory();
+        return -1;
+    }
+    /* Who waited for an earlier turn has the lock for a moment at most, and needs nothing to give it back. */
+    PyThread_acquire_lock(rng->lock, WAIT_LOCK);
+    rng->condition = AWAY;
+    turn->apart = PyEval_SaveThread();
+    return 0;
+}
+
+void end_turn(Generator *rng, const Turn *turn)
+{
+    if (turn->apart != NULL) {
+        PyEval_RestoreThread(turn->apart);
+        rng->condition = READY;
+        PyThread_release_lock(rng->lock);
+    }
+}
+
+/* ---- States. ---- */
+
+void keep_state(const Generator *rng, Saved *saved)
+{
+    memcpy(saved->bytes, rng->state, rng->kind->size);
+}
+
+void restore_state(Generator *rng, const Saved *saved)
+{
+    set_state(rng, saved->bytes);
+}
+
+void set_state(Generator *rng, const void *state)
+{
+    await_turn(rng);
+    memcpy(rng->state, state, rng->kind->size);
+    rng->condition = READY;
+}
+
+Py_ssize_t read_state(Generator *rng, uint8_t bytes[LONGEST_STATE])
+{
+    if (ready(rng) < 0) {
+        return -1;
+    }
+    return (Py_ssize_t)rng->kind->save(rng->state, rng->kind->size, bytes);
+}
+
+static void raise_length(const Kind *kind, Py_ssize_t length)
+{
+    if (kind->shortest == kind->longest) {
+        raise_text("WrongLength", "state has %zd bytes, not %zu", length, kind->shortest);
+    } else {
+        raise_text("WrongLength", "state has %zd bytes, not %zu to %zu", length, kind->shortest, kind->longest);
+    }
+}
+
+static int load_state(Generator *rng, PyObject *value)
+{
+    const Kind *kind = rng->kind;
+    PyObject *octets = take_octets("state", value);
+    if (octets == NULL) {
+        return -1;
+    }
+    Py_ssize_t length = PyBytes_GET_SIZE(octets);
+    int fits = kind->shortest <= (size_t)length && (size_t)length <= kind->longest;
+    if (fits) {
+        Saved loaded;
+        kind->load(loaded.bytes, (const uint8_t *)PyBytes_AS_STRING(octets), (size_t)length);
+        set_state(rng, loaded.bytes);
+    } else {
+        raise_length(kind, length);
+    }
+    Py_DECREF(octets);
+    return fits ? 0 : -1;
+}
+
+static PyObject *get_state(PyObject *self, void *Py_UNUSED(closure))
+{
+    uint8_t bytes[LONGEST_STATE];
+    Py_ssize_t length = read_state((Generator *)self, bytes);
+    return length < 0 ? NULL : PyBytes_FromStringAndSize((const char *)bytes, length);
+}
+
+static int put_state(PyObject *self, PyObject *value, void *Py_UNUSED(closure))
+{
+    if (value == NULL) {
+        PyErr_SetString(PyExc_AttributeError, "state cannot be deleted");
+        return -1;
+    }
+    return load_state((Generator *)self, value);
+}
+
+/* ---- New ones. ---- */
+
+/* What the class's `__new__` makes. */
+static PyObject *new_of(PyObject *class)
+{
+    PyTypeObject *type = (PyTypeObject *)class;
+    PyObject *nothing = PyTuple_New(0);
+    PyObject *made = nothing == NULL ? NULL : type->tp_new(type, nothing, NULL);
+    Py_XDECREF(nothing);
+    if (made != NULL && take_generator("what __new__ made", made) == NULL) {
+        Py_CLEAR(made);
+    }
+    return made;
+}
+
+static PyObject *of_state(PyObject *class, PyObject *state)
+{
+    PyObject *made = new_of(class);
+    if (made != NULL && load_state((Generator *)made, state) < 0) {
+        Py_CLEAR(made);
+    }
+    return made;
+}
+
+static PyObject *call_from_state(PyObject *class, PyObject *const *given, Py_ssize_t placed, PyObject *names)
+{
+    static const Parameters wanted = {"from_state", 1, 1, 1, {"state"}};
+    PyObject *state;
+    if (take_arguments(&wanted, given, placed, names, &state) < 0) {
+        return NULL;
+    }
+    return of_state(class, state);
+}
+
+/* So many bytes of os.urandom. */
+static PyObject *system_bytes(size_t count)
+{
+    PyObject *os = PyImport_ImportModule("os");
+    if (os == NULL) {
+        return NULL;
+    }
+    PyObject *drawn = PyObject_CallMethod(os, "urandom", "n", (Py_ssize_t)count);
+    Py_DECREF(os);
+    return drawn;
+}
+
+static PyObject *call_from_entropy(PyObject *class, PyObject *Py_UNUSED(nothing))
+{
+    PyObject *made = new_of(class);
+    if (made == NULL) {
+        return NULL;
+    }
+    Generator *rng = (Generator *)made;
+    Saved entropy = {{0}};
+    PyObject *drawn = system_bytes(rng->kind->entropy);
+    if (drawn == NULL || take_octets_of("entropy", drawn, rng->kind->entropy, entropy.bytes) < 0) {
+        Py_CLEAR(made);
+    } else {
+        set_state(rng, entropy.bytes);
+    }
+    Py_XDECREF(drawn);
+    return made;
+}
+
+/* ---- Copies and comparisons. ---- */
+
+static PyObject *call_copy(PyObject *self, PyObject *Py_UNUSED(nothing))
+{
+    PyObject *state = get_state(self, NULL);
+    if (state == NULL) {
+        return NULL;
+    }
+    PyObject *made = of_state((PyObject *)Py_TYPE(self), state);
+    Py_DECREF(state);
+    return made;
+}
+
+static PyObject *call_reduce(PyObject *self, PyObject *Py_UNUSED(nothing))
+{
+    PyObject *maker = PyObject_GetAttrString((PyObject *)Py_TYPE(self), "from_state");
+    PyObject *state = maker == NULL ? NULL : get_state(self, NULL);
+    if (state == NULL) {
+        Py_XDECREF(maker);
+        return NULL;
+    }
+    return Py_BuildValue("(N(N))", maker, state);
+}
+
+static PyObject *compare(PyObject *one, PyObject *other, int operation)
+{
+    if (Py_TYPE(one) != Py_TYPE(other) || (operation != Py_EQ && operation != Py_NE)) {
+        Py_RETURN_NOTIMPLEMENTED;
+    }
+    uint8_t bytes[LONGEST_STATE], others[LONGEST_STATE];
+    Py_ssize_t length = read_state((Generator *)one, bytes);
+    Py_ssize_t other_length = length < 0 ? -1 : read_state((Generator *)other, others);
+    if (other_length < 0) {
+        return NULL;
+    }
+    int equal = length == other_length && memcmp(bytes, others, (size_t)length) == 0;
+    return PyBool_FromLong(equal == (operation == Py_EQ));
+}
+
+/* ---- The type. ---- */
+
+PyDoc_STRVAR(generator_doc,
+"What all generators have in common. It is no generator itself.\n"
+"\n"
+"Two generators are equal if they are of one class and their states are equal.\n"
+"\n"
+">>> from nanorand import Pcg64, WyRand\n"
+">>> WyRand(42) == WyRand(42), WyRand(42) == WyRand(43), WyRand(42) == Pcg64(42)\n"
+"(True, False, False)\n");
+
+PyDoc_STRVAR(state_doc,
+"The state as bytes: the same in all languages, as in the column `before` of answers.tsv.\n"
+"\n"
+"Of `Stream` these are key, nonce, counter, and the 0 to 63 buffered bytes. A state that is set and has another\n"
+"length is `WrongLength`.\n"
+"\n"
+">>> from nanorand import Pcg64, Stream\n"
+">>> rng = Pcg64(42)\n"
+">>> saved = rng.state\n"
+">>> first = rng.u64()\n"
+">>> rng.state = saved\n"
+">>> rng.u64() == first\n"
+"True\n"
+">>> Stream(bytes(32), rest=b\"abc\").state[48:]\n"
+"b'abc'\n");
+
+PyDoc_STRVAR(from_state_doc,
+"from_state($type, /, state)\n"
+"--\n"
+"\n"
+"The generator with a state that was saved. Other lengths are `WrongLength`.\n"
+"\n"
+">>> from nanorand import WyRand\n"
+">>> WyRand.from_state(bytes([42, 0, 0, 0, 0, 0, 0, 0]))\n"
+"WyRand(0x2a)\n");
+
+PyDoc_STRVAR(from_entropy_doc,
+"from_entropy($type, /)\n"
+"--\n"
+"\n"
+"A generator with a seed, or a key and a nonce, from the operating system.\n"
+"\n"
+"`WyRand` and `Pcg64` are no more secure for that.\n"
+"\n"
+">>> from nanorand import Stream\n"
+">>> Stream.from_entropy() == Stream.from_entropy()\n"
+"False\n");
+
+PyDoc_STRVAR(copy_doc,
+"copy($self, /)\n"
+"--\n"
+"\n"
+"A generator with the same state.\n"
+"\n"
+">>> from nanorand import WyRand\n"
+">>> rng = WyRand(42)\n"
+">>> rng.copy().u64() == rng.u64()\n"
+"True\n");
+
+static PyMethodDef calls[] = {
+    {"from_state", CALL(call_from_state), METH_CLASS | METH_FASTCALL | METH_KEYWORDS, from_state_doc},
+    {"from_entropy", call_from_entropy, METH_CLASS | METH_NOARGS, from_entropy_doc},
+    {"copy", call_copy, METH_NOARGS, copy_doc},
+    {"__copy__", call_copy, METH_NOARGS, NULL},
+    {"__deepcopy__", call_copy, METH_O, NULL},
+    {"__reduce__", call_reduce, METH_NOARGS, NULL},
+    {NULL, NULL, 0, NULL},
+};
+
+static PyGetSetDef parts[] = {
+    {"state", get_state, put_state, state_doc, NULL},
+    {NULL, NULL, NULL, NULL, NULL},
+};
+
+static PyMemberDef members[] = {
+    {"__weaklistoffset__", T_PYSSIZET, offsetof(Generator, weak_references), READONLY, NULL},
+    {NULL, 0, 0, 0, NULL},
+};
+
+static PyType_Slot slots[] = {
+    {Py_tp_doc, SLOT(generator_doc)},
+    {Py_tp_new, SLOT(make_none)},
+    {Py_tp_dealloc, SLOT(free_generator)},
+    {Py_tp_richcompare, SLOT(compare)},
+    {Py_tp_hash, SLOT(PyObject_HashNotImplemented)},
+    {Py_tp_methods, calls},
+    {Py_tp_getset, parts},
+    {Py_tp_members, members},
+    {0, NULL},
+};
+
+PyType_Spec generator_spec = {
+    .name = "nanorand.generators.Generator",
+    .basicsize = sizeof(Generator),
+    .flags = Py_TPFLAGS_DEFAULT | Py_TPFLAGS_BASETYPE,
+    .slots = slots,
+};

@@ -1,0 +1,300 @@
+/* The generators over ChaCha's key, nonce and counter: ChaCha8, ChaCha12, ChaCha20 and Stream. */
+#include "native.h"
+
+#include <string.h>
+
+/* ---- Making them. ---- */
+
+/* What was left out, or is NULL, is zero. */
+static int take_chacha(PyObject *key, PyObject *nonce, PyObject *counter, nanorand_chacha *chacha)
+{
+    memset(chacha, 0, sizeof *chacha);
+    if (counter != NULL && take_u64("counter", counter, UINT64_MAX, &chacha->counter) < 0) {
+        return -1;
+    }
+    if (take_octets_of("key", key, sizeof chacha->key, chacha->key) < 0) {
+        return -1;
+    }
+    return nonce == NULL ? 0 : take_octets_of("nonce", nonce, sizeof chacha->nonce, chacha->nonce);
+}
+
+static int start_chacha(PyObject *self, PyObject *placed, PyObject *named)
+{
+    static char *names[] = {"key", "nonce", "counter", NULL};
+    PyObject *key, *nonce = NULL, *counter = NULL;
+    nanorand_chacha chacha;
+    if (!PyArg_ParseTupleAndKeywords(placed, named, "O|OO", names, &key, &nonce, &counter)
+        || take_chacha(key, nonce, counter, &chacha) < 0) {
+        return -1;
+    }
+    set_state((Generator *)self, &chacha);
+    return 0;
+}
+
+/* The bytes that come first, at most 63. */
+static int take_rest(PyObject *value, nanorand_keystream *stream)
+{
+    PyObject *rest = take_octets("rest", value);
+    if (rest == NULL) {
+        return -1;
+    }
+    size_t length = (size_t)PyBytes_GET_SIZE(rest);
+    int fits = length < 64;
+    if (fits) {
+        memcpy(stream->group + sizeof stream->group - length, PyBytes_AS_STRING(rest), length);
+        stream->buffered = length;
+    } else {
+        raise_text("WrongLength", "rest has %zu bytes, not 0 to 63", length);
+    }
+    Py_DECREF(rest);
+    return fits ? 0 : -1;
+}
+
+static int start_stream(PyObject *self, PyObject *placed, PyObject *named)
+{
+    static char *names[] = {"key", "nonce", "counter", "rest", NULL};
+    PyObject *key, *nonce = NULL, *counter = NULL, *rest = NULL;
+    nanorand_keystream stream = {.buffered = 0};
+    if (!PyArg_ParseTupleAndKeywords(placed, named, "O|OOO", names, &key, &nonce, &counter, &rest)
+        || take_chacha(key, nonce, counter, &stream.chacha) < 0 || (rest != NULL && take_rest(rest, &stream) < 0)) {
+        return -1;
+    }
+    set_state((Generator *)self, &stream);
+    return 0;
+}
+
+/* ---- Parts of the state. ---- */
+
+/* The bytes of the state from `first` to before `end`, or to its own end. */
+static PyObject *part_of(PyObject *self, size_t first, size_t end)
+{
+    uint8_t bytes[LONGEST_STATE];
+    Py_ssize_t length = read_state((Generator *)self, bytes);
+    if (length < 0) {
+        return NULL;
+    }
+    size_t last = (size_t)length < end ? (size_t)length : end;
+    return PyBytes_FromStringAndSize((const char *)bytes + first, (Py_ssize_t)(last - first));
+}
+
+static PyObject *get_key(PyObject *self, void *Py_UNUSED(closure))
+{
+    return part_of(self, offsetof(nanorand_chacha, key), offsetof(nanorand_chacha, nonce));
+}
+
+static PyObject *get_nonce(PyObject *self, void *Py_UNUSED(closure))
+{
+    return part_of(self, offsetof(nanorand_chacha, nonce), offsetof(nanorand_chacha, counter));
+}
+
+static PyObject *get_rest(PyObject *self, void *Py_UNUSED(closure))
+{
+    return part_of(self, sizeof(nanorand_chacha), LONGEST_STATE);
+}
+
+/* The counter, and how many bytes are buffered. */
+static int read_counter(PyObject *self, uint64_t *counter, Py_ssize_t *buffered)
+{
+    uint8_t bytes[LONGEST_STATE];
+    Py_ssize_t length = read_state((Generator *)self, bytes);
+    if (length < 0) {
+        return -1;
+    }
+    memcpy(counter, bytes + offsetof(nanorand_chacha, counter), sizeof *counter);
+    *buffered = length - (Py_ssize_t)sizeof(nanorand_chacha);
+    return 0;
+}
+
+static PyObject *get_counter(PyObject *self, void *Py_UNUSED(closure))
+{
+    uint64_t counter;
+    Py_ssize_t buffered;
+    return read_counter(self, &counter, &buffered) < 0 ? NULL : PyLong_FromUnsignedLongLong(counter);
+}
+
+/* No text shows a key or a byte that is still to come. */
+static PyObject *show_chacha(PyObject *self)
+{
+    uint64_t counter;
+    Py_ssize_t buffered;
+    if (read_counter(self, &counter, &buffered) < 0) {
+        return NULL;
+    }
+    return PyUnicode_FromFormat("<%s counter=%llu>", type_name(self), (unsigned long long)counter);
+}
+
+static PyObject *show_stream(PyObject *self)
+{
+    uint64_t counter;
+    Py_ssize_t buffered;
+    if (read_counter(self, &counter, &buffered) < 0) {
+        return NULL;
+    }
+    return PyUnicode_FromFormat("<%s counter=%llu buffered=%zd>", type_name(self), (unsigned long long)counter,
+                                buffered);
+}
+
+/* ---- Blocks. ---- */
+
+static PyObject *call_jump(PyObject *self, PyObject *const *given, Py_ssize_t placed, PyObject *names)
+{
+    PyObject *value;
+    uint64_t draws;
+    if (take_arguments(&jump_parameters, given, placed, names, &value) < 0
+        || take_u64("draws", value, UINT64_MAX, &draws) < 0 || ready((Generator *)self) < 0) {
+        return NULL;
+    }
+    ((nanorand_chacha *)((Generator *)self)->state)->counter += draws;
+    Py_RETURN_NONE;
+}
+
+static PyObject *call_block(PyObject *self, PyObject *Py_UNUSED(nothing))
+{
+    Generator *rng = (Generator *)self;
+    uint8_t block[64];
+    if (ready(rng) < 0) {
+        return NULL;
+    }
+    rng->kind->block(rng->state, block);
+    return PyBytes_FromStringAndSize((const char *)block, sizeof block);
+}
+
+/* ---- The types. ---- */
+
+PyDoc_STRVAR(key_doc,
+"The key, 32 bytes.\n"
+"\n"
+">>> from nanorand import ChaCha20\n"
+">>> ChaCha20(b\"k\" * 32).key == b\"k\" * 32\n"
+"True\n");
+
+PyDoc_STRVAR(nonce_doc,
+"The nonce, 8 bytes.\n"
+"\n"
+">>> from nanorand import ChaCha20\n"
+">>> ChaCha20(bytes(32), b\"a nonce.\").nonce\n"
+"b'a nonce.'\n");
+
+PyDoc_STRVAR(counter_doc,
+"The number of the next block that is drawn. After 2^64 - 1 comes 0.\n"
+"\n"
+">>> from nanorand import ChaCha20\n"
+">>> rng = ChaCha20(bytes(32), counter=2**64 - 1)\n"
+">>> block = rng.block()\n"
+">>> rng.counter\n"
+"0\n");
+
+PyDoc_STRVAR(rest_doc,
+"The buffered bytes, the next one first.\n"
+"\n"
+">>> from nanorand import Stream\n"
+">>> rng = Stream(bytes(32))\n"
+">>> byte = rng.bytes(1)\n"
+">>> len(rng.rest)\n"
+"63\n");
+
+PyDoc_STRVAR(jump_doc,
+"jump($self, /, draws)\n"
+"--\n"
+"\n"
+"Leaves what so many blocks leave, below 2^64 of them. Other numbers are `OutOfBounds`.\n"
+"\n"
+">>> from nanorand import ChaCha20\n"
+">>> rng = ChaCha20(bytes(32), counter=5)\n"
+">>> rng.jump(2**64 - 1)\n"
+">>> rng.counter\n"
+"4\n");
+
+PyDoc_STRVAR(block_doc,
+"block($self, /)\n"
+"--\n"
+"\n"
+"The next block, 64 bytes.\n"
+"\n"
+">>> from nanorand import ChaCha8\n"
+">>> ChaCha8(bytes(32)).block()[:4].hex()\n"
+"'3e00ef2f'\n");
+
+#define NO_NONCE "b'\\x00\\x00\\x00\\x00\\x00\\x00\\x00\\x00'"
+
+PyDoc_STRVAR(chacha8_doc,
+"ChaCha8(key, nonce=" NO_NONCE ", counter=0)\n"
+"--\n"
+"\n"
+"ChaCha with 8 rounds, by block, from a key of 32 bytes, a nonce of 8 and a counter.\n"
+"\n"
+"Other lengths are `WrongLength`, and a counter below 0 or from 2^64 on is `OutOfBounds`.\n"
+"\n"
+">>> from nanorand import ChaCha8\n"
+">>> ChaCha8(bytes(32)).bytes(4).hex()\n"
+"'3e00ef2f'\n");
+
+PyDoc_STRVAR(chacha12_doc,
+"ChaCha12(key, nonce=" NO_NONCE ", counter=0)\n"
+"--\n"
+"\n"
+"ChaCha with 12 rounds, by block, from a key of 32 bytes, a nonce of 8 and a counter.\n"
+"\n"
+"Other lengths are `WrongLength`, and a counter below 0 or from 2^64 on is `OutOfBounds`.\n"
+"\n"
+">>> from nanorand import ChaCha12\n"
+">>> ChaCha12(bytes(32)).bytes(4).hex()\n"
+"'9bf49a6a'\n");
+
+PyDoc_STRVAR(chacha20_doc,
+"ChaCha20(key, nonce=" NO_NONCE ", counter=0)\n"
+"--\n"
+"\n"
+"ChaCha with 20 rounds, by block, from a key of 32 bytes, a nonce of 8 and a counter.\n"
+"\n"
+"Each request begins a new block, so a number of 8 bytes takes 64: `Stream` wastes none. Other lengths are\n"
+"`WrongLength`, and a counter below 0 or from 2^64 on is `OutOfBounds`.\n"
+"\n"
+">>> from nanorand import ChaCha20\n"
+">>> ChaCha20(bytes(32)).bytes(4).hex()\n"
+"'76b8e0ad'\n");
+
+PyDoc_STRVAR(stream_doc,
+"Stream(key, nonce=" NO_NONCE ", counter=0, rest=b'')\n"
+"--\n"
+"\n"
+"The keystream of ChaCha20 without a gap.\n"
+"\n"
+"It is made from a key of 32 bytes, a nonce of 8, a counter, and at most 63 buffered bytes, which\n"
+"come first. Other lengths are `WrongLength`, and a counter below 0 or from 2^64 on is `OutOfBounds`.\n"
+"\n"
+">>> from nanorand import Stream\n"
+">>> whole = Stream(bytes(32)).bytes(100)\n"
+">>> rng = Stream(bytes(32))\n"
+">>> rng.bytes(33) + rng.bytes(67) == whole\n"
+"True\n");
+
+static PyGetSetDef chacha_parts[] = {
+    {"key", get_key, NULL, key_doc, NULL},
+    {"nonce", get_nonce, NULL, nonce_doc, NULL},
+    {"counter", get_counter, NULL, counter_doc, NULL},
+    {NULL, NULL, NULL, NULL, NULL},
+};
+
+static PyGetSetDef stream_parts[] = {
+    {"key", get_key, NULL, key_doc, NULL},
+    {"nonce", get_nonce, NULL, nonce_doc, NULL},
+    {"counter", get_counter, NULL, counter_doc, NULL},
+    {"rest", get_rest, NULL, rest_doc, NULL},
+    {NULL, NULL, NULL, NULL, NULL},
+};
+
+static PyMethodDef chacha_calls[] = {
+    {"jump", CALL(call_jump), METH_FASTCALL | METH_KEYWORDS, jump_doc},
+    {"block", call_block, METH_NOARGS, block_doc},
+    {NULL, NULL, 0, NULL},
+};
+
+static PyMethodDef stream_calls[] = {
+    {NULL, NULL, 0, NULL},
+};
+
+GENERATOR_CLASS(chacha8, "ChaCha8", nanorand_chacha, start_chacha, show_chacha, chacha_parts, chacha_calls)
+GENERATOR_CLASS(chacha12, "ChaCha12", nanorand_chacha, start_chacha, show_chacha, chacha_parts, chacha_calls)
+GENERATOR_CLASS(chacha20, "ChaCha20", nanorand_chacha, start_chacha, show_chacha, chacha_parts, chacha_calls)
+GENERATOR_CLASS(stream, "Stream", nanorand_keystream, start_stream, show_stream, stream_parts, stream_calls)

@@ -1,0 +1,119 @@
+/* The kinds of generators: each one's functions of nanorand.h, behind pointers of one type. */
+#include "native.h"
+
+#include <string.h>
+
+/* The functions that every generator of nanorand.h has. */
+#define FUNCTIONS(name)                                                                                       \
+    static uint64_t name##_u64(void *state)                                                                   \
+    {                                                                                                         \
+        return nanorand_##name##_u64(state);                                                                  \
+    }                                                                                                         \
+    static void name##_fill_bytes(void *state, uint8_t *buffer, size_t length)                                \
+    {                                                                                                         \
+        nanorand_##name##_fill_bytes(state, buffer, length);                                                  \
+    }                                                                                                         \
+    static uint8_t name##_range_u32(void *state, uint32_t first, uint32_t last, uint32_t *number)             \
+    {                                                                                                         \
+        return nanorand_##name##_range_u32(state, first, last, number);                                       \
+    }                                                                                                         \
+    static uint8_t name##_range_u64(void *state, uint64_t first, uint64_t last, uint64_t *number)             \
+    {                                                                                                         \
+        return nanorand_##name##_range_u64(state, first, last, number);                                       \
+    }                                                                                                         \
+    static uint8_t name##_range_i64(void *state, int64_t first, int64_t last, int64_t *number)                \
+    {                                                                                                         \
+        return nanorand_##name##_range_i64(state, first, last, number);                                       \
+    }                                                                                                         \
+    static uint8_t name##_shuffle(void *state, size_t *items, size_t length)                                  \
+    {                                                                                                         \
+        return nanorand_##name##_shuffle(state, items, length);                                               \
+    }                                                                                                         \
+    static uint8_t name##_shuffle_full(void *state, size_t *items, size_t length)                             \
+    {                                                                                                         \
+        return nanorand_##name##_shuffle_full(state, items, length);                                          \
+    }                                                                                                         \
+    static uint8_t name##_sample(void *state, size_t count, size_t *places, size_t length)                    \
+    {                                                                                                         \
+        return nanorand_##name##_sample(state, count, places, length);                                        \
+    }
+
+#define BLOCKS(name)                                                                                          \
+    static void name##_block(void *state, uint8_t *block)                                                     \
+    {                                                                                                         \
+        nanorand_##name##_block(state, block);                                                                \
+    }
+
+#define TABLE(name)                                                                                           \
+    .u64 = name##_u64, .fill_bytes = name##_fill_bytes, .range_u32 = name##_range_u32,                        \
+    .range_u64 = name##_range_u64, .range_i64 = name##_range_i64, .shuffle = name##_shuffle,                  \
+    .shuffle_full = name##_shuffle_full, .sample = name##_sample
+
+/* A state whose bytes are those of its structure. */
+#define PLAIN(structure)                                                                                      \
+    .size = sizeof(structure), .shortest = sizeof(structure), .longest = sizeof(structure), .save = save_plain, \
+    .load = load_plain
+
+static size_t save_plain(const void *state, size_t size, uint8_t *bytes)
+{
+    memcpy(bytes, state, size);
+    return size;
+}
+
+static void load_plain(void *state, const uint8_t *bytes, size_t length)
+{
+    memcpy(state, bytes, length);
+}
+
+/*
+ * The library computes eight blocks at once. A whole block that it holds is one not yet drawn: the counter is that
+ * of the first of these, and only the rest of a block is buffered.
+ */
+static size_t save_stream(const void *state, size_t size, uint8_t *bytes)
+{
+    nanorand_keystream stream;
+    memcpy(&stream, state, size);
+    size_t rest = stream.buffered % 64;
+    const uint8_t *first = stream.group + sizeof stream.group - stream.buffered;
+    stream.chacha.counter -= stream.buffered / 64;
+    memcpy(bytes, &stream.chacha, sizeof stream.chacha);
+    memcpy(bytes + sizeof stream.chacha, first, rest);
+    return sizeof stream.chacha + rest;
+}
+
+static void load_stream(void *state, const uint8_t *bytes, size_t length)
+{
+    nanorand_keystream stream = {.buffered = length - sizeof stream.chacha};
+    memcpy(&stream.chacha, bytes, sizeof stream.chacha);
+    memcpy(stream.group + sizeof stream.group - stream.buffered, bytes + sizeof stream.chacha, stream.buffered);
+    memcpy(state, &stream, sizeof stream);
+}
+
+FUNCTIONS(wyrand)
+FUNCTIONS(pcg64)
+FUNCTIONS(chacha8)
+FUNCTIONS(chacha12)
+FUNCTIONS(chacha20)
+FUNCTIONS(keystream)
+BLOCKS(chacha8)
+BLOCKS(chacha12)
+BLOCKS(chacha20)
+
+/* The system gives key and nonce, and the counter is 0. */
+enum { KEY_AND_NONCE = 40 };
+
+const Kind wyrand_kind = {PLAIN(nanorand_wyrand), TABLE(wyrand), .entropy = sizeof(nanorand_wyrand)};
+const Kind pcg64_kind = {PLAIN(nanorand_pcg64), TABLE(pcg64), .entropy = sizeof(nanorand_pcg64)};
+const Kind chacha8_kind = {PLAIN(nanorand_chacha), TABLE(chacha8), .entropy = KEY_AND_NONCE, .block = chacha8_block};
+const Kind chacha12_kind = {PLAIN(nanorand_chacha), TABLE(chacha12), .entropy = KEY_AND_NONCE, .block = chacha12_block};
+const Kind chacha20_kind = {PLAIN(nanorand_chacha), TABLE(chacha20), .entropy = KEY_AND_NONCE, .block = chacha20_block};
+const Kind stream_kind = {
+    TABLE(keystream),
+    .size = sizeof(nanorand_keystream),
+    .shortest = sizeof(nanorand_chacha),
+    .longest = LONGEST_STATE,
+    .entropy = KEY_AND_NONCE,
+    .joined = 1,
+    .save = save_stream,
+    .load = load_stream,
+};

@@ -1,0 +1,106 @@
+/* The extension module nanorand._native. */
+#include "native.h"
+
+const Parameters jump_parameters = {"jump", 1, 1, 1, {"draws"}};
+
+/* A class made by its description, which the module then has too. */
+static PyObject *add_class(PyObject *module, PyType_Spec *spec, PyObject *bases)
+{
+    PyObject *class = PyType_FromModuleAndSpec(module, spec, bases);
+    if (class != NULL && PyModule_AddType(module, (PyTypeObject *)class) < 0) {
+        Py_CLEAR(class);
+    }
+    return class;
+}
+
+/* Gives a class the calls of a table. */
+static int add_calls(PyObject *class, PyMethodDef *calls)
+{
+    for (PyMethodDef *call = calls; call->ml_name != NULL; call++) {
+        PyObject *method = PyDescr_NewMethod((PyTypeObject *)class, call);
+        int added = method == NULL ? -1 : PyObject_SetAttrString(class, call->ml_name, method);
+        Py_XDECREF(method);
+        if (added < 0) {
+            return -1;
+        }
+    }
+    return 0;
+}
+
+static int add_generators(PyObject *module, PyObject *bases)
+{
+    PyType_Spec *specs[] = {&wyrand_spec, &pcg64_spec, &chacha8_spec, &chacha12_spec, &chacha20_spec, &stream_spec};
+    for (size_t i = 0; i < sizeof specs / sizeof specs[0]; i++) {
+        PyObject *class = add_class(module, specs[i], bases);
+        if (class == NULL) {
+            return -1;
+        }
+        Py_DECREF(class);
+    }
+    return 0;
+}
+
+int nanorand_add_generators(PyObject *module)
+{
+    PyObject *base = add_class(module, &generator_spec, NULL);
+    if (base == NULL) {
+        return -1;
+    }
+    int added = -1;
+    if (add_calls(base, number_calls) == 0 && add_calls(base, sequence_calls) == 0) {
+        PyObject *bases = PyTuple_Pack(1, base);
+        added = bases == NULL ? -1 : add_generators(module, bases);
+        Py_XDECREF(bases);
+    }
+    Py_DECREF(base);
+    return added;
+}
+
+/* The library that was linked is of the header's major version, and has all of its functions. */
+static int check_version(PyObject *module)
+{
+    uint32_t found = nanorand_version();
+    (void)module;
+    if (found >= NANORAND_VERSION && found / 10000 == NANORAND_VERSION / 10000) {
+        return 0;
+    }
+    raise_text("LibraryRefused", "the library has version %u, not %u or later of its major version", (unsigned)found,
+               (unsigned)NANORAND_VERSION);
+    return -1;
+}
+
+static int fill_module(PyObject *module)
+{
+    int (*const parts[])(PyObject *) = {
+        check_version,
+        nanorand_add_generators,
+        nanorand_add_lots,
+    };
+    for (size_t i = 0; i < sizeof parts / sizeof parts[0]; i++) {
+        if (parts[i](module) < 0) {
+            return -1;
+        }
+    }
+    return 0;
+}
+
+PyDoc_STRVAR(module_doc,
+"The generators over the proved library, and what nanorand.lots and nanorand.randoms call.");
+
+static PyModuleDef_Slot slots[] = {
+    {Py_mod_exec, SLOT(fill_module)},
+    {0, NULL},
+};
+
+static PyModuleDef definition = {
+    PyModuleDef_HEAD_INIT,
+    .m_name = "nanorand._native",
+    .m_doc = module_doc,
+    .m_size = 0,
+    .m_slots = slots,
+};
+
+PyMODINIT_FUNC PyInit__native(void)
+{
+    return PyModuleDef_Init(&definition);
+}

@@ -1,0 +1,443 @@
+/* Choices, shuffles and samples of any sequence: the library draws places, and the items are moved by them. */
+#include "native.h"
+
+/* ---- Sequences of every kind. ---- */
+
+/* Whether the value is an instance of a class of collections.abc, or -1. */
+static int is_abstract(PyObject *value, const char *class_name)
+{
+    PyObject *abstract = PyImport_ImportModule("collections.abc");
+    PyObject *class = abstract == NULL ? NULL : PyObject_GetAttrString(abstract, class_name);
+    int found = class == NULL ? -1 : PyObject_IsInstance(value, class);
+    Py_XDECREF(abstract);
+    Py_XDECREF(class);
+    return found;
+}
+
+/* Whether the value's class has a length and items by their index, which sets and mappings do not. */
+static int is_sequence(PyObject *value, const char *method)
+{
+    PyObject *class = (PyObject *)Py_TYPE(value);
+    if (!PyObject_HasAttrString(class, "__len__") || !PyObject_HasAttrString(class, method)) {
+        return 0;
+    }
+    int other = is_abstract(value, "Mapping");
+    if (other == 0) {
+        other = is_abstract(value, "Set");
+    }
+    return other < 0 ? -1 : !other;
+}
+
+static int require(const char *name, PyObject *value, const char *method, const char *wanted)
+{
+    int found = is_sequence(value, method);
+    if (found == 0) {
+        PyErr_Format(PyExc_TypeError, "%s is a %s, not %s", name, type_name(value), wanted);
+    }
+    return found == 1 ? 0 : -1;
+}
+
+int require_sequence(const char *name, PyObject *value)
+{
+    if (PyList_CheckExact(value) || PyTuple_CheckExact(value) || PyUnicode_CheckExact(value)) {
+        return 0;
+    }
+    return require(name, value, "__getitem__", "a sequence");
+}
+
+/* A call into Python, as an item's reading may be, can change a list. So each place is looked at anew. */
+PyObject *item_at(PyObject *items, size_t place)
+{
+    if (PyList_CheckExact(items) || PyTuple_CheckExact(items)) {
+        return PySequence_GetItem(items, (Py_ssize_t)place);
+    }
+    PyObject *index = PyLong_FromSize_t(place);
+    PyObject *item = index == NULL ? NULL : PyObject_GetItem(items, index);
+    Py_XDECREF(index);
+    return item;
+}
+
+/* Whether each item exists once: a row of a matrix is made anew at each reading, and is a view of what is moved. */
+static int is_owned(PyObject *items)
+{
+    PyObject *one = item_at(items, 0);
+    if (one == NULL) {
+        return -1;
+    }
+    int owned = 1;
+    if (PyObject_HasAttrString((PyObject *)Py_TYPE(one), "__setitem__")) {
+        PyObject *again = item_at(items, 0);
+        owned = again == NULL ? -1 : again == one;
+        Py_XDECREF(again);
+    }
+    Py_DECREF(one);
+    return owned;
+}
+
+static int require_replaceable(const char *name, PyObject *items)
+{
+    if (require(name, items, "__setitem__", "a sequence whose items can be replaced") < 0) {
+        return -1;
+    }
+    Py_ssize_t length = PyObject_Size(items);
+    int owned = length < 2 ? (int)length : is_owned(items);
+    if (length >= 2 && owned == 0) {
+        PyErr_Format(PyExc_TypeError, "%s is a %s, whose items are views of it", name, type_name(items));
+        return -1;
+    }
+    return owned < 0 ? -1 : 0;
+}
+
+/* ---- Places. ---- */
+
+void *new_array(uint64_t count, size_t size)
+{
+    void *made = count > PY_SSIZE_T_MAX / size ? NULL : PyMem_Malloc(count * size);
+    if (made == NULL) {
+        PyErr_NoMemory();
+    }
+    return made;
+}
+
+/* The places 0, 1, .. */
+static size_t *all_places(size_t count)
+{
+    size_t *places = new_array(count, sizeof *places);
+    for (size_t place = 0; places != NULL && place < count; place++) {
+        places[place] = place;
+    }
+    return places;
+}
+
+PyObject *items_at(PyObject *items, const size_t *places, size_t count)
+{
+    PyObject *list = PyList_New((Py_ssize_t)count);
+    for (size_t i = 0; list != NULL && i < count; i++) {
+        PyObject *item = item_at(items, places[i]);
+        if (item == NULL) {
+            Py_CLEAR(list);
+        } else {
+            PyList_SET_ITEM(list, (Py_ssize_t)i, item);
+        }
+    }
+    return list;
+}
+
+PyObject *numbers_of(const size_t *places, size_t count)
+{
+    PyObject *list = PyList_New((Py_ssize_t)count);
+    for (size_t i = 0; list != NULL && i < count; i++) {
+        PyObject *number = PyLong_FromSize_t(places[i]);
+        if (number == NULL) {
+            Py_CLEAR(list);
+        } else {
+            PyList_SET_ITEM(list, (Py_ssize_t)i, number);
+        }
+    }
+    return list;
+}
+
+/* None, or the error of a status. */
+static PyObject *none_of(uint8_t status)
+{
+    if (status != NANORAND_OK) {
+        raise_status(status);
+        return NULL;
+    }
+    Py_RETURN_NONE;
+}
+
+/* ---- Choices. ---- */
+
+static PyObject *call_choice(PyObject *self, PyObject *const *given, Py_ssize_t placed, PyObject *names)
+{
+    static const Parameters wanted = {"choice", 1, 1, 1, {"items"}};
+    Generator *rng = (Generator *)self;
+    PyObject *items;
+    if (take_arguments(&wanted, given, placed, names, &items) < 0 || require_sequence("items", items) < 0) {
+        return NULL;
+    }
+    Py_ssize_t length = PyObject_Size(items);
+    if (length == 0) {
+        raise_text("EmptyRange", "items is empty");
+    }
+    if (length <= 0 || ready(rng) < 0) {
+        return NULL;
+    }
+    Saved before;
+    uint64_t place;
+    keep_state(rng, &before);
+    uint8_t status = rng->kind->range_u64(rng->state, 0, (uint64_t)length - 1, &place);
+    if (status != NANORAND_OK) {
+        raise_status(status);
+        return NULL;
+    }
+    PyObject *item = item_at(items, place);
+    if (item == NULL) {
+        restore_state(rng, &before);
+    }
+    return item;
+}
+
+/* ---- Shuffles. ---- */
+
+/* Nothing here calls into Python, so that a list is shuffled in one moment. */
+static PyObject *permute_list(Generator *rng, PyObject *list, Permutation *permute)
+{
+    if (ready(rng) < 0) {
+        return NULL;
+    }
+    size_t length = (size_t)PyList_GET_SIZE(list);
+    size_t *places = all_places(length);
+    PyObject **before = places == NULL ? NULL : new_array(length, sizeof *before);
+    if (before == NULL) {
+        PyMem_Free(places);
+        return NULL;
+    }
+    for (size_t place = 0; place < length; place++) {
+        before[place] = PyList_GET_ITEM(list, (Py_ssize_t)place);
+    }
+    uint8_t status = permute(rng->state, places, length);
+    for (size_t place = 0; place < length; place++) {
+        PyList_SET_ITEM(list, (Py_ssize_t)place, before[places[place]]);
+    }
+    PyMem_Free(places);
+    PyMem_Free(before);
+    return none_of(status);
+}
+
+static PyObject *tuple_of(PyObject *items)
+{
+    Py_ssize_t length = PyObject_Size(items);
+    PyObject *tuple = length < 0 ? NULL : PyTuple_New(length);
+    for (Py_ssize_t place = 0; tuple != NULL && place < length; place++) {
+        PyObject *item = item_at(items, (size_t)place);
+        if (item == NULL) {
+            Py_CLEAR(tuple);
+        } else {
+            PyTuple_SET_ITEM(tuple, place, item);
+        }
+    }
+    return tuple;
+}
+
+static int put_item(PyObject *items, Py_ssize_t place, PyObject *item)
+{
+    PyObject *index = PyLong_FromSsize_t(place);
+    int put = index == NULL ? -1 : PyObject_SetItem(items, index, item);
+    Py_XDECREF(index);
+    return put;
+}
+
+static int put_items(PyObject *items, PyObject *before, const size_t *places)
+{
+    for (Py_ssize_t place = 0; place < PyTuple_GET_SIZE(before); place++) {
+        if (put_item(items, place, PyTuple_GET_ITEM(before, (Py_ssize_t)places[place])) < 0) {
+            return -1;
+        }
+    }
+    return 0;
+}
+
+/* Shuffles places, and then moves the items: also after Exhausted, as far as it came. */
+static PyObject *permute_places(Generator *rng, PyObject *items, PyObject *before, size_t *places,
+                                Permutation *permute)
+{
+    if (ready(rng) < 0) {
+        return NULL;
+    }
+    Saved state;
+    keep_state(rng, &state);
+    uint8_t status = permute(rng->state, places, (size_t)PyTuple_GET_SIZE(before));
+    if (put_items(items, before, places) < 0) {
+        restore_state(rng, &state);
+        return NULL;
+    }
+    return none_of(status);
+}
+
+static PyObject *permute_items(Generator *rng, PyObject *items, Permutation *permute)
+{
+    PyObject *before = require_replaceable("items", items) < 0 ? NULL : tuple_of(items);
+    size_t *places = before == NULL ? NULL : all_places((size_t)PyTuple_GET_SIZE(before));
+    PyObject *done = places == NULL ? NULL : permute_places(rng, items, before, places, permute);
+    PyMem_Free(places);
+    Py_XDECREF(before);
+    return done;
+}
+
+static PyObject *permute(Generator *rng, PyObject *items, Permutation *permutation)
+{
+    return (PyList_CheckExact(items) ? permute_list : permute_items)(rng, items, permutation);
+}
+
+static PyObject *call_shuffle(PyObject *self, PyObject *const *given, Py_ssize_t placed, PyObject *names)
+{
+    static const Parameters wanted = {"shuffle", 1, 1, 1, {"items"}};
+    Generator *rng = (Generator *)self;
+    PyObject *items;
+    return take_arguments(&wanted, given, placed, names, &items) < 0 ? NULL : permute(rng, items, rng->kind->shuffle);
+}
+
+static PyObject *call_shuffle_full(PyObject *self, PyObject *const *given, Py_ssize_t placed, PyObject *names)
+{
+    static const Parameters wanted = {"shuffle_full", 1, 1, 1, {"items"}};
+    Generator *rng = (Generator *)self;
+    PyObject *items;
+    return take_arguments(&wanted, given, placed, names, &items) < 0 ? NULL
+                                                                     : permute(rng, items, rng->kind->shuffle_full);
+}
+
+/* ---- Samples. ---- */
+
+/* Different places below `count`, and the state before them; or NULL. */
+static size_t *draw_places(Generator *rng, uint64_t count, uint64_t length, Saved *before)
+{
+    if (length > count) {
+        raise_text("EmptyRange", "no sample of %llu from %llu", (unsigned long long)length, (unsigned long long)count);
+        return NULL;
+    }
+    size_t *places = new_array(length, sizeof *places);
+    Turn turn;
+    if (places == NULL || begin_turn(rng, length * sizeof *places, &turn) < 0) {
+        PyMem_Free(places);
+        return NULL;
+    }
+    keep_state(rng, before);
+    uint8_t status = rng->kind->sample(rng->state, count, places, length);
+    end_turn(rng, &turn);
+    if (status != NANORAND_OK) {
+        raise_status(status);
+        PyMem_Free(places);
+        return NULL;
+    }
+    return places;
+}
+
+/* The list that is made of places drawn; or NULL, with the state as it was before. */
+static PyObject *list_or_restore(Generator *rng, PyObject *list, size_t *places, const Saved *before)
+{
+    PyMem_Free(places);
+    if (list == NULL) {
+        restore_state(rng, before);
+    }
+    return list;
+}
+
+static PyObject *call_sample(PyObject *self, PyObject *const *given, Py_ssize_t placed, PyObject *names)
+{
+    static const Parameters wanted = {"sample", 2, 2, 2, {"population", "length"}};
+    Generator *rng = (Generator *)self;
+    PyObject *values[2];
+    if (take_arguments(&wanted, given, placed, names, values) < 0 || require_sequence("population", values[0]) < 0) {
+        return NULL;
+    }
+    Py_ssize_t count = PyObject_Size(values[0]);
+    uint64_t length;
+    Saved before;
+    if (count < 0 || take_u64("length", values[1], UINT64_MAX, &length) < 0) {
+        return NULL;
+    }
+    size_t *places = draw_places(rng, (uint64_t)count, length, &before);
+    if (places == NULL) {
+        return NULL;
+    }
+    return list_or_restore(rng, items_at(values[0], places, length), places, &before);
+}
+
+static PyObject *call_sample_below(PyObject *self, PyObject *const *given, Py_ssize_t placed, PyObject *names)
+{
+    static const Parameters wanted = {"sample_below", 2, 2, 2, {"count", "length"}};
+    Generator *rng = (Generator *)self;
+    PyObject *values[2];
+    uint64_t count, length;
+    Saved before;
+    if (take_arguments(&wanted, given, placed, names, values) < 0
+        || take_u64("count", values[0], UINT64_MAX, &count) < 0
+        || take_u64("length", values[1], UINT64_MAX, &length) < 0) {
+        return NULL;
+    }
+    size_t *places = draw_places(rng, count, length, &before);
+    if (places == NULL) {
+        return NULL;
+    }
+    return list_or_restore(rng, numbers_of(places, length), places, &before);
+}
+
+/* ---- The table. ---- */
+
+PyDoc_STRVAR(choice_doc,
+"choice($self, /, items)\n"
+"--\n"
+"\n"
+"One of the items. If there is none, it is `EmptyRange`.\n"
+"\n"
+">>> from nanorand import WyRand\n"
+">>> WyRand(42).choice(\"abcdefghij\")\n"
+"'g'\n"
+">>> WyRand(42).choice([])\n"
+"Traceback (most recent call last):\n"
+"nanorand.errors.EmptyRange: items is empty\n");
+
+PyDoc_STRVAR(shuffle_doc,
+"shuffle($self, /, items)\n"
+"--\n"
+"\n"
+"Shuffles a list in place: each order is drawn by equally many lists of words.\n"
+"\n"
+"If the sequence refuses to take an item, the state is as before. A sequence whose items are\n"
+"views of it, as the rows of a matrix, is a TypeError: shuffle its places.\n"
+"\n"
+">>> from nanorand import WyRand\n"
+">>> digits = list(range(10))\n"
+">>> WyRand(42).shuffle(digits)\n"
+">>> digits\n"
+"[6, 9, 8, 1, 0, 3, 4, 7, 5, 2]\n");
+
+PyDoc_STRVAR(shuffle_full_doc,
+"shuffle_full($self, /, items)\n"
+"--\n"
+"\n"
+"Shuffles a list in place as the old crate did. It is not fair for three items or more.\n"
+"\n"
+"What it refuses is what `shuffle` refuses.\n"
+"\n"
+">>> from nanorand import WyRand\n"
+">>> digits = list(range(10))\n"
+">>> WyRand(42).shuffle_full(digits)\n"
+">>> digits\n"
+"[2, 9, 0, 4, 5, 3, 7, 6, 8, 1]\n");
+
+PyDoc_STRVAR(sample_doc,
+"sample($self, /, population, length)\n"
+"--\n"
+"\n"
+"`length` items of different places.\n"
+"\n"
+"Each set of places has equally many words. Their order is not random: shuffle it if that\n"
+"matters. It raises `EmptyRange` if there are fewer items, and `OutOfBounds` for a length below 0 or from 2^64 on.\n"
+"\n"
+">>> from nanorand import WyRand\n"
+">>> WyRand(42).sample(\"abcdefghij\", 3)\n"
+"['f', 'i', 'h']\n");
+
+PyDoc_STRVAR(sample_below_doc,
+"sample_below($self, /, count, length)\n"
+"--\n"
+"\n"
+"`length` different numbers below `count`: the places of a sample.\n"
+"\n"
+"Both are from 0 to 2^64 - 1, or it is `OutOfBounds`; a `length` above `count` is `EmptyRange`.\n"
+"\n"
+">>> from nanorand import WyRand\n"
+">>> WyRand(42).sample_below(10, 3)\n"
+"[5, 8, 7]\n");
+
+PyMethodDef sequence_calls[] = {
+    {"choice", CALL(call_choice), METH_FASTCALL | METH_KEYWORDS, choice_doc},
+    {"shuffle", CALL(call_shuffle), METH_FASTCALL | METH_KEYWORDS, shuffle_doc},
+    {"shuffle_full", CALL(call_shuffle_full), METH_FASTCALL | METH_KEYWORDS, shuffle_full_doc},
+    {"sample", CALL(call_sample), METH_FASTCALL | METH_KEYWORDS, sample_doc},
+    {"sample_below", CALL(call_sample_below), METH_FASTCALL | METH_KEYWORDS, sample_below_doc},
+    {NULL, NULL, 0, NULL},
+};
