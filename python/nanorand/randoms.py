@@ -14,13 +14,14 @@ length; or None for a seed from the operating system.
 """
 
 import hashlib
+import operator
 import random
-import sys
 from typing import Any, ClassVar, SupportsIndex, Union
 
-from nanorand._checks import number, octets
 from nanorand.errors import ForeignState
 from nanorand.generators import ChaCha8, ChaCha12, ChaCha20, Generator, Pcg64, Stream, WyRand
+
+from nanorand._native import BaseRandom  # isort: skip; what is loaded by nanorand.generators
 
 __all__ = [
     "ChaCha8Random",
@@ -32,10 +33,10 @@ __all__ = [
     "WyRandRandom",
 ]
 
-Seed = Union[None, SupportsIndex, str, bytes, bytearray]
+Seed = Union[None, SupportsIndex, float, str, bytes, bytearray]
 
 
-class GeneratorRandom(random.Random):
+class GeneratorRandom(BaseRandom):
     """What the classes of this module have in common. They draw from `generator`.
 
     >>> WyRandRandom(42).generator
@@ -45,18 +46,19 @@ class GeneratorRandom(random.Random):
     _kind: ClassVar[type[Generator]]
     _seed_length: ClassVar[int]
     _rest_of_state: ClassVar[bytes] = b""
-    generator: Generator
 
-    def __new__(cls, seed: Seed = None) -> "GeneratorRandom":
-        if not hasattr(cls, "_kind"):
-            raise TypeError("GeneratorRandom has no generator: take one of its subclasses")
-        return super().__new__(cls)
+    def __init_subclass__(cls, **named: Any) -> None:
+        """A class with a `getrandbits` of its own draws bytes by it, as those of `random.Random` do."""
+        super().__init_subclass__(**named)
+        first = next(one for one in cls.__mro__ if {"getrandbits", "randbytes"} & vars(one).keys())
+        if "randbytes" not in vars(first):
+            cls.randbytes = random.Random.randbytes  # type: ignore[method-assign]
 
     def __init__(self, seed: Seed = None) -> None:
         super().__init__(seed)
 
     def seed(self, a: Seed = None, version: int = 2) -> None:  # type: ignore[override]
-        """Starts anew from a seed. `version` changes nothing.
+        """Starts anew from a seed. `version` changes nothing. Other types are a TypeError.
 
         >>> rng = Pcg64Random(7)
         >>> first = rng.random()
@@ -70,39 +72,20 @@ class GeneratorRandom(random.Random):
             self.generator = self._kind.from_state(self._seed_bytes(a) + self._rest_of_state)
         self.gauss_next = None
 
-    def _seed_bytes(self, seed: Union[SupportsIndex, str, bytes, bytearray]) -> bytes:
+    def _seed_bytes(self, seed: Union[SupportsIndex, float, str, bytes, bytearray]) -> bytes:
         if isinstance(seed, str):
-            seed = seed.encode()
+            return self._digest(seed.encode())
         if isinstance(seed, (bytes, bytearray)):
-            return hashlib.sha256(octets("seed", seed)).digest()[: self._seed_length]
-        last = 2 ** (8 * self._seed_length) - 1
-        return number("seed", seed, 0, last).to_bytes(self._seed_length, "little")
+            return self._digest(bytes(seed))
+        if isinstance(seed, float):
+            return self._digest(b"\xfffloat " + seed.hex().encode())
+        whole = operator.index(seed)
+        if 0 <= whole < 256**self._seed_length:
+            return whole.to_bytes(self._seed_length, "little")
+        return self._digest(b"\xffint " + hex(whole).encode())
 
-    def random(self) -> float:
-        """A number from 0.0 to below 1.0: the upper 53 bits of the next `u64`, times 2^-53.
-
-        >>> WyRandRandom(42).random()
-        0.6808240860388313
-        """
-        return float((self.generator.u64() >> 11) * 2.0**-53)
-
-    def getrandbits(self, k: SupportsIndex) -> int:
-        """A number of k bits: the upper ones of the next k / 8 bytes, rounded up, least byte first.
-
-        >>> WyRandRandom(42).getrandbits(8) == WyRand(42).bytes(1)[0]
-        True
-        """
-        bits = number("k", k, 0, 8 * sys.maxsize)
-        length = (bits + 7) // 8
-        return int.from_bytes(self.generator.bytes(length), "little") >> 8 * length - bits
-
-    def randbytes(self, n: SupportsIndex) -> bytes:
-        """The generator's next bytes.
-
-        >>> WyRandRandom(42).randbytes(9) == WyRand(42).bytes(9)
-        True
-        """
-        return self.generator.bytes(n)
+    def _digest(self, text: bytes) -> bytes:
+        return hashlib.sha256(text).digest()[: self._seed_length]
 
     def getstate(self) -> "tuple[Any, ...]":
         """What `setstate` takes: the generator's name, its state, and what `gauss` has kept.

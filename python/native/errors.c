@@ -50,6 +50,15 @@ void raise_status(uint8_t status)
     raise_made(status == NANORAND_EMPTY ? "EmptyRange" : "Exhausted", "()");
 }
 
+PyObject *none_of(uint8_t status)
+{
+    if (status != NANORAND_OK) {
+        raise_status(status);
+        return NULL;
+    }
+    Py_RETURN_NONE;
+}
+
 const char *type_name(PyObject *value)
 {
     const char *name = Py_TYPE(value)->tp_name;

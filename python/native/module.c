@@ -3,8 +3,7 @@
 
 const Parameters jump_parameters = {"jump", 1, 1, 1, {"draws"}};
 
-/* A class made by its description, which the module then has too. */
-static PyObject *add_class(PyObject *module, PyType_Spec *spec, PyObject *bases)
+PyObject *add_class(PyObject *module, PyType_Spec *spec, PyObject *bases)
 {
     PyObject *class = PyType_FromModuleAndSpec(module, spec, bases);
     if (class != NULL && PyModule_AddType(module, (PyTypeObject *)class) < 0) {
@@ -47,7 +46,8 @@ int nanorand_add_generators(PyObject *module)
         return -1;
     }
     int added = -1;
-    if (add_calls(base, number_calls) == 0 && add_calls(base, sequence_calls) == 0) {
+    if (add_calls(base, number_calls) == 0 && add_calls(base, sequence_calls) == 0
+        && add_calls(base, choices_calls) == 0 && add_calls(base, fill_calls) == 0) {
         PyObject *bases = PyTuple_Pack(1, base);
         added = bases == NULL ? -1 : add_generators(module, bases);
         Py_XDECREF(bases);
@@ -75,6 +75,7 @@ static int fill_module(PyObject *module)
         check_version,
         nanorand_add_generators,
         nanorand_add_lots,
+        nanorand_add_randoms,
     };
     for (size_t i = 0; i < sizeof parts / sizeof parts[0]; i++) {
         if (parts[i](module) < 0) {

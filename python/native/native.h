@@ -62,6 +62,8 @@ void raise_text(const char *error, const char *format, ...);
 void raise_made(const char *error, const char *format, ...);
 /* The error of a status other than 0, of a draw whose range and length were looked at before. */
 void raise_status(uint8_t status);
+/* None, or the error of a status. */
+PyObject *none_of(uint8_t status);
 /* The name of a value's type, as `__name__`. */
 const char *type_name(PyObject *value);
 
@@ -168,13 +170,15 @@ PyObject *item_at(PyObject *items, size_t place);
 /* A list of the items at so many places, and one of the places themselves. */
 PyObject *items_at(PyObject *items, const size_t *places, size_t count);
 PyObject *numbers_of(const size_t *places, size_t count);
+/* Frees the places of a list, which is returned; without a list the state is put back to what it was before. */
+PyObject *list_or_restore(Generator *rng, PyObject *list, size_t *places, const Saved *before);
 /* Memory for so many values of a size, to be freed by PyMem_Free; or NULL and MemoryError. */
 void *new_array(uint64_t count, size_t size);
 
 /* ---- The parts of the module. ---- */
 
 extern const Parameters jump_parameters;
-extern PyMethodDef number_calls[], sequence_calls[];
+extern PyMethodDef number_calls[], sequence_calls[], choices_calls[], fill_calls[];
 extern PyType_Spec generator_spec, wyrand_spec, pcg64_spec, chacha8_spec, chacha12_spec, chacha20_spec, stream_spec;
 
 /* The class of a kind of generator, described by KIND_spec; its text is KIND_doc. */
@@ -196,6 +200,9 @@ extern PyType_Spec generator_spec, wyrand_spec, pcg64_spec, chacha8_spec, chacha
         "nanorand.generators." name, sizeof(Generator) + sizeof(structure), 0,                                \
         Py_TPFLAGS_DEFAULT | Py_TPFLAGS_BASETYPE, kind##_slots,                                               \
     };
+
+/* A class made by its description, which the module then has too. */
+PyObject *add_class(PyObject *module, PyType_Spec *spec, PyObject *bases);
 
 int nanorand_add_generators(PyObject *module);
 int nanorand_add_lots(PyObject *module);

@@ -137,14 +137,13 @@ PyObject *numbers_of(const size_t *places, size_t count)
     return list;
 }
 
-/* None, or the error of a status. */
-static PyObject *none_of(uint8_t status)
+PyObject *list_or_restore(Generator *rng, PyObject *list, size_t *places, const Saved *before)
 {
-    if (status != NANORAND_OK) {
-        raise_status(status);
-        return NULL;
+    PyMem_Free(places);
+    if (list == NULL) {
+        restore_state(rng, before);
     }
-    Py_RETURN_NONE;
+    return list;
 }
 
 /* ---- Choices. ---- */
@@ -312,16 +311,6 @@ static size_t *draw_places(Generator *rng, uint64_t count, uint64_t length, Save
         return NULL;
     }
     return places;
-}
-
-/* The list that is made of places drawn; or NULL, with the state as it was before. */
-static PyObject *list_or_restore(Generator *rng, PyObject *list, size_t *places, const Saved *before)
-{
-    PyMem_Free(places);
-    if (list == NULL) {
-        restore_state(rng, before);
-    }
-    return list;
 }
 
 static PyObject *call_sample(PyObject *self, PyObject *const *given, Py_ssize_t placed, PyObject *names)

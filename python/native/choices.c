@@ -1,0 +1,248 @@
+/* Choices with replacement: exactly by weight, where the weights are whole numbers. */
+#include "native.h"
+
+#include <math.h>
+
+/*
+ * What each item has of the sum of the weights: the sums up to each item, as whole numbers or as floats. Without
+ * weights there is neither, and the items have equal shares.
+ */
+typedef struct {
+    size_t count;
+    uint64_t *whole;
+    double *real;
+} Shares;
+
+/* ---- Weights. ---- */
+
+/* Adds a weight to the sum, or puts it in the sum's place where sums are given. */
+static int add_whole(PyObject *weight, int summed, uint64_t *sum)
+{
+    uint64_t number;
+    if (take_u64("a weight", weight, UINT64_MAX, &number) < 0) {
+        return -1;
+    }
+    if (summed ? number < *sum : number > UINT64_MAX - *sum) {
+        raise_text("OutOfBounds", summed ? "cum_weights has %llu after %llu" : "the weight %llu and those before it, %llu, are 2^64 or more",
+                   (unsigned long long)number, (unsigned long long)*sum);
+        return -1;
+    }
+    *sum = summed ? number : *sum + number;
+    return 0;
+}
+
+static int add_real(PyObject *weight, int summed, double *sum)
+{
+    double number = PyFloat_AsDouble(weight);
+    if (number == -1.0 && PyErr_Occurred()) {
+        return -1;
+    }
+    double next = summed ? number : *sum + number;
+    if (!isfinite(next) || next < *sum) {
+        raise_text("OutOfBounds", "the weight %R leaves no finite sum above that before it", weight);
+        return -1;
+    }
+    *sum = next;
+    return 0;
+}
+
+static int read_whole(PyObject *weights, int summed, Shares *shares)
+{
+    uint64_t sum = 0;
+    shares->whole = new_array(shares->count, sizeof *shares->whole);
+    int read = shares->whole == NULL ? -1 : 0;
+    for (size_t i = 0; read == 0 && i < shares->count; i++) {
+        read = add_whole(PyTuple_GET_ITEM(weights, (Py_ssize_t)i), summed, &sum);
+        shares->whole[i] = sum;
+    }
+    return read;
+}
+
+static int read_real(PyObject *weights, int summed, Shares *shares)
+{
+    double sum = 0;
+    shares->real = new_array(shares->count, sizeof *shares->real);
+    int read = shares->real == NULL ? -1 : 0;
+    for (size_t i = 0; read == 0 && i < shares->count; i++) {
+        read = add_real(PyTuple_GET_ITEM(weights, (Py_ssize_t)i), summed, &sum);
+        shares->real[i] = sum;
+    }
+    return read;
+}
+
+static int are_whole(PyObject *weights)
+{
+    for (Py_ssize_t i = 0; i < PyTuple_GET_SIZE(weights); i++) {
+        if (!PyIndex_Check(PyTuple_GET_ITEM(weights, i))) {
+            return 0;
+        }
+    }
+    return 1;
+}
+
+/* The shares by the weights, or by their sums; both can be None. */
+static int read_shares(PyObject *weights, PyObject *sums, Shares *shares)
+{
+    int summed = sums != Py_None;
+    if (summed && weights != Py_None) {
+        PyErr_SetString(PyExc_TypeError, "choices() takes weights or cum_weights, and not both");
+        return -1;
+    }
+    PyObject *given = summed ? sums : weights;
+    if (given == Py_None) {
+        return 0;
+    }
+    PyObject *listed = PySequence_Tuple(given);
+    if (listed == NULL) {
+        return -1;
+    }
+    int read = -1;
+    if ((size_t)PyTuple_GET_SIZE(listed) != shares->count) {
+        raise_text("WrongLength", "%s has %zd items, not %zu", summed ? "cum_weights" : "weights",
+                   PyTuple_GET_SIZE(listed), shares->count);
+    } else {
+        read = (are_whole(listed) ? read_whole : read_real)(listed, summed, shares);
+    }
+    Py_DECREF(listed);
+    return read;
+}
+
+static int have_none(const Shares *shares)
+{
+    size_t last = shares->count - 1;
+    return shares->count == 0 || (shares->whole != NULL && shares->whole[last] == 0)
+           || (shares->real != NULL && shares->real[last] == 0);
+}
+
+/* ---- Draws. ---- */
+
+/* The first item whose sum is above the number, which is below the last sum. */
+static size_t find_whole(const Shares *shares, uint64_t number)
+{
+    size_t low = 0, high = shares->count - 1;
+    while (low < high) {
+        size_t middle = low + (high - low) / 2;
+        if (shares->whole[middle] > number) {
+            high = middle;
+        } else {
+            low = middle + 1;
+        }
+    }
+    return low;
+}
+
+/* The same of floats. A number that was rounded up to the last sum counts as one just below it. */
+static size_t find_real(const Shares *shares, double number)
+{
+    size_t low = 0, high = shares->count - 1;
+    const double total = shares->real[high];
+    while (low < high) {
+        size_t middle = low + (high - low) / 2;
+        if (shares->real[middle] > number || shares->real[middle] == total) {
+            high = middle;
+        } else {
+            low = middle + 1;
+        }
+    }
+    return low;
+}
+
+static uint8_t draw_place(Generator *rng, const Shares *shares, size_t *place)
+{
+    const size_t last = shares->count - 1;
+    if (shares->real != NULL) {
+        *place = find_real(shares, unit_of(rng->kind->u64(rng->state)) * shares->real[last]);
+        return NANORAND_OK;
+    }
+    uint64_t number;
+    uint8_t status = rng->kind->range_u64(rng->state, 0, shares->whole == NULL ? last : shares->whole[last] - 1, &number);
+    if (status == NANORAND_OK) {
+        *place = shares->whole == NULL ? number : find_whole(shares, number);
+    }
+    return status;
+}
+
+/* Draws so many places by one turn. The state before it is kept. */
+static int draw_all(Generator *rng, const Shares *shares, size_t *places, size_t count, Saved *before)
+{
+    Turn turn;
+    uint8_t status = NANORAND_OK;
+    if (begin_turn(rng, count * sizeof *places, &turn) < 0) {
+        return -1;
+    }
+    keep_state(rng, before);
+    for (size_t i = 0; status == NANORAND_OK && i < count; i++) {
+        status = draw_place(rng, shares, &places[i]);
+    }
+    end_turn(rng, &turn);
+    if (status != NANORAND_OK) {
+        raise_status(status);
+    }
+    return status == NANORAND_OK ? 0 : -1;
+}
+
+static PyObject *draw_items(Generator *rng, PyObject *population, const Shares *shares, size_t count)
+{
+    if (count > 0 && have_none(shares)) {
+        raise_text("EmptyRange", shares->count == 0 ? "population is empty" : "no item has a weight");
+        return NULL;
+    }
+    size_t *places = new_array(count, sizeof *places);
+    Saved before;
+    if (places == NULL || draw_all(rng, shares, places, count, &before) < 0) {
+        PyMem_Free(places);
+        return NULL;
+    }
+    return list_or_restore(rng, items_at(population, places, count), places, &before);
+}
+
+static PyObject *call_choices(PyObject *self, PyObject *const *given, Py_ssize_t placed, PyObject *names)
+{
+    static const Parameters wanted = {"choices", 1, 2, 4, {"population", "weights", "cum_weights", "k"}};
+    PyObject *values[4];
+    uint64_t count = 1;
+    if (take_arguments(&wanted, given, placed, names, values) < 0 || require_sequence("population", values[0]) < 0
+        || (values[3] != NULL && take_u64("k", values[3], PY_SSIZE_T_MAX, &count) < 0)) {
+        return NULL;
+    }
+    Py_ssize_t length = PyObject_Size(values[0]);
+    if (length < 0) {
+        return NULL;
+    }
+    Shares shares = {(size_t)length, NULL, NULL};
+    PyObject *weights = values[1] == NULL ? Py_None : values[1], *sums = values[2] == NULL ? Py_None : values[2];
+    PyObject *drawn = NULL;
+    if (read_shares(weights, sums, &shares) == 0) {
+        drawn = draw_items((Generator *)self, values[0], &shares, count);
+    }
+    PyMem_Free(shares.whole);
+    PyMem_Free(shares.real);
+    return drawn;
+}
+
+/* ---- The table. ---- */
+
+PyDoc_STRVAR(choices_doc,
+"choices($self, /, population, weights=None, *, cum_weights=None, k=1)\n"
+"--\n"
+"\n"
+"A list of `k` items, each drawn from all, as in `random.choices`.\n"
+"\n"
+"Without weights each item has an equal share, as in `choice`. Weights that are all whole numbers are exact: the\n"
+"number that `below` gives of their sum falls into an item's share. Other weights are added as floats, and\n"
+"`random()` times their sum falls into a share, which is nearly exact. `cum_weights` are such sums themselves.\n"
+"An item of weight 0 is never drawn. It raises `EmptyRange` if there is no item, or no weight above 0, and\n"
+"`OutOfBounds` for a weight below 0, a sum that falls, is not finite or is 2^64 or more, and a `k` below 0.\n"
+"Another number of weights than of items is `WrongLength`.\n"
+"\n"
+">>> from nanorand import WyRand\n"
+">>> WyRand(42).choices([\"red\", \"green\", \"blue\"], [5, 0, 1], k=6)\n"
+"['red', 'blue', 'red', 'blue', 'red', 'blue']\n"
+">>> WyRand(42).choices(\"ab\", [0, 0])\n"
+"Traceback (most recent call last):\n"
+"nanorand.errors.EmptyRange: no item has a weight\n");
+
+PyMethodDef choices_calls[] = {
+    {"choices", CALL(call_choices), METH_FASTCALL | METH_KEYWORDS, choices_doc},
+    {NULL, NULL, 0, NULL},
+};
