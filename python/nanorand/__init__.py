@@ -10,8 +10,17 @@ and `nanorand.errors` every error.
 69
 """
 
-from nanorand import errors, lots, randoms
-from nanorand.errors import EmptyRange, Exhausted, NanorandError, OutOfBounds, WrongLength
+from nanorand import errors
+from nanorand.errors import EmptyRange, Exhausted, LibraryRefused, NanorandError, OutOfBounds, WrongLength
+
+try:
+    from nanorand import _native as _native
+except LibraryRefused:
+    raise
+except ImportError as error:
+    raise LibraryRefused(f"the extension module cannot be loaded: {error}") from None
+
+from nanorand import lots, randoms
 from nanorand.generators import ChaCha8, ChaCha12, ChaCha20, Generator, Pcg64, Stream, WyRand
 
 __version__ = "1.0.0"

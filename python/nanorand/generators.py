@@ -7,13 +7,6 @@
 68
 """
 
-from nanorand.errors import LibraryRefused
-
-try:
-    from nanorand._native import ChaCha8, ChaCha12, ChaCha20, Generator, Pcg64, Stream, WyRand
-except LibraryRefused:
-    raise
-except ImportError as error:
-    raise LibraryRefused(f"the extension module cannot be loaded: {error}") from None
+from nanorand._native import ChaCha8, ChaCha12, ChaCha20, Generator, Pcg64, Stream, WyRand
 
 __all__ = ["ChaCha8", "ChaCha12", "ChaCha20", "Generator", "Pcg64", "Stream", "WyRand"]

@@ -3,9 +3,10 @@
 `random`, `getrandbits` and `randbytes` take the generator's bytes. What Python makes of them
 (`gauss`, `shuffle`, `sample` and the others) is Python's, and not the same as in other languages.
 
-A seed is a whole number of at most 64 bits for `WyRandRandom`, 128 for `Pcg64Random`, and 256 for
-the others, whose key it is, least byte first; or a text or bytes, whose SHA-256 is cut to that
-length; or None for a seed from the operating system.
+A whole number of at most 64 bits is a seed of `WyRandRandom`, one of 128 of `Pcg64Random`, and one of 256 the key of the
+others, least byte first. Every other seed is the first bytes of a SHA-256: of a text or of bytes; of a negative or a
+longer number after the byte 0xFF and `int `, as `hex` writes it; of a float after 0xFF and `float `, as `float.hex`
+writes it. None is a seed from the operating system.
 
 >>> from nanorand.randoms import WyRandRandom
 >>> rng = WyRandRandom(42)
@@ -18,10 +19,9 @@ import operator
 import random
 from typing import Any, ClassVar, SupportsIndex, Union
 
+from nanorand._native import BaseRandom
 from nanorand.errors import ForeignState
 from nanorand.generators import ChaCha8, ChaCha12, ChaCha20, Generator, Pcg64, Stream, WyRand
-
-from nanorand._native import BaseRandom  # isort: skip; what is loaded by nanorand.generators
 
 __all__ = [
     "ChaCha8Random",
@@ -79,6 +79,8 @@ class GeneratorRandom(BaseRandom):
             return self._digest(bytes(seed))
         if isinstance(seed, float):
             return self._digest(b"\xfffloat " + seed.hex().encode())
+        if not hasattr(type(seed), "__index__"):
+            raise TypeError(f"seed is a {type(seed).__name__}, not a number, a text, bytes or None")
         whole = operator.index(seed)
         if 0 <= whole < 256**self._seed_length:
             return whole.to_bytes(self._seed_length, "little")

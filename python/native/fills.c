@@ -251,7 +251,7 @@ PyDoc_STRVAR(fill_range_doc,
 ">>> dice = array(\"B\", bytes(6))\n"
 ">>> WyRand(42).fill_range(dice, 1, 6)\n"
 ">>> dice\n"
-"array('B', [6, 6, 1, 2, 2, 5])\n");
+"array('B', [6, 2, 2, 2, 1, 1])\n");
 
 PyDoc_STRVAR(fill_random_doc,
 "fill_random($self, /, buffer)\n"

@@ -84,7 +84,7 @@ static int last_below(PyObject *end, uint64_t *last)
         return 0;
     }
     if (fits) {
-        raise_text("EmptyRange", "no number below %S", end);
+        raise_text("EmptyRange", "no number below %lld", (long long)whole.bits);
         return -1;
     }
     if (halves_of(end, &wide) == 1 && wide.high == 1 && wide.low == 0) {

@@ -1,16 +1,20 @@
 """The generators as `random.Random`: every public call of it, seeds, states and refusals."""
 
 import copy
+import fractions
+import gc
 import hashlib
+import math
 import pickle
 import random
 import statistics
 import sys
 import unittest
+import weakref
 
-from makers import RANDOMS, refuses
+from makers import KEY, RANDOMS, refuses
 
-from nanorand import OutOfBounds
+from nanorand import OutOfBounds, Pcg64, Stream, WyRand
 from nanorand.errors import ForeignState
 from nanorand.randoms import GeneratorRandom, Pcg64Random, StreamRandom, WyRandRandom
 
@@ -102,14 +106,9 @@ class Randoms(unittest.TestCase):
             self.assertIs(type(numbers[0]), float)
 
     def test_ends_of_random(self):
-        class Ends:
-            def u64(self):
-                return self.number
-
-        rng = WyRandRandom(1)
-        rng.generator = Ends()
+        rng = StreamRandom(1)
         for number, wanted in ((0, 0.0), (2**11, 2**-53), (2**11 - 1, 0.0), (2**64 - 1, 1 - 2**-53)):
-            rng.generator.number = number
+            rng.generator = Stream(KEY, rest=number.to_bytes(8, "little"))
             self.assertEqual(rng.random(), wanted)
 
     def test_bits(self):
@@ -140,12 +139,33 @@ class Randoms(unittest.TestCase):
                 self.assertEqual(made.state[:length], seed.to_bytes(length, "little"))
                 self.assertEqual(set(made.state[length:]), {0} if made.state[length:] else set())
             self.assertEqual(kind(True).generator, kind(1).generator)
-            for seed in (-1, 2 ** (8 * length)):
-                with self.assertRaises(OutOfBounds):
+            for seed in ([1], (1,), {1: 1}, 1j, object(), fractions.Fraction(1)):
+                with self.assertRaisesRegex(TypeError, f"^seed is a {type(seed).__name__}, not "):
                     kind(seed)
-            for seed in (1.0, 1.5, [1], (1,), object()):
-                with self.assertRaises(TypeError):
-                    kind(seed)
+
+    def test_other_numbers_are_seeds(self):
+        floats = [0.0, -0.0, 1.0, 1.5, -1.5, 1e300, 5e-324, math.inf, -math.inf, math.nan]
+        for kind in RANDOMS:
+            length = SEED_LENGTHS.get(kind.__name__, 32)
+            limit = 256**length
+            seeds = [-1, -2, -limit, limit, limit + 1, 10**5000, -(10**5000), *floats]
+            seen = {kind(seed).generator.state for seed in (0, 1, 2, limit - 1, "-1", "-0x1", "1.5", b"\xff")}
+            self.assertEqual(len(seen), 8)
+            for seed in seeds:
+                text = f"float {seed.hex()}" if isinstance(seed, float) else f"int {seed:#x}"
+                made = kind(seed).generator
+                self.assertEqual(made.state[:length], hashlib.sha256(b"\xff" + text.encode()).digest()[:length])
+                self.assertEqual(set(made.state[length:]), {0} if made.state[length:] else set())
+                seen.add(made.state)
+            self.assertEqual(len(seen), 8 + len(seeds))
+
+    def test_seeds_by_their_index(self):
+        class Index:
+            def __index__(self):
+                return 7
+
+        for kind in RANDOMS:
+            self.assertEqual(kind(Index()).generator, kind(7).generator)
 
     def test_texts_are_seeds(self):
         for kind in RANDOMS:
@@ -176,8 +196,8 @@ class Randoms(unittest.TestCase):
             rng = kind(1)
             rng.gauss(0, 1)
             before = rng.getstate()
-            for seed in (1.5, -1, 2**256, [1], "\ud800"):
-                with self.assertRaises((TypeError, OutOfBounds, UnicodeError)):
+            for seed in ([1], 1j, "\ud800"):
+                with self.assertRaises((TypeError, UnicodeError)):
                     rng.seed(seed)
                 self.assertEqual(rng.getstate(), before)
 
@@ -266,6 +286,153 @@ class Randoms(unittest.TestCase):
         self.assertEqual(WyRandRandom(seed=42).generator, WyRandRandom(42).generator)
         self.assertEqual(Pcg64Random(seed=2**127).generator.seed, 2**127)
         self.assertEqual(StreamRandom(seed=0).generator.key, bytes(32))
+
+
+class Generators(unittest.TestCase):
+    """The attribute `generator`, which is drawn from."""
+
+    def test_the_state_is_shared(self):
+        for kind in RANDOMS:
+            rng, same = kind(7), kind(7).generator
+            generator = rng.generator
+            self.assertIs(rng.generator, generator)
+            for _ in range(20):
+                self.assertEqual(rng.random(), same.random())
+                self.assertEqual(generator.u64(), same.u64())
+                self.assertEqual(rng.getrandbits(13), int.from_bytes(same.bytes(2), "little") >> 3)
+                self.assertEqual(generator, same)
+
+    def test_another_one_of_its_kind(self):
+        for kind, of_generator in RANDOMS.items():
+            rng, own = kind(7), of_generator.from_entropy()
+            same = own.copy()
+            rng.generator = own
+            self.assertEqual((rng.random(), rng.getrandbits(70)), (same.random(), Twin(same).getrandbits(70)))
+            self.assertIs(rng.generator, own)
+
+            class Own(of_generator):
+                pass
+
+            rng.generator = Own.from_state(same.state)
+            self.assertEqual(rng.random(), same.random())
+
+    def test_others_are_refused(self):
+        for kind, of_generator in RANDOMS.items():
+            rng = kind(7)
+            before = rng.generator
+            others = [other(7).generator for other in RANDOMS if other is not kind]
+            for other in (*others, None, 7, random.Random(7), of_generator, kind(7)):
+                with self.assertRaisesRegex(TypeError, "^generator is a "):
+                    rng.generator = other
+            with self.assertRaises(AttributeError):
+                del rng.generator
+            self.assertIs(rng.generator, before)
+
+    def test_a_seed_and_a_state_make_a_new_one(self):
+        for kind in RANDOMS:
+            rng = kind(7)
+            first, saved = rng.generator, rng.getstate()
+            before = first.state
+            for start in (lambda rng=rng: rng.seed(8), lambda rng=rng, saved=saved: rng.setstate(saved)):
+                start()
+                rng.random()
+                self.assertEqual(first.state, before)
+
+    def test_without_a_generator(self):
+        for kind in RANDOMS:
+            class Own(kind):
+                def seed(self, *arguments):
+                    """It does not call the base's."""
+
+            rng = Own(7)
+            calls = [rng.random, lambda: rng.getrandbits(9), lambda: rng.randbytes(9), lambda: rng.generator]
+            for call in (*calls, rng.getstate):
+                with self.assertRaisesRegex(AttributeError, "^Own has no generator$"):
+                    call()
+            rng.generator = RANDOMS[kind].__new__(RANDOMS[kind])
+            for call in calls[:3]:
+                with self.assertRaisesRegex(RuntimeError, "has no state"):
+                    call()
+
+    def test_no_name_leads_to_the_slot(self):
+        for one in WyRandRandom.__mro__:
+            self.assertNotIn("_generator", vars(one))
+        rng = WyRandRandom(7)
+        rng._generator = 5
+        self.assertEqual(rng.random(), WyRand(7).random())
+
+    def test_objects_in_circles_are_freed(self):
+        class Own(WyRand):
+            pass
+
+        for kind in (WyRandRandom, type("Sub", (WyRandRandom,), {})):
+            rng, generator = kind(7), Own(7)
+            rng.generator, generator.owner = generator, rng
+            seen = [weakref.ref(rng), weakref.ref(generator)]
+            del rng, generator
+            gc.collect()
+            self.assertEqual([one() for one in seen], [None, None])
+
+
+class Subclasses(unittest.TestCase):
+    """Of the user's, as those of `random.Random` behave."""
+
+    def test_arguments_of_its_own(self):
+        class Own(WyRandRandom):
+            def __init__(self, *arguments, newarg=None):
+                super().__init__(7)
+
+        for made in (Own(), Own(newarg=1), Own(1, 2, 3, newarg=4)):
+            self.assertEqual(made.random(), WyRand(7).random())
+
+    def test_what_is_overridden_is_called(self):
+        for kind in RANDOMS:
+            class Bits(kind):
+                def getrandbits(self, k):
+                    called.append("getrandbits")
+                    return super().getrandbits(k)
+
+            class Floats(kind):
+                def random(self):
+                    called.append("random")
+                    return super().random()
+
+            class Both(Floats, Bits):
+                pass
+
+            calls = [lambda rng: rng.randrange(9), lambda rng: rng.shuffle([1, 2]), lambda rng: rng.choice("ab")]
+            for call in calls:
+                for own, wanted in ((Bits, "getrandbits"), (Floats, "random"), (Both, "random")):
+                    called = []
+                    call(own(7))
+                    self.assertEqual(set(called), {wanted})
+            called = []
+            self.assertEqual(Bits(7).randbytes(9), kind(7).getrandbits(72).to_bytes(9, "little"))
+            self.assertEqual(called, ["getrandbits"])
+            self.assertEqual(Floats(7).randbytes(9), kind(7).generator.bytes(9))
+
+    def test_bytes_of_its_own(self):
+        class Own(Pcg64Random):
+            def getrandbits(self, k):
+                return 0
+
+            def randbytes(self, n):
+                return b"own"
+
+        class Below(Own):
+            pass
+
+        self.assertEqual((Own(7).randbytes(9), Below(7).randbytes(9)), (b"own", b"own"))
+
+    def test_a_kind_of_its_own(self):
+        class Own(Pcg64):
+            pass
+
+        class OwnRandom(Pcg64Random):
+            _kind = Own
+
+        self.assertIs(type(OwnRandom(7).generator), Own)
+        self.assertEqual(OwnRandom(7).random(), Pcg64Random(7).random())
 
 
 if __name__ == "__main__":

@@ -20,7 +20,8 @@ HUGE = 10**5000  # more digits than Python writes
 SPECIAL = {
     "Generator": {"__new__", "__hash__", "__copy__", "__deepcopy__", "__reduce__", *COMPARISONS},
     **{kind.__name__: {"__new__", "__init__", "__repr__"} for kind in CLASSES.values()},
-    "GeneratorRandom": {"__new__", "__init__"},
+    "GeneratorRandom": {"__init__", "__init_subclass__"},
+    "BaseRandom": {"__new__"},
 }
 # What Python itself writes in each class.
 OF_EVERY_CLASS = {
@@ -33,6 +34,11 @@ def parameters(call):
     return [name for name in inspect.signature(call).parameters if name != "self"]
 
 
+def has_signature(call):
+    """Python 3.9 forgets that of a class written in C."""
+    return sys.version_info >= (3, 10) or not inspect.isclass(call)
+
+
 class Arguments(unittest.TestCase):
     def test_the_readme_names_them_as_the_calls_do(self):
         """So a caller can give each by its name."""
@@ -42,10 +48,11 @@ class Arguments(unittest.TestCase):
         self.assertGreaterEqual(len(found), 14)
         for call, names in found.items():
             thing = getattr(kinds, call, None) or getattr(kind.get(call, WyRand), call)
-            self.assertEqual(", ".join(parameters(thing)), names, call)
+            if has_signature(thing):
+                self.assertEqual(", ".join(parameters(thing)), names, call)
         self.assertEqual(parameters(lots.draw), ["seed", "entrants", "count"])
         self.assertIn("`draw(seed, entrants, count)`", README.read_text(encoding="utf-8"))
-        for chacha in CHACHAS:
+        for chacha in filter(has_signature, CHACHAS):
             self.assertEqual(parameters(chacha), ["key", "nonce", "counter"])
 
     def test_an_error_names_the_argument(self):
@@ -67,10 +74,11 @@ class Arguments(unittest.TestCase):
                     kind(bad)
         good = {"key": KEY, "nonce": NONCE, "counter": 0, "rest": b""}
         for kind in (*CHACHAS, Stream):
-            for name in parameters(kind):
+            names = [name for name in good if name != "rest" or kind is Stream]
+            for name in names:
                 for bad in (None, HUGE):
                     with self.assertRaisesRegex((TypeError, OutOfBounds), f"^{name} is "):
-                        kind(**{**{other: good[other] for other in parameters(kind)}, name: bad})
+                        kind(**{**{other: good[other] for other in names}, name: bad})
 
 
 class Types(unittest.TestCase):

@@ -1,0 +1,109 @@
+"""What becomes of the statuses that the library returns in fewer than one of 2^128 draws.
+
+These tests run with the library of refusing.c in place of nanorand's: a state's first byte is the status, and the
+second one counts the draws before it.
+"""
+
+import array
+import os
+import subprocess
+import sys
+import unittest
+
+from makers import CLASSES
+
+from nanorand import EmptyRange, Exhausted, lots
+from nanorand.errors import SeedNotText, TooFew
+
+CALLS = {
+    "range": lambda rng: rng.range(0, 9),
+    "range, signed": lambda rng: rng.range(-9, 9),
+    "range32": lambda rng: rng.range32(0, 9),
+    "randint": lambda rng: rng.randint(0, 9),
+    "below": lambda rng: rng.below(9),
+    "choice": lambda rng: rng.choice("abc"),
+    "choices": lambda rng: rng.choices("abc", k=3),
+    "choices, weighted": lambda rng: rng.choices("abc", [1, 2, 3], k=3),
+    "sample": lambda rng: rng.sample("abc", 2),
+    "sample_below": lambda rng: rng.sample_below(9, 2),
+    "shuffle": lambda rng: rng.shuffle([1, 2, 3]),
+    "shuffle, any": lambda rng: rng.shuffle(bytearray(3)),
+    "shuffle_full": lambda rng: rng.shuffle_full([1, 2, 3]),
+    "shuffle_full, any": lambda rng: rng.shuffle_full(bytearray(3)),
+    "fill_range": lambda rng: rng.fill_range(array.array("Q", [0, 0]), 0, 9),
+    "fill_range, signed": lambda rng: rng.fill_range(array.array("q", [0, 0]), 0, 9),
+    "fill_range, narrow": lambda rng: rng.fill_range(array.array("h", [0, 0]), 0, 9),
+}
+PIECES = ["choices", "choices, weighted", "fill_range", "fill_range, signed", "fill_range, narrow"]
+
+
+def refusing(kind, status, after=0):
+    """A generator that refuses with a status after so many draws."""
+    state = bytearray(48 if kind not in ("wyrand", "pcg64") else {"wyrand": 8, "pcg64": 16}[kind])
+    state[0], state[1] = status, after
+    return CLASSES[kind].from_state(state)
+
+
+class Refusals(unittest.TestCase):
+    def test_every_status_of_every_call(self):
+        for kind in CLASSES:
+            for name, call in CALLS.items():
+                for status, error in ((1, EmptyRange), (2, Exhausted), (7, Exhausted), (255, Exhausted)):
+                    with self.subTest(kind=kind, name=name, status=status):
+                        rng = refusing(kind, status)
+                        with self.assertRaises(error) as caught:
+                            call(rng)
+                        self.assertIs(type(caught.exception), error)
+                        self.assertEqual(rng.state[2], 99)
+
+    def test_texts(self):
+        with self.assertRaisesRegex(Exhausted, "^128 words in a row were rejected$"):
+            refusing("wyrand", 2).below(9)
+
+    def test_a_refusal_in_the_middle(self):
+        for kind in CLASSES:
+            for name in PIECES:
+                with self.subTest(kind=kind, name=name):
+                    rng = refusing(kind, 2, after=1)
+                    with self.assertRaises(Exhausted):
+                        CALLS[name](rng)
+                    self.assertEqual(rng.state[:3], bytes([2, 0, 99]))
+
+    def test_a_shuffle_stays_as_far_as_it_came(self):
+        for kind in CLASSES:
+            for name in ("shuffle", "shuffle_full"):
+                for items in (list(b"abc"), bytearray(b"abc")):
+                    with self.assertRaises(Exhausted):
+                        getattr(refusing(kind, 2), name)(items)
+                    self.assertEqual(bytes(items), b"cba")
+
+    def test_items_before_the_one_that_failed_are_written(self):
+        for kind in CLASSES:
+            for letter in "BHILQbhilq":
+                for length in (3, 20_000):
+                    items = array.array(letter, [7] * length)
+                    with self.assertRaises(Exhausted):
+                        refusing(kind, 2, after=2).fill_range(items, 1, 3)
+                    self.assertEqual(items.tolist(), [2, 2] + [7] * (length - 2))
+
+    def test_lots(self):
+        for status, error in ((b"\2", SeedNotText), (b"\3", TooFew), (b"\x08", Exhausted), (b"\x09", Exhausted)):
+            with self.assertRaises(error) as caught:
+                lots.draw(status, ["a", "b", "c"], 2)
+            self.assertIs(type(caught.exception), error)
+        with self.assertRaises(TooFew) as caught:
+            lots.draw(b"\3", ["a", "b", "c"], 2)
+        self.assertEqual((caught.exception.entrants, caught.exception.count), (3, 2))
+
+    def test_versions(self):
+        """The library has the header's major version, and is no older."""
+        for version, accepted in ((10000, True), (10001, True), (19999, True), (9999, False), (20000, False), (0, False)):
+            environment = {**os.environ, "NANORAND_TEST_VERSION": str(version)}
+            done = subprocess.run([sys.executable, "-c", "import nanorand"], env=environment, capture_output=True, text=True)
+            self.assertEqual(done.returncode == 0, accepted, done.stderr)
+            if not accepted:
+                self.assertIn(f"LibraryRefused: the library has version {version}, not ", done.stderr)
+
+
+if __name__ == "__main__":
+    unittest.main()

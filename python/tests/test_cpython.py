@@ -1,0 +1,78 @@
+"""CPython's own tests of `random.Random`, run with each class of nanorand.randoms.
+
+They are those of `test.test_random`, which Debian has in the package libpython3.X-testsuite.
+"""
+
+import random
+import sys
+import unittest
+from unittest import mock
+
+from makers import RANDOMS
+
+try:
+    from test import test_random as cpython
+except ImportError as error:
+    raise unittest.SkipTest(f"CPython's own tests are not there: {error}") from None
+
+GROUPS = ["MersenneTwister_TestBasicOps", "TestDistributions", "TestRandomSubclassing"]
+# What a test expects that is the Mersenne Twister's alone, or that of earlier versions of Python.
+LEFT_OUT = {
+    "test_bug_1727780": "its pickled states",
+    "test_bug_27706": "its numbers, of seeds of version 1",
+    "test_bug_31482": "its numbers, of seeds of version 1",
+    "test_getrandbits": "its numbers",
+    "test_guaranteed_stable": "its numbers",
+    "test_randbytes": "its numbers",
+    "test_randrange_uses_getrandbits": "its numbers",
+    "test_referenceImplementation": "its numbers",
+    "test_setstate_middle_arg": "its state, of 625 words",
+    "test_strong_reference_implementation": "its numbers",
+}
+if sys.version_info < (3, 11):
+    LEFT_OUT["test_seedargs"] = LEFT_OUT["test_seed_when_randomness_source_not_found"] = "seeds of any type"
+CALLS = [name for name in random.__all__ if callable(getattr(random.Random, name, None))]
+
+
+def with_generator(group, kind):
+    """The group of tests, whose `random.Random`, generator, and calls of the module are those of the class."""
+
+    class Tests(group):
+        gen = kind()
+
+        def setUp(self):
+            super().setUp()
+            shared = kind()
+            for name, thing in [("Random", kind), *((name, getattr(shared, name)) for name in CALLS)]:
+                patch = mock.patch.object(random, name, thing)
+                patch.start()
+                self.addCleanup(patch.stop)
+
+    Tests.__name__ = Tests.__qualname__ = f"{group.__name__}_of_{kind.__name__}"
+    return Tests
+
+
+def without(tests, names):
+    """The same tests but for those of some names."""
+    return type(tests.__name__, (tests,), {name: None for name in names if hasattr(tests, name)})
+
+
+MADE = [with_generator(getattr(cpython, group), kind) for group in GROUPS for kind in RANDOMS]
+globals().update({one.__name__: without(one, LEFT_OUT) for one in MADE})
+
+
+class LeftOut(unittest.TestCase):
+    def test_they_fail(self):
+        """No test is left out that would pass."""
+        failed = set()
+        for tests in MADE:
+            for name in filter(lambda name: hasattr(tests, name), LEFT_OUT):
+                result = unittest.TestResult()
+                tests(name).run(result)
+                self.assertFalse(result.wasSuccessful(), f"{tests.__name__}.{name}")
+                failed.add(name)
+        self.assertEqual(failed, set(LEFT_OUT))
+
+
+if __name__ == "__main__":
+    unittest.main()

@@ -1,0 +1,315 @@
+"""Fills of memory: the numbers of every kind of item, every kind of buffer, and what is refused."""
+
+import array
+import ctypes
+import mmap
+import struct
+import unittest
+
+from makers import KEY, generators, refuses
+
+from nanorand import EmptyRange, OutOfBounds, Stream, WyRand
+
+WHOLE = "BHILQbhilq"
+LENGTHS = (0, 1, 2, 7, 64, 1000)
+LONG = 1 << 16  # more bytes than these are drawn without Python's lock
+
+
+def bounds_of(letter):
+    """The least and the greatest number of an item."""
+    bits = 8 * array.array(letter).itemsize
+    return (0, 2**bits - 1) if letter.isupper() else (-(2 ** (bits - 1)), 2 ** (bits - 1) - 1)
+
+
+def spans_of(letter):
+    least, greatest = bounds_of(letter)
+    return [(least, greatest), (least, least), (greatest, greatest), (0, 0), (1, 6), (least, least + 1),
+            (greatest - 1, greatest), (least // 2, greatest // 3), (0, greatest)]
+
+
+def drawn_of(rng, letter, first, last):
+    """What an item is to be."""
+    if array.array(letter).itemsize == 8:
+        return rng.range(first, last)
+    return first + rng.range32(0, last - first)
+
+
+class Memory:
+    """Buffers of every kind that hold so many bytes and can be written."""
+
+    def __init__(self, length):
+        self.length = length
+
+    def made(self):
+        yield bytearray(self.length)
+        yield memoryview(bytearray(self.length))
+        yield memoryview(bytearray(self.length + 10))[3 : 3 + self.length]
+        yield array.array("B", bytes(self.length))
+        yield array.array("b", bytes(self.length))
+        yield memoryview(array.array("B", bytes(self.length))).cast("c")
+        if self.length:
+            yield (ctypes.c_uint8 * self.length)()
+            yield mmap.mmap(-1, self.length)
+        if self.length and self.length % 8 == 0:
+            yield array.array("Q", bytes(self.length))
+            yield array.array("h", bytes(self.length))
+            yield memoryview(bytearray(self.length)).cast("B", (self.length // 8, 8))
+            yield (ctypes.c_int64 * (self.length // 8))()
+
+
+class Bytes(unittest.TestCase):
+    def test_the_next_bytes(self):
+        for rng in generators():
+            for length in (0, 1, 8, 63, 64, 65, 1000, LONG, LONG + 8):
+                state = rng.state
+                wanted = rng.bytes(length)
+                after = rng.state
+                for buffer in Memory(length).made():
+                    rng.state = state
+                    self.assertIsNone(rng.fill(buffer))
+                    self.assertEqual(bytes(memoryview(buffer).cast("B") if length else b""), wanted)
+                    self.assertEqual(rng.state, after)
+
+    def test_nothing_around_is_written(self):
+        for rng in generators():
+            for length in (0, 1, 9, 100, LONG + 1):
+                whole = bytearray(b"\xa5" * (length + 20))
+                rng.fill(memoryview(whole)[10 : 10 + length])
+                self.assertEqual(whole[:10] + whole[10 + length :], b"\xa5" * 20)
+
+    def test_the_buffer_is_given_back(self):
+        """A buffer that is still exported could not grow."""
+        for call in (lambda rng, b: rng.fill(b), lambda rng, b: rng.fill_range(b, 0, 9), lambda rng, b: rng.fill_random(b),
+                     lambda rng, b: rng.fill_range(b, 9, 0), lambda rng, b: rng.fill_range(b, None, 0),
+                     lambda rng, b: WyRand.__new__(WyRand).fill(b)):
+            buffer = bytearray(9)
+            try:
+                call(WyRand(1), buffer)
+            except (TypeError, ValueError, RuntimeError):
+                pass
+            buffer.append(1)
+
+
+class Ranges(unittest.TestCase):
+    def test_each_item_is_what_range_gives(self):
+        for rng in generators():
+            for letter in WHOLE:
+                for first, last in spans_of(letter):
+                    for length in (0, 1, 2, 33):
+                        same = rng.copy()
+                        items = array.array(letter, bytes(length * array.array(letter).itemsize))
+                        self.assertIsNone(rng.fill_range(items, first, last))
+                        self.assertEqual(items.tolist(), [drawn_of(same, letter, first, last) for _ in range(length)])
+                        self.assertEqual(rng, same)
+
+    def test_unsigned_items_of_four_bytes_are_range32(self):
+        for rng in generators():
+            same = rng.copy()
+            items = array.array("I", bytes(400))
+            rng.fill_range(items, 5, 2**31 + 7)
+            self.assertEqual(items.tolist(), [same.range32(5, 2**31 + 7) for _ in items])
+
+    def test_ends_are_drawn(self):
+        for letter in WHOLE:
+            for first, last in ((-1, 1), (5, 7)):
+                if first >= bounds_of(letter)[0]:
+                    items = array.array(letter, [0] * 200)
+                    WyRand(5).fill_range(items, first, last)
+                    self.assertEqual(set(items), set(range(first, last + 1)))
+
+    def test_bounds_that_no_item_holds(self):
+        for rng in generators():
+            for letter in WHOLE:
+                least, greatest = bounds_of(letter)
+                items = array.array(letter, [7, 7])
+                for bad in (least - 1, greatest + 1, 10**5000, -(10**5000)):
+                    for name, call in (("first", lambda rng, bad=bad: rng.fill_range(items, bad, greatest)),
+                                       ("last", lambda rng, bad=bad: rng.fill_range(items, least, bad))):
+                        error = refuses(self, rng, OutOfBounds, call)
+                        self.assertRegex(str(error), rf"^{name} is .*, not in {least}\.\.={greatest}$")
+                for first, last in ((1, 0), (greatest, least), (greatest, greatest - 1)):
+                    refuses(self, rng, EmptyRange, lambda rng, f=first, o=last: rng.fill_range(items, f, o))
+                for bad in (1.0, "1", None):
+                    refuses(self, rng, TypeError, lambda rng, bad=bad: rng.fill_range(items, bad, 5))
+                    refuses(self, rng, TypeError, lambda rng, bad=bad: rng.fill_range(items, 0, bad))
+                self.assertEqual(items.tolist(), [7, 7])
+
+    def test_a_bound_that_changes_the_buffer(self):
+        """It cannot: the buffer is exported meanwhile."""
+        class Grows:
+            def __index__(self):
+                with self.test.assertRaises(BufferError):
+                    self.buffer.append(1)
+                return 3
+
+        grows = Grows()
+        grows.test, grows.buffer = self, bytearray(9)
+        WyRand(1).fill_range(grows.buffer, 0, grows)
+        self.assertEqual(len(grows.buffer), 9)
+
+
+class Floats(unittest.TestCase):
+    def test_doubles(self):
+        for rng in generators():
+            for length in (*LENGTHS, LONG // 8 + 1):
+                same = rng.copy()
+                items = array.array("d", bytes(8 * length))
+                self.assertIsNone(rng.fill_random(items))
+                self.assertEqual(items.tolist(), [same.random() for _ in items])
+                self.assertEqual(rng, same)
+
+    def test_floats(self):
+        for rng in generators():
+            for length in (*LENGTHS, LONG // 4 + 1):
+                same = rng.copy()
+                items = array.array("f", bytes(4 * length))
+                rng.fill_random(items)
+                self.assertEqual(items.tolist(), [(same.u64() >> 40) / 2**24 for _ in items])
+                self.assertEqual(rng, same)
+
+    def test_ends(self):
+        words = [0, 2**11, 2**40 - 1, 2**40, 2**64 - 1]
+        rest = b"".join(word.to_bytes(8, "little") for word in words)
+        for letter, wanted in (("d", [(word >> 11) / 2**53 for word in words]), ("f", [0, 0, 0, 2**-24, 1 - 2**-24])):
+            items = array.array(letter, [9] * 5)
+            Stream(KEY, rest=rest).fill_random(items)
+            self.assertEqual(items.tolist(), wanted)
+
+
+def every_fill(buffer):
+    """The fills of a buffer, by their names."""
+    return {
+        "fill": lambda rng: rng.fill(buffer),
+        "fill_range": lambda rng: rng.fill_range(buffer, 0, 1),
+        "fill_random": lambda rng: rng.fill_random(buffer),
+    }
+
+
+class Refusals(unittest.TestCase):
+    def test_what_is_no_buffer(self):
+        for rng in generators():
+            for buffer in (None, 5, "text", [1, 2], (1, 2), range(5), object(), iter(b"")):
+                for call in every_fill(buffer).values():
+                    error = refuses(self, rng, TypeError, call)
+                    self.assertRegex(str(error), f"^buffer is a {type(buffer).__name__}, not ")
+
+    def test_memory_that_cannot_be_written(self):
+        read_only = [b"12345678", memoryview(b"12345678"), memoryview(bytearray(8)).toreadonly()]
+        read_only += [memoryview(b"12345678").cast("d"), memoryview(array.array("d", [0])).toreadonly()]
+        for rng in generators():
+            for buffer in read_only:
+                for call in every_fill(buffer).values():
+                    error = refuses(self, rng, BufferError, call)
+                    self.assertEqual(str(error), "buffer is read-only")
+
+    def test_memory_with_gaps(self):
+        for rng in generators():
+            for buffer in (bytearray(9), array.array("q", [0] * 9), array.array("d", [0] * 9)):
+                for view in (memoryview(buffer)[::2], memoryview(buffer)[::-1]):
+                    before = bytes(buffer)
+                    for call in every_fill(view).values():
+                        refuses(self, rng, BufferError, call)
+                    self.assertEqual(bytes(buffer), before)
+
+    def test_items_of_another_kind(self):
+        class Pair(ctypes.Structure):
+            _fields_ = [("one", ctypes.c_uint32), ("other", ctypes.c_uint32)]
+
+        floats = [array.array("d", [0]), array.array("f", [0]), (ctypes.c_double * 2)()]
+        wholes = [array.array(letter, [0]) for letter in WHOLE]
+        neither = [(Pair * 2)(), (ctypes.c_void_p * 2)(), (ctypes.py_object * 2)(), (ctypes.c_bool * 2)(),
+                   (ctypes.c_uint32.__ctype_be__ * 2)(), memoryview(bytearray(8)).cast("P"), memoryview(bytearray(8)).cast("?"),
+                   array.array("u", "ab"), (ctypes.c_longdouble * 2)()]
+        wrong = {"fill": [*floats, *neither], "fill_range": [*floats, *neither, memoryview(bytearray(8)).cast("c")],
+                 "fill_random": [*wholes, *neither, bytearray(8)]}
+        for rng in generators():
+            for name, buffers in wrong.items():
+                for buffer in buffers:
+                    error = refuses(self, rng, TypeError, every_fill(buffer)[name])
+                    self.assertRegex(str(error), "^buffer has items of the format '.*', not one of '")
+
+    def test_a_view_that_was_released(self):
+        for rng in generators():
+            view = memoryview(bytearray(8))
+            view.release()
+            for call in every_fill(view).values():
+                refuses(self, rng, ValueError, call)
+
+    def test_formats_with_an_order(self):
+        """As ctypes and NumPy write this machine's order."""
+        for kind, letter in ((ctypes.c_uint32, "I"), (ctypes.c_int64, "q"), (ctypes.c_int16, "h"), (ctypes.c_uint8, "B")):
+            memory, items = (kind * 50)(), array.array(letter, [0] * 50)
+            WyRand(5).fill_range(memory, 3, 99)
+            WyRand(5).fill_range(items, 3, 99)
+            self.assertEqual(list(memory), items.tolist())
+        memory = (ctypes.c_double * 50)()
+        rng = WyRand(5)
+        WyRand(5).fill_random(memory)
+        self.assertEqual(list(memory), [rng.random() for _ in memory])
+
+    def test_memory_that_is_not_aligned(self):
+        for letter in (*WHOLE, "d", "f"):
+            size = struct.calcsize(letter)
+            whole = bytearray(size * 20 + 1)
+            view, items = memoryview(whole)[1:].cast(letter), array.array(letter, [0] * 20)
+            for buffer in (view, items):
+                rng = WyRand(5)
+                rng.fill_random(buffer) if letter in "df" else rng.fill_range(buffer, 0, 99)
+            self.assertEqual(view.tolist(), items.tolist())
+
+
+class NumPy(unittest.TestCase):
+    """Arrays of NumPy's, where it is there."""
+
+    def setUp(self):
+        try:
+            import numpy
+        except ImportError:
+            self.skipTest("there is no NumPy")
+        self.numpy = numpy
+
+    def test_arrays(self):
+        names = {"uint8": "B", "uint16": "H", "uint32": "I", "uint64": "Q", "int8": "b", "int16": "h", "int32": "i", "int64": "q"}
+        for rng in generators():
+            for name, letter in names.items():
+                for shape in ((0,), (7,), (3, 4), (2, 3, 4), ()):
+                    made = self.numpy.zeros(shape, name)
+                    items = array.array(letter, [0] * made.size)
+                    same = rng.copy()
+                    rng.fill_range(made, 0, 99)
+                    same.fill_range(items, 0, 99)
+                    self.assertEqual(made.ravel().tolist(), items.tolist())
+                    rng.fill(made)
+                    same.fill(items)
+                    self.assertEqual(made.tobytes(), items.tobytes())
+                    self.assertEqual(rng, same)
+            for name in ("float64", "float32"):
+                made = self.numpy.zeros((5, 5), name)
+                items = array.array(name[5] == "6" and "d" or "f", [0] * 25)
+                same = rng.copy()
+                rng.fill_random(made)
+                same.fill_random(items)
+                self.assertEqual(made.ravel().tolist(), items.tolist())
+
+    def test_what_is_refused(self):
+        numpy = self.numpy
+        read_only = numpy.zeros(4)
+        read_only.flags.writeable = False
+        gaps = [numpy.zeros((4, 4))[:, ::2], numpy.zeros((4, 4)).T[1:], numpy.asfortranarray(numpy.zeros((4, 4)))]
+        kinds = [numpy.zeros(4, kind) for kind in ("O", "?", "c16", "f2", ">i4", "S3", "U3", [("a", "i4"), ("b", "f8")])]
+        for rng in generators():
+            for call in every_fill(read_only).values():
+                refuses(self, rng, BufferError, call)
+            for buffer in gaps:
+                for call in every_fill(buffer).values():
+                    refuses(self, rng, BufferError, call)
+            for buffer in kinds:
+                for call in every_fill(buffer).values():
+                    refuses(self, rng, TypeError, call)
+            for kind in ("M8[s]", "m8[s]"):
+                for call in every_fill(numpy.zeros(4, kind)).values():
+                    refuses(self, rng, (TypeError, ValueError, BufferError), call)
+
+
+if __name__ == "__main__":
+    unittest.main()

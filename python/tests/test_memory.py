@@ -1,0 +1,346 @@
+"""References and memory: no call keeps or loses any, whether it succeeds or fails; and lists that change meanwhile."""
+
+import array
+import contextlib
+import gc
+import pickle
+import sys
+import unittest
+import weakref
+
+from makers import CLASSES, KEY, NONCE, RANDOMS, generators
+
+from nanorand import Generator, Stream, WyRand, lots
+from nanorand.randoms import WyRandRandom
+
+TIMES = 1000
+BIG = 10**40
+ITEMS = ["an item %d" % place for place in range(9)]
+
+
+class Fails:
+    """A sequence and a number that fail whenever they are asked."""
+
+    def __len__(self):
+        return 3
+
+    def __getitem__(self, place):
+        raise KeyError(place)
+
+    def __setitem__(self, place, item):
+        raise KeyError(place)
+
+    def __index__(self):
+        raise KeyError
+
+
+class Refuses(list):
+    """A list that takes no items."""
+
+    def __setitem__(self, place, item):
+        raise KeyError(place)
+
+
+SHARED = [ITEMS, tuple(ITEMS), "text", bytearray(16), array.array("Q", [0] * 9), array.array("d", [0] * 9), Fails(), BIG,
+          Refuses(ITEMS), memoryview(b"12345678"), [1.5] * 9, [2] * 9, object()]
+LIST, TUPLE, TEXT, BUFFER, WORDS, DOUBLES, FAILS, _, REFUSES, READ_ONLY, REALS, WHOLES, OTHER = SHARED
+
+SUCCEED = {
+    "u64": lambda rng: rng.u64(),
+    "random": lambda rng: rng.random(),
+    "bytes": lambda rng: rng.bytes(100),
+    "below": lambda rng: (rng.below(1000), rng.below(2**64)),
+    "range": lambda rng: (rng.range(1, 1000), rng.range(-1000, 1000), rng.range(first=1, last=1000)),
+    "range32": lambda rng: rng.range32(1, 1000),
+    "randint": lambda rng: rng.randint(1, 1000),
+    "uniform": lambda rng: rng.uniform(1, 2.5),
+    "choice": lambda rng: (rng.choice(LIST), rng.choice(TUPLE), rng.choice(TEXT), rng.choice(WORDS)),
+    "choices": lambda rng: (rng.choices(LIST, k=5), rng.choices(TUPLE, WHOLES, k=5), rng.choices(LIST, REALS, k=5)),
+    "sample": lambda rng: (rng.sample(LIST, 5), rng.sample(TUPLE, 5), rng.sample(TEXT, 2)),
+    "sample_below": lambda rng: rng.sample_below(10**6, 5),
+    "shuffle": lambda rng: (rng.shuffle(LIST), rng.shuffle(BUFFER), rng.shuffle(WORDS)),
+    "shuffle_full": lambda rng: (rng.shuffle_full(LIST), rng.shuffle_full(BUFFER)),
+    "fill": lambda rng: (rng.fill(BUFFER), rng.fill(WORDS)),
+    "fill_range": lambda rng: (rng.fill_range(BUFFER, 1, 6), rng.fill_range(WORDS, 1, 2**60)),
+    "fill_random": lambda rng: rng.fill_random(DOUBLES),
+    "states": lambda rng: (rng.state, setattr(rng, "state", rng.state), type(rng).from_state(rng.state), rng.copy()),
+    "from_entropy": lambda rng: type(rng).from_entropy(),
+    "compared": lambda rng: (rng == rng.copy(), rng != rng.copy(), rng == 5, rng < rng.copy() if False else None),
+    "pickled": lambda rng: pickle.loads(pickle.dumps(rng)),
+    "shown": lambda rng: repr(rng),
+    "parts": lambda rng: [getattr(rng, name, None) for name in ("seed", "key", "nonce", "counter", "rest")],
+    "jump": lambda rng: rng.jump(10**9) if hasattr(rng, "jump") else None,
+    "block": lambda rng: rng.block() if hasattr(rng, "block") else None,
+    "made anew": lambda rng: rng.__init__(*((2**60,) if hasattr(rng, "seed") else (KEY, NONCE, 2**60))),
+    "weak references": lambda rng: weakref.ref(rng)(),
+}
+
+FAIL = {
+    "bytes": [lambda rng: rng.bytes(-1), lambda rng: rng.bytes(BIG), lambda rng: rng.bytes(OTHER), lambda rng: rng.bytes(FAILS),
+              lambda rng: rng.bytes(2**62), lambda rng: rng.bytes(), lambda rng: rng.bytes(1, 2), lambda rng: rng.bytes(size=1),
+              lambda rng: rng.bytes(1, length=1)],
+    "below": [lambda rng: rng.below(0), lambda rng: rng.below(BIG), lambda rng: rng.below(-BIG), lambda rng: rng.below(FAILS)],
+    "range": [lambda rng: rng.range(1000, 1), lambda rng: rng.range(BIG, BIG), lambda rng: rng.range(1, BIG),
+              lambda rng: rng.range(1, OTHER), lambda rng: rng.range(-1, 2**63), lambda rng: rng.range(1000, FAILS)],
+    "range32": [lambda rng: rng.range32(1000, 1), lambda rng: rng.range32(1000, BIG), lambda rng: rng.range32(OTHER, 1)],
+    "uniform": [lambda rng: rng.uniform(TEXT, TEXT), lambda rng: rng.uniform(OTHER, 1), lambda rng: rng.uniform({1}, {2})],
+    "choice": [lambda rng: rng.choice([]), lambda rng: rng.choice(OTHER), lambda rng: rng.choice(FAILS)],
+    "choices": [lambda rng: rng.choices([]), lambda rng: rng.choices(LIST, WHOLES[1:]), lambda rng: rng.choices(LIST, [0] * 9),
+                lambda rng: rng.choices(LIST, [-1] * 9), lambda rng: rng.choices(LIST, [-1.5] * 9), lambda rng: rng.choices(FAILS),
+                lambda rng: rng.choices(LIST, [OTHER] * 9), lambda rng: rng.choices(LIST, WHOLES, cum_weights=WHOLES),
+                lambda rng: rng.choices(LIST, [FAILS] * 9), lambda rng: rng.choices(LIST, OTHER), lambda rng: rng.choices(LIST, k=BIG),
+                lambda rng: rng.choices(LIST, cum_weights=[3, 2] + WHOLES[2:]), lambda rng: rng.choices(LIST, k=2**62)],
+    "sample": [lambda rng: rng.sample(LIST, 10), lambda rng: rng.sample(FAILS, 2), lambda rng: rng.sample(OTHER, 2),
+               lambda rng: rng.sample(LIST, BIG), lambda rng: rng.sample_below(5, 1000), lambda rng: rng.sample_below(2**63, 2**62),
+               lambda rng: rng.sample_below(BIG, 1)],
+    "shuffle": [lambda rng: rng.shuffle(TUPLE), lambda rng: rng.shuffle(FAILS), lambda rng: rng.shuffle(REFUSES),
+                lambda rng: rng.shuffle(READ_ONLY), lambda rng: rng.shuffle_full(REFUSES), lambda rng: rng.shuffle(OTHER)],
+    "fill": [lambda rng: rng.fill(READ_ONLY), lambda rng: rng.fill(DOUBLES), lambda rng: rng.fill(OTHER),
+             lambda rng: rng.fill(memoryview(BUFFER)[::2]), lambda rng: rng.fill_range(BUFFER, 6, 1),
+             lambda rng: rng.fill_range(BUFFER, 1, BIG), lambda rng: rng.fill_range(WORDS, FAILS, 5), lambda rng: rng.fill_random(WORDS)],
+    "states": [lambda rng: setattr(rng, "state", b"short"), lambda rng: setattr(rng, "state", OTHER), lambda rng: delattr(rng, "state"),
+               lambda rng: type(rng).from_state(b"short"), lambda rng: type(rng).from_state(OTHER), lambda rng: hash(rng),
+               lambda rng: Generator(), lambda rng: Generator.from_entropy(), lambda rng: rng < rng],
+    "made": [lambda rng: type(rng)(OTHER), lambda rng: type(rng)(BIG), lambda rng: type(rng)(b"short"), lambda rng: type(rng)(),
+             lambda rng: type(rng)(KEY, b"short"), lambda rng: type(rng)(KEY, NONCE, BIG), lambda rng: Stream(KEY, rest=bytes(64)),
+             lambda rng: Stream(KEY, rest=OTHER), lambda rng: type(rng).__new__(type(rng)).u64()],
+    "jump": [lambda rng: rng.jump(-1), lambda rng: rng.jump(OTHER), lambda rng: rng.jump(FAILS), lambda rng: rng.jump(10**60)],
+}
+
+OF_RANDOM = {
+    "random": lambda rng: rng.random(),
+    "getrandbits": lambda rng: (rng.getrandbits(9), rng.getrandbits(64), rng.getrandbits(65), rng.getrandbits(5000)),
+    "randbytes": lambda rng: rng.randbytes(100),
+    "generator": lambda rng: setattr(rng, "generator", rng.generator.copy()),
+    "seed": lambda rng: (rng.seed(5), rng.seed("a text"), rng.seed(-BIG), rng.seed(1.5), rng.seed()),
+    "states": lambda rng: rng.setstate(rng.getstate()),
+    "made": lambda rng: type(rng)(5).random(),
+    "refused": lambda rng: [refused(call, rng) for call in (
+        lambda rng: setattr(rng, "generator", OTHER), lambda rng: delattr(rng, "generator"), lambda rng: rng.getrandbits(-1),
+        lambda rng: rng.getrandbits(OTHER), lambda rng: rng.randbytes(-1), lambda rng: rng.seed(OTHER), lambda rng: rng.setstate(5),
+        lambda rng: rng.getrandbits(2**62), lambda rng: type(rng)([]), lambda rng: type(rng).__new__(type(rng)).random())],
+}
+
+OF_LOTS = {
+    "digest": lambda: lots.digest(b"text"),
+    "count": lambda: (lots.count(b"a\nb\n"), refused(lots.count, b"\n"), refused(lots.count, OTHER)),
+    "draw": lambda: (lots.draw("seed", LIST, 5), lots.draw("seed", b"a\nb\n")),
+    "refused": lambda: [refused(lots.draw, *arguments) for arguments in (
+        ("", LIST), (b"\xff", LIST), ("seed", LIST, 10), ("seed", OTHER), ("seed", FAILS), ("seed", LIST, BIG), ("seed", TEXT))],
+}
+
+
+def refused(call, *arguments):
+    with contextlib.suppress(TypeError, ValueError, KeyError, RuntimeError, MemoryError, AttributeError, BufferError):
+        call(*arguments)
+
+
+class Leaks(unittest.TestCase):
+    def setUp(self):
+        """What is there already is not looked through again and again."""
+        gc.collect()
+        gc.freeze()
+        self.addCleanup(gc.unfreeze)
+
+    def keeps_nothing(self, call, *arguments):
+        """The call leaves as much memory, and as many references to what it was given, as there were.
+
+        Python's own caches grow now and then: what is lost is lost in each of three rounds.
+        """
+        watched = [*arguments, *map(type, arguments), *SHARED, *ITEMS]
+        rounds = [self.grown(watched, call, arguments) for _ in range(3)]
+        for growths in zip(*rounds):
+            self.assertLess(min(growths), TIMES // 10)
+            self.assertGreater(max(growths), -TIMES // 10)
+
+    def grown(self, watched, call, arguments):
+        """By how many blocks of memory, and references to each thing, there are more after so many calls."""
+        gc.collect()
+        before = [sys.getallocatedblocks(), *map(sys.getrefcount, watched)]
+        for _ in range(TIMES):
+            call(*arguments)
+        gc.collect()
+        after = [sys.getallocatedblocks(), *map(sys.getrefcount, watched)]
+        return [now - then for now, then in zip(after, before)]
+
+    def test_calls_that_succeed(self):
+        for rng in generators():
+            for name, call in SUCCEED.items():
+                with self.subTest(kind=type(rng).__name__, name=name):
+                    self.keeps_nothing(call, rng)
+
+    def test_calls_that_fail(self):
+        for rng in (WyRand(1), Stream(KEY)):
+            for name, calls in FAIL.items():
+                for place, call in enumerate(calls):
+                    with self.subTest(kind=type(rng).__name__, name=name, place=place):
+                        self.keeps_nothing(refused, call, rng)
+
+    def test_calls_of_random(self):
+        for kind in RANDOMS:
+            for name, call in OF_RANDOM.items():
+                with self.subTest(kind=kind.__name__, name=name):
+                    self.keeps_nothing(call, kind(5))
+
+    def test_calls_of_lots(self):
+        for name, call in OF_LOTS.items():
+            with self.subTest(name=name):
+                self.keeps_nothing(call)
+
+    def test_long_memory(self):
+        """Arrays that are too long for Python's own allocator, by what the process holds."""
+        rng, items, buffer = WyRand(5), list(range(50_000)), bytearray(400_000)
+        calls = [lambda: rng.shuffle(items), lambda: rng.shuffle(buffer[:50_000]), lambda: rng.sample_below(10**6, 3000),
+                 lambda: rng.choices(items, k=50_000), lambda: rng.choices(items, [1] * 50_000),
+                 lambda: rng.choices(items, [1.5] * 50_000), lambda: rng.bytes(400_000), lambda: rng.fill(buffer),
+                 lambda: refused(rng.choices, items, [0] * 50_000), lambda: refused(rng.choices, items, [1] * 49_999 + [-1]),
+                 lambda: refused(rng.choices, items, [0.5] * 49_999 + [-1]), lambda: refused(rng.shuffle, Refuses(items)),
+                 lambda: lots.draw("seed", items, 5), lambda: refused(lots.draw, "seed", range(50_000), 50_001)]
+        for place, call in enumerate(calls):
+            for _ in range(5):
+                call()
+            before = resident()
+            for _ in range(200):
+                call()
+            self.assertLess(resident() - before, 20 * 2**20, place)
+
+    def test_classes_are_freed(self):
+        for kind in CLASSES.values():
+            seen = []
+            for _ in range(3):
+                made = type("Own", (kind,), {})
+                made.from_entropy().u64()
+                seen.append(weakref.ref(made))
+                del made
+            gc.collect()
+            self.assertEqual([one() for one in seen], [None] * 3)
+
+
+def resident():
+    """The bytes of this process that are in memory."""
+    with open("/proc/self/statm", encoding="ascii") as file:
+        return int(file.read().split()[1]) * 4096
+
+
+class Weak(unittest.TestCase):
+    def test_weak_references(self):
+        for rng in generators():
+            for kind in (type(rng), type("Own", (type(rng),), {})):
+                made, called = kind.from_state(rng.state), []
+                seen = weakref.ref(made)
+                weakref.finalize(made, called.append, 1)
+                self.assertIs(seen(), made)
+                del made
+                self.assertIsNone(seen())
+                self.assertEqual(called, [1])
+
+
+class Changing(unittest.TestCase):
+    """Sequences that call Python change themselves, or the generator, during a call: no memory is read that is gone."""
+
+    def test_a_list_that_shrinks(self):
+        class Shrinks(list):
+            def __len__(self):
+                return 1000
+
+            def __getitem__(self, place):
+                self.clear()
+                return super().__getitem__(place)
+
+        class Number:
+            def __init__(self, items):
+                self.items = items
+
+            def __index__(self):
+                self.items.clear()
+                return 3
+
+        for rng in generators():
+            for call in (rng.choice, rng.choices, rng.shuffle, rng.shuffle_full, lambda items, rng=rng: rng.sample(items, 5)):
+                with self.assertRaises(IndexError):
+                    call(Shrinks("abc"))
+            items = list("abcdef")
+            with self.assertRaises(IndexError):
+                rng.sample(items, Number(items))
+            items = list("abcdef")
+            with self.assertRaises(IndexError):
+                rng.choices(items, k=Number(items)) if len(items) < 6 else rng.choices(items, [Number(items)] * 6)
+
+    def test_items_that_go_when_they_are_replaced(self):
+        class Last:
+            def __init__(self, items):
+                self.items = items
+
+            def __del__(self):
+                self.items.clear()
+
+        class Items(list):
+            def __setitem__(self, place, item):
+                super().__setitem__(place, None)
+
+        for rng in generators():
+            items = Items()
+            items.extend(Last(items) for _ in range(20))
+            rng.shuffle(items)
+            self.assertEqual(items, [])
+
+    def test_an_item_that_draws(self):
+        """What an item draws meanwhile is undone with the rest if the call fails."""
+        class Draws(list):
+            def __getitem__(self, place):
+                self.rng.u64()
+                return super().__getitem__(place)
+
+            def __setitem__(self, place, item):
+                self.rng.u64()
+                if self.fails:
+                    raise KeyError(place)
+                super().__setitem__(place, item)
+
+        for rng in generators():
+            for fails in (False, True):
+                items = Draws(range(9))
+                items.rng, items.fails = rng, fails
+                before = rng.state
+                if fails:
+                    self.assertRaises(KeyError, rng.shuffle, items)
+                else:
+                    rng.shuffle(items)
+                self.assertEqual(sorted(items), list(range(9)))
+                self.assertEqual(rng.state != before, True)
+                rng.choice(items)
+
+    def test_a_new_that_makes_something_else(self):
+        class Other(WyRand):
+            def __new__(cls, *arguments):
+                return made
+
+        for made in (None, 5, WyRandRandom(1), object()):
+            with self.assertRaisesRegex(TypeError, "^what __new__ made is a "):
+                Other.from_state(bytes(8))
+        made = Stream(KEY)
+        with self.assertRaises(ValueError):
+            Other.from_state(bytes(8))
+        self.assertIs(Other.from_entropy(), made)
+
+    def test_an_init_that_was_not_called(self):
+        for kind in CLASSES.values():
+            class Own(kind):
+                def __init__(self):
+                    """It does not call the base's."""
+
+            calls = [lambda rng: rng.u64(), lambda rng: rng.state, lambda rng: rng.copy(), lambda rng: repr(rng),
+                     lambda rng: rng.fill(bytearray(100_000)), lambda rng: pickle.dumps(rng), lambda rng: rng == Own(),
+                     lambda rng: rng.shuffle([1, 2]), lambda rng: rng.shuffle(bytearray(2)), lambda rng: rng.choice("ab"),
+                     lambda rng: rng.sample("ab", 1), lambda rng: rng.choices("ab"), lambda rng: rng.uniform(1, 2),
+                     lambda rng: rng.range32(1, 2), lambda rng: rng.range(-1, 2), lambda rng: rng.bytes(5)]
+            for call in calls:
+                with self.assertRaisesRegex(RuntimeError, "^Own has no state: its __init__ was not called$"):
+                    call(Own())
+            rng = Own()
+            rng.state = kind.from_entropy().state
+            rng.u64()
+
+
+if __name__ == "__main__":
+    unittest.main()

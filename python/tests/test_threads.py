@@ -1,0 +1,234 @@
+"""Threads that share a generator take turns: each call sees a state that was before or after any other call."""
+
+import array
+import copy
+import os
+import pickle
+import sys
+import threading
+import time
+import unittest
+
+from makers import CLASSES, RANDOMS, generators
+
+from nanorand import WyRand
+
+LONG = 40_000_000  # bytes of a fill that other calls come upon
+
+CALLS = {
+    "u64": lambda rng: rng.u64(),
+    "random": lambda rng: rng.random(),
+    "bytes": lambda rng: rng.bytes(5),
+    "below": lambda rng: rng.below(100),
+    "range": lambda rng: rng.range(1, 100),
+    "range, signed": lambda rng: rng.range(-5, 5),
+    "range32": lambda rng: rng.range32(1, 100),
+    "randint": lambda rng: rng.randint(1, 100),
+    "uniform": lambda rng: rng.uniform(1, 100),
+    "choice": lambda rng: rng.choice("abc"),
+    "choices": lambda rng: rng.choices("abc", [1, 2, 3], k=5),
+    "sample": lambda rng: rng.sample("abcdef", 3),
+    "sample_below": lambda rng: rng.sample_below(100, 3),
+    "shuffle": lambda rng: shuffled(rng.shuffle, list(range(9))),
+    "shuffle, any": lambda rng: shuffled(rng.shuffle, bytearray(range(9))),
+    "shuffle_full": lambda rng: shuffled(rng.shuffle_full, list(range(9))),
+    "fill": lambda rng: filled(rng.fill, bytearray(9)),
+    "fill_range": lambda rng: filled(lambda items: rng.fill_range(items, 1, 6), bytearray(9)),
+    "fill_random": lambda rng: filled(rng.fill_random, array.array("d", [0, 0])),
+    "fill, long": lambda rng: filled(rng.fill, bytearray(100_000)),
+    "state": lambda rng: rng.state,
+    "copy": lambda rng: rng.copy().state,
+    "copy.copy": lambda rng: copy.copy(rng).state,
+    "pickle": lambda rng: pickle.loads(pickle.dumps(rng)).state,
+    "repr": lambda rng: repr(rng),
+    "==": lambda rng: rng == rng.copy(),
+    "parts": lambda rng: [getattr(rng, name) for name in ("seed", "key", "nonce") if hasattr(rng, name)],
+    "counter": lambda rng: getattr(rng, "counter", None),
+    "rest": lambda rng: getattr(rng, "rest", None),
+    "block": lambda rng: rng.block() if hasattr(rng, "block") else None,
+    "jump": lambda rng: rng.jump(3) if hasattr(rng, "jump") else None,
+    "state is set": lambda rng: setattr(rng, "state", bytes(len(rng.state))),
+    "__init__": lambda rng: rng.__init__(*((5,) if hasattr(rng, "seed") else (bytes(32),))),
+}
+
+
+def shuffled(shuffle, items):
+    shuffle(items)
+    return list(items)
+
+
+def filled(fill, buffer):
+    fill(buffer)
+    return bytes(buffer)
+
+
+def long_fills():
+    """Calls that draw without Python's lock, and what another thread finds meanwhile."""
+    return {
+        "bytes": lambda rng: rng.bytes(LONG),
+        "fill": lambda rng: rng.fill(bytearray(LONG)),
+        "fill_range": lambda rng: rng.fill_range(array.array("Q", bytes(LONG // 8)), 0, 99),
+        "fill_random": lambda rng: rng.fill_random(array.array("d", bytes(LONG // 8))),
+        "choices": lambda rng: rng.choices("ab", k=LONG // 80),
+        "sample_below": lambda rng: rng.sample_below(10**9, 20_000),
+    }
+
+
+class Meanwhile:
+    """A call that runs in a thread of its own, and has begun."""
+
+    def __init__(self, call):
+        self.begun = threading.Event()
+        self.thread = threading.Thread(target=self.run, args=(call,))
+        self.thread.start()
+        self.begun.wait()
+
+    def run(self, call):
+        self.begun.set()
+        call()
+
+
+class Turns(unittest.TestCase):
+    def test_every_call_waits_for_a_long_fill(self):
+        for rng in generators():
+            before = rng.copy()
+            after = rng.copy()
+            after.fill(bytearray(4_000_000))
+            for name, call in CALLS.items():
+                with self.subTest(kind=type(rng).__name__, name=name):
+                    shared = before.copy()
+                    other = Meanwhile(lambda shared=shared: shared.fill(bytearray(4_000_000)))
+                    found = call(shared)
+                    other.thread.join()
+                    first, second = before.copy(), after.copy()
+                    wanted = [call(first), call(second)]
+                    self.assertIn(found, wanted)
+                    first.fill(bytearray(4_000_000))
+                    self.assertIn(shared.state, (first.state, second.state))
+
+    def test_the_calls_of_random(self):
+        for kind in RANDOMS:
+            calls = [lambda rng: rng.random(), lambda rng: rng.getrandbits(9), lambda rng: rng.getrandbits(200),
+                     lambda rng: rng.randbytes(9), lambda rng: rng.getstate()]
+            for call in calls:
+                shared, first, second = kind(5), kind(5), kind(5)
+                second.randbytes(4_000_000)
+                other = Meanwhile(lambda shared=shared: shared.randbytes(4_000_000))
+                found = call(shared)
+                other.thread.join()
+                self.assertIn(found, [call(first), call(second)])
+
+    def test_a_generator_that_is_replaced_meanwhile(self):
+        """It is kept until its draw has ended."""
+        for kind in RANDOMS:
+            for draw in (lambda rng: rng.randbytes(20_000_000), lambda rng: rng.getrandbits(8 * 20_000_000)):
+                rng, drawn = kind(5), []
+                other = Meanwhile(lambda rng=rng, drawn=drawn, draw=draw: drawn.append(draw(rng)))
+                time.sleep(0.001)
+                rng.seed(6)
+                other.thread.join()
+                self.assertIn(drawn[0], [draw(kind(5)), draw(kind(6))])
+
+    def test_python_s_lock_is_given_up(self):
+        """While one thread draws for long, another runs."""
+        for kind in CLASSES.values():
+            for name, call in long_fills().items():
+                rng = kind.from_entropy()
+                with self.subTest(kind=kind.__name__, name=name):
+                    self.assertTrue(any(self.runs_meanwhile(rng, call) for _ in range(20)))
+
+    def runs_meanwhile(self, rng, call):
+        """Whether this thread sees the generator busy: it counts, while the other's call has neither begun nor ended."""
+        steps = []
+
+        def draw():
+            steps.append("begun")
+            call(rng)
+            steps.append("ended")
+
+        interval = sys.getswitchinterval()
+        sys.setswitchinterval(1e-6)
+        thread = threading.Thread(target=draw)
+        try:
+            thread.start()
+            found = 0
+            while "ended" not in steps:
+                found += "begun" in steps
+        finally:
+            sys.setswitchinterval(interval)
+            thread.join()
+        return found > 1000
+
+    def test_many_threads_and_fills(self):
+        """Every byte is drawn once, whoever draws it."""
+        for kind in CLASSES.values():
+            state = kind.from_entropy().state
+            shared, pieces = kind.from_state(state), []
+
+            def draw(shared=shared, pieces=pieces):
+                for length in (1 << 17, 64, 1 << 18, 128, 1 << 16, (1 << 16) + 64):
+                    pieces.append(shared.bytes(length))
+
+            threads = [threading.Thread(target=draw) for _ in range(6)]
+            for thread in threads:
+                thread.start()
+            for thread in threads:
+                thread.join()
+            whole = kind.from_state(state).bytes(sum(map(len, pieces)))
+            found = {whole.index(piece[:64]) for piece in pieces}
+            self.assertEqual(len(found), len(pieces))
+            for piece in pieces:
+                at = whole.index(piece[:64])
+                self.assertEqual(whole[at : at + len(piece)], piece)
+
+    def test_generators_of_their_own(self):
+        """Threads with a generator each do not wait for one another, and draw what they draw alone."""
+        wanted = [WyRand(seed).bytes(1_000_000) for seed in range(8)]
+        found = [b""] * 8
+
+        def draw(seed):
+            found[seed] = WyRand(seed).bytes(1_000_000)
+
+        threads = [threading.Thread(target=draw, args=(seed,)) for seed in range(8)]
+        for thread in threads:
+            thread.start()
+        for thread in threads:
+            thread.join()
+        self.assertEqual(found, wanted)
+
+    def test_a_list_of_another_thread_s(self):
+        """A list that others change is shuffled in one moment: no item is lost and none comes twice."""
+        rng, items, stop = WyRand(5), list(range(1000)), threading.Event()
+
+        def swap():
+            while not stop.is_set():
+                items.append(items.pop())
+
+        thread = threading.Thread(target=swap)
+        thread.start()
+        for _ in range(300):
+            rng.shuffle(items)
+        stop.set()
+        thread.join()
+        self.assertEqual(sorted(items), list(range(1000)))
+
+
+@unittest.skipUnless(hasattr(os, "fork"), "this system has no fork")
+class Processes(unittest.TestCase):
+    def test_a_child_goes_on_from_the_same_state(self):
+        rng = WyRand(5)
+        rng.bytes(1_000_000)
+        wanted = rng.copy().bytes(1_000_000)
+        reader, writer = os.pipe()
+        child = os.fork()
+        if child == 0:
+            os.write(writer, b"same" if rng.bytes(1_000_000) == wanted else b"different")
+            os._exit(0)
+        os.waitpid(child, 0)
+        self.assertEqual(os.read(reader, 99), b"same")
+        os.close(reader)
+        os.close(writer)
+
+
+if __name__ == "__main__":
+    unittest.main()
