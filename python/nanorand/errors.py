@@ -1,7 +1,8 @@
 """The errors of this package.
 
 After each of them the generator's state is as before, but for `Exhausted`. A value of a wrong
-type, a float for one, is a `TypeError`.
+type, a float for one, is a `TypeError`. A number is told in digits, and one of more than about 100
+digits by how many bits it has.
 
 >>> from nanorand import EmptyRange, WyRand
 >>> try:
@@ -35,7 +36,7 @@ class NanorandError(Exception):
 
 
 class EmptyRange(NanorandError, ValueError):
-    """There is no number or item to draw; or a sample asks for more numbers than there are.
+    """There is no number, item or weight to draw; or a sample asks for more numbers than there are.
 
     >>> str(EmptyRange())
     'there is no number or item to draw'
@@ -57,7 +58,7 @@ class Exhausted(NanorandError, RuntimeError):
 
 
 class OutOfBounds(NanorandError, OverflowError, ValueError):
-    """A number does not fit its bits: a seed, a bound, a length or a count.
+    """A number does not fit its bits: a seed, a bound, a length or a count. Or it is no weight.
 
     >>> from nanorand import WyRand
     >>> WyRand(2**64)
@@ -67,7 +68,7 @@ class OutOfBounds(NanorandError, OverflowError, ValueError):
 
 
 class WrongLength(NanorandError, ValueError):
-    """A key, a nonce, a state or buffered bytes of another length.
+    """A key, a nonce, a state, buffered bytes or weights of another length.
 
     >>> from nanorand import Stream
     >>> Stream(b"short")
@@ -92,7 +93,7 @@ class ForeignState(NanorandError, ValueError):
 
 
 class LibraryRefused(NanorandError, ImportError):
-    """The shared library is missing, or has another version than this package.
+    """The extension module is missing, or the library in it has another version than this package.
 
     >>> issubclass(LibraryRefused, ImportError)
     True

@@ -52,7 +52,7 @@ class GeneratorRandom(BaseRandom):
         super().__init_subclass__(**named)
         first = next(one for one in cls.__mro__ if {"getrandbits", "randbytes"} & vars(one).keys())
         if "randbytes" not in vars(first):
-            cls.randbytes = random.Random.randbytes  # type: ignore[method-assign]
+            setattr(cls, "randbytes", random.Random.randbytes)
 
     def __init__(self, seed: Seed = None) -> None:
         super().__init__(seed)
