@@ -1,0 +1,205 @@
+"""The generators as bit generators of NumPy, for `numpy.random.Generator`.
+
+NumPy is needed for this module and for nothing else of the package. A seed is whatever NumPy's own bit generators
+take, mixed by `numpy.random.SeedSequence` as there. `of` goes on where a generator of this package is, so that the
+words are those of every other language; which numbers NumPy makes of words is NumPy's.
+
+>>> import numpy
+>>> from nanorand import Pcg64
+>>> from nanorand.numpy import Pcg64Bits
+>>> rng = numpy.random.Generator(Pcg64Bits(42))
+>>> len(rng.normal(size=1000))
+1000
+>>> Pcg64Bits.of(Pcg64(42)).random_raw() == Pcg64(42).u64()
+True
+"""
+
+from collections.abc import Callable, Mapping
+from typing import Any, ClassVar, Optional, SupportsIndex, TypeVar
+
+import numpy
+from numpy.random import BitGenerator
+from numpy.random.bit_generator import ISeedSequence, SeedlessSeedSequence
+
+from nanorand import _native
+from nanorand._checks import U32_LAST, number
+from nanorand.errors import ForeignState
+from nanorand.generators import Generator, Pcg64, Stream, WyRand
+
+__all__ = ["GeneratorBits", "Pcg64Bits", "StreamBits", "WyRandBits"]
+
+Bits = TypeVar("Bits", bound="GeneratorBits")
+
+
+class GeneratorBits(BitGenerator):
+    """What the classes of this module have in common. It is no bit generator itself.
+
+    A word of 64 bits is a `u64` of the generator; of 32 bits it is the low half of one, and the next is its high
+    half, unless a word of 64 bits comes between; a double is the upper 53 bits of one, times 2^-53. Whoever draws
+    holds `lock`, as with NumPy's own.
+    """
+
+    _kind: ClassVar[type[Generator]]
+    _seed_length: ClassVar[int]
+    _zeros: ClassVar[int] = 0
+    _last_jump: ClassVar[int]
+
+    def __init__(self, seed: Any = None) -> None:
+        if not hasattr(self, "_kind"):
+            raise TypeError("GeneratorBits has no generator: take one of its subclasses")
+        if self.capsule is not None:
+            raise TypeError("a bit generator is made once: another may draw from its memory")
+        super().__init__(seed)
+        words = self._seed_seq.generate_state(self._seed_length // 8, numpy.uint64)
+        state = words.astype("<u8").tobytes() + bytes(self._zeros)
+        _native.attach(self.capsule, self._kind.from_state(state), None)
+
+    @classmethod
+    def of(cls: type[Bits], generator: Generator) -> Bits:
+        """A bit generator that goes on where a generator is, by a copy of it. Without a seed, it spawns none.
+
+        >>> from nanorand import WyRand
+        >>> rng = WyRand(42)
+        >>> WyRandBits.of(rng).random_raw() == rng.u64()
+        True
+        """
+        if type(generator) is not cls._kind:
+            raise TypeError(f"generator is a {type(generator).__name__}, not a {cls._kind.__name__}")
+        return cls._at(SeedlessSeedSequence(), generator.copy())
+
+    @classmethod
+    def _at(cls: type[Bits], seed: ISeedSequence, generator: Generator, half: Optional[int] = None) -> Bits:
+        made = cls.__new__(cls)
+        BitGenerator.__init__(made, seed)
+        _native.attach(made.capsule, generator, half)
+        return made
+
+    def _now(self) -> "tuple[Generator, Optional[int]]":
+        """The generator after the words drawn, and the half of the last one that comes next, or None."""
+        with self.lock:
+            start, words, half = _native.drawn(self.capsule)
+            generator = start.copy()
+        generator.bytes(8 * words)
+        return generator, half
+
+    @property
+    def generator(self) -> Generator:
+        """A generator of this package that goes on where this is, at a whole word.
+
+        >>> bits = Pcg64Bits(42)
+        >>> bits.generator.u64() == bits.random_raw()
+        True
+        """
+        return self._now()[0]
+
+    @property
+    def state(self) -> "dict[str, Any]":  # type: ignore[override]
+        """The state as NumPy has it: the name, the generator's own state, and the half word that comes next.
+
+        >>> bits = WyRandBits(42)
+        >>> saved = bits.state
+        >>> first = bits.random_raw()
+        >>> bits.state = saved
+        >>> bits.random_raw() == first
+        True
+        """
+        generator, half = self._now()
+        return {
+            "bit_generator": _Name(type(self).__name__),
+            "state": generator.state,
+            "has_uint32": int(half is not None),
+            "uinteger": half or 0,
+        }
+
+    @state.setter
+    def state(self, state: Mapping[str, Any]) -> None:
+        if not isinstance(state, Mapping):
+            raise TypeError(f"state is a {type(state).__name__}, not a dict")
+        if state.get("bit_generator") != type(self).__name__ or not _PARTS <= state.keys():
+            raise ForeignState(type(self).__name__)
+        generator = self._kind.from_state(state["state"])
+        half = number("uinteger", state["uinteger"], 0, U32_LAST)
+        with_half = number("has_uint32", state["has_uint32"], 0, 1)
+        with self.lock:
+            _native.restart(self.capsule, generator, half if with_half else None)
+
+    def jumped(self: Bits, jumps: SupportsIndex = 1) -> Bits:
+        """A bit generator that is so many jumps ahead, so that the words until there are not drawn again.
+
+        A jump is 2^48 words of `WyRandBits`, 2^64 of `Pcg64Bits`, and 2^48 blocks of eight words of `StreamBits`.
+
+        >>> Pcg64Bits(42).jumped(2).random_raw() == Pcg64Bits(42).jumped().jumped().random_raw()
+        True
+        """
+        generator = self._now()[0]
+        return self._at(SeedlessSeedSequence(), self._ahead(generator, number("jumps", jumps, 0, self._last_jump)))
+
+    @staticmethod
+    def _ahead(generator: Any, jumps: int) -> Generator:
+        raise NotImplementedError
+
+    def __reduce__(self) -> "tuple[Callable[..., GeneratorBits], tuple[Any, ...]]":  # type: ignore[override]
+        return self._at, (self._seed_seq, *self._now())
+
+
+class WyRandBits(GeneratorBits):
+    """`WyRand` as a bit generator, the fastest. It is not cryptographically secure.
+
+    >>> WyRandBits(42).random_raw() == WyRandBits(42).random_raw()
+    True
+    """
+
+    _kind = WyRand
+    _seed_length = 8
+    _last_jump = 2**16 - 1
+
+    @staticmethod
+    def _ahead(generator: WyRand, jumps: int) -> WyRand:
+        generator.jump(jumps << 48)
+        return generator
+
+
+class Pcg64Bits(GeneratorBits):
+    """`Pcg64` as a bit generator, with a period of 2^126 words. It is not cryptographically secure.
+
+    >>> Pcg64Bits(42).random_raw() == Pcg64Bits(42).random_raw()
+    True
+    """
+
+    _kind = Pcg64
+    _seed_length = 16
+    _last_jump = 2**62 - 1
+
+    @staticmethod
+    def _ahead(generator: Pcg64, jumps: int) -> Pcg64:
+        generator.jump(jumps << 64)
+        return generator
+
+
+class StreamBits(GeneratorBits):
+    """The keystream of ChaCha20 as a bit generator. Its seed is the key; nonce and counter begin at 0.
+
+    >>> StreamBits(42).random_raw() == StreamBits(42).random_raw()
+    True
+    """
+
+    _kind = Stream
+    _seed_length = 32
+    _zeros = 16
+    _last_jump = 2**16 - 1
+
+    @staticmethod
+    def _ahead(generator: Stream, jumps: int) -> Stream:
+        begun = len(generator.rest) > 0
+        block = (generator.counter - begun + (jumps << 48)) % 2**64
+        ahead = Stream(generator.key, generator.nonce, block)
+        ahead.bytes(64 - len(generator.rest) if begun else 0)
+        return ahead
+
+
+# NumPy 1 finds the bit generator of a Generator that was pickled by its name, in this table alone.
+class _Name(str):
+    """The name of a bit generator in its state. Who unpickles it imports this module, and so fills NumPy's table."""
+
+
+numpy.random._pickle.BitGenerators.update((kind.__name__, kind) for kind in (WyRandBits, Pcg64Bits, StreamBits))  # type: ignore[attr-defined]

@@ -1,0 +1,305 @@
+"""The bit generators for NumPy beside the generators that they draw from. Skipped where there is no NumPy."""
+
+import copy
+import gc
+import pickle
+import random
+import subprocess
+import sys
+import threading
+import unittest
+
+from makers import KEY, NONCE
+from test_answers import octets, rows
+
+from nanorand import Pcg64, Stream, WyRand
+from nanorand.errors import ForeignState, NanorandError, OutOfBounds, WrongLength
+
+try:
+    import numpy
+    from numpy.random import SeedSequence
+
+    from nanorand.numpy import GeneratorBits, Pcg64Bits, StreamBits, WyRandBits
+except ImportError as error:
+    raise unittest.SkipTest(f"NumPy is not there: {error}") from None
+
+BITS = {WyRandBits: WyRand, Pcg64Bits: Pcg64, StreamBits: Stream}
+STARTS = [WyRand(42), Pcg64(2**64 + 42), Stream(KEY), Stream(KEY, NONCE, 5, b"abc"), Stream(KEY, counter=2**64 - 1)]
+JUMPS = {WyRandBits: 2**48, Pcg64Bits: 2**64}
+
+
+def bits_of(generator):
+    """The bit generator that goes on where the generator is."""
+    kind = next(bits for bits, kind in BITS.items() if kind is type(generator))
+    return kind.of(generator)
+
+
+class Model:
+    """What a bit generator does, by the calls of the generator."""
+
+    def __init__(self, generator):
+        self.generator, self.half = generator.copy(), None
+
+    def word(self):
+        self.half = None
+        return self.generator.u64()
+
+    def half_word(self):
+        if self.half is None:
+            word = self.generator.u64()
+            self.half = word >> 32
+            return word % 2**32
+        half, self.half = self.half, None
+        return half
+
+    def double(self):
+        return (self.word() >> 11) * 2.0**-53
+
+    def state(self):
+        return self.generator.state, self.half
+
+
+def drawn(bits, call):
+    """What a pointer of the capsule draws."""
+    interface = bits.ctypes
+    return getattr(interface, call)(interface.state)
+
+
+DRAWS = {
+    Model.word: lambda bits: drawn(bits, "next_uint64"),
+    Model.half_word: lambda bits: drawn(bits, "next_uint32"),
+    Model.double: lambda bits: drawn(bits, "next_double"),
+}
+
+
+def state_of(bits):
+    """The state in the form of the model's."""
+    state = bits.state
+    return state["state"], state["uinteger"] if state["has_uint32"] else None
+
+
+class Words(unittest.TestCase):
+    def test_table_of_answers(self):
+        kinds = {kind.__name__.lower(): bits for bits, kind in BITS.items()}
+        count = 0
+        for generator, before, call, _, _, answer, after in rows():
+            if call == "u64" and generator in kinds:
+                bits = kinds[generator].of(BITS[kinds[generator]].from_state(octets(before)))
+                self.assertEqual(bits.random_raw(), int(answer), (generator, before))
+                self.assertEqual(bits.generator.state, octets(after), (generator, before))
+                count += 1
+        self.assertGreater(count, 10)
+
+    def test_long_runs_of_each_call(self):
+        for start in STARTS:
+            for wanted, draw in DRAWS.items():
+                bits, model = bits_of(start), Model(start)
+                for _ in range(1100):
+                    self.assertEqual(draw(bits), wanted(model))
+                self.assertEqual(state_of(bits), model.state())
+
+    def test_calls_in_any_order(self):
+        chooser = random.Random(1)
+        for start in STARTS:
+            bits, model = bits_of(start), Model(start)
+            for _ in range(3000):
+                wanted = chooser.choice(list(DRAWS))
+                self.assertEqual(DRAWS[wanted](bits), wanted(model))
+                if chooser.random() < 0.05:
+                    self.assertEqual(state_of(bits), model.state())
+                if chooser.random() < 0.02:
+                    bits.state = bits.state
+                if chooser.random() < 0.02:
+                    bits = pickle.loads(pickle.dumps(bits))
+
+    def test_arrays(self):
+        for start in STARTS:
+            model = start.copy()
+            self.assertEqual(bits_of(start).random_raw((7, 100)).ravel().tolist(), [model.u64() for _ in range(700)])
+
+    def test_the_generator_that_was_given_stays(self):
+        for start in STARTS:
+            before = start.state
+            bits = bits_of(start)
+            bits.random_raw(1000)
+            bits.generator.u64()
+            self.assertEqual(start.state, before)
+
+
+class States(unittest.TestCase):
+    def test_written_in_place(self):
+        for start in STARTS:
+            bits = bits_of(start)
+            rng = numpy.random.Generator(bits)
+            for draws in (0, 1, 127, 128, 129, 1000):
+                rng.random(draws)
+                rng.integers(0, 100, dtype=numpy.uint32)
+                saved = bits.state
+                first = rng.random(300).tolist()
+                bits.state = saved
+                self.assertEqual(rng.random(300).tolist(), first)
+
+    def test_refused(self):
+        for start in STARTS:
+            bits = bits_of(start)
+            DRAWS[Model.half_word](bits)
+            state = bits.state
+            for wrong, error in [
+                *[(value, TypeError) for value in (None, 5, "state", [1], {"state"})],
+                *[({}, ForeignState), ({"bit_generator": state["bit_generator"]}, ForeignState)],
+                *[({**state, "bit_generator": name}, ForeignState) for name in ("PCG64", "", None, "GeneratorBits")],
+                *[({**state, "state": text}, WrongLength) for text in (b"", b"1234567", bytes(200))],
+                *[({**state, "state": text}, TypeError) for text in (None, 5, "state", {})],
+                *[({**state, "uinteger": half}, OutOfBounds) for half in (-1, 2**32, 2**64)],
+                *[({**state, "has_uint32": half}, OutOfBounds) for half in (-1, 2)],
+                *[({**state, name: None}, TypeError) for name in ("uinteger", "has_uint32")],
+                *[({key: state[key] for key in state if key != name}, ForeignState) for name in state],
+            ]:
+                with self.assertRaises(error) as caught:
+                    bits.state = wrong
+                self.assertIs(type(caught.exception), error)
+                self.assertEqual(bits.state, state)
+
+    def test_pickles_and_copies(self):
+        for start in STARTS:
+            bits = bits_of(start)
+            DRAWS[Model.half_word](bits)
+            for other in (pickle.loads(pickle.dumps(bits)), copy.copy(bits), copy.deepcopy(bits)):
+                self.assertIs(type(other), type(bits))
+                self.assertEqual(other.state, bits.state)
+                wanted = bits.state
+                other.random_raw(5)
+                self.assertEqual(bits.state, wanted)
+
+    def test_pickles_of_generators_elsewhere(self):
+        for kind in BITS:
+            rng = numpy.random.Generator(kind(7))
+            rng.integers(0, 100, 3, dtype=numpy.uint32)
+            text = pickle.dumps(rng)
+            program = "import pickle, sys; print(pickle.load(sys.stdin.buffer).integers(0, 2**63, 5).tolist())"
+            printed = subprocess.run([sys.executable, "-c", program], input=text, capture_output=True, check=True).stdout
+            self.assertEqual(printed.decode().strip(), str(rng.integers(0, 2**63, 5).tolist()))
+
+
+class Seeds(unittest.TestCase):
+    def test_as_numpys_take_them(self):
+        for kind in BITS:
+            equal = [(5, [5]), (2**200, [0, 0, 0, 0, 0, 0, 2**8]), (SeedSequence(5), 5)]
+            for one, other in equal:
+                self.assertEqual(kind(one).state, kind(other).state)
+            different = [kind(seed).state["state"] for seed in (0, 1, 2**32, 2**64, [1, 2], None, None)]
+            self.assertEqual(len(set(different)), len(different))
+            for seed, error in [(-1, ValueError), ("1", TypeError), (1.5, TypeError), ([None], TypeError)]:
+                self.assertRaises(error, kind, seed)
+
+    def test_the_state_is_the_sequence_words(self):
+        for kind, made in BITS.items():
+            length = 32 if made is Stream else len(kind(0).state["state"])
+            words = SeedSequence(42).generate_state(length // 8, numpy.uint64)
+            wanted = b"".join(int(word).to_bytes(8, "little") for word in words)
+            self.assertEqual(kind(42).state["state"][:length], wanted)
+            self.assertFalse(any(kind(42).state["state"][length:]))
+
+    def test_spawn(self):
+        for kind in BITS:
+            sequences = SeedSequence(42).spawn(3)
+            wanted = [kind(one).state for one in sequences]
+            if hasattr(kind, "spawn"):
+                self.assertEqual([one.state for one in kind(42).spawn(3)], wanted)
+            self.assertEqual(len({str(state) for state in wanted}), 3)
+
+    def test_made_once(self):
+        for kind in BITS:
+            bits = kind(1)
+            before = bits.state
+            self.assertRaises(TypeError, bits.__init__, 2)
+            self.assertEqual(bits.state, before)
+        self.assertRaises(TypeError, GeneratorBits)
+        self.assertRaises(TypeError, GeneratorBits, 5)
+
+    def test_of_another_kind(self):
+        for kind, made in BITS.items():
+            for other in [*(start for start in STARTS if type(start) is not made), None, 5, kind(1), b"12345678"]:
+                self.assertRaises(TypeError, kind.of, other)
+
+
+class Jumps(unittest.TestCase):
+    def test_as_the_generator_jumps(self):
+        for start in STARTS[:2]:
+            for jumps in (0, 1, 2, 3, 1000, 2**16 - 1):
+                bits, model = bits_of(start), start.copy()
+                DRAWS[Model.half_word](bits)
+                model.u64()
+                model.jump(jumps * JUMPS[type(bits)])
+                self.assertEqual(state_of(bits.jumped(jumps)), (model.state, None))
+
+    def test_streams_jump_by_blocks(self):
+        for start in STARTS[2:]:
+            whole = 64 * start.counter - len(start.rest)
+            for jumps in (0, 1, 2, 65535):
+                ahead = bits_of(start).jumped(jumps).generator
+                place = 64 * ahead.counter - len(ahead.rest)
+                self.assertEqual((place - whole - (jumps << 54)) % 2**70, 0)
+                model = Stream(start.key, start.nonce, (start.counter + (jumps << 48) - bool(start.rest)) % 2**64)
+                model.bytes((64 - len(start.rest)) % 64)
+                self.assertEqual(ahead.bytes(200), model.bytes(200))
+
+    def test_leaves_where_it_was(self):
+        for start in STARTS:
+            bits = bits_of(start)
+            DRAWS[Model.half_word](bits)
+            before = bits.state
+            bits.jumped()
+            self.assertEqual(bits.state, before)
+
+    def test_refused(self):
+        for kind in BITS:
+            last = kind._last_jump
+            kind(1).jumped(last)
+            for jumps, error in [(-1, OutOfBounds), (last + 1, OutOfBounds), (1.0, TypeError), ("1", TypeError)]:
+                self.assertRaises(error, kind(1).jumped, jumps)
+
+
+class Memory(unittest.TestCase):
+    def test_a_generator_outlives_its_bit_generator(self):
+        for start in STARTS:
+            rng, model = numpy.random.Generator(bits_of(start)), Model(start)
+            gc.collect()
+            capsule = rng.bit_generator.capsule
+            self.assertEqual(rng.random(), model.double())
+            del rng
+            gc.collect()
+            self.assertIsNotNone(capsule)
+
+    def test_nothing_is_left_behind(self):
+        starts = [(start, sys.getrefcount(type(start))) for start in STARTS]
+        for start, count in starts:
+            for _ in range(200):
+                bits = bits_of(start)
+                bits.state = bits.state
+                pickle.loads(pickle.dumps(bits.jumped()))
+                self.assertRaises((NanorandError, TypeError), setattr, bits, "state", {})
+            del bits
+            gc.collect()
+            self.assertLess(sys.getrefcount(type(start)) - count, 20)
+
+    def test_threads_share_every_word_once(self):
+        for start in STARTS:
+            bits, model, found = bits_of(start), start.copy(), []
+
+            def draw(bits=bits, found=found):
+                for _ in range(50):
+                    found.extend(bits.random_raw(97).tolist())
+                    bits.state  # noqa: B018
+
+            threads = [threading.Thread(target=draw) for _ in range(4)]
+            for thread in threads:
+                thread.start()
+            for thread in threads:
+                thread.join()
+            self.assertEqual(sorted(found), sorted(model.u64() for _ in range(4 * 50 * 97)))
+            self.assertEqual(bits.generator.state, model.state)
+
+
+if __name__ == "__main__":
+    unittest.main()
