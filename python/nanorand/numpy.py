@@ -22,13 +22,14 @@ from numpy.random import BitGenerator
 from numpy.random.bit_generator import ISeedSequence, SeedlessSeedSequence
 
 from nanorand import _native
-from nanorand._checks import U32_LAST, number
 from nanorand.errors import ForeignState
 from nanorand.generators import Generator, Pcg64, Stream, WyRand
 
 __all__ = ["GeneratorBits", "Pcg64Bits", "StreamBits", "WyRandBits"]
 
 Bits = TypeVar("Bits", bound="GeneratorBits")
+
+PARTS = frozenset({"bit_generator", "state", "has_uint32", "uinteger"})
 
 
 class GeneratorBits(BitGenerator):
@@ -43,6 +44,9 @@ class GeneratorBits(BitGenerator):
     _seed_length: ClassVar[int]
     _zeros: ClassVar[int] = 0
     _last_jump: ClassVar[int]
+    # Of NumPy's, which does not tell their types.
+    capsule: Any
+    _seed_seq: ISeedSequence
 
     def __init__(self, seed: Any = None) -> None:
         if not hasattr(self, "_kind"):
@@ -52,7 +56,7 @@ class GeneratorBits(BitGenerator):
         super().__init__(seed)
         words = self._seed_seq.generate_state(self._seed_length // 8, numpy.uint64)
         state = words.astype("<u8").tobytes() + bytes(self._zeros)
-        _native.attach(self.capsule, self._kind.from_state(state), None)
+        _native.attach(self.capsule, self._kind.from_state(state))
 
     @classmethod
     def of(cls: type[Bits], generator: Generator) -> Bits:
@@ -65,13 +69,14 @@ class GeneratorBits(BitGenerator):
         """
         if type(generator) is not cls._kind:
             raise TypeError(f"generator is a {type(generator).__name__}, not a {cls._kind.__name__}")
-        return cls._at(SeedlessSeedSequence(), generator.copy())
+        return cls._at(SeedlessSeedSequence(), generator)
 
     @classmethod
-    def _at(cls: type[Bits], seed: ISeedSequence, generator: Generator, half: Optional[int] = None) -> Bits:
+    def _at(cls: type[Bits], seed: Any, generator: Generator) -> Bits:
+        """A bit generator over a copy of the generator."""
         made = cls.__new__(cls)
         BitGenerator.__init__(made, seed)
-        _native.attach(made.capsule, generator, half)
+        _native.attach(made.capsule, generator)
         return made
 
     def _now(self) -> "tuple[Generator, Optional[int]]":
@@ -92,8 +97,8 @@ class GeneratorBits(BitGenerator):
         """
         return self._now()[0]
 
-    @property
-    def state(self) -> "dict[str, Any]":  # type: ignore[override]
+    @property  # type: ignore[override]
+    def state(self) -> "dict[str, Any]":
         """The state as NumPy has it: the name, the generator's own state, and the half word that comes next.
 
         >>> bits = WyRandBits(42)
@@ -105,7 +110,7 @@ class GeneratorBits(BitGenerator):
         """
         generator, half = self._now()
         return {
-            "bit_generator": _Name(type(self).__name__),
+            "bit_generator": type(self).__name__,
             "state": generator.state,
             "has_uint32": int(half is not None),
             "uinteger": half or 0,
@@ -115,11 +120,11 @@ class GeneratorBits(BitGenerator):
     def state(self, state: Mapping[str, Any]) -> None:
         if not isinstance(state, Mapping):
             raise TypeError(f"state is a {type(state).__name__}, not a dict")
-        if state.get("bit_generator") != type(self).__name__ or not _PARTS <= state.keys():
+        if not PARTS <= state.keys() or state["bit_generator"] != type(self).__name__:
             raise ForeignState(type(self).__name__)
         generator = self._kind.from_state(state["state"])
-        half = number("uinteger", state["uinteger"], 0, U32_LAST)
-        with_half = number("has_uint32", state["has_uint32"], 0, 1)
+        half = _native.bounded("uinteger", state["uinteger"], 2**32 - 1)
+        with_half = _native.bounded("has_uint32", state["has_uint32"], 1)
         with self.lock:
             _native.restart(self.capsule, generator, half if with_half else None)
 
@@ -131,15 +136,22 @@ class GeneratorBits(BitGenerator):
         >>> Pcg64Bits(42).jumped(2).random_raw() == Pcg64Bits(42).jumped().jumped().random_raw()
         True
         """
-        generator = self._now()[0]
-        return self._at(SeedlessSeedSequence(), self._ahead(generator, number("jumps", jumps, 0, self._last_jump)))
+        count = _native.bounded("jumps", jumps, self._last_jump)
+        return self._at(SeedlessSeedSequence(), self._ahead(self.generator, count))
 
     @staticmethod
     def _ahead(generator: Any, jumps: int) -> Generator:
         raise NotImplementedError
 
-    def __reduce__(self) -> "tuple[Callable[..., GeneratorBits], tuple[Any, ...]]":  # type: ignore[override]
-        return self._at, (self._seed_seq, *self._now())
+    @classmethod
+    def _unpickled(cls: type[Bits], seed: ISeedSequence) -> Bits:
+        """What a state is then set of: `numpy.random.Generator` takes these three parts of a pickle one by one."""
+        return cls._at(seed, cls._kind.from_state(bytes(cls._seed_length + cls._zeros)))
+
+    def __reduce__(  # type: ignore[override]
+        self,
+    ) -> "tuple[Callable[..., GeneratorBits], tuple[ISeedSequence], dict[str, Any]]":
+        return self._unpickled, (self._seed_seq,), self.state
 
 
 class WyRandBits(GeneratorBits):
@@ -195,11 +207,3 @@ class StreamBits(GeneratorBits):
         ahead = Stream(generator.key, generator.nonce, block)
         ahead.bytes(64 - len(generator.rest) if begun else 0)
         return ahead
-
-
-# NumPy 1 finds the bit generator of a Generator that was pickled by its name, in this table alone.
-class _Name(str):
-    """The name of a bit generator in its state. Who unpickles it imports this module, and so fills NumPy's table."""
-
-
-numpy.random._pickle.BitGenerators.update((kind.__name__, kind) for kind in (WyRandBits, Pcg64Bits, StreamBits))  # type: ignore[attr-defined]

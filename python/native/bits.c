@@ -19,7 +19,7 @@ typedef struct {
 
 static const char *const capsule_name = "BitGenerator";
 
-enum { HALVES = 256 };
+enum { HALVES = 1024 };
 
 /*
  * Words as their halves, the low one first, of which those from `begin` to `next` are drawn. `next` is odd where one
@@ -32,7 +32,8 @@ typedef struct {
     uint64_t ahead[sizeof(nanorand_keystream) / sizeof(uint64_t)];
 } Words;
 
-static void draw_ahead(Words *words)
+/* Out of the way of the calls that find a word drawn. */
+__attribute__((cold, noinline)) static void draw_ahead(Words *words)
 {
     const Kind *kind = words->start->kind;
     memcpy(words->start->state, words->ahead, kind->size);
@@ -99,7 +100,7 @@ static void free_capsule(PyObject *capsule)
     free_words(PyCapsule_GetContext(capsule));
 }
 
-static Words *new_words(Generator *rng, PyObject *half)
+static Words *new_words(Generator *rng)
 {
     Words *words = new_array(1, sizeof *words);
     if (words == NULL) {
@@ -110,18 +111,18 @@ static Words *new_words(Generator *rng, PyObject *half)
         PyMem_Free(words);
         return NULL;
     }
-    if (begin_at(words, rng, half) < 0) {
+    if (begin_at(words, rng, Py_None) < 0) {
         free_words(words);
         return NULL;
     }
     return words;
 }
 
-/* attach(capsule, generator, half): the capsule's functions draw from a copy of the generator, which is the capsule's. */
+/* attach(capsule, generator): the capsule's functions draw from a copy of the generator, which is the capsule's. */
 static PyObject *attach(PyObject *Py_UNUSED(module), PyObject *arguments)
 {
-    PyObject *capsule, *given, *half;
-    if (!PyArg_ParseTuple(arguments, "OOO:attach", &capsule, &given, &half)) {
+    PyObject *capsule, *given;
+    if (!PyArg_ParseTuple(arguments, "OO:attach", &capsule, &given)) {
         return NULL;
     }
     BitGenerator *bits = PyCapsule_GetPointer(capsule, capsule_name);
@@ -133,7 +134,7 @@ static PyObject *attach(PyObject *Py_UNUSED(module), PyObject *arguments)
         PyErr_SetString(PyExc_TypeError, "the capsule has words already");
         return NULL;
     }
-    Words *words = new_words(rng, half);
+    Words *words = new_words(rng);
     if (words == NULL) {
         return NULL;
     }
@@ -159,7 +160,7 @@ static Words *take_words(PyObject *capsule)
     return bits->state;
 }
 
-/* drawn(capsule): a generator, how many words of it were drawn, and the half that comes before its next word, or None. */
+/* drawn(capsule): a generator, how many words of it were drawn, and the half that comes before the next, or None. */
 static PyObject *drawn(PyObject *Py_UNUSED(module), PyObject *capsule)
 {
     Words *words = take_words(capsule);
@@ -195,8 +196,22 @@ static PyObject *restart(PyObject *Py_UNUSED(module), PyObject *arguments)
     Py_RETURN_NONE;
 }
 
+/* bounded(name, value, last): the whole number from 0 to `last` that the value of that name is. */
+static PyObject *bounded(PyObject *Py_UNUSED(module), PyObject *arguments)
+{
+    const char *name;
+    PyObject *value;
+    unsigned long long last;
+    uint64_t number;
+    if (!PyArg_ParseTuple(arguments, "sOK:bounded", &name, &value, &last) || take_u64(name, value, last, &number) < 0) {
+        return NULL;
+    }
+    return PyLong_FromUnsignedLongLong(number);
+}
+
 static PyMethodDef bits_calls[] = {
     {"attach", attach, METH_VARARGS, NULL},
+    {"bounded", bounded, METH_VARARGS, NULL},
     {"drawn", drawn, METH_O, NULL},
     {"restart", restart, METH_VARARGS, NULL},
     {NULL, NULL, 0, NULL},

@@ -76,6 +76,7 @@ static int fill_module(PyObject *module)
         nanorand_add_generators,
         nanorand_add_lots,
         nanorand_add_randoms,
+        nanorand_add_bits,
     };
     for (size_t i = 0; i < sizeof parts / sizeof parts[0]; i++) {
         if (parts[i](module) < 0) {

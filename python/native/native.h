@@ -206,6 +206,7 @@ PyObject *add_class(PyObject *module, PyType_Spec *spec, PyObject *bases);
 
 int nanorand_add_generators(PyObject *module);
 int nanorand_add_lots(PyObject *module);
+int nanorand_add_bits(PyObject *module);
 int nanorand_add_randoms(PyObject *module);
 
 #endif

@@ -12,7 +12,7 @@ import unittest
 from makers import KEY, NONCE
 from test_answers import octets, rows
 
-from nanorand import Pcg64, Stream, WyRand
+from nanorand import ChaCha20, Pcg64, Stream, WyRand, _native
 from nanorand.errors import ForeignState, NanorandError, OutOfBounds, WrongLength
 
 try:
@@ -26,6 +26,7 @@ except ImportError as error:
 BITS = {WyRandBits: WyRand, Pcg64Bits: Pcg64, StreamBits: Stream}
 STARTS = [WyRand(42), Pcg64(2**64 + 42), Stream(KEY), Stream(KEY, NONCE, 5, b"abc"), Stream(KEY, counter=2**64 - 1)]
 JUMPS = {WyRandBits: 2**48, Pcg64Bits: 2**64}
+LAST_JUMPS = {WyRandBits: 2**16 - 1, Pcg64Bits: 2**62 - 1, StreamBits: 2**16 - 1}
 
 
 def bits_of(generator):
@@ -94,7 +95,7 @@ class Words(unittest.TestCase):
         for start in STARTS:
             for wanted, draw in DRAWS.items():
                 bits, model = bits_of(start), Model(start)
-                for _ in range(1100):
+                for _ in range(2500):
                     self.assertEqual(draw(bits), wanted(model))
                 self.assertEqual(state_of(bits), model.state())
 
@@ -160,13 +161,35 @@ class States(unittest.TestCase):
                 self.assertIs(type(caught.exception), error)
                 self.assertEqual(bits.state, state)
 
-    def test_pickles_and_copies(self):
+    def test_every_half_word_is_one(self):
         for start in STARTS:
             bits = bits_of(start)
+            for half in (0, 1, 2**32 - 1):
+                bits.state = {**bits.state, "has_uint32": 1, "uinteger": half}
+                self.assertEqual(state_of(bits), (start.state, half))
+                self.assertEqual(DRAWS[Model.half_word](bits), half)
+                self.assertEqual(state_of(bits), (start.state, None))
+
+    def test_waits_for_who_draws(self):
+        saved = bits_of(WyRand(42)).state
+        reads, sets = (lambda bits: bits.state, lambda bits: bits.generator), lambda bits: setattr(bits, "state", saved)
+        for access in (*reads, sets):
+            bits = bits_of(WyRand(42))
+            thread = threading.Thread(target=access, args=[bits])
+            with bits.lock:
+                thread.start()
+                thread.join(0.05)
+                self.assertTrue(thread.is_alive())
+            thread.join()
+
+    def test_pickles_and_copies(self):
+        for bits in [*map(bits_of, STARTS), *(kind(SeedSequence(5)) for kind in BITS)]:
             DRAWS[Model.half_word](bits)
             for other in (pickle.loads(pickle.dumps(bits)), copy.copy(bits), copy.deepcopy(bits)):
                 self.assertIs(type(other), type(bits))
                 self.assertEqual(other.state, bits.state)
+                self.assertIs(type(other._seed_seq), type(bits._seed_seq))
+                self.assertEqual(getattr(other._seed_seq, "state", None), getattr(bits._seed_seq, "state", None))
                 wanted = bits.state
                 other.random_raw(5)
                 self.assertEqual(bits.state, wanted)
@@ -177,8 +200,8 @@ class States(unittest.TestCase):
             rng.integers(0, 100, 3, dtype=numpy.uint32)
             text = pickle.dumps(rng)
             program = "import pickle, sys; print(pickle.load(sys.stdin.buffer).integers(0, 2**63, 5).tolist())"
-            printed = subprocess.run([sys.executable, "-c", program], input=text, capture_output=True, check=True).stdout
-            self.assertEqual(printed.decode().strip(), str(rng.integers(0, 2**63, 5).tolist()))
+            done = subprocess.run([sys.executable, "-c", program], input=text, capture_output=True, check=True)
+            self.assertEqual(done.stdout.decode().strip(), str(rng.integers(0, 2**63, 5).tolist()))
 
 
 class Seeds(unittest.TestCase):
@@ -253,14 +276,34 @@ class Jumps(unittest.TestCase):
             self.assertEqual(bits.state, before)
 
     def test_refused(self):
-        for kind in BITS:
-            last = kind._last_jump
+        for kind, last in LAST_JUMPS.items():
             kind(1).jumped(last)
             for jumps, error in [(-1, OutOfBounds), (last + 1, OutOfBounds), (1.0, TypeError), ("1", TypeError)]:
                 self.assertRaises(error, kind(1).jumped, jumps)
 
 
 class Memory(unittest.TestCase):
+    def test_what_no_public_call_does(self):
+        bits, foreign = WyRandBits(1), numpy.random.PCG64(1)
+        before = bits.state
+        for call, error in [
+            (lambda: _native.attach(bits.capsule, WyRand(1)), TypeError),
+            (lambda: _native.attach(foreign.capsule, WyRand(1)), TypeError),
+            (lambda: _native.attach(None, WyRand(1)), ValueError),
+            (lambda: _native.attach(bits.capsule, None), TypeError),
+            (lambda: _native.attach(bits.capsule), TypeError),
+            (lambda: _native.drawn(foreign.capsule), TypeError),
+            (lambda: _native.drawn(bits), ValueError),
+            (lambda: _native.restart(foreign.capsule, WyRand(1), None), TypeError),
+            *[(lambda rng=rng: _native.restart(bits.capsule, rng, None), TypeError) for rng in (*STARTS[1:], 5, bits)],
+            (lambda: _native.restart(bits.capsule, ChaCha20(KEY), None), TypeError),
+            *[(lambda half=half: _native.restart(bits.capsule, WyRand(1), half), OutOfBounds) for half in (-1, 2**32)],
+            (lambda: _native.restart(bits.capsule, WyRand(1), "1"), TypeError),
+        ]:
+            self.assertRaises(error, call)
+            self.assertEqual(bits.state, before)
+        self.assertEqual(foreign.random_raw(), numpy.random.PCG64(1).random_raw())
+
     def test_a_generator_outlives_its_bit_generator(self):
         for start in STARTS:
             rng, model = numpy.random.Generator(bits_of(start)), Model(start)
