@@ -60,7 +60,7 @@ pub fn sample<S: State<N>, const N: usize>(
 }
 
 /// Exports the nine calls of a generator, by its name in C and the type of its state. They stand in a block of
-/// their own, as each generator has the same.
+/// their own, as those of the next generator have the same names.
 macro_rules! export_calls {
     ($generator:literal, $state:ty) => {
         const _: () = {

@@ -1,9 +1,8 @@
-//! The C library that `include/nanorand.h` declares, over the crate `nanorand-proved`.
+//! The C library that `include/nanorand.h` declares, over the crates `nanorand-proved` and `lots`.
 //!
-//! Each function has the body of the proved one of the same name in `crates/nanorand_c`, and the header says
-//! what it does. The state of a generator is the caller's memory, lent for the call; nothing is allocated.
+//! Each export does what the proved one of the same name in `crates/nanorand_c` does, and the header says what that
+//! is. The state of a generator is the caller's memory, lent for the call. Nothing is allocated.
 #![cfg_attr(not(test), no_std)]
-#![deny(missing_docs)]
 
 mod boundary;
 #[macro_use]
@@ -14,9 +13,9 @@ mod pcg64;
 mod stream;
 mod wyrand;
 
-/// The version of the library: 10000 times the major number, and 100 times the minor one, and the patch.
+/// 10000 times the major number of the version, and 100 times the minor one, and the patch.
 #[no_mangle]
-pub extern "C" fn nanorand_v1_version() -> u32 {
+extern "C" fn nanorand_v1_version() -> u32 {
     10000
 }
 
