@@ -5,8 +5,8 @@ mod common;
 
 use common::{Calls, ChaChaState, Chooser, GroupStream, Stream, Wide, WyRand};
 use nanorand_proved::{
-    self as proved, BufferedRng, ChaCha20, ChaCha20Stream, ChaChaGroups, Pcg64, RandomRange,
-    RangeError, Rng,
+    self as proved, BufferedRng, ChaCha, ChaCha20, ChaCha20Stream, ChaChaGroups, Pcg64,
+    RandomRange, RangeError, Rng,
 };
 use std::fmt::{Debug, Display};
 
@@ -143,12 +143,12 @@ fn pcg64() {
 }
 
 /// Half of them begin near a carry or the end of the counter.
-fn chacha(chooser: &mut Chooser) -> ChaCha20 {
+fn chacha<const ROUNDS: u8>(chooser: &mut Chooser) -> ChaCha<ROUNDS> {
     let counter = chooser.end().wrapping_sub(chooser.number() % 8);
-    ChaCha20::at(chooser.bytes(), chooser.bytes(), counter)
+    ChaCha::at(chooser.bytes(), chooser.bytes(), counter)
 }
 
-fn chacha_state(rng: &ChaCha20) -> ChaChaState {
+fn chacha_state<const ROUNDS: u8>(rng: &ChaCha<ROUNDS>) -> ChaChaState {
     let (key, nonce, counter) = (rng.key(), rng.nonce(), rng.counter());
     ChaChaState {
         key,
@@ -157,14 +157,23 @@ fn chacha_state(rng: &ChaCha20) -> ChaChaState {
     }
 }
 
+fn compare_chacha<const ROUNDS: u8>(calls: fn() -> Calls<ChaChaState>) {
+    compare(calls, chacha::<ROUNDS>, chacha_state, |_, _| ());
+}
+
+#[test]
+fn chacha8() {
+    compare_chacha::<8>(|| common::one_library().chacha8);
+}
+
+#[test]
+fn chacha12() {
+    compare_chacha::<12>(|| common::one_library().chacha12);
+}
+
 #[test]
 fn chacha20() {
-    compare(
-        || common::one_library().chacha20,
-        chacha,
-        chacha_state,
-        |_, _| (),
-    );
+    compare_chacha::<20>(|| common::one_library().chacha20);
 }
 
 fn stream_state(rng: &BufferedRng<ChaCha20, 64>) -> Stream {
@@ -207,7 +216,7 @@ fn keystream_state(rng: &ChaCha20Stream) -> GroupStream {
 
 /// Half of them begin near a carry or the end of the counter.
 fn groups(chooser: &mut Chooser) -> ChaChaGroups<20> {
-    let rng = chacha(chooser);
+    let rng = chacha::<20>(chooser);
     ChaChaGroups::at(rng.key(), rng.nonce(), rng.counter())
 }
 
