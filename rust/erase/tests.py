@@ -723,6 +723,19 @@ class Whole(unittest.TestCase):
             named = [line for line in lines[1 : lines.index("")] if line.endswith(f"/src/{module}.rt")]
             self.assertEqual(len(named), len(texts), key)
 
+    def test_no_other_file_is_there(self):
+        for folder, by_hand in {
+            "rust/lots/src": {"lib", "main", "reading", "sha256"}, "rust/draw/src": {"lib", "main", "growing", "hex"},
+        }.items():
+            there = {path.relative_to(ROOT / folder).with_suffix("").as_posix() for path in (ROOT / folder).rglob("*.*")}
+            written = {key.removeprefix(f"{folder}/") for key in self.proved if key.startswith(folder)}
+            self.assertEqual(there, by_hand | written)
+
+    def test_what_is_there_with_std_alone_says_so_once(self):
+        for key in self.proved:
+            if key.startswith("rust/draw/") or key in ("rust/lots/src/arguments", "rust/lots/src/run", "rust/lots/src/text"):
+                self.assertNotIn("feature", self.written[key], key)
+
     def test_a_row_leaves_out_one_paragraph(self):
         docs = [re.findall(r"((?: *///[^\n]*\n)+)", text) for texts in self.proved.values() for text in texts]
         paragraphs = [
