@@ -200,12 +200,15 @@ class Differences(Same):
             'impl X { #[cfg(feature = "std")] pub fn f(&mut self, out: &mut Vec<u8>) { g(out); } }',
         )
         self.same(
-            "fn f<'a, A: Allocator>(alloc: &'a A, c: &C<&'a A>, t: &str) -> Result<(Vec<[u8; 2], &'a A>, String<A>), E>\n"
-            "{ let v = Vec::new(alloc); let s = String::new(&alloc); g(&alloc, h(alloc, c))?; }",
+            "fn f<'a, A: Allocator>(alloc: &'a A, c: &C<&'a A>, t: &str)"
+            " -> Result<(Vec<[u8; 2], &'a A>, String<A>), E>\n{ let v = Vec::new(alloc); let s = String::new(&alloc); g(&alloc, h(alloc, c))?; }",
             '#[cfg(feature = "std")] fn f(c: &C, t: &str) -> Result<(Vec<[u8; 2]>, String), E>'
             " { let v = Vec::new(); let s = String::new(); g(h(c))?; }",
         )
-        self.same("pub struct C<A: Allocator> { pub n: u8, pub v: Vec<D, A> }", "pub struct C { pub n: u8, pub v: Vec<D>, }")
+        self.same(
+            "pub struct C<A: Allocator> { pub n: u8, pub v: Vec<D, A> }",
+            "pub struct C { pub n: u8, pub v: Vec<D>, }",
+        )
 
     def test_growth_asks_first(self):
         for rattle, rust in shape.GROWTH.items():
@@ -238,7 +241,8 @@ class Differences(Same):
 
     def test_bindings_or_else(self):
         for rattle, rust in {
-            "let Some(x) = f(y) else { return 1; }; g(x)": "let x = if let Some(x) = f(y) { x } else { return 1; }; g(x)",
+            "let Some(x) = f(y) else { return 1; }; g(x)":
+                "let x = if let Some(x) = f(y) { x } else { return 1; }; g(x)",
             "let [a, b] = c else { return; }; let Ok(d) = a else { h(b); return; }; g(d)":
                 "let (a, b) = if let [a, b] = c { (a, b) } else { return; };"
                 " let d = if let Ok(d) = a { d } else { h(b); return; }; g(d)",
@@ -727,13 +731,14 @@ class Whole(unittest.TestCase):
         for folder, by_hand in {
             "rust/lots/src": {"lib", "main", "reading", "sha256"}, "rust/draw/src": {"lib", "main", "growing", "hex"},
         }.items():
-            there = {path.relative_to(ROOT / folder).with_suffix("").as_posix() for path in (ROOT / folder).rglob("*.*")}
+            source = ROOT / folder
+            there = {path.relative_to(source).with_suffix("").as_posix() for path in source.rglob("*.*")}
             written = {key.removeprefix(f"{folder}/") for key in self.proved if key.startswith(folder)}
             self.assertEqual(there, by_hand | written)
 
     def test_what_is_there_with_std_alone_says_so_once(self):
         for key in self.proved:
-            if key.startswith("rust/draw/") or key in ("rust/lots/src/arguments", "rust/lots/src/run", "rust/lots/src/text"):
+            if re.fullmatch(r"rust/draw/.*|rust/lots/src/(arguments|run|text)", key):
                 self.assertNotIn("feature", self.written[key], key)
 
     def test_a_row_leaves_out_one_paragraph(self):
@@ -776,7 +781,8 @@ class Whole(unittest.TestCase):
     def test_no_contract_is_left(self):
         for key, text in self.written.items():
             code = re.sub(r"//[^\n]*", "", text)
-            self.assertIsNone(re.search(r"\b(ghost|requires|ensures|tactic|alloc|AllocError|thiserror)\b|[^\x00-\x7f]", code), key)
+            rattle = r"\b(ghost|requires|ensures|tactic|alloc|AllocError|thiserror)\b|[^\x00-\x7f]"
+            self.assertIsNone(re.search(rattle, code), key)
 
     def test_documents_speak_of_rust(self):
         for key, text in self.written.items():
