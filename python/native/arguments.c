@@ -7,6 +7,8 @@
 
 /* ---- Arguments. ---- */
 
+const Parameters jump_parameters = {"jump", 1, 1, 1, {"draws"}};
+
 /* The place of a parameter, or -1. */
 static int place_of(const Parameters *wanted, PyObject *name)
 {
@@ -51,8 +53,8 @@ int take_arguments(const Parameters *wanted, PyObject *const *given, Py_ssize_t 
                    PyObject **values)
 {
     if (placed > wanted->placed) {
-        PyErr_Format(PyExc_TypeError, "%s() takes at most %d positional arguments (%zd given)", wanted->call,
-                     wanted->placed, placed);
+        PyErr_Format(PyExc_TypeError, "%s() takes no more than %d arguments by their place (%zd given)",
+                     wanted->call, wanted->placed, placed);
         return -1;
     }
     for (int place = 0; place < wanted->count; place++) {

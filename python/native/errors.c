@@ -59,9 +59,13 @@ PyObject *none_of(uint8_t status)
     Py_RETURN_NONE;
 }
 
+const char *name_of(PyTypeObject *type)
+{
+    const char *dot = strrchr(type->tp_name, '.');
+    return dot == NULL ? type->tp_name : dot + 1;
+}
+
 const char *type_name(PyObject *value)
 {
-    const char *name = Py_TYPE(value)->tp_name;
-    const char *dot = strrchr(name, '.');
-    return dot == NULL ? name : dot + 1;
+    return name_of(Py_TYPE(value));
 }

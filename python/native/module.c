@@ -1,8 +1,6 @@
 /* The extension module nanorand._native. */
 #include "native.h"
 
-const Parameters jump_parameters = {"jump", 1, 1, 1, {"draws"}};
-
 PyObject *add_class(PyObject *module, PyType_Spec *spec, PyObject *bases)
 {
     PyObject *class = PyType_FromModuleAndSpec(module, spec, bases);

@@ -64,7 +64,8 @@ void raise_made(const char *error, const char *format, ...);
 void raise_status(uint8_t status);
 /* None, or the error of a status. */
 PyObject *none_of(uint8_t status);
-/* The name of a value's type, as `__name__`. */
+/* The name of a type, as `__name__`, and of a value's type. */
+const char *name_of(PyTypeObject *type);
 const char *type_name(PyObject *value);
 
 /* ---- arguments.c: what a call was given. ---- */
@@ -77,6 +78,8 @@ typedef struct {
     int required, placed, count;
     const char *names[MOST_PARAMETERS];
 } Parameters;
+
+extern const Parameters jump_parameters;
 
 /* Finds each parameter's value among the arguments of a call, or NULL. The values are borrowed. */
 int take_arguments(const Parameters *wanted, PyObject *const *given, Py_ssize_t placed, PyObject *names,
@@ -177,7 +180,6 @@ void *new_array(uint64_t count, size_t size);
 
 /* ---- The parts of the module. ---- */
 
-extern const Parameters jump_parameters;
 extern PyMethodDef number_calls[], sequence_calls[], choices_calls[], fill_calls[];
 extern PyType_Spec generator_spec, wyrand_spec, pcg64_spec, chacha8_spec, chacha12_spec, chacha20_spec, stream_spec;
 

@@ -109,15 +109,20 @@ static size_t *all_places(size_t count)
     return places;
 }
 
+/* Appends an item, which it takes over; or a NULL's error stays. */
+static int append(PyObject *list, PyObject *item)
+{
+    int added = item == NULL ? -1 : PyList_Append(list, item);
+    Py_XDECREF(item);
+    return added;
+}
+
 PyObject *items_at(PyObject *items, const size_t *places, size_t count)
 {
-    PyObject *list = PyList_New((Py_ssize_t)count);
+    PyObject *list = PyList_New(0);
     for (size_t i = 0; list != NULL && i < count; i++) {
-        PyObject *item = item_at(items, places[i]);
-        if (item == NULL) {
+        if (append(list, item_at(items, places[i])) < 0) {
             Py_CLEAR(list);
-        } else {
-            PyList_SET_ITEM(list, (Py_ssize_t)i, item);
         }
     }
     return list;
@@ -125,13 +130,10 @@ PyObject *items_at(PyObject *items, const size_t *places, size_t count)
 
 PyObject *numbers_of(const size_t *places, size_t count)
 {
-    PyObject *list = PyList_New((Py_ssize_t)count);
+    PyObject *list = PyList_New(0);
     for (size_t i = 0; list != NULL && i < count; i++) {
-        PyObject *number = PyLong_FromSize_t(places[i]);
-        if (number == NULL) {
+        if (append(list, PyLong_FromSize_t(places[i])) < 0) {
             Py_CLEAR(list);
-        } else {
-            PyList_SET_ITEM(list, (Py_ssize_t)i, number);
         }
     }
     return list;
@@ -205,21 +207,6 @@ static PyObject *permute_list(Generator *rng, PyObject *list, Permutation *permu
     return none_of(status);
 }
 
-static PyObject *tuple_of(PyObject *items)
-{
-    Py_ssize_t length = PyObject_Size(items);
-    PyObject *tuple = length < 0 ? NULL : PyTuple_New(length);
-    for (Py_ssize_t place = 0; tuple != NULL && place < length; place++) {
-        PyObject *item = item_at(items, (size_t)place);
-        if (item == NULL) {
-            Py_CLEAR(tuple);
-        } else {
-            PyTuple_SET_ITEM(tuple, place, item);
-        }
-    }
-    return tuple;
-}
-
 static int put_item(PyObject *items, Py_ssize_t place, PyObject *item)
 {
     PyObject *index = PyLong_FromSsize_t(place);
@@ -255,11 +242,21 @@ static PyObject *permute_places(Generator *rng, PyObject *items, PyObject *befor
     return none_of(status);
 }
 
+/* The items as a tuple, which no other code can change. */
+static PyObject *items_before(PyObject *items, const size_t *places, size_t count)
+{
+    PyObject *list = items_at(items, places, count);
+    PyObject *tuple = list == NULL ? NULL : PyList_AsTuple(list);
+    Py_XDECREF(list);
+    return tuple;
+}
+
 static PyObject *permute_items(Generator *rng, PyObject *items, Permutation *permute)
 {
-    PyObject *before = require_replaceable("items", items) < 0 ? NULL : tuple_of(items);
-    size_t *places = before == NULL ? NULL : all_places((size_t)PyTuple_GET_SIZE(before));
-    PyObject *done = places == NULL ? NULL : permute_places(rng, items, before, places, permute);
+    Py_ssize_t length = require_replaceable("items", items) < 0 ? -1 : PyObject_Size(items);
+    size_t *places = length < 0 ? NULL : all_places((size_t)length);
+    PyObject *before = places == NULL ? NULL : items_before(items, places, (size_t)length);
+    PyObject *done = before == NULL ? NULL : permute_places(rng, items, before, places, permute);
     PyMem_Free(places);
     Py_XDECREF(before);
     return done;

@@ -29,6 +29,25 @@ LAST = 2**64 - 1
 LENGTHS_OF_SEEDS = {"wyrand": 8, "pcg64": 16, "chacha8": 40, "chacha12": 40, "chacha20": 40, "stream": 40}
 
 
+class SetOfPlaces(collections.abc.Set):
+    """A set whose items have places."""
+
+    def __contains__(self, item):
+        return item in "abc"
+
+    def __iter__(self):
+        return iter("abc")
+
+    def __len__(self):
+        return 3
+
+    def __getitem__(self, place):
+        return "abc"[place]
+
+    def __setitem__(self, place, item):
+        raise AssertionError
+
+
 class Index:
     """A whole number by its `__index__` alone."""
 
@@ -416,7 +435,7 @@ class Lists(unittest.TestCase):
     def test_what_cannot_be_shuffled(self):
         refused = [
             *[(1, 2, 3), "abc", b"abc", range(3), None, 5, {1, 2, 3}, frozenset({1}), {0: 1, 1: 2}],
-            *[(place for place in range(3)), iter([1, 2]), object()],
+            *[(place for place in range(3)), iter([1, 2]), object(), SetOfPlaces(), collections.UserDict({0: 1, 1: 2})],
         ]
         for rng in generators():
             for items in refused:
@@ -454,8 +473,9 @@ class Lists(unittest.TestCase):
                 self.assertEqual(rng.choice(range(count)), same.below(count))
             for items in ("", [], (), range(0)):
                 refuses(self, rng, EmptyRange, lambda rng, items=items: rng.choice(items))
-            for items in (None, 5, {1, 2}, {0: 1}, iter("abc")):
+            for items in (None, 5, {1, 2}, {0: 1}, iter("abc"), SetOfPlaces(), collections.UserDict({0: 1})):
                 refuses(self, rng, TypeError, lambda rng, items=items: rng.choice(items))
+                refuses(self, rng, TypeError, lambda rng, items=items: rng.choices(items))
 
     def test_samples(self):
         for rng in generators():

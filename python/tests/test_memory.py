@@ -103,7 +103,10 @@ FAIL = {
                lambda rng: Generator(), lambda rng: Generator.from_entropy(), lambda rng: rng < rng],
     "made": [lambda rng: type(rng)(OTHER), lambda rng: type(rng)(BIG), lambda rng: type(rng)(b"short"), lambda rng: type(rng)(),
              lambda rng: type(rng)(KEY, b"short"), lambda rng: type(rng)(KEY, NONCE, BIG), lambda rng: Stream(KEY, rest=bytes(64)),
-             lambda rng: Stream(KEY, rest=OTHER), lambda rng: type(rng).__new__(type(rng)).u64()],
+             lambda rng: Stream(KEY, rest=OTHER), lambda rng: type(rng).__new__(type(rng)).u64(),
+             lambda rng: type(rng).__new__(type(rng)).bytes(100), lambda rng: type(rng).__new__(type(rng)).choices(LIST, WHOLES),
+             lambda rng: type(rng).__new__(type(rng)).sample(LIST, 5), lambda rng: type(rng).__new__(type(rng)).shuffle(BUFFER),
+             lambda rng: type(rng).__new__(type(rng)).fill(BUFFER), lambda rng: type(rng).__new__(type(rng)).uniform(1.5, BIG)],
     "jump": [lambda rng: rng.jump(-1), lambda rng: rng.jump(OTHER), lambda rng: rng.jump(FAILS), lambda rng: rng.jump(10**60)],
 }
 

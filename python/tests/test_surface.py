@@ -1,5 +1,6 @@
 """What callers see beside the numbers: names of arguments, types, texts without keys, special methods, imports."""
 
+import array
 import copy
 import inspect
 import pickle
@@ -66,6 +67,29 @@ class Arguments(unittest.TestCase):
                             continue
                         error = refuses(self, rng, kind, lambda rng: getattr(rng, call)(**{**given, name: bad}))
                         self.assertRegex(str(error), rf"^{name} is ")
+
+    def test_arguments_that_do_not_fit(self):
+        """Too few and too many, one twice, and one of another name: of each call."""
+        good = {"first": 0, "last": 9, "count": 9, "length": 1, "population": "abc", "end": 5, "draws": 1, "a": 1, "b": 2,
+                "items": [1, 2], "buffer": b"", "state": b""}
+        calls = [name for name in dir(kinds.Generator) if not name.startswith("_") and callable(getattr(kinds.Generator, name))]
+        self.assertGreater(len(calls), 18)
+        for rng in generators():
+            for name in [*calls, *(name for name in ("jump", "block") if hasattr(rng, name))]:
+                call = getattr(rng, name)
+                names = [one.name for one in inspect.signature(call).parameters.values() if one.default is one.empty]
+                own = {"state": rng.state, "buffer": array.array("d" if name == "fill_random" else "Q", [0])}
+                values = [{**good, **own}[one] for one in names]
+                for arguments, named in (
+                    *(((*values, *range(5)), {}) for _ in range(1)),
+                    (values, {"no_such_name": 1}),
+                    *((values, {one: good[one]}) for one in names),
+                    *((values[:place], {}) for place in range(len(names))),
+                ):
+                    refuses(self, rng, TypeError, lambda _, a=arguments, n=named, call=call: call(*a, **n))
+                if name not in ("shuffle", "shuffle_full", "from_entropy"):
+                    same = rng.copy()
+                    self.assertEqual(call(*values), getattr(same, name)(**dict(zip(names, values))), name)
 
     def test_an_error_of_a_maker_names_the_argument(self):
         for kind in (WyRand, Pcg64):

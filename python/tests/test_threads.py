@@ -4,6 +4,7 @@ import array
 import copy
 import os
 import pickle
+import subprocess
 import sys
 import threading
 import time
@@ -13,7 +14,7 @@ from makers import CLASSES, RANDOMS, generators
 
 from nanorand import WyRand
 
-LONG = 40_000_000  # bytes of a fill that other calls come upon
+LONG = 30_000_000  # bytes that take long
 
 CALLS = {
     "u64": lambda rng: rng.u64(),
@@ -62,16 +63,27 @@ def filled(fill, buffer):
     return bytes(buffer)
 
 
-def long_fills():
-    """Calls that draw without Python's lock, and what another thread finds meanwhile."""
-    return {
-        "bytes": lambda rng: rng.bytes(LONG),
-        "fill": lambda rng: rng.fill(bytearray(LONG)),
-        "fill_range": lambda rng: rng.fill_range(array.array("Q", bytes(LONG // 8)), 0, 99),
-        "fill_random": lambda rng: rng.fill_random(array.array("d", bytes(LONG // 8))),
-        "choices": lambda rng: rng.choices("ab", k=LONG // 80),
-        "sample_below": lambda rng: rng.sample_below(10**9, 20_000),
-    }
+BUFFER = bytearray(LONG)
+WORDS, DOUBLES, FLOATS, SHORTS = (array.array(letter, bytes(4_000_000)) for letter in "Qdfh")
+# They take long by their draws.
+LONG_CALLS = {
+    "bytes": lambda rng: rng.bytes(LONG),
+    "fill": lambda rng: rng.fill(BUFFER),
+    "fill_range": lambda rng: rng.fill_range(WORDS, 0, 99),
+    "fill_range, signed": lambda rng: rng.fill_range(memoryview(WORDS).cast("B").cast("q"), -99, 99),
+    "fill_range, narrow": lambda rng: rng.fill_range(SHORTS, 0, 99),
+    "fill_random": lambda rng: rng.fill_random(DOUBLES),
+    "fill_random, floats": lambda rng: rng.fill_random(FLOATS),
+    "sample_below": lambda rng: rng.sample_below(10**9, 10_000),
+    "sample": lambda rng: rng.sample(range(10**9), 10_000),
+}
+SHORT_CALLS = [
+    lambda rng: rng.bytes(1 << 16),
+    lambda rng: rng.fill(memoryview(BUFFER)[: 1 << 16]),
+    lambda rng: rng.sample_below(10**9, 1000),
+    lambda rng: rng.choices("ab", k=1000),
+    lambda rng: rng.shuffle(list(range(1000))),
+]
 
 
 class Meanwhile:
@@ -118,10 +130,18 @@ class Turns(unittest.TestCase):
                 other.thread.join()
                 self.assertIn(found, [call(first), call(second)])
 
+    def test_a_generator_that_is_replaced_while_a_call_waits_for_it(self):
+        """Freed memory is overwritten there, so a call that had lost its generator would fail."""
+        code = "import sys; sys.path.insert(0, '.'); import test_threads; test_threads.replace_while_a_call_waits()"
+        environment = {**os.environ, "PYTHONMALLOC": "debug", "PYTHONPATH": os.pathsep.join(sys.path)}
+        done = subprocess.run([sys.executable, "-c", code], cwd=os.path.dirname(os.path.abspath(__file__)),
+                              env=environment, capture_output=True, text=True)
+        self.assertEqual((done.returncode, done.stderr), (0, ""))
+
     def test_a_generator_that_is_replaced_meanwhile(self):
         """It is kept until its draw has ended."""
         for kind in RANDOMS:
-            for draw in (lambda rng: rng.randbytes(20_000_000), lambda rng: rng.getrandbits(8 * 20_000_000)):
+            for draw in (lambda rng: rng.randbytes(5_000_000), lambda rng: rng.getrandbits(8 * 5_000_000)):
                 rng, drawn = kind(5), []
                 other = Meanwhile(lambda rng=rng, drawn=drawn, draw=draw: drawn.append(draw(rng)))
                 time.sleep(0.001)
@@ -132,32 +152,52 @@ class Turns(unittest.TestCase):
     def test_python_s_lock_is_given_up(self):
         """While one thread draws for long, another runs."""
         for kind in CLASSES.values():
-            for name, call in long_fills().items():
+            for name, call in LONG_CALLS.items():
                 rng = kind.from_entropy()
                 with self.subTest(kind=kind.__name__, name=name):
                     self.assertTrue(any(self.runs_meanwhile(rng, call) for _ in range(20)))
 
     def runs_meanwhile(self, rng, call):
-        """Whether this thread sees the generator busy: it counts, while the other's call has neither begun nor ended."""
-        steps = []
+        """Whether this thread never stands still for half as long as the other's call takes."""
+        times = []
 
         def draw():
-            steps.append("begun")
+            times.append(time.perf_counter())
             call(rng)
-            steps.append("ended")
+            times.append(time.perf_counter())
 
-        interval = sys.getswitchinterval()
-        sys.setswitchinterval(1e-6)
         thread = threading.Thread(target=draw)
+        thread.start()
+        longest, last = 0.0, time.perf_counter()
+        while thread.is_alive():
+            now = time.perf_counter()
+            longest, last = max(longest, now - last), now
+        return longest < (times[1] - times[0]) / 2
+
+    def test_python_s_lock_is_kept_for_what_is_short(self):
+        """A call that gave it up would wait for another thread, which counts."""
+        stop, counts = threading.Event(), threading.Event()
+
+        def count():
+            counts.set()
+            while not stop.is_set():
+                pass
+
+        thread = threading.Thread(target=count)
+        interval = sys.getswitchinterval()
+        thread.start()
+        counts.wait()
         try:
-            thread.start()
-            found = 0
-            while "ended" not in steps:
-                found += "begun" in steps
+            sys.setswitchinterval(0.5)
+            begun = time.perf_counter()
+            for call in SHORT_CALLS:
+                for rng in generators():
+                    call(rng)
+            self.assertLess(time.perf_counter() - begun, 3)
         finally:
             sys.setswitchinterval(interval)
+            stop.set()
             thread.join()
-        return found > 1000
 
     def test_many_threads_and_fills(self):
         """Every byte is drawn once, whoever draws it."""
@@ -211,6 +251,20 @@ class Turns(unittest.TestCase):
         stop.set()
         thread.join()
         self.assertEqual(sorted(items), list(range(1000)))
+
+
+def replace_while_a_call_waits():
+    """Its generator is drawn from by one thread, which goes, and waited for by another; and then it is replaced."""
+    for kind, of_generator in RANDOMS.items():
+        for call in (lambda rng: rng.random(), lambda rng: rng.getrandbits(9), lambda rng: rng.randbytes(9)):
+            rng = kind(5)
+            fill = Meanwhile(lambda rng=rng: rng.generator.fill(BUFFER))
+            time.sleep(0.002)
+            waits = Meanwhile(lambda rng=rng, call=call: call(rng))
+            time.sleep(0.002)
+            rng.generator = of_generator.from_entropy()
+            fill.thread.join()
+            waits.thread.join()
 
 
 @unittest.skipUnless(hasattr(os, "fork"), "this system has no fork")
