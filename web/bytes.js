@@ -2,7 +2,7 @@
 
 /** Whether a text has half a surrogate pair, which UTF-8 cannot say. @param {string} text */
 export function hasHalfCharacter(text) {
-  return /[\uD800-\uDBFF](?![\uDC00-\uDFFF])|(?<![\uD800-\uDBFF])[\uDC00-\uDFFF]/.test(text);
+  return /\p{Surrogate}/u.test(text);
 }
 
 /**

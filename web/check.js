@@ -22,16 +22,25 @@ const TITLES = {
   "no list": "The record can be read. Open or paste its list above, and check again.",
 };
 
+/**
+ * @typedef {Object} Maker
+ * @property {string} version
+ * @property {string} module SHA-256 of the module that runs here
+ * @property {string} otherModule SHA-256 of the page's other module
+ * @property {string} words what the module is that runs here
+ * @property {string} otherWords what the other one is
+ */
+
 /** @param {Check["outcome"]} outcome @param {string[]} findings @returns {Check} */
 function checked(outcome, findings) {
   return { outcome, title: TITLES[outcome], findings };
 }
 
 /**
- * @param {import("./module.js").Module} module @param {string} moduleDigest
+ * @param {import("./module.js").Module} module @param {Maker} maker
  * @param {Uint8Array} list @param {string} text @returns {Check}
  */
-export function check(module, moduleDigest, list, text) {
+export function check(module, maker, list, text) {
   let record;
   try {
     record = readRecord(text);
@@ -40,20 +49,28 @@ export function check(module, moduleDigest, list, text) {
     throw error;
   }
   if (list.length === 0 && record.entrants > 0) return checked("no list", []);
-  const others = otherMakers(record, module.version(), moduleDigest);
+  const others = otherMakers(record, maker);
+  const findings = [...others, ...otherOfPage(record, maker)];
   const differences = differencesOf(module, list, record);
-  if (differences.length > 0) return checked("differs", [...differences, ...others]);
-  return checked(others.length > 0 ? "other module" : "agrees", others);
+  if (differences.length > 0) return checked("differs", [...differences, ...findings]);
+  return checked(others.length > 0 ? "other module" : "agrees", findings);
 }
 
-/** @param {import("./record.js").Record} record @returns {string[]} */
-function otherMakers(record, version, moduleDigest) {
+/** @param {import("./record.js").Record} record @param {Maker} maker @returns {string[]} */
+function otherMakers(record, { version, module, otherModule }) {
   return [
     record.version !== version &&
       `Another version: the record names ${record.version}, this page has ${version}.`,
-    record.module !== moduleDigest &&
-      `Another module: the record names ${record.module}, this page has ${moduleDigest}.`,
+    ![module, otherModule].includes(record.module) &&
+      `Another module: the record names ${record.module}, this page has ${module}.`,
   ].filter(Boolean);
+}
+
+/** That the record was made by the other one of the page's two modules, which is no fault. */
+function otherOfPage(record, { otherModule, words, otherWords }) {
+  return record.module !== otherModule ? [] : [
+    `The record was made by this page's other module, ${otherWords}. Here runs the one ${words}.`,
+  ];
 }
 
 /** @param {import("./record.js").Record} record @returns {string[]} */

@@ -2,7 +2,7 @@
 
 import { Client } from "./client.js";
 import { listOfText } from "./list.js";
-import { runsModules } from "./module.js";
+import { bitsOfBrowser } from "./module.js";
 import { writtenSeed } from "./record.js";
 import { Refusal } from "./refusal.js";
 import {
@@ -185,10 +185,10 @@ async function checkNow() {
 /** Says which module runs, or why none does. */
 async function start() {
   try {
-    if (!runsModules()) throw new Refusal("no 64-bit memory");
-    const code = part("module").textContent;
-    const { version, module } = await client.ask("start", { code });
-    say("maker", `Version ${version}, module SHA-256 ${module}`);
+    const bits = bitsOfBrowser();
+    const codes = ["module", "module32"].map((id) => part(id).textContent);
+    const { version, module, words } = await client.ask("start", { codes, bits });
+    say("maker", `Version ${version}, module SHA-256 ${module}, ${words}`);
     part("draw").disabled = false;
     part("check").disabled = false;
     listChanged(0);

@@ -1,41 +1,72 @@
-// The proved module: its memory and its calls. Pointers and lengths are 64-bit, BigInt here.
+// The two modules of the page: their memory and their calls.
 
 import { Refusal } from "./refusal.js";
 
 const PAGE = 65536;
-const PLACE = 8;
 const DIGEST = 32;
+
+/**
+ * What a module's pointers and lengths are in JavaScript, and the places that it writes, by the
+ * bits of its memory.
+ */
+const KINDS = {
+  64: { number: BigInt, Places: BigUint64Array, words: "for 64-bit memory, proved" },
+  32: {
+    number: Number,
+    Places: Uint32Array,
+    words: "for 32-bit memory: the same source, its proof erased",
+  },
+};
 
 /** A module whose only content is a 64-bit memory of one page. */
 const SMALLEST = Uint8Array.of(0, 97, 115, 109, 1, 0, 0, 0, 5, 3, 1, 4, 1);
 
-/** @returns {boolean} whether the browser runs modules with 64-bit memory */
-export function runsModules() {
-  return typeof WebAssembly === "object" && WebAssembly.validate(SMALLEST);
+/** @returns {64|32} the bits of the memory of the module that the browser is to run */
+export function bitsOfBrowser() {
+  if (typeof WebAssembly !== "object") throw new Refusal("no WebAssembly");
+  return WebAssembly.validate(SMALLEST) ? 64 : 32;
+}
+
+/** What a module is, in plain words. @param {64|32} bits @returns {string} */
+export function wordsOfModule(bits) {
+  return KINDS[bits].words;
 }
 
 export class Module {
   #exports;
+  #kind;
   /** Where the pages begin that the module's own code and data never use. */
   #start;
 
-  /** @param {Uint8Array} code @returns {Promise<Module>} */
-  static async from(code) {
-    const { instance } = await WebAssembly.instantiate(code, {});
-    return new Module(instance);
+  /** @param {Uint8Array} code @param {64|32} bits @returns {Promise<Module>} */
+  static async from(code, bits) {
+    try {
+      const { instance } = await WebAssembly.instantiate(code, {});
+      return new Module(instance, bits);
+    } catch (error) {
+      const isForbidden = error instanceof WebAssembly.CompileError || error instanceof EvalError;
+      if (isForbidden) throw new Refusal("no WebAssembly");
+      throw error;
+    }
   }
 
-  /** @param {WebAssembly.Instance} instance */
-  constructor(instance) {
+  /** @param {WebAssembly.Instance} instance @param {64|32} bits */
+  constructor(instance, bits) {
     this.#exports = instance.exports;
+    this.#kind = KINDS[bits];
     this.#start = this.#exports.memory.buffer.byteLength;
   }
 
   /** Makes room for so many bytes after the module's own, over those of earlier calls. */
   #room(length) {
     const missing = this.#start + length - this.#exports.memory.buffer.byteLength;
-    if (missing > 0) this.#exports.memory.grow(BigInt(Math.ceil(missing / PAGE)));
+    if (missing > 0) this.#exports.memory.grow(this.#kind.number(Math.ceil(missing / PAGE)));
     return this.#start;
+  }
+
+  /** Calls an export with pointers and lengths. @param {string} name @param {...number} rest */
+  #call(name, ...rest) {
+    return this.#exports[`nanorand_v1_${name}`](...rest.map(this.#kind.number));
   }
 
   /** Writes bytes at an address. */
@@ -43,9 +74,14 @@ export class Module {
     new Uint8Array(this.#exports.memory.buffer, address, bytes.length).set(bytes);
   }
 
+  /** The numbers that the module wrote at an address. */
+  #places(address, count) {
+    return new this.#kind.Places(this.#exports.memory.buffer, address, count).slice();
+  }
+
   /** @returns {string} such as 1.0.0 */
   version() {
-    const number = this.#exports.nanorand_v1_version();
+    const number = this.#call("version");
     return [Math.floor(number / 10000), Math.floor(number / 100) % 100, number % 100].join(".");
   }
 
@@ -54,18 +90,18 @@ export class Module {
     const digest = this.#room(DIGEST + text.length);
     const address = digest + DIGEST;
     this.#write(text, address);
-    this.#exports.nanorand_v1_lots_digest(BigInt(address), BigInt(text.length), BigInt(digest));
+    this.#call("lots_digest", address, text.length, digest);
     return new Uint8Array(this.#exports.memory.buffer, digest, DIGEST).slice();
   }
 
   /** How many entrants a list has; an empty line is refused. @param {Uint8Array} list */
   count(list) {
-    const number = this.#room(PLACE + list.length);
-    const address = number + PLACE;
+    const size = this.#kind.Places.BYTES_PER_ELEMENT;
+    const number = this.#room(size + list.length);
+    const address = number + size;
     this.#write(list, address);
-    const status = this.#exports.nanorand_v1_lots_count(
-      BigInt(address), BigInt(list.length), BigInt(number));
-    const [value] = new BigUint64Array(this.#exports.memory.buffer, number, 1);
+    const status = this.#call("lots_count", address, list.length, number);
+    const [value] = this.#places(number, 1);
     if (status === 0) return Number(value);
     if (status === 4) throw new Refusal("line is empty", { line: value.toString() });
     throw new Refusal("the module failed", { reason: `status ${status} of count` });
@@ -74,18 +110,18 @@ export class Module {
   /**
    * The places drawn by a seed, in order, from 0 on.
    * @param {Uint8Array} seed @param {number} entrants @param {number} count at most `entrants`
-   * @returns {BigUint64Array}
+   * @returns {BigUint64Array|Uint32Array}
    */
   draw(seed, entrants, count) {
-    const places = this.#room(PLACE * entrants + seed.length);
-    const address = places + PLACE * entrants;
+    const length = this.#kind.Places.BYTES_PER_ELEMENT * entrants;
+    const places = this.#room(length + seed.length);
+    const address = places + length;
     this.#write(seed, address);
-    const status = this.#exports.nanorand_v1_lots_draw(
-      BigInt(address), BigInt(seed.length), BigInt(places), BigInt(entrants), BigInt(count));
+    const status = this.#call("lots_draw", address, seed.length, places, entrants, count);
     if (status === 8) throw new Refusal("words were rejected");
     if (status !== 0) {
       throw new Refusal("the module failed", { reason: `status ${status} of draw` });
     }
-    return new BigUint64Array(this.#exports.memory.buffer, places, count).slice();
+    return this.#places(places, count);
   }
 }

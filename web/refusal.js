@@ -46,12 +46,12 @@ const REFUSALS = {
     field: "page",
     words: () => "The browser gives no memory for a list of this size.",
   },
-  "no 64-bit memory": {
+  "no WebAssembly": {
     field: "page",
     words: () =>
-      "This browser cannot run the page: it has no WebAssembly with 64-bit memory. " +
-      "Chromium and Chrome have it from version 133 on, Firefox from version 134 on. " +
-      "The program lots and the Python code below draw the same.",
+      "This browser cannot draw: it has no WebAssembly, or it is switched off. Open the page in " +
+      "a newer browser: Chrome, Edge or Chromium from version 97 on, Firefox from version 90 on, " +
+      "Safari from version 16 on. Or use the Python code below, which draws the same.",
   },
   "the module failed": {
     field: "page",

@@ -29,7 +29,7 @@ const FIELDS = { seed: ["seed"], count: ["count"], list: ["list-text", "list-fil
 
 /** The one of them that is there to be seen. @param {string} kind @returns {HTMLElement|undefined} */
 export function fieldOf(kind) {
-  return FIELDS[kind].map(part).find((field) => field.checkVisibility());
+  return FIELDS[kind].map(part).find((field) => field.getClientRects().length > 0);
 }
 
 /** Shows a refusal beside its field. @param {import("./refusal.js").Refusal} refusal */

@@ -5,20 +5,28 @@ import { check } from "./check.js";
 import { draw, resultOf } from "./draw.js";
 import { printed } from "./entrant.js";
 import { warningsOf } from "./list.js";
-import { Module } from "./module.js";
+import { Module, wordsOfModule } from "./module.js";
 import { NAMED, writeRecord } from "./record.js";
 import { Refusal } from "./refusal.js";
 
-/** @type {{module: ?Module, moduleDigest: string, list: Uint8Array}} */
-const held = { module: null, moduleDigest: "", list: new Uint8Array(0) };
+/** @type {{module: ?Module, maker: ?import("./check.js").Maker, list: Uint8Array}} */
+const held = { module: null, maker: null, list: new Uint8Array(0) };
 
 /** What the page can ask for. Each takes the message's data and a function that tells progress. */
 const TASKS = {
-  async start({ code }) {
-    const bytes = fromBase64(code);
-    held.module = await Module.from(bytes);
-    held.moduleDigest = hex(held.module.digest(bytes));
-    return { version: held.module.version(), module: held.moduleDigest };
+  /** `codes` are the modules for 64 and for 32 bits of memory, of which that of `bits` is run. */
+  async start({ codes, bits }) {
+    const modules = codes.map(fromBase64);
+    const [run, other] = bits === 64 ? modules : [...modules].reverse();
+    held.module = await Module.from(run, bits);
+    held.maker = {
+      version: held.module.version(),
+      module: hex(held.module.digest(run)),
+      otherModule: hex(held.module.digest(other)),
+      words: wordsOfModule(bits),
+      otherWords: wordsOfModule(bits === 64 ? 32 : 64),
+    };
+    return held.maker;
   },
 
   list({ list }, tell) {
@@ -42,8 +50,8 @@ const TASKS = {
       list: hex(held.module.digest(held.list)),
       entrants,
       drawn: drawn.length,
-      version: held.module.version(),
-      module: held.moduleDigest,
+      version: held.maker.version,
+      module: held.maker.module,
       result: hex(held.module.digest(result)),
       named,
     });
@@ -52,7 +60,7 @@ const TASKS = {
 
   check({ text }, tell) {
     tell("Repeating the draw");
-    return check(held.module, held.moduleDigest, held.list, text);
+    return check(held.module, held.maker, held.list, text);
   },
 };
 

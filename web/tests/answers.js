@@ -1,21 +1,26 @@
-// Runs answers/answers.tsv through the exports of the module, in a page. The arguments are the
-// module in base64 and the table. Returns how many rows were run, and those that are wrong.
+// Runs answers/answers.tsv through the exports of a module, in a page. The arguments are the
+// module in base64, the table, and the bits of the module's memory. Returns how many rows were run,
+// those that are wrong, and how many name a number that a length of so many bits cannot hold.
 
-const [code, table] = arguments;
+const [code, table, bits] = arguments;
 const bytes = Uint8Array.from(atob(code), (letter) => letter.charCodeAt(0));
 const module = new WebAssembly.Module(bytes);
 const MASK = 2n ** 64n - 1n;
 const STATE = 120;
 const ROOM = 1 << 20;
+/** A pointer or a length of this module, and the numbers that it writes as lengths. */
+const size = bits === 64 ? BigInt : Number;
+const Sizes = bits === 64 ? BigUint64Array : Uint32Array;
 
 /** A new instance for each row, with room for a state, for what is written, for what is read. */
 function start() {
   const { exports } = new WebAssembly.Instance(module, {});
   const state = exports.memory.buffer.byteLength;
-  exports.memory.grow(33n);
+  exports.memory.grow(size(33));
   const memory = new Uint8Array(exports.memory.buffer);
   const numbers = (address, count) => Array.from(new BigUint64Array(memory.buffer, address, count));
-  return { exports, memory, numbers, state, out: state + 65536, into: state + 65536 + ROOM };
+  const sizes = (address, count) => Array.from(new Sizes(memory.buffer, address, count));
+  return { exports, memory, numbers, sizes, state, out: state + 65536, into: state + 65536 + ROOM };
 }
 
 const fromHex = (text) =>
@@ -51,62 +56,65 @@ function stateOf(world, generator, length) {
 const CALLS = {
   u64: (call) => ({ result: String(call() & MASK) }),
   fill_bytes: (call, [length], { memory, out }) => {
-    call(BigInt(out), length);
+    call(size(out), size(length));
     return { result: toHex(memory.slice(out, out + Number(length))) };
   },
   block: (call, _, { memory, out }) => {
-    call(BigInt(out));
+    call(size(out));
     return { result: toHex(memory.slice(out, out + 64)) };
   },
   range_u32: (call, [first, last], { memory, out }) => {
-    const status = call(Number(first) | 0, Number(last) | 0, BigInt(out));
+    const status = call(Number(first) | 0, Number(last) | 0, size(out));
     return { status, result: String(new Uint32Array(memory.buffer, out, 1)[0]) };
   },
   range_u64: (call, [first, last], { numbers, out }) => {
-    const status = call(first, last, BigInt(out));
+    const status = call(first, last, size(out));
     return { status, result: String(numbers(out, 1)[0]) };
   },
+  range_usize: (call, [first, last], { sizes, out }) => {
+    const status = call(size(first), size(last), size(out));
+    return { status, result: String(sizes(out, 1)[0]) };
+  },
   range_i64: (call, [first, last], { numbers, out }) => {
-    const status = call(first, last, BigInt(out));
+    const status = call(first, last, size(out));
     return { status, result: String(BigInt.asIntN(64, numbers(out, 1)[0])) };
   },
-  shuffle: (call, [length], { memory, numbers, out }) => {
-    new BigUint64Array(memory.buffer, out, Number(length)).set(
-      Array.from({ length: Number(length) }, (_, index) => BigInt(index)));
-    return { status: call(BigInt(out), length), result: listed(numbers(out, Number(length))) };
+  shuffle: (call, [length], { memory, sizes, out }) => {
+    new Sizes(memory.buffer, out, Number(length)).set(
+      Array.from({ length: Number(length) }, (_, index) => size(index)));
+    return { status: call(size(out), size(length)), result: listed(sizes(out, Number(length))) };
   },
-  sample: (call, [count, length], { numbers, out }) => {
-    const status = call(count, BigInt(out), length);
-    return { status, result: status === 0 ? listed(numbers(out, Number(length))) : "-" };
+  sample: (call, [count, length], { sizes, out }) => {
+    const status = call(size(count), size(out), size(length));
+    return { status, result: status === 0 ? listed(sizes(out, Number(length))) : "-" };
   },
   jump: (call, draws, { memory, into }) => {
     if (draws.length === 1) call(draws[0]);
     else {
       new BigUint64Array(memory.buffer, into, 2).set(draws);
-      call(BigInt(into));
+      call(size(into));
     }
     return { result: "-" };
   },
 };
-CALLS.range_usize = CALLS.range_u64;
 CALLS.shuffle_full = CALLS.shuffle;
 
 /** The calls of the draw by lot. */
 const LOTS = {
   digest: (call, [text], { memory, out, into }) => {
     memory.set(text, into);
-    call(BigInt(into), BigInt(text.length), BigInt(out));
+    call(size(into), size(text.length), size(out));
     return { result: toHex(memory.slice(out, out + 32)) };
   },
-  count: (call, [list], { memory, numbers, out, into }) => {
+  count: (call, [list], { memory, sizes, out, into }) => {
     memory.set(list, into);
-    const status = call(BigInt(into), BigInt(list.length), BigInt(out));
-    return { status, result: String(numbers(out, 1)[0]), always: true };
+    const status = call(size(into), size(list.length), size(out));
+    return { status, result: String(sizes(out, 1)[0]), always: true };
   },
-  draw: (call, [seed, entrants, count], { memory, numbers, out, into }) => {
+  draw: (call, [seed, entrants, count], { memory, sizes, out, into }) => {
     memory.set(seed, into);
-    const status = call(BigInt(into), BigInt(seed.length), BigInt(out), entrants, count);
-    return { status, result: listed(numbers(out, Number(entrants))) };
+    const status = call(size(into), size(seed.length), size(out), size(entrants), size(count));
+    return { status, result: listed(sizes(out, Number(entrants))) };
   },
 };
 
@@ -123,7 +131,7 @@ function runRow([generator, before, call, given, status, result, after]) {
     const state = new Uint8Array(new BigUint64Array([seed]).buffer);
     return status === "0" && result === "-" && toHex(state) === after;
   } else {
-    const state = BigInt(world.state);
+    const state = size(world.state);
     found = CALLS[call]((...rest) => name(state, ...rest), words.map(BigInt), world);
   }
   const said = status === "0" || found.always ? found.result : "-";
@@ -131,8 +139,16 @@ function runRow([generator, before, call, given, status, result, after]) {
   return String(found.status ?? 0) === status && said === result && left === after;
 }
 
-const rows = table.split("\n").filter((line) => line && !line.startsWith("#"))
+/** Whether each length that a row gives is one of so many bits. */
+function fits([generator, , call, given]) {
+  const isOfSizes = generator === "lots" || ["range_usize", "sample"].includes(call);
+  return !isOfSizes || given.split(",").slice(generator === "lots" ? 1 : 0)
+    .every((number) => BigInt(number) < 2n ** BigInt(bits));
+}
+
+const all = table.split("\n").filter((line) => line && !line.startsWith("#"))
   .map((line) => line.split("\t"));
+const rows = all.filter(fits);
 const wrong = rows.filter((row) => {
   try {
     return !runRow(row);
@@ -141,4 +157,4 @@ const wrong = rows.filter((row) => {
     return true;
   }
 });
-return [rows.length, wrong.map((row) => row.join(" ").slice(0, 200))];
+return [rows.length, wrong.map((row) => row.join(" ").slice(0, 200)), all.length - rows.length];

@@ -4,7 +4,7 @@ import json
 import random
 import re
 from pathlib import Path
-from typing import List
+from typing import Dict, List
 
 from counts import UNSEEN, Counts, lots, sha256
 from page import Page
@@ -45,7 +45,7 @@ def first_record(page: Page, seed: str = SEED, count: str = "3", text: str = LIS
     return page.draw()["record"]
 
 
-def agreements(counts: Counts, page: Page, record: str) -> None:
+def agreements(counts: Counts, page: Page, record: str, digests: Dict[int, str]) -> None:
     for name, text in (("as it is", record), ("no last line feed", record[:-1]),
                        ("Windows", record.replace("\n", "\r\n")),
                        ("lines around", f"\n\n{record}\n \n"), ("spaces at ends", record.replace("\n", "  \n")),
@@ -59,6 +59,14 @@ def agreements(counts: Counts, page: Page, record: str) -> None:
     outcome(counts, page, "another version", with_line(record, 6, "version: 1.0.1"), "other module", "Another version:")
     outcome(counts, page, "another module", with_line(record, 7, f"module SHA-256: {zero}"), "other module",
             "Another module:")
+    second = record.replace(digests[64], digests[32])
+    made = ("The record was made by this page's other module, for 32-bit memory: the same source, its proof erased. "
+            "Here runs the one for 64-bit memory, proved.")
+    outcome(counts, page, "the page's other module", second, "agrees", made)
+    outcome(counts, page, "it and another version", with_line(second, 6, "version: 1.0.1"), "other module",
+            "Another version:", made)
+    outcome(counts, page, "it and another result", with_line(second, 9, "1: Ada"), "differs",
+            "Line 1 of the result:", made)
     both = with_line(with_line(record, 6, "version: 2.0.0"), 7, f"module SHA-256: {zero}")
     outcome(counts, page, "both", both, "other module", "Another version:", "Another module:")
     outcome(counts, page, "another result by another module", with_line(both, 9, "1: Ada"), "differs",
@@ -196,11 +204,11 @@ def record_of_document(counts: Counts, record: str) -> None:
     counts.same("the record of docs/PAGE.md", module.sub("", found[1]), module.sub("", record))
 
 
-def run(counts: Counts, page: Page, program: str) -> None:
+def run(counts: Counts, page: Page, program: str, digests: Dict[int, str]) -> None:
     page.load()
     record = first_record(page)
     record_of_document(counts, record)
-    agreements(counts, page, record)
+    agreements(counts, page, record, digests)
     differences(counts, page, record)
     no_records(counts, page, record)
     broken_records(counts, page, record)

@@ -3,23 +3,25 @@
 // given.
 // Returns how many calls were watched, what is wrong, and the digests.
 
-const [code] = arguments;
+const [code, bits] = arguments;
 const compiled = new WebAssembly.Module(
   Uint8Array.from(atob(code), (letter) => letter.charCodeAt(0)));
 const wrong = [];
 let calls = 0;
 
+const SIZE = BigInt(bits / 8);
+
 /** The areas of each call: where its pointer stands, how long it is, whether it is read. */
 const AREAS = {
   nanorand_v1_lots_digest: (rest) => [[rest[0], rest[1], true], [rest[2], 32n, false]],
-  nanorand_v1_lots_count: (rest) => [[rest[0], rest[1], true], [rest[2], 8n, false]],
-  nanorand_v1_lots_draw: (rest) => [[rest[0], rest[1], true], [rest[2], rest[3] * 8n, false]],
+  nanorand_v1_lots_count: (rest) => [[rest[0], rest[1], true], [rest[2], SIZE, false]],
+  nanorand_v1_lots_draw: (rest) => [[rest[0], rest[1], true], [rest[2], rest[3] * SIZE, false]],
 };
 
 function look(name, exports, own, rest, given) {
   calls += 1;
   const say = (what) => wrong.push(`${name}(${rest.join(", ")}): ${what}`);
-  const areas = AREAS[name](rest);
+  const areas = AREAS[name](rest.map(BigInt));
   for (const [start, length, isRead] of areas) {
     if (start < own) say("in the module's own memory");
     if (start + length > exports.memory.buffer.byteLength) say("outside of memory");
@@ -28,7 +30,7 @@ function look(name, exports, own, rest, given) {
       if (there.length !== given.length || there.some((byte, index) => byte !== given[index])) {
         say("not the bytes that were given");
       }
-    } else if (length !== 32n && start % 8n !== 0n) say("not at a multiple of 8");
+    } else if (length !== 32n && start % SIZE !== 0n) say(`not at a multiple of ${SIZE}`);
   }
   const [[one, oneLength], [other, otherLength]] = areas;
   if (one < other + otherLength && other < one + oneLength) say("two areas overlap");
@@ -42,7 +44,7 @@ function watched(given) {
     look(name, exports, own, rest, given.bytes);
     return exports[name](...rest);
   }]);
-  return new Module({ exports: { ...exports, ...Object.fromEntries(calls) } });
+  return new Module({ exports: { ...exports, ...Object.fromEntries(calls) } }, bits);
 }
 
 const bytesOf = (length) => Uint8Array.from({ length }, (_, index) => 11 + index % 240);

@@ -4,6 +4,7 @@ import base64
 import importlib.machinery
 import importlib.util
 from pathlib import Path
+from typing import Dict
 
 from counts import Counts, sha256
 from page import Page
@@ -14,11 +15,13 @@ build = importlib.util.module_from_spec(importlib.util.spec_from_loader("build",
 LOADER.exec_module(build)
 
 
-def run(counts: Counts, page: Page, module: bytes) -> None:
+def run(counts: Counts, page: Page, modules: Dict[int, bytes]) -> None:
     script = build.script("module") + (HERE / "glue.js").read_text(encoding="utf-8")
-    calls, wrong, digests = page.browser.run(script, base64.b64encode(module).decode())
-    counts.case("calls are watched", "" if calls >= 500 else str(calls))
-    for call in wrong:
-        counts.case("a call", call)
-    for length, digest in digests:
-        counts.same(f"digest of {length} bytes", digest, sha256(bytes(11 + k % 240 for k in range(length))))
+    for bits, module in modules.items():
+        calls, wrong, digests = page.browser.run(script, base64.b64encode(module).decode(), bits)
+        counts.case(f"calls are watched, {bits} bits", "" if calls >= 500 else str(calls))
+        for call in wrong:
+            counts.case(f"a call, {bits} bits", call)
+        for length, digest in digests:
+            wanted = sha256(bytes(11 + k % 240 for k in range(length)))
+            counts.same(f"digest of {length} bytes, {bits} bits", digest, wanted)

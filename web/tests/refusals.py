@@ -1,18 +1,14 @@
 """Each refusal of the page, beside the status of the program `lots` where it has one."""
 
-from pathlib import Path
-from typing import Callable, Type
+from typing import Callable
 
 from counts import Counts, lots
-from drivers import Browser
 from page import Page
 
 INVALID = "return Array.from(document.querySelectorAll('[aria-invalid]'), (field) => field.id);"
 LETTERS = "a\nb\nc\nd\ne\nf\ng\nh\ni\nj\n"
 NO_NUMBER = "The count must be the word all, or digits alone: no sign, no space, no comma."
 TOO_LARGE = "The count is too large: at most 18446744073709551615."
-OLD = ("This browser cannot run the page: it has no WebAssembly with 64-bit memory. Chromium and Chrome have it "
-       "from version 133 on, Firefox from version 134 on. The program lots and the Python code below draw the same.")
 
 
 def too_few(entrants: int, count: str) -> str:
@@ -112,25 +108,6 @@ def stale_results(counts: Counts, page: Page) -> None:
         document.getElementById("seed").dispatchEvent(new Event("input"));""")
     page.browser.wait('return !document.getElementById("draw").disabled;')
     counts.same("a late answer", page.shown()["record"], "")
-
-
-def old_browsers(counts: Counts, kind: Type[Browser], address: str, folder: Path) -> None:
-    """A browser with no WebAssembly, or one whose memory has 32 bits alone: the page says so, and does nothing."""
-    for feature in ("WebAssembly", "memory64"):
-        old = kind(folder)
-        try:
-            old.lose(feature)
-            old.open(address)
-            said = old.wait('return document.getElementById("page-error").textContent;', seconds=20)
-            counts.same(f"without {feature}", said, OLD)
-            for button in ("draw", "check"):
-                disabled = old.run("return document.getElementById(arguments[0]).disabled;", button)
-                counts.same(f"no {button} without {feature}", disabled, True)
-            shown = Page(old, address, folder).shown()
-            said = [shown[field] for field in ("list", "seed", "count")]
-            counts.same(f"nothing else is said without {feature}", said, ["", "", ""])
-        finally:
-            old.close()
 
 
 def run(counts: Counts, page: Page, program: str) -> None:

@@ -64,7 +64,8 @@ def letters_that_nobody_sees(counts: Counts, page: Page) -> None:
 
 def texts(counts: Counts, page: Page, module: str) -> None:
     text = "return document.querySelector(arguments[0]).textContent;"
-    counts.same("the module", page.browser.run(text, "#maker"), f"Version 1.0.0, module SHA-256 {module}")
+    counts.same("the module", page.browser.run(text, "#maker"), 
+                f"Version 1.0.0, module SHA-256 {module}, for 64-bit memory, proved")
     document = (TOP / "docs/LOTS.md").read_text(encoding="utf-8")
     code = re.search(r"^```python\n(.*?)\n```$", document, re.M | re.S)
     counts.same("the Python code", page.browser.run(text, "pre[aria-label='The draw in Python']"), code and code[1])

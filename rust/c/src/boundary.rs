@@ -35,7 +35,7 @@ impl<'a, T> ArrayMut<'a, T> {
 }
 
 /// A panic would be a bug of the library. It ends the process at once: C cannot catch it.
-#[cfg(not(test))]
+#[cfg(not(any(test, target_family = "wasm")))]
 #[panic_handler]
 fn end(_: &core::panic::PanicInfo) -> ! {
     #[link(name = "c")]
@@ -44,6 +44,13 @@ fn end(_: &core::panic::PanicInfo) -> ! {
     }
     // SAFETY: C's `abort` asks for nothing.
     unsafe { abort() }
+}
+
+/// WebAssembly alone has no C library: a panic ends the call, and the page sees an error.
+#[cfg(all(not(test), target_family = "wasm"))]
+#[panic_handler]
+fn end(_: &core::panic::PanicInfo) -> ! {
+    core::arch::wasm32::unreachable()
 }
 
 #[cfg(test)]

@@ -1,0 +1,64 @@
+"""Browsers of other years: without 64-bit memory the second module draws the same, without WebAssembly nothing does."""
+
+from pathlib import Path
+from typing import Dict, Type
+from urllib.parse import urlparse
+from urllib.request import url2pathname
+
+import checks
+import draws
+from counts import Counts
+from drivers import Browser
+from page import Page
+
+WORDS = ("This browser cannot draw: it has no WebAssembly, or it is switched off. Open the page in a newer browser: "
+         "Chrome, Edge or Chromium from version 97 on, Firefox from version 90 on, Safari from version 16 on. Or use "
+         "the Python code below, which draws the same.")
+MAKER = "Version 1.0.0, module SHA-256 {}, for 32-bit memory: the same source, its proof erased"
+OTHER = "The record was made by this page's other module, for 64-bit memory, proved. Here runs the one for 32-bit memory"
+
+
+def without_modules(counts: Counts, page: Page, name: str) -> None:
+    """The page says what to do, and does nothing else."""
+    page.load()
+    shown = page.shown()
+    counts.same(name, [shown[field] for field in ("page", "list", "seed", "count")], [WORDS, "", "", ""])
+    for button in ("draw", "check"):
+        disabled = page.browser.run("return document.getElementById(arguments[0]).disabled;", button)
+        counts.same(f"{name}: no {button}", disabled, True)
+
+
+def with_module32(counts: Counts, page: Page, program: str, digests: Dict[int, str]) -> None:
+    """The second module runs, says so, and draws as the program does; a record of the first one agrees."""
+    page.load()
+    maker = page.browser.run('return document.getElementById("maker").textContent;')
+    counts.same("the module for 32-bit memory", maker, MAKER.format(digests[32]))
+    draws.random_draws(counts, page, program, digests[32], 40)
+    draws.sizes(counts, page, program, digests[32])
+    record = checks.first_record(page)
+    checks.outcome(counts, page, "a record of this module", record, "agrees")
+    checks.outcome(counts, page, "a record of the other", record.replace(digests[32], digests[64]), "agrees", OTHER)
+
+
+def strict_copy(address: str, folder: Path) -> str:
+    """A page that forbids modules, as its policy reads in a browser that does not know 'wasm-unsafe-eval'."""
+    page = Path(url2pathname(urlparse(address).path)).read_text(encoding="utf-8")
+    (folder / "strict.html").write_text(page.replace(" 'wasm-unsafe-eval'", "", 1), encoding="utf-8")
+    return (folder / "strict.html").as_uri()
+
+
+def run(counts: Counts, kind: Type[Browser], address: str, folder: Path, program: str, digests: Dict[int, str]) -> None:
+    strict = strict_copy(address, folder)
+    tries = {
+        "": lambda page: without_modules(counts, Page(page.browser, strict, folder), "no module is allowed"),
+        "WebAssembly": lambda page: without_modules(counts, page, "no WebAssembly"),
+        "memory64": lambda page: with_module32(counts, page, program, digests),
+    }
+    for lost, part in tries.items():
+        browser = kind(folder)
+        try:
+            if lost:
+                browser.lose(lost)
+            part(Page(browser, address, folder))
+        finally:
+            browser.close()
