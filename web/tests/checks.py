@@ -197,11 +197,10 @@ def broken_records(counts: Counts, page: Page, record: str) -> None:
 
 
 def record_of_document(counts: Counts, record: str) -> None:
-    """The record in docs/PAGE.md is that of the example, but for the module, which changes with its sources."""
+    """The record in docs/PAGE.md is that of the example."""
     document = (Path(__file__).resolve().parents[2] / "docs/PAGE.md").read_text(encoding="utf-8")
     found = re.search(r"^```\n(nanorand public draw 1\n.*?)^```$", document, re.M | re.S)
-    module = re.compile(r"(?<=^module SHA-256: )[0-9a-f]{64}$", re.M)
-    counts.same("the record of docs/PAGE.md", module.sub("", found[1]), module.sub("", record))
+    counts.same("the record of docs/PAGE.md", found[1], record)
 
 
 def run(counts: Counts, page: Page, program: str, digests: Dict[int, str]) -> None:
