@@ -7,6 +7,7 @@ import { writtenSeed } from "./record.js";
 import { Refusal } from "./refusal.js";
 import {
   clearRefusals, copy, fieldOf, grouped, part, save, say, showCheck, showList, showRefusal, showResult,
+  showTab,
 } from "./view.js";
 
 const PAUSE = 300;
@@ -43,6 +44,7 @@ function changed() {
   state.turn += 1;
   state.result = null;
   part("result").hidden = true;
+  part("publish-hint").hidden = false;
   part("outcome").hidden = true;
 }
 
@@ -100,8 +102,8 @@ async function readFile(file) {
   return sendList();
 }
 
-function openFile() {
-  const [file] = part("list-file").files;
+/** @param {File|undefined} file */
+function openFile(file) {
   if (!file) return;
   listChanged(PAUSE);
   clearTimeout(state.pending);
@@ -119,6 +121,20 @@ function closeFile() {
   part("pasted").hidden = false;
   part("list-text").focus();
   listChanged(0);
+}
+
+/** Takes a file that was dropped: as the record on the field for it, as the list elsewhere. */
+async function dropped(event) {
+  const [file] = event.dataTransfer.files;
+  if (!file) return;
+  event.preventDefault();
+  if (event.target === part("check-text")) {
+    part("check-text").value = new TextDecoder().decode(await file.arrayBuffer());
+    part("outcome").hidden = true;
+  } else {
+    part("list-file").value = "";
+    openFile(file);
+  }
 }
 
 function seedChanged() {
@@ -198,23 +214,47 @@ async function start() {
   }
 }
 
-/** @param {string} id @param {string} event @param {() => void} action */
+/** @param {string} id @param {string} event @param {(event: Event) => void} action */
 function on(id, event, action) {
   part(id).addEventListener(event, action);
 }
 
+/** Of two tabs an arrow leads from each to the other. @param {KeyboardEvent} event */
+function moveTab(event) {
+  if (!["ArrowLeft", "ArrowRight"].includes(event.key)) return;
+  const name = event.target.id === "tab-draw" ? "check" : "draw";
+  showTab(name);
+  part(`tab-${name}`).focus();
+}
+
+/** Enter draws. @param {KeyboardEvent} event */
+function drawOnEnter(event) {
+  if (event.key === "Enter" && !event.isComposing && !part("draw").disabled) drawNow();
+}
+
 on("list-text", "input", () => listChanged(PAUSE));
-on("list-file", "change", openFile);
+on("list-file", "change", () => openFile(part("list-file").files[0]));
 on("close-file", "click", closeFile);
 on("seed", "input", seedChanged);
 on("count", "input", countChanged);
+on("seed", "keydown", drawOnEnter);
+on("count", "keydown", drawOnEnter);
+for (const name of ["draw", "check"]) {
+  on(`tab-${name}`, "click", () => showTab(name));
+  on(`tab-${name}`, "keydown", moveTab);
+}
+document.addEventListener("dragover", (event) => {
+  if (event.dataTransfer.types.includes("Files")) event.preventDefault();
+});
+document.addEventListener("drop", dropped);
 on("check-text", "input", () => { part("outcome").hidden = true; });
 on("draw", "click", drawNow);
 on("check", "click", checkNow);
 on("copy-digest", "click", () =>
   copy(part("copy-digest"), part("list-digest").textContent));
-on("copy-record", "click", () => copy(part("copy-record"), part("record").value));
-on("save-list", "click", () => save(state.bytes, "entrants"));
-on("save-record", "click", () => save(part("record").value, "draw.txt"));
-on("save-result", "click", () => save(state.result, "result"));
+on("copy-record", "click", () => copy(part("copy-record"), part("record").textContent));
+on("save-list", "click", () => save(state.bytes, "entrants.txt"));
+on("save-record", "click", () => save(part("record").textContent, "record.txt"));
+on("save-result", "click", () => save(state.result, "result.txt"));
+on("print", "click", () => print());
 start();

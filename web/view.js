@@ -62,6 +62,7 @@ export function showList({ digest, entrants, warnings }) {
 /** @param {{entrants: number, drawn: number, named: string[], record: string}} drawing */
 export function showResult({ entrants, drawn, named, record }) {
   part("result").hidden = false;
+  part("publish-hint").hidden = true;
   say("result-title", drawn === 0
     ? "Nobody was drawn."
     : `${grouped(drawn)} of ${grouped(entrants)} drawn, in this order:`);
@@ -70,7 +71,31 @@ export function showResult({ entrants, drawn, named, record }) {
   say("more", left > 0 ? `and ${grouped(left)} more, in the result that you can save` : "");
   say("escapes", named.some((name) => name.includes("\\"))
     ? "\\x and two digits are a byte that is no visible letter, \\\\ is one backslash." : "");
-  part("record").value = record;
+  part("record").replaceChildren(...withDigests(record));
+}
+
+/** A text whose digests are elements of their own, which the style breaks into rows. */
+function withDigests(text) {
+  return text.split(/\b([0-9a-f]{64})$/m).map((piece, index) => {
+    if (index % 2 === 0) return piece;
+    const digest = document.createElement("span");
+    digest.className = "digest";
+    digest.textContent = piece;
+    return digest;
+  });
+}
+
+/** Shows the parts of a tab. @param {"draw"|"check"} name */
+export function showTab(name) {
+  for (const tab of document.querySelectorAll("[role=tab]")) {
+    const isChosen = tab.id === `tab-${name}`;
+    tab.setAttribute("aria-selected", String(isChosen));
+    tab.tabIndex = isChosen ? 0 : -1;
+  }
+  part("panel").setAttribute("aria-labelledby", `tab-${name}`);
+  for (const id of ["draw-step", "publish-step"]) part(id).hidden = name !== "draw";
+  part("check-step").hidden = name !== "check";
+  say("list-heading", name === "draw" ? "1. Close the list" : "The list");
 }
 
 /** @param {import("./check.js").Check} check */

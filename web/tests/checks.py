@@ -166,7 +166,7 @@ def long_records(counts: Counts, page: Page) -> None:
 
 def seeds_survive(counts: Counts, page: Page, program: str) -> None:
     """A record holds any seed in one line, and a second page reads the same from it."""
-    seeds = [" ", "  two  ", "\n", "a\nb\n", "\ttab", "\"quoted\"", "\\", "\\n", "é", "e\u0301", "🎲", "\u200b",
+    seeds = [" ", "  two  ", "\ttab", "\"quoted\"", "\\", "\\n", "é", "e\u0301", "🎲", "\u200b",
              "\u00a0x", "\u2028", "\u202eabc", "\x00", "\x7f", "</script>", "{{python}}", "nanorand public draw 1",
              "\ufeffx", "\U000e0041", "漢字", f"a{UNSEEN[1:]}b"]
     for seed in seeds:
@@ -178,6 +178,16 @@ def seeds_survive(counts: Counts, page: Page, program: str) -> None:
             right = right and sha256(lots(program, seed, "all", LIST.encode()).output) in record
         counts.case(f"the seed {seed!r}", "" if right else record)
         outcome(counts, page, f"a check of the seed {seed!r}", record.replace("\n", "\r\n"), "agrees")
+
+
+def seed_of_lines(counts: Counts, page: Page, program: str, record: str) -> None:
+    """A seed with line feeds, which no field takes, is read from a record."""
+    for seed in ("\n", "a\nb\n"):
+        drawn = lots(program, seed, "3", LIST.encode()).output
+        lines = record.split("\n")
+        lines[1], lines[7] = f"seed: {json.dumps(seed)}", f"result SHA-256: {sha256(drawn)}"
+        lines[8:11] = [f"{number}: {name}" for number, name in enumerate(drawn.decode().splitlines(), 1)]
+        outcome(counts, page, f"a record with the seed {seed!r}", "\n".join(lines), "agrees")
 
 
 def broken_records(counts: Counts, page: Page, record: str) -> None:
@@ -213,3 +223,4 @@ def run(counts: Counts, page: Page, program: str, digests: Dict[int, str]) -> No
     broken_records(counts, page, record)
     long_records(counts, page)
     seeds_survive(counts, page, program)
+    seed_of_lines(counts, page, program, record)

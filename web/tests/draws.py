@@ -7,6 +7,7 @@ from pathlib import Path
 from typing import Any, Dict, List
 
 from counts import Counts, bytes_of, lines_of, lots, sha256
+from drivers import CONTROL
 from page import Page
 
 ALPHABETS = [(0x30, 0x3A), (0x20, 0x7F), (0xA0, 0x800), (0x800, 0xD800), (0x10000, 0x110000), (0x01, 0x0D)]
@@ -16,10 +17,10 @@ ROOM = 65536
 
 
 def a_seed(rng: random.Random) -> str:
-    """A text of one or several alphabets. A field has no carriage return, an argument no byte 0."""
+    """A text of one or several alphabets. A field has no line's end, an argument no byte 0."""
     one, mixed = rng.choice(ALPHABETS), rng.random() < 0.3
-    return "".join(chr(rng.randrange(*(rng.choice(ALPHABETS) if mixed else one)))
-                   for _ in range(rng.choice(LENGTHS)))
+    letters = (chr(rng.randrange(*(rng.choice(ALPHABETS) if mixed else one))) for _ in range(rng.choice(LENGTHS)))
+    return "".join(letters).replace("\n", "\t")
 
 
 def some_lines(rng: random.Random, size: int, is_text: bool) -> List[bytes]:
@@ -171,8 +172,8 @@ def files(counts: Counts, page: Page, program: str, folder: Path) -> None:
         page.open_file(data)
         page.fill("a seed", "all")
         shown = page.draw()
-        wanted = {"save-list": ("entrants", data), "save-record": ("draw.txt", shown["record"].encode()),
-                  "save-result": ("result", lots(program, "a seed", "all", data).output)}
+        wanted = {"save-list": ("entrants.txt", data), "save-record": ("record.txt", shown["record"].encode()),
+                  "save-result": ("result.txt", lots(program, "a seed", "all", data).output)}
         for button, (name, content) in wanted.items():
             page.browser.click(f"#{button}")
             counts.same(f"{button} {index}", saved(page, folder, name), content)
@@ -195,12 +196,14 @@ def copies(counts: Counts, page: Page) -> None:
 
 def copied(counts: Counts, page: Page, shown: Dict[str, Any]) -> None:
     for button, wanted in (("copy-digest", shown["digest"]), ("copy-record", shown["record"])):
+        page.tab("draw")
         label = page.browser.label(f"#{button}")
         page.browser.click(f"#{button}")
         page.browser.wait("return document.getElementById(arguments[0]).textContent !== arguments[1];", button, label)
         counts.same(f"{button} says so", page.browser.label(f"#{button}"), "Copied")
+        page.tab("check")
         page.browser.run("""const field = document.getElementById("check-text");
             field.value = "";
             field.focus();""")
-        page.browser.insert_copied()
+        page.browser.press_with(CONTROL, "v")
         counts.same(f"{button}", page.browser.run('return document.getElementById("check-text").value;'), wanted)

@@ -19,7 +19,7 @@ from pathlib import Path
 from typing import Any, Dict, List, Optional
 
 ELEMENT = "element-6066-11e4-a52e-4f735466cecf"
-BACKSPACE, TAB, ENTER, CONTROL, SPACE = "\ue003", "\ue004", "\ue007", "\ue009", " "
+BACKSPACE, TAB, ENTER, SHIFT, CONTROL, SPACE = "\ue003", "\ue004", "\ue007", "\ue008", "\ue009", " "
 
 
 class DriverError(Exception):
@@ -69,15 +69,19 @@ class Browser:
         actions = [{"type": kind, "value": key} for key in keys for kind in ("keyDown", "keyUp")]
         self.command("PerformActions", actions=[{"type": "key", "id": "keys", "actions": actions}])
 
-    def insert_copied(self) -> None:
-        """Presses Control and V."""
+    def press_with(self, held: str, pressed: str) -> None:
+        """Presses a key while another is held."""
         actions = [{"type": kind, "value": key} for kind, key in
-                   (("keyDown", CONTROL), ("keyDown", "v"), ("keyUp", "v"), ("keyUp", CONTROL))]
+                   (("keyDown", held), ("keyDown", pressed), ("keyUp", pressed), ("keyUp", held))]
         self.command("PerformActions", actions=[{"type": "key", "id": "keys", "actions": actions}])
 
     def picture(self, path: Path) -> None:
         """Saves what the window shows."""
         path.write_bytes(base64.b64decode(self.command("TakeScreenshot")))
+
+    def printed(self) -> bytes:
+        """The page on paper, as a PDF."""
+        return base64.b64decode(self.command("Print"))
 
     def size(self, width: int, height: int) -> None:
         """Gives the page a width and a height, in pixels of CSS."""
@@ -114,7 +118,7 @@ class Chromium(Browser):
     PATHS = {
         "Navigate": "url", "ExecuteScript": "execute/sync", "FindElement": "element",
         "ElementSendKeys": "element/{id}/value", "ElementClick": "element/{id}/click",
-        "PerformActions": "actions", "Log": "se/log", "Protocol": "goog/cdp/execute",
+        "PerformActions": "actions", "Print": "print", "Log": "se/log", "Protocol": "goog/cdp/execute",
     }
     QUESTIONS = {"TakeScreenshot": "screenshot", "GetComputedLabel": "element/{id}/computedlabel"}
 

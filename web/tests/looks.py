@@ -10,13 +10,15 @@ from drivers import BACKSPACE, ENTER, SPACE, TAB
 from page import Page
 
 LABELS = {
-    "list-file": "Open a file", "list-text": "or paste the list", "seed": "Seed", "count": "How many are drawn",
+    "list-file": "Open a file, or drop it here", "list-text": "or paste the list", "seed": "Seed", "count": "How many are drawn",
     "record": "The record: what another needs to repeat the draw, beside the list", "check-text": "Record",
     "draw": "Draw", "check": "Check", "copy-digest": "Copy the SHA-256", "save-list": "Save the list",
     "copy-record": "Copy the record", "save-record": "Save the record", "save-result": "Save the result",
+    "tab-draw": "Hold a draw", "tab-check": "Check a draw", "print": "Print",
 }
-ORDER = ["list-file", "list-text", "copy-digest", "save-list", "seed", "count", "draw", "record",
-         "copy-record", "save-record", "save-result", "check-text", "check"]
+HIDDEN = ["check-text", "check"]
+ORDER = ["tab-draw", "list-file", "list-text", "copy-digest", "save-list", "seed", "count", "draw", "drawn", "record",
+         "copy-record", "save-record", "save-result", "print"]
 CONTRAST = """
 const number = (colour) => colour.match(/[\\d.]+/g).map(Number);
 const light = (colour) => {
@@ -31,7 +33,8 @@ const behind = (element) => {
   }
   return "rgb(255, 255, 255)";
 };
-return Array.from(document.querySelectorAll("p, li, label, h1, h2, h3, code, textarea, input, button, strong"))
+return Array.from(document.querySelectorAll(
+    "p, li, label, h1, h2, h3, code, pre, summary, textarea, input, button, strong"))
   .filter((element) => element.checkVisibility() && !element.disabled).map((element) => {
     const two = [light(getComputedStyle(element).color), light(behind(element))];
     return [element.id || element.tagName, (Math.max(...two) + 0.05) / (Math.min(...two) + 0.05)];
@@ -45,30 +48,49 @@ return Array.from(document.querySelectorAll("body *")).filter((element) => eleme
 LONG = "W" * 300 + "\nAda\nBarbara\r\n Chidi\nAda\n\\\n"
 
 
-def finished_draw(page: Page, text: str = LONG) -> None:
-    page.open_file(text.encode())
+def before(page: Page) -> None:
+    page.load()
+
+
+def after(page: Page) -> None:
+    page.open_file(LONG.encode())
     page.fill("4 1 6 3 3 2 5 6 é" + "w" * 100, "all")
-    record = page.draw()["record"]
-    page.check(record.replace("drawn: 6", "drawn: 7"))
+    page.draw()
+
+
+def checked(page: Page) -> None:
+    page.check(page.shown()["record"].replace("drawn: 6", "drawn: 7"))
+
+
+def refused(page: Page) -> None:
+    page.tab("draw")
+    page.open_file(b"a\n\nb\n")
+    page.facts()
+    page.fill("", "1,000")
+    page.draw()
 
 
 def widths_and_colours(counts: Counts, page: Page, pictures: Path) -> None:
-    page.load()
-    finished_draw(page)
-    for dark in (False, True):
-        page.browser.dark(dark)
-        for width in (360, 1440):
-            page.browser.size(width, 900)
-            name = f"{width} {'dark' if dark else 'light'}"
-            found = page.browser.run("return [innerWidth, document.documentElement.scrollWidth];")
-            counts.case(f"the width {name}", "" if found[0] == width and found[1] <= width else str(found))
-            counts.same(f"nothing is cut off, {name}", page.browser.run(WIDE), [])
-            counts.same(f"contrast, {name}", page.browser.run(CONTRAST), [])
-            colour = page.browser.run("return getComputedStyle(document.body).backgroundColor;")
-            counts.same(f"background, {name}", colour, "rgb(15, 19, 24)" if dark else "rgb(246, 247, 249)")
-            page.browser.picture(pictures / f"{page.browser.name.lower()}-{name.replace(' ', '-')}.png")
+    for state in (before, after, checked, refused):
+        state(page)
+        for dark in (False, True):
+            page.browser.dark(dark)
+            for width in (360, 1440):
+                width_and_colour(counts, page, pictures, width, dark, state.__name__)
     page.browser.dark(False)
     page.browser.size(1000, 900)
+
+
+def width_and_colour(counts: Counts, page: Page, pictures: Path, width: int, dark: bool, state: str) -> None:
+    page.browser.size(width, 900)
+    name = f"{state} {width} {'dark' if dark else 'light'}"
+    found = page.browser.run("return [innerWidth, document.documentElement.scrollWidth];")
+    counts.case(f"the width {name}", "" if found[0] == width and found[1] <= width else str(found))
+    counts.same(f"nothing is cut off, {name}", page.browser.run(WIDE), [])
+    counts.same(f"contrast, {name}", page.browser.run(CONTRAST), [])
+    colour = page.browser.run("return getComputedStyle(document.body).backgroundColor;")
+    counts.same(f"background, {name}", colour, "rgb(15, 19, 24)" if dark else "rgb(246, 247, 249)")
+    page.browser.picture(pictures / f"{page.browser.name.lower()}-{name.replace(' ', '-')}.png")
 
 
 def names(counts: Counts, page: Page) -> None:
@@ -79,13 +101,15 @@ def names(counts: Counts, page: Page) -> None:
     page.facts()
     page.draw()
     for element, label in LABELS.items():
+        page.tab("check" if element in HIDDEN else "draw")
         found = page.browser.label(f"#{element}")
         # Firefox adds the file field's own text.
         counts.case(f"the name of {element}", "" if found.startswith(label) else found)
     roles = page.browser.run("""return Object.fromEntries(Array.from(document.querySelectorAll("[id][role]"),
         (element) => [element.id, element.getAttribute("role")]));""")
     wanted = {f"{field}-error": "alert" for field in ("page", "list", "seed", "count")}
-    wanted.update({"list-facts": "status", "progress": "status", "outcome": "status"})
+    wanted.update({"list-facts": "status", "progress": "status", "outcome": "status", "panel": "tabpanel",
+                   "record": "region", "tab-draw": "tab", "tab-check": "tab"})
     counts.same("roles", roles, wanted)
     counts.same("each reference has its element", page.browser.run("""
         return Array.from(document.querySelectorAll("[aria-describedby], [aria-labelledby], label[for]"))
@@ -97,14 +121,14 @@ def names(counts: Counts, page: Page) -> None:
           .map((field) => field.id);"""), [])
 
 
-def reached(page: Page, most: int = 30) -> List[str]:
-    """Where the key Tab leads, from the first field on. Tab goes round."""
-    places = []
-    for _ in range(most):
+def reached(page: Page) -> List[str]:
+    """Where the key Tab leads, from the tab on."""
+    page.browser.run("document.getElementById(arguments[0]).focus();", ORDER[0])
+    places = [ORDER[0]]
+    while len(places) < len(ORDER):
         page.browser.press(TAB)
         places.append(page.browser.run("return document.activeElement.id || document.activeElement.tagName;"))
-    first = places.index(ORDER[0])
-    return places[first:] + places[:first]
+    return places
 
 
 def keyboard(counts: Counts, page: Page) -> None:
@@ -127,13 +151,12 @@ def keyboard(counts: Counts, page: Page) -> None:
     page.browser.press(3 * BACKSPACE + "2")
     go("draw")
     page.browser.press(SPACE)
-    page.browser.wait('return document.getElementById("record").value;')
+    page.browser.wait('return document.getElementById("record").textContent;')
     counts.same("after a draw the keyboard is at the result",
                 page.browser.run("return document.activeElement.id;"), "result-title")
     shown = page.shown()
     counts.same("a draw by keyboard", (shown["entrants"], len(shown["drawn"])), ("3 entrants", 2))
-    places = [place for place in reached(page) if place in ORDER]
-    counts.same("the order of Tab", places[:len(ORDER)], ORDER)
+    counts.same("the order of Tab", reached(page), ORDER)
     ring = page.browser.run("""document.getElementById("draw").focus({focusVisible: true});
         return getComputedStyle(document.getElementById("draw")).outlineWidth;""")
     counts.same("the focus is seen", ring, "3px")
@@ -155,7 +178,7 @@ def said_of_lists(counts: Counts, page: Page) -> None:
         found = shown["warnings"]
         right = len(found) == len(begins) and all(one.startswith(begin) for one, begin in zip(found, begins))
         counts.case(f"warnings of {data!r}", "" if right else str(found))
-    for seed, read in (("plain seed", ""), (" x", 'The seed is read as " x".'), ("x\n", 'The seed is read as "x\\n".'),
+    for seed, read in (("plain seed", ""), (" x", 'The seed is read as " x".'), ("x\t", 'The seed is read as "x\\t".'),
                        ("4 1  6", 'The seed is read as "4 1  6".'), ("   x", 'The seed is read as "   x".'),
                        ("é", 'The seed is read as "é".'), ("\u200b", 'The seed is read as "\\u200b".')):
         page.fill(seed)

@@ -15,7 +15,8 @@ field.dispatchEvent(new InputEvent("input", { isComposing: true }));
 SHOWN = """
 const shown = (id) => {
   const element = document.getElementById(id);
-  return element && element.checkVisibility() ? element.value ?? element.innerText : "";
+  if (!element || !element.checkVisibility()) return "";
+  return id === "record" ? element.textContent : element.value ?? element.innerText;
 };
 const items = (id) => shown(id) === "" ? [] :
   Array.from(document.getElementById(id).children, (item) => item.innerText);
@@ -69,12 +70,18 @@ class Page:
             !document.getElementById(id).hidden);""")
         return self.shown()
 
+    def tab(self, name: str) -> None:
+        """Shows what belongs to a draw, or to a check."""
+        self.browser.run("document.getElementById(arguments[0]).click();", f"tab-{name}")
+
     def draw(self) -> Dict[str, Any]:
+        self.tab("draw")
         self.browser.run('document.getElementById("draw").click();')
         self.browser.wait('return !document.getElementById("draw").disabled;')
         return self.shown()
 
     def check(self, record: str) -> Dict[str, Any]:
+        self.tab("check")
         self.browser.run(SET, "check-text", record)
         self.browser.run('document.getElementById("check").click();')
         self.browser.wait('return !document.getElementById("check").disabled;')

@@ -1,0 +1,202 @@
+"""The steps of a draw and the tab of a check: what stands where, the keyboard, files that are dropped, and paper."""
+
+import re
+import time
+import zlib
+from pathlib import Path
+
+from counts import Counts
+from drivers import BACKSPACE, CONTROL, ENTER, SHIFT, SPACE, TAB
+from page import Page
+
+LIST = "Ada\nBarbara\nChidi\nDmitri\nElif\nFarid\nGrace\nHedy\nInes\nJun\nKatherine\nLise\n"
+SEED = "4 1 6 3 3 2 5 6 1 4 2 6 5 3 1 1 6 2 4 5"
+ARROW_LEFT, ARROW_RIGHT = "\ue012", "\ue014"
+# The height of two screens of a phone that is 360 wide.
+TWO_SCREENS = 1600
+HEADINGS = """return Array.from(document.querySelectorAll("h2"))
+  .filter((one) => one.checkVisibility()).map((one) => one.textContent);"""
+SIZES = """
+const size = (element) => Number.parseFloat(getComputedStyle(element).fontSize);
+const shown = Array.from(document.querySelectorAll("body *")).filter((one) => one.checkVisibility());
+const others = shown.filter((one) => !one.closest("#drawn"));
+return [size(document.querySelector("#drawn li")), Math.max(...others.map(size)),
+  document.getElementById("record").getBoundingClientRect().top -
+    document.getElementById("drawn").getBoundingClientRect().bottom];
+"""
+# How many letters of each digest stand in each of its rows.
+ROWS = """
+return Array.from(document.querySelectorAll(".digest")).map((digest) => {
+  const text = digest.firstChild;
+  const rows = new Map();
+  for (let place = 0; place < text.length; place += 1) {
+    const range = document.createRange();
+    range.setStart(text, place);
+    range.setEnd(text, place + 1);
+    const { top } = range.getBoundingClientRect();
+    rows.set(top, (rows.get(top) ?? 0) + 1);
+  }
+  return Array.from(rows.values());
+});
+"""
+DROP = """
+const [id, name, text] = arguments;
+const data = new DataTransfer();
+data.items.add(new File([text], name));
+for (const kind of ["dragover", "drop"]) {
+  const event = new DragEvent(kind, { dataTransfer: data, bubbles: true, cancelable: true });
+  document.getElementById(id).dispatchEvent(event);
+  if (!event.defaultPrevented) throw new Error(`${kind} is left to the browser`);
+}
+"""
+
+
+def focused(page: Page) -> str:
+    return str(page.browser.run("return document.activeElement.id;"))
+
+
+def drawn(page: Page) -> None:
+    page.load()
+    page.paste(LIST)
+    page.fill(SEED, "3")
+    page.draw()
+
+
+def tabs(counts: Counts, page: Page) -> None:
+    """The steps stand under one tab; the list, the record and the answer under the other."""
+    page.load()
+    steps = ["1. Close the list", "2. Draw", "3. Publish", "Why believe it"]
+    counts.same("the steps", page.browser.run(HEADINGS), steps)
+    record = "nanorand"
+    page.check(record)
+    counts.same("a check", page.browser.run(HEADINGS), ["The list", "The record that was published", "Why believe it"])
+    shown = page.shown()
+    counts.same("its answer", shown["outcome"], "no record")
+    for key, name in ((ARROW_LEFT, "draw"), (ARROW_RIGHT, "check"), (ARROW_RIGHT, "draw"), (ARROW_LEFT, "check")):
+        page.browser.run("document.querySelector('[role=tab][aria-selected=true]').focus();")
+        page.browser.press(key)
+        found = page.browser.run("""return Array.from(document.querySelectorAll("[role=tab]"),
+            (tab) => [tab.id, tab.getAttribute("aria-selected"), tab.tabIndex]);""")
+        wanted = [[f"tab-{one}", str(one == name).lower(), 0 if one == name else -1] for one in ("draw", "check")]
+        counts.same(f"the tab {name}", (focused(page), found), (f"tab-{name}", wanted))
+        panel = page.browser.run("return document.getElementById('panel').getAttribute('aria-labelledby');")
+        counts.same(f"the panel of {name}", panel, f"tab-{name}")
+
+
+def winners_first(counts: Counts, page: Page) -> None:
+    drawn(page)
+    for width in (360, 1440):
+        page.browser.size(width, 900)
+        winner, other, below = page.browser.run(SIZES)
+        counts.case(f"the winners are the largest text, {width}", "" if winner > other else f"{winner} and {other}")
+        counts.case(f"the record is below them, {width}", "" if below >= 0 else str(below))
+        counts.same(f"the rows of digests, {width}", page.browser.run(ROWS), [[32, 32]] * 4)
+    page.browser.size(360, 800)
+    page.load()
+    height = page.browser.run("return document.documentElement.scrollHeight;")
+    counts.case("an empty page has two screens at most", "" if height <= TWO_SCREENS else str(height))
+    page.browser.size(1000, 900)
+
+
+def details(counts: Counts, page: Page) -> None:
+    """What is proved, the rule and the Python code are there to be opened, and the rule is that of LOTS."""
+    found = page.browser.run("""return Array.from(document.querySelectorAll("details"),
+        (one) => [one.open, one.querySelector("summary").textContent]);""")
+    counts.same("details", found, [[False, "What is proved, and what is not"], [False, "The rule of the draw"],
+                                   [False, "Check it without this page"]])
+    text = (Path(__file__).resolve().parents[2] / "docs/LOTS.md").read_text(encoding="utf-8")
+    rule = re.search(r"^## The rule of the draw\n.*?\n(- .*?)\n\nIn the example", text, re.M | re.S)
+    wanted = re.sub(r"\[(.*?)\]\(.*?\)|\*\*|`|^- ", r"\1", rule[1] if rule else "", flags=re.M)
+    found = page.browser.run("return document.querySelectorAll('details')[1].querySelector('ul').textContent;")
+    counts.same("the rule", found.split(), wanted.split())
+
+
+def enter_draws(counts: Counts, page: Page) -> None:
+    for field in ("seed", "count"):
+        page.load()
+        page.paste(LIST)
+        page.fill(SEED, "3")
+        page.browser.run("document.getElementById(arguments[0]).focus();", field)
+        page.browser.run("""document.activeElement.dispatchEvent(
+            new KeyboardEvent("keydown", { key: "Enter", isComposing: true, bubbles: true }));""")
+        counts.same(f"Enter that ends a word in {field}", page.shown()["record"], "")
+        page.browser.press("x" + BACKSPACE + ENTER)
+        page.browser.wait('return document.getElementById("record").textContent;')
+        counts.same(f"Enter in {field}", page.shown()["drawn"], ["Katherine", "Jun", "Chidi"])
+
+
+def files_dropped(counts: Counts, page: Page) -> None:
+    """A file is the list wherever it is dropped, but on the field of the record."""
+    drawn(page)
+    record = page.shown()["record"]
+    page.browser.run(DROP, "list-text", "people.txt", LIST + "Max\n")
+    counts.same("a list dropped", page.facts()["entrants"], "13 entrants")
+    text = page.browser.run("return document.getElementById('file-name').textContent;")
+    counts.same("its name", text.split(",")[0], "people.txt")
+    page.tab("check")
+    page.browser.run(DROP, "panel", "entrants.txt", LIST)
+    counts.same("a list dropped beside it", page.facts()["entrants"], "12 entrants")
+    page.browser.run(DROP, "check-text", "record.txt", record)
+    page.browser.wait("return document.getElementById('check-text').value;")
+    page.browser.run("document.getElementById('check').click();")
+    page.browser.wait("return !document.getElementById('outcome').hidden;")
+    counts.same("a record dropped", page.shown()["outcome"], "agrees")
+
+
+def sheets(document: bytes) -> int:
+    """The pages of a PDF, whose objects may be compressed."""
+    parts = [document]
+    for stream in re.findall(rb"stream\r?\n(.*?)endstream", document, re.S):
+        try:
+            parts.append(zlib.decompressobj().decompress(stream))
+        except zlib.error:
+            continue
+    return len(re.findall(rb"/Type\s*/Page\b(?!s)", b"\n".join(parts)))
+
+
+def paper(counts: Counts, page: Page) -> None:
+    drawn(page)
+    for name in ("draw", "check"):
+        page.tab(name)
+        counts.same(f"sheets of paper, {name}", sheets(page.browser.printed()), 1)
+
+
+def by_keyboard(counts: Counts, page: Page) -> None:
+    """A draw of 300 entrants and its check, by keys alone, in less than two minutes."""
+    page.load()
+    begun = time.monotonic()
+
+    def go(element: str, back: bool = False) -> None:
+        for _ in range(40):
+            page.browser.press_with(SHIFT, TAB) if back else page.browser.press(TAB)
+            if focused(page) == element:
+                return
+        raise AssertionError(f"Tab does not reach {element}")
+
+    go("list-text")
+    for first in range(0, 300, 50):
+        page.browser.press("".join(f"n{number}{ENTER}" for number in range(first, first + 50)))
+    go("seed")
+    page.browser.press("4 1 6")
+    go("count")
+    page.browser.press(3 * BACKSPACE + "5" + ENTER)
+    page.browser.wait("return document.activeElement.id === 'result-title';")
+    counts.same("300 entrants", (page.shown()["entrants"], len(page.shown()["drawn"])), ("300 entrants", 5))
+    go("copy-record")
+    page.browser.press(SPACE)
+    page.browser.wait("return document.getElementById('copy-record').textContent === 'Copied';")
+    go("tab-draw", back=True)
+    page.browser.press(ARROW_RIGHT)
+    go("check-text")
+    page.browser.press_with(CONTROL, "v")
+    go("check")
+    page.browser.press(SPACE)
+    page.browser.wait("return !document.getElementById('outcome').hidden;")
+    counts.same("its check", page.shown()["outcome"], "agrees")
+    seconds = time.monotonic() - begun
+    counts.case("in two minutes", "" if seconds < 120 else f"{seconds:.0f} s")
+
+
+def run(counts: Counts, page: Page) -> None:
+    for part in (tabs, winners_first, details, enter_draws, files_dropped, paper, by_keyboard):
+        part(counts, page)
