@@ -2,16 +2,39 @@
 
 import { hexOfByte, isUnseen, textOf, utf8 } from "./bytes.js";
 
+/** Letters that have a form of their own between others, as in Persian or Hindi. */
+const JOINING = new RegExp(`[${[
+  "Arabic", "Bengali", "Devanagari", "Gujarati", "Gurmukhi", "Kannada", "Khmer", "Malayalam",
+  "Mongolian", "Oriya", "Sinhala", "Syriac", "Tamil", "Telugu", "Thaana",
+].map((script) => `\\p{Script=${script}}`).join("")}]`, "u");
+const PICTURE = /\p{Extended_Pictographic}/u;
+const PICTURE_END = /[\p{Extended_Pictographic}\p{Emoji_Modifier}\ufe0f]/u;
+const TAG = /[\u{e0020}-\u{e007f}]/u;
+
+/** Whether the letter at a place, unseen alone, joins its neighbours or chooses how they look. */
+function joins(letters, place) {
+  const letter = letters[place];
+  const [before, after] = [letters[place - 1] ?? "", letters[place + 1] ?? ""];
+  const isBetweenLetters = JOINING.test(before) && JOINING.test(after);
+  const isBetweenPictures = PICTURE_END.test(before) && PICTURE.test(after);
+  if (letter === "\u200c") return isBetweenLetters;
+  if (letter === "\u200d") return isBetweenLetters || isBetweenPictures;
+  if (letter === "\ufe0f") return PICTURE.test(before) || after === "\u20e3";
+  if (!TAG.test(letter)) return false;
+  let first = place;
+  while (first > 0 && TAG.test(letters[first])) first -= 1;
+  return letters[first] === "\u{1f3f4}";
+}
+
+/** Whether a letter of a text can be seen where it stands; a space at an edge cannot. */
+function isSeen(letters, place) {
+  if (letters[place] === " ") return place > 0 && place < letters.length - 1;
+  return !isUnseen(letters[place]) || joins(letters, place);
+}
+
 /** @param {Uint8Array} bytes @returns {string} \x and two digits for each byte */
 function escapedBytes(bytes) {
   return Array.from(bytes, (byte) => `\\x${hexOfByte(byte)}`).join("");
-}
-
-/** @param {string} letter @param {boolean} atEdge whether it is the first or the last */
-function written(letter, atEdge) {
-  if (letter === "\\") return "\\\\";
-  if (letter === " " && !atEdge) return letter;
-  return isUnseen(letter) ? escapedBytes(utf8(letter)) : letter;
 }
 
 /**
@@ -21,13 +44,32 @@ function written(letter, atEdge) {
  */
 export function printed(bytes) {
   const text = textOf(bytes);
-  const letters = text === null ? Array.from(bytes) : Array.from(text);
-  const last = letters.length - 1;
-  return letters.map((letter, index) => {
-    if (letter >= 128 && text === null) return escapedBytes([letter]);
-    const character = text === null ? String.fromCharCode(letter) : letter;
-    return written(character, index === 0 || index === last);
+  const letters = Array.from(text ?? Array.from(bytes, (byte) => String.fromCharCode(byte)));
+  return letters.map((letter, place) => {
+    if (text === null && bytes[place] >= 128) return escapedBytes([bytes[place]]);
+    if (letter === "\\") return "\\\\";
+    return isSeen(letters, place) ? letter : escapedBytes(utf8(letter));
   }).join("");
+}
+
+/**
+ * An entrant for the page to show: its letters, and in place of each that cannot be seen its code.
+ * Bytes that are not UTF-8 are printed.
+ * @param {Uint8Array} bytes @returns {{isText: boolean, parts: (string|number)[]}}
+ */
+export function shown(bytes) {
+  const text = textOf(bytes);
+  if (text === null) return { isText: false, parts: [printed(bytes)] };
+  const letters = Array.from(text);
+  const parts = letters.map((letter, place) =>
+    (isSeen(letters, place) ? letter : letter.codePointAt(0)));
+  const joined = [];
+  for (const one of parts) {
+    const last = joined.length - 1;
+    if (typeof one === "string" && typeof joined[last] === "string") joined[last] += one;
+    else joined.push(one);
+  }
+  return { isText: true, parts: joined };
 }
 
 /** @param {string} text a printed entrant @returns {?Uint8Array} its bytes, null if it is none */

@@ -1,9 +1,10 @@
 // A list of entrants: its lines as bytes, and what its owner should look at.
 
+import { alikeIn, blankLine } from "./alike.js";
 import { hasHalfCharacter, textOf, utf8 } from "./bytes.js";
 import { Refusal } from "./refusal.js";
 
-const LINE_FEED = 10;
+export const LINE_FEED = 10;
 const CARRIAGE_RETURN = 13;
 const SPACE = 32;
 const TAB = 9;
@@ -38,31 +39,36 @@ export function lineAt(list, starts, place) {
 
 /**
  * What is worth a second look in a list, in plain words. None of it is an error.
- * @param {Uint8Array} list @param {number} entrants @returns {string[]}
+ * @param {Uint8Array} list @returns {string[]}
  */
-export function warningsOf(list, entrants) {
-  const starts = startsOfLines(list, entrants);
-  const found = { returns: 0, spaces: 0, equal: 0 };
-  const seen = new Set();
-  const letters = new TextDecoder("latin1");
-  for (let place = 0; place < entrants; place += 1) {
-    const line = lineAt(list, starts, place);
-    const last = line[line.length - 1];
+export function warningsOf(list) {
+  const text = textOf(list);
+  const lines = (text ?? new TextDecoder("latin1").decode(list)).split("\n");
+  if (lines[lines.length - 1] === "") lines.pop();
+  const found = { returns: 0, spaces: 0 };
+  for (const line of lines) {
+    const [first, last] = [line.charCodeAt(0), line.charCodeAt(line.length - 1)];
     if (last === CARRIAGE_RETURN) found.returns += 1;
-    else if ([SPACE, TAB].includes(last) || [SPACE, TAB].includes(line[0])) found.spaces += 1;
-    const name = letters.decode(line);
-    if (seen.has(name)) found.equal += 1;
-    seen.add(name);
+    else if ([first, last].some((code) => code === SPACE || code === TAB)) found.spaces += 1;
   }
+  const blank = blankLine(lines);
   return [
     ...marks(list),
-    found.returns && `${lines(found.returns)} with a carriage return, as files of Windows do. It ` +
-      "belongs to the entrant, as all bytes do: the same list without it is another list.",
-    found.spaces && `${lines(found.spaces, "begin or end", "begins or ends")} with a space or a ` +
-      "tab, which belongs to the entrant.",
-    found.equal && `${found.equal} of the lines ${found.equal === 1 ? "equals" : "equal"} an ` +
-      "earlier line. Equal lines are separate entrants, each with its own chance.",
+    found.returns && `${counted(found.returns)} with a carriage return, as files of Windows do. ` +
+      "It belongs to the entrant, as all bytes do: the same list without it is another list.",
+    found.spaces && `${counted(found.spaces, "begin or end", "begins or ends")} with a space or ` +
+      "a tab, which belongs to the entrant.",
+    blank && `Line ${blank} is an entrant of spaces alone.`,
+    ...alikeIn(lines, text !== null).map(alikeWords),
   ].filter(Boolean);
+}
+
+/** @returns {string|0} nothing if no lines are alike */
+function alikeWords({ name, count, line }) {
+  const equal = `${count} of the lines ${count === 1 ? "equals" : "equal"} an earlier line`;
+  return count && (name === ""
+    ? `${equal}. Equal lines are separate entrants, each with its own chance.`
+    : `${equal} but for ${name}: look at line ${line}. They are separate entrants.`);
 }
 
 /** What is worth a look in the bytes as a whole. @param {Uint8Array} list @returns {string[]} */
@@ -80,6 +86,6 @@ function marks(list) {
 }
 
 /** @param {number} count */
-function lines(count, many = "end", one = "ends") {
+function counted(count, many = "end", one = "ends") {
   return count === 1 ? `1 line ${one}` : `${count} lines ${many}`;
 }

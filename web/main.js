@@ -1,32 +1,47 @@
 // The page: what its fields and buttons do.
 
+import { textOf } from "./bytes.js";
 import { Client } from "./client.js";
 import { listOfText } from "./list.js";
 import { bitsOfBrowser } from "./module.js";
 import { writtenSeed } from "./record.js";
 import { Refusal } from "./refusal.js";
 import {
-  clearRefusals, copy, fieldOf, grouped, part, save, say, showCheck, showList, showRefusal, showResult,
-  showTab,
+  clearRefusals, copy, fieldOf, grouped, part, save, say, showCheck, showList, showRefusal,
+  showResult, showTab,
 } from "./view.js";
 
+/** In milliseconds: after the last key of a list, and before the progress is shown. */
 const PAUSE = 300;
+const MOMENT = 500;
+/** A pasted text of so many letters is kept as a file is: browsers lay out long fields slowly. */
+const LARGE = 100000;
 
 /**
  * `file` is what was opened, null where the pasted text counts; `bytes` the list itself; `sent`
- * says whether the worker has it, `pending` is the timer before it gets a changed one. `turn`
+ * says whether the worker has it, `pending` is the timer before it gets a changed one, `showing`
+ * that before the progress is shown. `turn`
  * counts the changes of all fields and `listTurn` those of the list: an answer to an earlier turn
  * is not shown.
  */
 const state = {
   file: null, bytes: new Uint8Array(0), sent: Promise.resolve(false), pending: 0,
-  turn: 0, listTurn: 0, result: null,
+  turn: 0, listTurn: 0, result: null, showing: 0,
 };
 
-const client = new Client(part("worker").textContent, (progress) => {
+const client = new Client(part("worker").textContent, tellProgress);
+
+/** Says what the worker does, and shows it once it takes longer than a moment. */
+function tellProgress(progress) {
   say("progress-text", progress);
-  part("progress").hidden = progress === "";
-});
+  if (progress === "") {
+    clearTimeout(state.showing);
+    state.showing = 0;
+    part("progress").hidden = true;
+  } else if (state.showing === 0) {
+    state.showing = setTimeout(() => { part("progress").hidden = false; }, MOMENT);
+  }
+}
 
 /** Shows any error of a task beside its field. @param {unknown} error */
 function refuse(error) {
@@ -57,6 +72,7 @@ async function sendList() {
   state.pending = 0;
   try {
     state.bytes = state.file ?? listOfText(part("list-text").value);
+    part("tidy").hidden = state.bytes.length === 0;
     const facts = await client.ask("list", { list: state.bytes });
     if (listTurn === state.listTurn && state.bytes.length > 0) showList(facts);
     return true;
@@ -73,6 +89,8 @@ function listChanged(pause) {
   clearTimeout(state.pending);
   clearRefusals("list", "page");
   part("list-facts").hidden = true;
+  part("tidy").hidden = true;
+  say("tidied", "");
   state.pending = setTimeout(() => { state.sent = sendList(); }, pause);
 }
 
@@ -108,10 +126,70 @@ function openFile(file) {
   listChanged(PAUSE);
   clearTimeout(state.pending);
   state.pending = 0;
-  say("file-name", `${file.name}, ${grouped(file.size)} bytes`);
+  showFile(file.name, file.size);
+  state.sent = readFile(file);
+}
+
+/** @param {string} name @param {number} size */
+function showFile(name, size) {
+  state.name = name;
+  say("file-name", `${name}, ${grouped(size)} bytes`);
   part("opened").hidden = false;
   part("pasted").hidden = true;
-  state.sent = readFile(file);
+}
+
+/** Keeps a long text that is pasted, as a file is kept. @param {ClipboardEvent} event */
+function pasteLong(event) {
+  const pasted = event.clipboardData.getData("text/plain");
+  if (pasted.length < LARGE) return;
+  event.preventDefault();
+  const { value, selectionStart, selectionEnd } = part("list-text");
+  const text = value.slice(0, selectionStart) + pasted + value.slice(selectionEnd);
+  part("list-text").value = "";
+  listChanged(0);
+  try {
+    state.file = listOfText(text.replace(/\r\n?/g, "\n"));
+    showFile("Pasted text", state.file.length);
+    part("close-file").focus();
+  } catch (error) {
+    clearTimeout(state.pending);
+    refuse(error);
+  }
+}
+
+/**
+ * Changes the list, and says how many lines that changed.
+ * @param {"empty"|"trim"|"unique"} change
+ */
+async function tidy(change) {
+  const { listTurn } = state;
+  try {
+    const list = state.file ?? listOfText(part("list-text").value);
+    const answer = await client.ask("tidy", { list, change });
+    if (listTurn !== state.listTurn) return;
+    if (answer.changed > 0) replaceList(answer.list);
+    await listSent();
+    say("tidied", tidyWords(change, answer.changed));
+  } catch (error) {
+    if (listTurn === state.listTurn) refuse(error);
+  }
+}
+
+function tidyWords(change, changed) {
+  const lines = changed === 1 ? "1 line was" : `${grouped(changed)} lines were`;
+  if (changed === 0) return "No line was changed: the SHA-256 is as before.";
+  return `${lines} ${change === "trim" ? "made shorter" : "removed"}. The list has a new SHA-256.`;
+}
+
+/** @param {Uint8Array} list */
+function replaceList(list) {
+  if (state.file === null) {
+    part("list-text").value = textOf(list);
+  } else {
+    state.file = list;
+    showFile(state.name, list.length);
+  }
+  listChanged(0);
 }
 
 function closeFile() {
@@ -235,6 +313,8 @@ function drawOnEnter(event) {
 on("list-text", "input", () => listChanged(PAUSE));
 on("list-file", "change", () => openFile(part("list-file").files[0]));
 on("close-file", "click", closeFile);
+on("list-text", "paste", pasteLong);
+for (const change of ["empty", "trim", "unique"]) on(`tidy-${change}`, "click", () => tidy(change));
 on("seed", "input", seedChanged);
 on("count", "input", countChanged);
 on("seed", "keydown", drawOnEnter);

@@ -24,15 +24,21 @@ const SUM = /^[0-9a-f]{64}$/;
 const NUMBER = /^(?:0|[1-9][0-9]{0,14})$/;
 const VERSION = /^[0-9]{1,6}\.[0-9]{1,2}\.[0-9]{1,2}$/;
 
-/** The lines after the title: property, what stands before the colon, how its value is read. */
+/** A mail program folds no line that is shorter. */
+const FOLDED = 50;
+
+/**
+ * The lines after the title: property, what stands before the colon, how its value is read, and
+ * what joins the lines of one that was folded.
+ */
 const LINES = [
-  ["seed", "seed", readSeed],
-  ["list", "list SHA-256", matching(SUM, String)],
-  ["entrants", "entrants", matching(NUMBER, Number)],
-  ["drawn", "drawn", matching(NUMBER, Number)],
-  ["version", "version", matching(VERSION, String)],
-  ["module", "module SHA-256", matching(SUM, String)],
-  ["result", "result SHA-256", matching(SUM, String)],
+  ["seed", "seed", readSeed, " "],
+  ["list", "list SHA-256", matching(SUM, String), ""],
+  ["entrants", "entrants", matching(NUMBER, Number), ""],
+  ["drawn", "drawn", matching(NUMBER, Number), ""],
+  ["version", "version", matching(VERSION, String), ""],
+  ["module", "module SHA-256", matching(SUM, String), ""],
+  ["result", "result SHA-256", matching(SUM, String), ""],
 ];
 
 /** @param {RegExp} form @param {(text: string) => *} value */
@@ -80,57 +86,91 @@ export class RecordError extends Error {
   }
 }
 
-/** Reads a record. Throws RecordError. @param {string} text @returns {Record} */
+/** Reads the record in a text. Throws RecordError. @param {string} text @returns {Record} */
 export function readRecord(text) {
-  const lines = text.split("\n").map((line) => line.replace(/[ \t\r]+$/, ""));
-  const first = lines.findIndex((line) => line !== "");
-  if (first < 0) throw new RecordError(1, "the text is empty.");
-  while (lines[lines.length - 1] === "") lines.pop();
-  if (lines[first] !== TITLE) {
+  const lines = text.split("\n").map(unquoted);
+  let at = lines.indexOf(TITLE) + 1;
+  if (at === 0) {
+    const first = lines.findIndex((line) => line !== "");
+    if (first < 0) throw new RecordError(1, "the text is empty.");
     throw new RecordError(first + 1, `a record begins with “${TITLE}”.`);
   }
   const record = {};
-  LINES.forEach((form, index) => {
-    record[form[0]] = readLine(lines, first + 1 + index, form);
-  });
-  record.named = readNamed(lines, first + 1 + LINES.length, record.drawn);
+  for (const form of LINES) {
+    const { value, next } = readLine(lines, at, form);
+    record[form[0]] = value;
+    at = next;
+  }
+  record.named = readNamed(lines, at, record.drawn);
   return record;
 }
 
-/** The value of one line. @param {string[]} lines @param {number} index */
-function readLine(lines, index, [, name, read]) {
+/** A line without the marks of a quotation in a mail, and without spaces at its end. */
+function unquoted(line) {
+  return line.replace(/^>[> ]*/, "").replace(/[ \t\r]+$/, "");
+}
+
+/** Whether a line goes on with what stands before, as mail programs fold it. */
+function goesOn(line) {
+  return Boolean(line) && !/^[0-9]+: /.test(line) &&
+    !LINES.some(([, name]) => line.startsWith(`${name}: `));
+}
+
+/**
+ * What follows a name and a colon, and the place of the line after it. The value may stand on
+ * several lines, which are joined until it can be read.
+ */
+function readLine(lines, index, [, name, read, joint]) {
   const line = lines[index] ?? "";
-  if (!line.startsWith(`${name}: `)) {
+  if (line !== `${name}:` && !line.startsWith(`${name}: `)) {
     throw new RecordError(index + 1, `“${name}: ” is missing.`);
   }
-  const value = read(line.slice(name.length + 2));
-  if (value === null) {
-    throw new RecordError(index + 1, `the value of “${name}” cannot be read.`);
+  let text = line.slice(name.length + 2);
+  for (let next = index + 1; ; next += 1) {
+    const value = read(text);
+    if (value !== null) return { value, next };
+    if (!goesOn(lines[next])) {
+      throw new RecordError(index + 1, `the value of “${name}” cannot be read.`);
+    }
+    text += (text && joint) + lines[next];
   }
-  return value;
+}
+
+/** A line of an entrant, and the place of the line after it: a long one may be folded. */
+function readEntrant(lines, index, number) {
+  const start = `${number}: `;
+  const line = lines[index] ?? "";
+  let text = line.startsWith(start) ? line.slice(start.length) : "";
+  let next = index + 1;
+  let isFolded = line === start.trim() || line.startsWith(start) && line.length >= FOLDED;
+  while (isFolded && goesOn(lines[next])) {
+    text += (text && " ") + lines[next];
+    isFolded = lines[next].length >= FOLDED;
+    next += 1;
+  }
+  const entrant = unprinted(text);
+  if (entrant === null) {
+    throw new RecordError(index + 1, `“${start}” and an entrant are missing.`);
+  }
+  return { entrant, next };
 }
 
 /** The entrants named, which end the record. */
 function readNamed(lines, first, drawn) {
-  const count = Math.min(drawn, NAMED);
   const named = [];
-  for (let number = 1; number <= count; number += 1) {
-    const index = first + number - 1;
-    const line = lines[index] ?? "";
-    const start = `${number}: `;
-    const entrant = line.startsWith(start) ? unprinted(line.slice(start.length)) : null;
-    if (entrant === null) {
-      throw new RecordError(index + 1, `“${start}” and an entrant are missing.`);
-    }
+  let at = first;
+  for (let number = 1; number <= Math.min(drawn, NAMED); number += 1) {
+    const { entrant, next } = readEntrant(lines, at, number);
     named.push(entrant);
+    at = next;
   }
-  const rest = drawn > NAMED ? [`and ${drawn - NAMED} more`] : [];
-  const after = lines.slice(first + count);
-  if (rest.length > 0 && after[0] !== rest[0]) {
-    throw new RecordError(first + count + 1, `“${rest[0]}” is missing.`);
+  if (drawn > NAMED) {
+    const rest = `and ${drawn - NAMED} more`;
+    if (lines[at] !== rest) throw new RecordError(at + 1, `“${rest}” is missing.`);
+    at += 1;
   }
-  if (after.length > rest.length) {
-    throw new RecordError(first + count + rest.length + 1, "the record should have ended before.");
+  if (/^(?:[0-9]+: |and [0-9]+ more$)/.test(lines[at] ?? "")) {
+    throw new RecordError(at + 1, "the record should have ended before.");
   }
   return named;
 }

@@ -1,5 +1,7 @@
 // What the page shows. Nothing here computes.
 
+import { nameOf } from "./names.js";
+
 /** @param {string} id @returns {HTMLElement} */
 export function part(id) {
   return document.getElementById(id);
@@ -59,17 +61,32 @@ export function showList({ digest, entrants, warnings }) {
   part("list-facts").hidden = false;
 }
 
-/** @param {{entrants: number, drawn: number, named: string[], record: string}} drawing */
-export function showResult({ entrants, drawn, named, record }) {
+/** An entrant as an item, with the names of letters that cannot be seen in their place. */
+function itemOf({ isText, parts }) {
+  const item = document.createElement("li");
+  item.className = isText ? "text" : "bytes";
+  item.append(...parts.map((piece) => {
+    if (typeof piece === "string") return piece;
+    const unseen = document.createElement("span");
+    unseen.className = "unseen";
+    unseen.textContent = nameOf(piece);
+    return unseen;
+  }));
+  return item;
+}
+
+/** @param {Object} drawing what the worker says of a draw */
+export function showResult({ entrants, drawn, named, hasEscapes, record }) {
   part("result").hidden = false;
   part("publish-hint").hidden = true;
   say("result-title", drawn === 0
     ? "Nobody was drawn."
     : `${grouped(drawn)} of ${grouped(entrants)} drawn, in this order:`);
-  itemize("drawn", named);
+  part("drawn").replaceChildren(...named.map(itemOf));
+  part("drawn").hidden = named.length === 0;
   const left = drawn - named.length;
   say("more", left > 0 ? `and ${grouped(left)} more, in the result that you can save` : "");
-  say("escapes", named.some((name) => name.includes("\\"))
+  say("escapes", hasEscapes
     ? "\\x and two digits are a byte that is no visible letter, \\\\ is one backslash." : "");
   part("record").replaceChildren(...withDigests(record));
 }

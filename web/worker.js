@@ -3,11 +3,12 @@
 import { fromBase64, hex } from "./bytes.js";
 import { check } from "./check.js";
 import { draw, resultOf } from "./draw.js";
-import { printed } from "./entrant.js";
+import { printed, shown } from "./entrant.js";
 import { warningsOf } from "./list.js";
 import { Module, wordsOfModule } from "./module.js";
 import { NAMED, writeRecord } from "./record.js";
 import { Refusal } from "./refusal.js";
+import { tidied } from "./tidy.js";
 
 /** @type {{module: ?Module, maker: ?import("./check.js").Maker, list: Uint8Array}} */
 const held = { module: null, maker: null, list: new Uint8Array(0) };
@@ -36,7 +37,12 @@ const TASKS = {
     tell("Counting the entrants");
     const entrants = held.module.count(list);
     tell("Looking for what is worth a second look");
-    return { digest, entrants, warnings: warningsOf(list, entrants) };
+    return { digest, entrants, warnings: warningsOf(list) };
+  },
+
+  tidy({ list, change }, tell) {
+    tell("Changing the list");
+    return tidied(list, change);
   },
 
   draw({ seed, count }, tell) {
@@ -55,7 +61,8 @@ const TASKS = {
       result: hex(held.module.digest(result)),
       named,
     });
-    return { entrants, drawn: drawn.length, named: named.map(printed), record, result };
+    const hasEscapes = named.some((entrant) => printed(entrant).includes("\\"));
+    return { entrants, drawn: drawn.length, named: named.map(shown), hasEscapes, record, result };
   },
 
   check({ text }, tell) {

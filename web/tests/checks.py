@@ -3,6 +3,7 @@
 import json
 import random
 import re
+import textwrap
 from pathlib import Path
 from typing import Dict, List
 
@@ -147,6 +148,33 @@ def no_records(counts: Counts, page: Page, record: str) -> None:
         no(f"the entrant {text!r}", with_line(record, 9, text), 9)
 
 
+def folded(line: str, width: int) -> str:
+    """A line as a mail program folds it, at spaces, or within a word that is too long."""
+    return "\n".join(textwrap.wrap(line, width)) or line
+
+
+def records_of_mails(counts: Counts, page: Page) -> None:
+    """Quoted, with text around, and folded: as mails bring records."""
+    long_names = "".join(f"{name} {' '.join(['of the house at the river'] * 5)}\n" for name in ("Ada", "Max", "Zoë"))
+    for name, text in (("short", LIST), ("long", long_names)):
+        record = first_record(page, SEED + " 6" * 40, "3", text)
+        ways = {"quoted": "> " + record.replace("\n", "\n> "), "quoted twice": ">> " + record.replace("\n", "\n>> "),
+                "quoted with spaces": "> > " + record.replace("\n", "\n> > "),
+                "text above": f"Dear all,\n\nthe record:\n{record}", "text below": f"{record}\nYours\n1. the clerk\n",
+                "text right below": f"{record}Yours, the clerk of this town\n",
+                "text around, quoted": "On Friday she wrote:\n> " + record.replace("\n", "\n> ") + "\n\nThanks\n"}
+        for width in (46, 60, 72, 78):
+            if width > 50 or name == "short":
+                ways[f"folded at {width}"] = "\n".join(folded(line, width) for line in record.split("\n"))
+        for way, mail in ways.items():
+            if not (name == "long" and way == "text right below"):
+                outcome(counts, page, f"{name}, {way}", mail, "agrees")
+                outcome(counts, page, f"{name}, {way}, Windows", mail.replace("\n", "\r\n"), "agrees")
+        for way in ("quoted", "text around, quoted", "folded at 60"):
+            other = ways[way].replace("3: ", "3: x", 1)
+            outcome(counts, page, f"{name}, {way}, of another", other, "differs", "Line 3 of")
+
+
 def long_records(counts: Counts, page: Page) -> None:
     """Above 1000 entrants drawn a record names the first 1000."""
     text = "".join(f"{number}\n" for number in range(1500))
@@ -156,7 +184,8 @@ def long_records(counts: Counts, page: Page) -> None:
     for end in ("and 199 more", "and 201 more", "and 200 others", "1001: 7"):
         changed = record.replace("and 200 more", end)
         outcome(counts, page, f"a long record ends with {end}", changed, "no record", "Line 1009:")
-    outcome(counts, page, "a line after it", record + "x", "no record", "Line 1010:")
+    outcome(counts, page, "a line after it", record + "1001: 7", "no record", "Line 1010:")
+    outcome(counts, page, "another end after it", record + "and 200 more", "no record", "Line 1010:")
     number = record.split("\n")[1007]
     changed = record.replace(f"\n{number}\n", "\n1000: 9999\n")
     outcome(counts, page, "the last one named", changed, "differs", "Line 1000 of")
@@ -198,7 +227,7 @@ def broken_records(counts: Counts, page: Page, record: str) -> None:
         place = rng.randrange(len(record) - 1)
         letter = rng.choice(letters)
         changed = record[:place] + letter + record[place + 1:]
-        if letter == record[place] or letter in " \n" and record[place] == "\n":
+        if letter == record[place] or letter in " \n" and record[place] in " \n":
             continue
         found = page.check(changed)["outcome"]
         line = record[:place].count("\n") + 1
@@ -221,6 +250,7 @@ def run(counts: Counts, page: Page, program: str, digests: Dict[int, str]) -> No
     differences(counts, page, record)
     no_records(counts, page, record)
     broken_records(counts, page, record)
+    records_of_mails(counts, page)
     long_records(counts, page)
     seeds_survive(counts, page, program)
     seed_of_lines(counts, page, program, record)

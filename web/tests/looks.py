@@ -10,14 +10,17 @@ from drivers import BACKSPACE, ENTER, SPACE, TAB
 from page import Page
 
 LABELS = {
-    "list-file": "Open a file, or drop it here", "list-text": "or paste the list", "seed": "Seed", "count": "How many are drawn",
+    "list-file": "Open a file, or drop it here", "list-text": "or paste the list", "seed": "Seed",
+    "count": "How many are drawn",
     "record": "The record: what another needs to repeat the draw, beside the list", "check-text": "Record",
     "draw": "Draw", "check": "Check", "copy-digest": "Copy the SHA-256", "save-list": "Save the list",
     "copy-record": "Copy the record", "save-record": "Save the record", "save-result": "Save the result",
-    "tab-draw": "Hold a draw", "tab-check": "Check a draw", "print": "Print",
+    "tidy-empty": "Remove the empty lines", "tidy-trim": "Remove the spaces at ends",
+    "tidy-unique": "Remove equal lines", "tab-draw": "Hold a draw", "tab-check": "Check a draw", "print": "Print",
 }
 HIDDEN = ["check-text", "check"]
-ORDER = ["tab-draw", "list-file", "list-text", "copy-digest", "save-list", "seed", "count", "draw", "drawn", "record",
+ORDER = ["tab-draw", "list-file", "list-text", "tidy-empty", "tidy-trim", "tidy-unique", "copy-digest",
+         "save-list", "seed", "count", "draw", "drawn", "record",
          "copy-record", "save-record", "save-result", "print"]
 CONTRAST = """
 const number = (colour) => colour.match(/[\\d.]+/g).map(Number);
@@ -108,8 +111,8 @@ def names(counts: Counts, page: Page) -> None:
     roles = page.browser.run("""return Object.fromEntries(Array.from(document.querySelectorAll("[id][role]"),
         (element) => [element.id, element.getAttribute("role")]));""")
     wanted = {f"{field}-error": "alert" for field in ("page", "list", "seed", "count")}
-    wanted.update({"list-facts": "status", "progress": "status", "outcome": "status", "panel": "tabpanel",
-                   "record": "region", "tab-draw": "tab", "tab-check": "tab"})
+    wanted.update({"list-facts": "status", "progress": "status", "outcome": "status", "tidied": "status",
+                   "panel": "tabpanel", "record": "region", "tab-draw": "tab", "tab-check": "tab"})
     counts.same("roles", roles, wanted)
     counts.same("each reference has its element", page.browser.run("""
         return Array.from(document.querySelectorAll("[aria-describedby], [aria-labelledby], label[for]"))

@@ -15,7 +15,8 @@ WORDS = ("This browser cannot draw: it has no WebAssembly, or it is switched off
          "Chrome, Edge or Chromium from version 97 on, Firefox from version 90 on, Safari from version 16 on. Or use "
          "the Python code below, which draws the same.")
 MAKER = "Version 1.0.0, module SHA-256 {}, for 32-bit memory: the same source, its proof erased"
-OTHER = "The record was made by this page's other module, for 64-bit memory, proved. Here runs the one for 32-bit memory"
+OTHER = ("The record was made by this page's other module, for 64-bit memory, proved. "
+         "Here runs the one for 32-bit memory: the same source, its proof erased.")
 
 
 def without_modules(counts: Counts, page: Page, name: str) -> None:

@@ -12,7 +12,7 @@ field.value = arguments[1];
 field.dispatchEvent(new InputEvent("input", { isComposing: true }));
 """
 
-SHOWN = """
+SHOWN = r"""
 const shown = (id) => {
   const element = document.getElementById(id);
   if (!element || !element.checkVisibility()) return "";
@@ -20,10 +20,17 @@ const shown = (id) => {
 };
 const items = (id) => shown(id) === "" ? [] :
   Array.from(document.getElementById(id).children, (item) => item.innerText);
+// An entrant drawn, as a record has it.
+const escaped = (letter) => Array.from(new TextEncoder().encode(letter),
+  (byte) => `\\x${byte.toString(16).padStart(2, "0")}`).join("");
+const entrant = (item) => item.className === "bytes" ? item.innerText :
+  Array.from(item.childNodes, (node) => node.nodeType === Node.TEXT_NODE ? node.data.replace(/\\/g, "\\\\") :
+    escaped(String.fromCodePoint(Number.parseInt(node.textContent.slice(2), 16)))).join("");
+const drawn = () => shown("drawn") === "" ? [] : Array.from(document.getElementById("drawn").children, entrant);
 return {
   page: shown("page-error"), list: shown("list-error"), seed: shown("seed-error"),
   count: shown("count-error"), entrants: shown("entrants"), digest: shown("list-digest"),
-  warnings: items("list-warnings"), title: shown("result-title"), drawn: items("drawn"),
+  warnings: items("list-warnings"), title: shown("result-title"), drawn: drawn(),
   more: shown("more"), escapes: shown("escapes"), record: shown("record"), read: shown("seed-read"),
   outcome: shown("outcome") && document.getElementById("outcome").dataset.outcome,
   outcomeTitle: shown("outcome-title"), findings: items("findings"),

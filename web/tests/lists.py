@@ -1,0 +1,189 @@
+"""Lists as people have them: long ones that are pasted, lines that look alike, changes, letters that nobody sees."""
+
+import time
+
+from counts import Counts, sha256
+from page import Page
+from said import grouped
+
+# Pastes a text as the keyboard does, which a script may not do with the browser's own clipboard.
+PASTE = """
+const [given, first, last] = arguments;
+const text = given ?? window.text;
+const field = document.getElementById("list-text");
+const data = new DataTransfer();
+data.setData("text/plain", text);
+if (first !== null) field.setSelectionRange(first, last);
+const event = new ClipboardEvent("paste",
+  { clipboardData: data, data: text, dataType: "text/plain", bubbles: true, cancelable: true });
+return field.dispatchEvent(event);
+"""
+# Notes when the page last answered, and for how long the progress was to be seen.
+WATCH = """
+window.latest = performance.now();
+window.longest = 0;
+setInterval(() => {
+  window.longest = Math.max(window.longest, performance.now() - window.latest);
+  window.latest = performance.now();
+}, 20);
+"""
+# Seconds that the list and a draw of all may take, by the number of lines, and those of a slow machine beside them.
+SECONDS = {100_000: 1.0, 1_000_000: 5.0}
+SLOWNESS = 3
+NFC, NFD = "Zo\u00eb", "Zoe\u0308"
+ONE = "1 of the lines equals an earlier line"
+ALIKE = {
+    "Ada\nada\n": ["1 of the lines equals an earlier line but for small and capital letters: look at line 2."],
+    "Ada\nMax\nADA\nmax\n": ["2 of the lines equal an earlier line but for small and capital letters: look at line 3."],
+    f"{NFC}\n{NFD}\n": [f"{ONE} but for how an accented letter is encoded: look at line 2."],
+    f"x\n{NFD}\n{NFC.upper()}\n": [f"{ONE} but for small and capital letters: look at line 3."],
+    "Ada\nAda \n": ["1 line begins or ends with a space", f"{ONE} but for the spaces at its ends: look at line 2."],
+    "\tada\nx\nAda\n": ["1 line begins or ends with a space", f"{ONE} but for small and capital letters: look at line 3."],
+    "Ada\nAda\nada\n": [f"{ONE}. ", f"{ONE} but for small and capital letters: look at line 3."],
+    "Ada\nx\n \n": ["1 line begins or ends with a space", "Line 3 is an entrant of spaces alone."],
+    "\t\nx\n  \n": ["2 lines begin or end with a space", "Line 1 is an entrant of spaces alone.",
+                    "1 of the lines equals an earlier line but for the spaces at its ends: look at line 3."],
+    "Ada\nAdah\nA da\n\u0410da\n": [],
+    "stra\u00dfe\nSTRASSE\n": [],
+}
+TIDY = {
+    ("empty", b"a\n\nb\n\n\nc\n"): (b"a\nb\nc\n", 3), ("empty", b"a\nb\n"): (b"a\nb\n", 0),
+    ("empty", b"\n\na"): (b"a", 2), ("empty", b"a\n\n"): (b"a\n", 1), ("empty", b"a\n \nb\n"): (b"a\n \nb\n", 0),
+    ("trim", b" a\nb\t\nc\n"): (b"a\nb\nc\n", 2), ("trim", b"a\r\nb c\r\n"): (b"a\nb c\n", 2),
+    ("trim", b"a\n \t b \n\xff \n"): (b"a\nb\n\xff\n", 2), ("trim", b" a"): (b"a", 1), ("trim", b"a b"): (b"a b", 0),
+    ("trim", b"\xc2\xa0a\n"): (b"\xc2\xa0a\n", 0),
+    ("unique", b"a\nb\na\na\nc\n"): (b"a\nb\nc\n", 2), ("unique", b"b\na\nb"): (b"b\na", 1),
+    ("unique", b"\xff\n\xfe\n\xff\n"): (b"\xff\n\xfe\n", 1), ("unique", b"a\nA\na \n"): (b"a\nA\na \n", 0),
+    ("unique", b"\x81\n\xc2\x81\n\x81\n"): (b"\x81\n\xc2\x81\n", 1),
+}
+# What stands in a list, and how the page shows it.
+SHOWN = {
+    "\U0001f468\u200d\U0001f469\u200d\U0001f467": "\U0001f468\u200d\U0001f469\u200d\U0001f467",
+    "\u2764\ufe0f\u200d\U0001f525": "\u2764\ufe0f\u200d\U0001f525", "1\ufe0f\u20e3": "1\ufe0f\u20e3",
+    "\U0001f44d\U0001f3fd\u200d\U0001f4bb": "\U0001f44d\U0001f3fd\u200d\U0001f4bb",
+    "\U0001f3f4\U000e0067\U000e0062\U000e007f": "\U0001f3f4\U000e0067\U000e0062\U000e007f",
+    "\u0645\u06cc\u200c\u062e\u0648\u0627\u0647\u0645": "\u0645\u06cc\u200c\u062e\u0648\u0627\u0647\u0645",
+    "\u0915\u094d\u200d\u0937": "\u0915\u094d\u200d\u0937", "back\\slash": "back\\slash", "e\u0301": "e\u0301",
+    "a\u200db": "a[U+200D zero width joiner]b", "a\u200cb": "a[U+200C zero width non-joiner]b",
+    "\u202eabc": "[U+202E right-to-left override]abc", "x\u200b": "x[U+200B zero width space]",
+    "a\ufe0f": "a[U+FE0F emoji variation]", "a\U000e0041": "a[U+E0041]", " b ": "[U+0020 space]b[U+0020 space]",
+    "c\r": "c[U+000D carriage return]",
+    "\u2066d\u2069": "[U+2066 left-to-right isolate]d[U+2069 pop directional isolate]",
+    "\U0001f468\u200d": "\U0001f468[U+200D zero width joiner]", "[U+200B]": "[U+200B]",
+}
+
+
+def long_pastes(counts: Counts, page: Page) -> None:
+    """A paste and a draw of all take no longer than they may, and the page answers meanwhile."""
+    for size, most in SECONDS.items():
+        text = "".join(f"entrant {number}\n" for number in range(size))
+        page.load()
+        page.browser.run(WATCH)
+        page.fill("seed", "all")
+        page.browser.run("window.text = arguments[0];", text)
+        begun = time.monotonic()
+        counts.same(f"{size} lines are taken", page.browser.run(PASTE, None, None, None), False)
+        page.browser.wait('return !document.getElementById("list-facts").hidden;')
+        page.browser.run('document.getElementById("draw").click();')
+        page.browser.wait('return !document.getElementById("result").hidden;')
+        seconds = time.monotonic() - begun
+        counts.case(f"{size} lines in {most} s", "" if seconds < most * SLOWNESS else f"{seconds:.2f} s")
+        counts.same(f"the digest of {size}", page.shown()["digest"], sha256(text.encode()))
+        longest = page.browser.run("return window.longest;")
+        counts.case(f"the page answers with {size}", "" if longest < 2000 else f"{longest:.0f} ms")
+
+
+def pastes(counts: Counts, page: Page) -> None:
+    """What is pasted stands between what stood there; a short text is left to the browser."""
+    page.load()
+    counts.same("a short text", page.browser.run(PASTE, "Ada\n" * 20_000, None, None), True)
+    long = "Ada\r\n" * 30_000
+    for first, last, wanted in ((0, 0, "{}x\ny\n"), (2, 2, "x\n{}y\n"), (0, 4, "{}"), (4, 4, "x\ny\n{}")):
+        page.paste("x\ny\n")
+        page.browser.run(PASTE, long, first, last)
+        data = wanted.format(long.replace("\r\n", "\n")).encode()
+        counts.same(f"pasted from {first} to {last}", page.facts()["digest"], sha256(data))
+        name = page.browser.run("return document.getElementById('file-name').textContent;")
+        counts.same("its name", name, f"Pasted text, {grouped(len(data))} bytes")
+    page.browser.run(PASTE.replace("given ?? window.text", "`${given}\\ud800`"), "a\n" * 60_000, None, None)
+    counts.case("half a character", "" if "Line 60001 has half" in page.facts()["list"] else page.facts()["list"])
+
+
+def alike(counts: Counts, page: Page) -> None:
+    page.load()
+    for text, begins in ALIKE.items():
+        page.paste(text)
+        found = page.facts()["warnings"]
+        right = len(found) == len(begins) and all(one.startswith(begin) for one, begin in zip(found, begins))
+        counts.case(f"alike: {text!r}", "" if right else str(found))
+
+
+def tidied(counts: Counts, page: Page) -> None:
+    """Each change of a file and of a pasted text: the list that it leaves, and how many lines it says."""
+    page.load()
+    for (change, before), (after, changed) in TIDY.items():
+        lines = "1 line was" if changed == 1 else f"{changed} lines were"
+        said = f"{lines} {'made shorter' if change == 'trim' else 'removed'}. The list has a new SHA-256."
+        said = said if changed else "No line was changed: the SHA-256 is as before."
+        for way in ("file", "pasted"):
+            if way == "pasted" and (b"\r" in before or not is_text(before)):
+                continue
+            page.open_file(before) if way == "file" else page.paste(before.decode())
+            page.browser.wait("return !document.getElementById('tidy').hidden;")
+            page.facts()
+            page.browser.run("document.getElementById(arguments[0]).click();", f"tidy-{change}")
+            page.browser.wait("return !document.getElementById('tidied').hidden;")
+            found = page.browser.run("return document.getElementById('tidied').textContent;")
+            shown = page.facts()
+            digest = "" if shown["list"] else sha256(after)
+            counts.same(f"{change} of {before!r}, {way}", (found, shown["digest"]), (said, digest))
+            if way == "pasted":
+                text = page.browser.run("return document.getElementById('list-text').value;")
+                counts.same(f"{change} of {before!r}: the field", text, after.decode())
+    page.paste("")
+    counts.same("nothing to change", page.browser.run("return document.getElementById('tidy').hidden;"), True)
+
+
+def is_text(data: bytes) -> bool:
+    try:
+        data.decode()
+    except UnicodeDecodeError:
+        return False
+    return True
+
+
+def letters_by_name(counts: Counts, page: Page) -> None:
+    """Joined letters as they are, and what cannot be seen by its name."""
+    page.load()
+    page.open_file("".join(f"{entrant}\n" for entrant in SHOWN).encode())
+    page.fill("seed", "all")
+    page.draw()
+    found = page.browser.run("""return Array.from(document.querySelectorAll("#drawn li"), (item) =>
+        Array.from(item.childNodes, (node) => node.className === "unseen" ? `[${node.textContent}]` : node.data)
+          .join(""));""")
+    counts.same("letters by name", sorted(found), sorted(SHOWN.values()))
+    record = page.shown()["record"]
+    for entrant in list(SHOWN)[:7]:
+        counts.case(f"{entrant!r} in a record", "" if f": {entrant}\n" in record else record)
+    counts.same("its check", page.check(record)["outcome"], "agrees")
+
+
+def progress(counts: Counts, page: Page) -> None:
+    """The progress is shown after half a second, and not before."""
+    page.load()
+    page.browser.run("""window.shown = 0;
+        new MutationObserver(() => { if (!document.getElementById("progress").hidden) window.shown += 1; })
+          .observe(document.getElementById("progress"), { attributes: true });""")
+    page.paste("Ada\nMax\n")
+    page.fill("seed", "all")
+    page.draw()
+    counts.same("no progress of a short list", page.browser.run("return window.shown;"), 0)
+    page.open_file(b"".join(b"entrant %d\n" % number for number in range(1_500_000)))
+    page.draw()
+    counts.case("progress of a long list", "" if page.browser.run("return window.shown;") else "was not shown")
+    page.browser.wait('return document.getElementById("progress").hidden;')
+
+
+def run(counts: Counts, page: Page) -> None:
+    for part in (long_pastes, pastes, alike, tidied, letters_by_name, progress):
+        part(counts, page)
