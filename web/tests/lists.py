@@ -169,18 +169,23 @@ def letters_by_name(counts: Counts, page: Page) -> None:
 
 
 def progress(counts: Counts, page: Page) -> None:
-    """The progress is shown after half a second, and not before."""
+    """The progress of a long list is shown half a second after its first text, and not before."""
     page.load()
-    page.browser.run("""window.shown = 0;
-        new MutationObserver(() => { if (!document.getElementById("progress").hidden) window.shown += 1; })
-          .observe(document.getElementById("progress"), { attributes: true });""")
-    page.paste("Ada\nMax\n")
+    page.browser.wait('return document.getElementById("progress-text").textContent === "";')
+    page.browser.run("""window.waited = [];
+        const text = document.getElementById("progress-text");
+        let first = null;
+        new MutationObserver(() => {
+          if (text.textContent === "") first = null;
+          else first ??= performance.now();
+        }).observe(text, { childList: true });
+        const shown = () => { if (!text.parentElement.hidden && first !== null) waited.push(performance.now() - first); };
+        new MutationObserver(shown).observe(text.parentElement, { attributes: true });""")
     page.fill("seed", "all")
-    page.draw()
-    counts.same("no progress of a short list", page.browser.run("return window.shown;"), 0)
     page.open_file(b"".join(b"entrant %d\n" % number for number in range(1_500_000)))
     page.draw()
-    counts.case("progress of a long list", "" if page.browser.run("return window.shown;") else "was not shown")
+    waited = page.browser.run("return window.waited;")
+    counts.case("progress", "" if waited and min(waited) >= 450 else str(waited))
     page.browser.wait('return document.getElementById("progress").hidden;')
 
 
