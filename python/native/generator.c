@@ -363,7 +363,6 @@ static PyType_Slot slots[] = {
     {Py_tp_new, SLOT(make_none)},
     {Py_tp_dealloc, SLOT(free_generator)},
     {Py_tp_richcompare, SLOT(compare)},
-    {Py_tp_hash, SLOT(PyObject_HashNotImplemented)},
     {Py_tp_methods, calls},
     {Py_tp_getset, parts},
     {Py_tp_members, members},

@@ -54,7 +54,7 @@ class Refusals(unittest.TestCase):
                         with self.assertRaises(error) as caught:
                             call(rng)
                         self.assertIs(type(caught.exception), error)
-                        self.assertEqual(rng.state[2], 99)
+                        self.assertEqual(rng.state[2], 1)
 
     def test_texts(self):
         with self.assertRaisesRegex(Exhausted, "^128 words in a row were rejected$"):
@@ -67,7 +67,7 @@ class Refusals(unittest.TestCase):
                     rng = refusing(kind, 2, after=1)
                     with self.assertRaises(Exhausted):
                         CALLS[name](rng)
-                    self.assertEqual(rng.state[:3], bytes([2, 0, 99]))
+                    self.assertEqual(rng.state[:3], bytes([2, 0, 1]))
 
     def test_a_shuffle_stays_as_far_as_it_came(self):
         for kind in CLASSES:

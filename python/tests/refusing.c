@@ -1,8 +1,8 @@
 /*
  * A library that refuses, in place of nanorand's: statuses that its own calls return in fewer than one of 2^128 draws.
  *
- * A state's first byte is the status that its draws return, and its second one counts those that succeed before. A
- * draw that is refused leaves 99 as the third byte. tests/refusals.py has what the Python package makes of them.
+ * A state's first byte is the status that its draws return, and its second one counts those that succeed before. Its
+ * third byte counts the draws that are refused. tests/refusals.py has what the Python package makes of them.
  */
 #include "nanorand.h"
 
@@ -17,7 +17,7 @@ static uint8_t drawn(void *state)
         bytes[1]--;
         return NANORAND_OK;
     }
-    bytes[2] = 99;
+    bytes[2]++;
     return bytes[0];
 }
 

@@ -10,6 +10,11 @@ from makers import KEY, generators, refuses
 
 from nanorand import EmptyRange, OutOfBounds, Stream, WyRand
 
+try:
+    import _testbuffer
+except ImportError:
+    _testbuffer = None
+
 WHOLE = "BHILQbhilq"
 LENGTHS = (0, 1, 2, 7, 64, 1000)
 LONG = 1 << 16  # more bytes than these are drawn without Python's lock
@@ -256,6 +261,41 @@ class Refusals(unittest.TestCase):
                 rng = WyRand(5)
                 rng.fill_random(buffer) if letter in "df" else rng.fill_range(buffer, 0, 99)
             self.assertEqual(view.tolist(), items.tolist())
+
+
+@unittest.skipUnless(_testbuffer, "this Python has no _testbuffer")
+class Exporters(unittest.TestCase):
+    """Buffers of every shape, by the module that Python tests its own with."""
+
+    def made(self, flags=0, shape=(2, 3), letter="Q", items=(0,) * 6):
+        return _testbuffer.ndarray(list(items), shape=list(shape), format=letter, flags=_testbuffer.ND_WRITABLE | flags)
+
+    def test_shapes(self):
+        for shape in ((6,), (2, 3), (3, 2), (1, 6, 1)):
+            for letter, name in ((*((letter, "fill_range") for letter in WHOLE), ("d", "fill_random"), ("f", "fill_random"))):
+                made, items = self.made(shape=shape, letter=letter), array.array(letter, [0] * 6)
+                every_fill(made)[name](WyRand(5))
+                every_fill(items)[name](WyRand(5))
+                self.assertEqual(made.tobytes(), items.tobytes())
+
+    def test_what_is_refused(self):
+        flags = [_testbuffer.ND_FORTRAN, _testbuffer.ND_PIL]
+        pairs = [self.made(letter=letter, items=[(0, 0)] * 6) for letter in ("BB", "QQ", "=Qd", "dd", "2f")]
+        kinds = [self.made(letter=letter) for letter in (">Q", ">d", "?", "n", "N")]
+        for rng in generators():
+            for flag in flags:
+                for letter in ("Q", "B", "d"):
+                    buffer = self.made(flag, letter=letter)
+                    before = buffer.tolist()
+                    for call in every_fill(buffer).values():
+                        refuses(self, rng, BufferError, call)
+                    self.assertEqual(buffer.tolist(), before)
+            read_only = _testbuffer.ndarray([0] * 6, shape=[6], format="Q")
+            for call in every_fill(read_only).values():
+                refuses(self, rng, BufferError, call)
+            for buffer in (*pairs, *kinds):
+                for call in every_fill(buffer).values():
+                    refuses(self, rng, TypeError, call)
 
 
 class NumPy(unittest.TestCase):

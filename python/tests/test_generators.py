@@ -143,7 +143,7 @@ class States(unittest.TestCase):
         for rng in generators():
             for state in (b"", bytes(7), bytes(112)):
                 refuses(self, rng, WrongLength, lambda rng, state=state: setattr(rng, "state", state))
-            for state in (None, 42, "x" * 8, [0] * 8, 1.5):
+            for state in (None, 42, "x" * 8, [0] * 8, 1.5, array.array("B", rng.state)):
                 refuses(self, rng, TypeError, lambda rng, state=state: setattr(rng, "state", state))
 
     def test_equality(self):
@@ -363,7 +363,7 @@ class Numbers(unittest.TestCase):
             for counter in (-1, LAST + 1):
                 with self.assertRaises(OutOfBounds):
                     kind(KEY, NONCE, counter)
-            for wrong in (42, "x" * 32, None, 1.5, [0] * 32, 32):
+            for wrong in (42, "x" * 32, None, 1.5, [0] * 32, 32, array.array("B", KEY), array.array("B", NONCE)):
                 with self.assertRaises(TypeError):
                     kind(wrong)
                 with self.assertRaises(TypeError):

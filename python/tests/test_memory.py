@@ -5,6 +5,7 @@ import contextlib
 import gc
 import pickle
 import sys
+import tracemalloc
 import unittest
 import weakref
 
@@ -206,6 +207,17 @@ class Leaks(unittest.TestCase):
             for _ in range(200):
                 call()
             self.assertLess(resident() - before, 20 * 2**20, place)
+
+    def test_locks_are_freed(self):
+        """A generator that drew without Python's lock has a lock of its own."""
+        tracemalloc.start()
+        self.addCleanup(tracemalloc.stop)
+        for _ in range(2):
+            before, _ = tracemalloc.get_traced_memory()
+            for seed in range(1000):
+                WyRand(seed).bytes(70_000)
+            after, _ = tracemalloc.get_traced_memory()
+        self.assertLess(after - before, 10_000)
 
     def test_classes_are_freed(self):
         for kind in CLASSES.values():

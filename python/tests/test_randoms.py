@@ -328,6 +328,21 @@ class Generators(unittest.TestCase):
                 del rng.generator
             self.assertIs(rng.generator, before)
 
+    def test_a_class_of_other_things(self):
+        """What is drawn from is a generator, whatever a class calls its kind."""
+        class Own(WyRandRandom):
+            _kind = object
+
+            def seed(self, *arguments):
+                """It does not call the base's."""
+
+        rng = Own()
+        for other in (None, 5, "text", random.Random(7), Own()):
+            with self.assertRaisesRegex(TypeError, "^generator is a .*, not a generator$"):
+                rng.generator = other
+        rng.generator = Pcg64(7)
+        self.assertEqual(rng.random(), Pcg64(7).random())
+
     def test_a_seed_and_a_state_make_a_new_one(self):
         for kind in RANDOMS:
             rng = kind(7)

@@ -12,7 +12,7 @@ import unittest
 
 from makers import CLASSES, RANDOMS, generators
 
-from nanorand import WyRand
+from nanorand import ChaCha20, WyRand
 
 LONG = 30_000_000  # bytes that take long
 
@@ -77,14 +77,6 @@ LONG_CALLS = {
     "sample_below": lambda rng: rng.sample_below(10**9, 10_000),
     "sample": lambda rng: rng.sample(range(10**9), 10_000),
 }
-SHORT_CALLS = [
-    lambda rng: rng.bytes(1 << 16),
-    lambda rng: rng.fill(memoryview(BUFFER)[: 1 << 16]),
-    lambda rng: rng.sample_below(10**9, 1000),
-    lambda rng: rng.choices("ab", k=1000),
-    lambda rng: rng.shuffle(list(range(1000))),
-]
-
 
 class Meanwhile:
     """A call that runs in a thread of its own, and has begun."""
@@ -130,13 +122,14 @@ class Turns(unittest.TestCase):
                 other.thread.join()
                 self.assertIn(found, [call(first), call(second)])
 
-    def test_a_generator_that_is_replaced_while_a_call_waits_for_it(self):
-        """Freed memory is overwritten there, so a call that had lost its generator would fail."""
-        code = "import sys; sys.path.insert(0, '.'); import test_threads; test_threads.replace_while_a_call_waits()"
-        environment = {**os.environ, "PYTHONMALLOC": "debug", "PYTHONPATH": os.pathsep.join(sys.path)}
-        done = subprocess.run([sys.executable, "-c", code], cwd=os.path.dirname(os.path.abspath(__file__)),
-                              env=environment, capture_output=True, text=True)
-        self.assertEqual((done.returncode, done.stderr), (0, ""))
+    def test_what_is_replaced_while_a_call_waits(self):
+        """Freed memory is overwritten there, so a call that had lost its generator or its items would fail."""
+        for name in ("replace_the_generator", "clear_the_list"):
+            code = f"import sys; sys.path.insert(0, '.'); import test_threads; test_threads.{name}()"
+            environment = {**os.environ, "PYTHONMALLOC": "debug", "PYTHONPATH": os.pathsep.join(sys.path)}
+            done = subprocess.run([sys.executable, "-c", code], cwd=os.path.dirname(os.path.abspath(__file__)),
+                                  env=environment, capture_output=True, text=True)
+            self.assertEqual((done.returncode, done.stderr), (0, ""))
 
     def test_a_generator_that_is_replaced_meanwhile(self):
         """It is kept until its draw has ended."""
@@ -162,42 +155,27 @@ class Turns(unittest.TestCase):
         times = []
 
         def draw():
+            time.sleep(0.01)  # till this thread counts
             times.append(time.perf_counter())
             call(rng)
             times.append(time.perf_counter())
 
         thread = threading.Thread(target=draw)
+        interval = sys.getswitchinterval()
+        sys.setswitchinterval(1e-4)
         thread.start()
         longest, last = 0.0, time.perf_counter()
         while thread.is_alive():
             now = time.perf_counter()
             longest, last = max(longest, now - last), now
-        return longest < (times[1] - times[0]) / 2
+        sys.setswitchinterval(interval)
+        return max(longest, time.perf_counter() - last) < (times[1] - times[0]) / 2
 
-    def test_python_s_lock_is_kept_for_what_is_short(self):
-        """A call that gave it up would wait for another thread, which counts."""
-        stop, counts = threading.Event(), threading.Event()
-
-        def count():
-            counts.set()
-            while not stop.is_set():
-                pass
-
-        thread = threading.Thread(target=count)
-        interval = sys.getswitchinterval()
-        thread.start()
-        counts.wait()
-        try:
-            sys.setswitchinterval(0.5)
-            begun = time.perf_counter()
-            for call in SHORT_CALLS:
-                for rng in generators():
-                    call(rng)
-            self.assertLess(time.perf_counter() - begun, 3)
-        finally:
-            sys.setswitchinterval(interval)
-            stop.set()
-            thread.join()
+    def test_python_s_lock_is_given_up_for_choices(self):
+        """Where a draw takes longer than what Python makes of it."""
+        for weights in (None, [1, 2], [1.5, 2.5]):
+            self.assertTrue(any(self.runs_meanwhile(ChaCha20(bytes(32)), lambda rng, weights=weights:
+                                                    rng.choices(["a", "b"], weights, k=300_000)) for _ in range(20)))
 
     def test_many_threads_and_fills(self):
         """Every byte is drawn once, whoever draws it."""
@@ -253,7 +231,21 @@ class Turns(unittest.TestCase):
         self.assertEqual(sorted(items), list(range(1000)))
 
 
-def replace_while_a_call_waits():
+def clear_the_list():
+    """A list is cleared while its shuffle waits for the generator."""
+    for kind in CLASSES.values():
+        for name in ("shuffle", "shuffle_full"):
+            rng, items = kind.from_entropy(), [[place] for place in range(1000)]
+            fill = Meanwhile(lambda rng=rng: rng.fill(BUFFER))
+            time.sleep(0.002)
+            waits = Meanwhile(lambda rng=rng, name=name, items=items: getattr(rng, name)(items))
+            time.sleep(0.002)
+            items.clear()
+            fill.thread.join()
+            waits.thread.join()
+
+
+def replace_the_generator():
     """Its generator is drawn from by one thread, which goes, and waited for by another; and then it is replaced."""
     for kind, of_generator in RANDOMS.items():
         for call in (lambda rng: rng.random(), lambda rng: rng.getrandbits(9), lambda rng: rng.randbytes(9)):
