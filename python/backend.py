@@ -93,7 +93,7 @@ def link(archive, module):
         *[*compiler(), "-shared", "-fPIC", "-std=c11", "-O2", "-DNDEBUG", "-fvisibility=hidden", "-o", str(module)],
         *[f"-I{folder}" for folder in [TOP / "include", *sorted(includes)]],
         *[str(source) for source in sorted((HERE / "native").glob("*.c"))],
-        *[str(archive), "-s", "-Wl,--exclude-libs,ALL", "-Wl,--gc-sections", "-Wl,--build-id=none", "-Wl,-z,now"],
+        *[str(archive), "-s", "-Wl,--exclude-libs,ALL", "-Wl,--gc-sections", "-Wl,-z,now"],
     )
 
 

@@ -160,6 +160,15 @@ class Wheels(unittest.TestCase):
             self.assertEqual(modes.pop(f"nanorand/{backend.MODULE}"), 0o100755)
             self.assertEqual(set(modes.values()), {0o100644})
 
+    def test_a_module_is_looked_at_before_it_is_packed(self):
+        def link(archive, module):
+            module.write_bytes(b"a module")
+
+        patches = {"library": mock.Mock(), "link": link, "symbols": mock.Mock(return_value=["PyInit__native", "more"])}
+        with tempfile.TemporaryDirectory() as folder, mock.patch.multiple(backend, **patches):
+            self.assertRaises(backend.BuildFailed, backend.build_wheel, folder)
+            self.assertEqual(os.listdir(folder), [])
+
     def test_the_command(self):
         def command(*arguments, **variables):
             return subprocess.run([sys.executable, BUILD, *arguments], capture_output=True, text=True,
