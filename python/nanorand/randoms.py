@@ -3,10 +3,10 @@
 `random`, `getrandbits` and `randbytes` take the generator's bytes. What Python makes of them
 (`gauss`, `shuffle`, `sample` and the others) is Python's, and not the same as in other languages.
 
-A whole number of at most 64 bits is a seed of `WyRandRandom`, one of 128 of `Pcg64Random`, and one of 256 the key of the
-others, least byte first. Every other seed is the first bytes of a SHA-256: of a text or of bytes; of a negative or a
-longer number after the byte 0xFF and `int `, as `hex` writes it; of a float after 0xFF and `float `, as `float.hex`
-writes it. None is a seed from the operating system.
+A whole number of at most 64 bits is a seed of `WyRandRandom`, one of 128 of `Pcg64Random`, and one of
+256 the key of the others, least byte first. Every other seed is the first bytes of a SHA-256: of a text
+or of bytes; of a negative or a longer number, as `hex` writes it after the byte 0xFF and `int `; of a
+float, as `float.hex` writes it after 0xFF and `float `. None is a seed from the operating system.
 
 >>> from nanorand.randoms import WyRandRandom
 >>> rng = WyRandRandom(42)

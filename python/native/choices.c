@@ -23,8 +23,8 @@ static int add_whole(PyObject *weight, int summed, uint64_t *sum)
         return -1;
     }
     if (summed ? number < *sum : number > UINT64_MAX - *sum) {
-        raise_text("OutOfBounds", summed ? "cum_weights has %llu after %llu" : "the weight %llu and those before it, %llu, are 2^64 or more",
-                   (unsigned long long)number, (unsigned long long)*sum);
+        const char *text = summed ? "cum_weights has %llu after %llu" : "a weight of %llu after %llu leaves 64 bits";
+        raise_text("OutOfBounds", text, (unsigned long long)number, (unsigned long long)*sum);
         return -1;
     }
     *sum = summed ? number : *sum + number;
@@ -154,8 +154,9 @@ static uint8_t draw_place(Generator *rng, const Shares *shares, size_t *place)
         *place = find_real(shares, unit_of(rng->kind->u64(rng->state)) * shares->real[last]);
         return NANORAND_OK;
     }
+    const uint64_t greatest = shares->whole == NULL ? last : shares->whole[last] - 1;
     uint64_t number;
-    uint8_t status = rng->kind->range_u64(rng->state, 0, shares->whole == NULL ? last : shares->whole[last] - 1, &number);
+    uint8_t status = rng->kind->range_u64(rng->state, 0, greatest, &number);
     if (status == NANORAND_OK) {
         *place = shares->whole == NULL ? number : find_whole(shares, number);
     }

@@ -25,7 +25,6 @@ static void raise_with(const char *error, PyObject *argument)
     Py_XDECREF(argument);
 }
 
-/* Raises the error with a text. */
 void raise_text(const char *error, const char *format, ...)
 {
     va_list values;
@@ -35,7 +34,6 @@ void raise_text(const char *error, const char *format, ...)
     raise_with(error, text);
 }
 
-/* Raises the error with the arguments that Py_BuildValue makes: a tuple, by a format in parentheses. */
 void raise_made(const char *error, const char *format, ...)
 {
     va_list values;

@@ -44,8 +44,8 @@ static PyObject *lots_count(PyObject *Py_UNUSED(module), PyObject *text)
     if (octets == NULL) {
         return NULL;
     }
-    uint8_t status = nanorand_lots_count((const uint8_t *)PyBytes_AS_STRING(octets), (size_t)PyBytes_GET_SIZE(octets),
-                                         &number);
+    const uint8_t *list = (const uint8_t *)PyBytes_AS_STRING(octets);
+    uint8_t status = nanorand_lots_count(list, (size_t)PyBytes_GET_SIZE(octets), &number);
     Py_DECREF(octets);
     if (status == NANORAND_LOTS_EMPTY_LINE) {
         raise_made("EmptyLine", "(n)", (Py_ssize_t)number);
@@ -75,8 +75,8 @@ static PyObject *draw_places(PyObject *seed, uint64_t entrants, uint64_t count)
     if (places == NULL) {
         return NULL;
     }
-    uint8_t status = nanorand_lots_draw((const uint8_t *)PyBytes_AS_STRING(seed), (size_t)PyBytes_GET_SIZE(seed), places,
-                                        entrants, count);
+    const uint8_t *text = (const uint8_t *)PyBytes_AS_STRING(seed);
+    uint8_t status = nanorand_lots_draw(text, (size_t)PyBytes_GET_SIZE(seed), places, entrants, count);
     PyObject *list = NULL;
     if (status == NANORAND_OK) {
         list = numbers_of(places, count);

@@ -55,10 +55,9 @@ int nanorand_add_generators(PyObject *module)
 }
 
 /* The library that was linked is of the header's major version, and has all of its functions. */
-static int check_version(PyObject *module)
+static int check_version(PyObject *Py_UNUSED(module))
 {
     uint32_t found = nanorand_version();
-    (void)module;
     if (found >= NANORAND_VERSION && found / 10000 == NANORAND_VERSION / 10000) {
         return 0;
     }
@@ -67,6 +66,7 @@ static int check_version(PyObject *module)
     return -1;
 }
 
+/* What the module has is added part by part, each from a file beside this one. */
 static int fill_module(PyObject *module)
 {
     int (*const parts[])(PyObject *) = {

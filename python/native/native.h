@@ -58,6 +58,7 @@ static inline double unit_of(uint64_t word)
 
 /* ---- errors.c: the errors of nanorand.errors, by their names. ---- */
 
+/* The error with a text; and the error that arguments make, as Py_BuildValue makes a tuple of them. */
 void raise_text(const char *error, const char *format, ...);
 void raise_made(const char *error, const char *format, ...);
 /* The error of a status other than 0, of a draw whose range and length were looked at before. */
@@ -124,6 +125,7 @@ typedef struct {
     uint64_t state[]; /* the structure of nanorand.h */
 } Generator;
 
+/* A generator without a state. */
 PyObject *make_generator(PyTypeObject *type, const Kind *kind);
 /* The generator that a value is, or NULL and a TypeError. */
 Generator *take_generator(const char *name, PyObject *value);
@@ -168,6 +170,7 @@ PyObject *draw_bytes(Generator *rng, uint64_t length);
 
 /* ---- sequences.c: items by their places. ---- */
 
+/* A TypeError, unless the value has a length and items by their index. */
 int require_sequence(const char *name, PyObject *value);
 PyObject *item_at(PyObject *items, size_t place);
 /* A list of the items at so many places, and one of the places themselves. */

@@ -80,12 +80,14 @@ static int require_replaceable(const char *name, PyObject *items)
         return -1;
     }
     Py_ssize_t length = PyObject_Size(items);
-    int owned = length < 2 ? (int)length : is_owned(items);
-    if (length >= 2 && owned == 0) {
-        PyErr_Format(PyExc_TypeError, "%s is a %s, whose items are views of it", name, type_name(items));
-        return -1;
+    if (length < 2) {
+        return length < 0 ? -1 : 0;
     }
-    return owned < 0 ? -1 : 0;
+    int owned = is_owned(items);
+    if (owned == 0) {
+        PyErr_Format(PyExc_TypeError, "%s is a %s, whose items are views of it", name, type_name(items));
+    }
+    return owned == 1 ? 0 : -1;
 }
 
 /* ---- Places. ---- */

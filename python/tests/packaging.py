@@ -86,7 +86,8 @@ class Tools(unittest.TestCase):
             ("", None, ["cc"]),
         ]
         for given, own, wanted in cases:
-            with mock.patch.dict(os.environ, CC=given), mock.patch.object(sysconfig, "get_config_var", return_value=own):
+            of_python = mock.patch.object(sysconfig, "get_config_var", return_value=own)
+            with mock.patch.dict(os.environ, CC=given), of_python:
                 self.assertEqual(backend.compiler(), wanted)
 
     def test_commands_that_fail(self):

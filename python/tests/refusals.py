@@ -97,9 +97,11 @@ class Refusals(unittest.TestCase):
 
     def test_versions(self):
         """The library has the header's major version, and is no older."""
-        for version, accepted in ((10000, True), (10001, True), (19999, True), (9999, False), (20000, False), (0, False)):
+        for version in (10000, 10001, 19999, 9999, 20000, 0):
             environment = {**os.environ, "NANORAND_TEST_VERSION": str(version)}
-            done = subprocess.run([sys.executable, "-c", "import nanorand"], env=environment, capture_output=True, text=True)
+            command = [sys.executable, "-c", "import nanorand"]
+            done = subprocess.run(command, env=environment, capture_output=True, text=True)
+            accepted = 10000 <= version < 20000
             self.assertEqual(done.returncode == 0, accepted, done.stderr)
             if not accepted:
                 self.assertIn(f"LibraryRefused: the library has version {version}, not ", done.stderr)

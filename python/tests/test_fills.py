@@ -1,6 +1,7 @@
 """Fills of memory: the numbers of every kind of item, every kind of buffer, and what is refused."""
 
 import array
+import contextlib
 import ctypes
 import mmap
 import struct
@@ -84,14 +85,17 @@ class Bytes(unittest.TestCase):
 
     def test_the_buffer_is_given_back(self):
         """A buffer that is still exported could not grow."""
-        for call in (lambda rng, b: rng.fill(b), lambda rng, b: rng.fill_range(b, 0, 9), lambda rng, b: rng.fill_random(b),
-                     lambda rng, b: rng.fill_range(b, 9, 0), lambda rng, b: rng.fill_range(b, None, 0),
-                     lambda rng, b: WyRand.__new__(WyRand).fill(b)):
+        for call in (
+            lambda rng, buffer: rng.fill(buffer),
+            lambda rng, buffer: rng.fill_range(buffer, 0, 9),
+            lambda rng, buffer: rng.fill_random(buffer),
+            lambda rng, buffer: rng.fill_range(buffer, 9, 0),
+            lambda rng, buffer: rng.fill_range(buffer, None, 0),
+            lambda rng, buffer: WyRand.__new__(WyRand).fill(buffer),
+        ):
             buffer = bytearray(9)
-            try:
+            with contextlib.suppress(TypeError, ValueError, RuntimeError):
                 call(WyRand(1), buffer)
-            except (TypeError, ValueError, RuntimeError):
-                pass
             buffer.append(1)
 
 
@@ -223,8 +227,8 @@ class Refusals(unittest.TestCase):
         floats = [array.array("d", [0]), array.array("f", [0]), (ctypes.c_double * 2)()]
         wholes = [array.array(letter, [0]) for letter in WHOLE]
         neither = [(Pair * 2)(), (ctypes.c_void_p * 2)(), (ctypes.py_object * 2)(), (ctypes.c_bool * 2)(),
-                   (ctypes.c_uint32.__ctype_be__ * 2)(), memoryview(bytearray(8)).cast("P"), memoryview(bytearray(8)).cast("?"),
-                   array.array("u", "ab"), (ctypes.c_longdouble * 2)()]
+                   (ctypes.c_uint32.__ctype_be__ * 2)(), (ctypes.c_longdouble * 2)(),
+                   memoryview(bytearray(8)).cast("P"), memoryview(bytearray(8)).cast("?")]
         wrong = {"fill": [*floats, *neither], "fill_range": [*floats, *neither, memoryview(bytearray(8)).cast("c")],
                  "fill_random": [*wholes, *neither, bytearray(8)]}
         for rng in generators():
@@ -242,7 +246,8 @@ class Refusals(unittest.TestCase):
 
     def test_formats_with_an_order(self):
         """As ctypes and NumPy write this machine's order."""
-        for kind, letter in ((ctypes.c_uint32, "I"), (ctypes.c_int64, "q"), (ctypes.c_int16, "h"), (ctypes.c_uint8, "B")):
+        kinds = {ctypes.c_uint32: "I", ctypes.c_int64: "q", ctypes.c_int16: "h", ctypes.c_uint8: "B"}
+        for kind, letter in kinds.items():
             memory, items = (kind * 50)(), array.array(letter, [0] * 50)
             WyRand(5).fill_range(memory, 3, 99)
             WyRand(5).fill_range(items, 3, 99)
@@ -272,7 +277,8 @@ class Exporters(unittest.TestCase):
 
     def test_shapes(self):
         for shape in ((6,), (2, 3), (3, 2), (1, 6, 1)):
-            for letter, name in ((*((letter, "fill_range") for letter in WHOLE), ("d", "fill_random"), ("f", "fill_random"))):
+            for letter in (*WHOLE, "d", "f"):
+                name = "fill_random" if letter in "df" else "fill_range"
                 made, items = self.made(shape=shape, letter=letter), array.array(letter, [0] * 6)
                 every_fill(made)[name](WyRand(5))
                 every_fill(items)[name](WyRand(5))
@@ -309,7 +315,8 @@ class NumPy(unittest.TestCase):
         self.numpy = numpy
 
     def test_arrays(self):
-        names = {"uint8": "B", "uint16": "H", "uint32": "I", "uint64": "Q", "int8": "b", "int16": "h", "int32": "i", "int64": "q"}
+        names = {"uint8": "B", "uint16": "H", "uint32": "I", "uint64": "Q"}
+        names |= {"int8": "b", "int16": "h", "int32": "i", "int64": "q"}
         for rng in generators():
             for name, letter in names.items():
                 for shape in ((0,), (7,), (3, 4), (2, 3, 4), ()):
@@ -336,7 +343,8 @@ class NumPy(unittest.TestCase):
         read_only = numpy.zeros(4)
         read_only.flags.writeable = False
         gaps = [numpy.zeros((4, 4))[:, ::2], numpy.zeros((4, 4)).T[1:], numpy.asfortranarray(numpy.zeros((4, 4)))]
-        kinds = [numpy.zeros(4, kind) for kind in ("O", "?", "c16", "f2", ">i4", "S3", "U3", [("a", "i4"), ("b", "f8")])]
+        kinds = [numpy.zeros(4, kind) for kind in ("O", "?", "c16", "f2", ">i4", "S3", "U3")]
+        kinds += [numpy.zeros(4, [("a", "i4"), ("b", "f8")])]
         for rng in generators():
             for call in every_fill(read_only).values():
                 refuses(self, rng, BufferError, call)

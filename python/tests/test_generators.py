@@ -130,6 +130,22 @@ class States(unittest.TestCase):
                 rng.u64()
                 self.assertEqual(made, rng)
 
+    def test_pickles_of_version_1(self):
+        """As the package wrote them when it was written in Python."""
+        oldest = (
+            b"c__builtin__\ngetattr\np0\n(cnanorand.generators\nWyRand\np1\nVfrom_state\np2\ntp3\nRp4\n(c_codecs\n"
+            b"encode\np5\n(V*" + 7 * b"\\u0000" + b"\np6\nVlatin1\np7\ntp8\nRp9\ntp10\nRp11\n."
+        )
+        head = b"\0\0\0\0\0\0\0\x8c\x08builtins\x94\x8c\x07getattr\x94\x93\x94\x8c\x13nanorand.generators\x94\x8c\x06"
+        call = b"\x94\x93\x94\x8c\nfrom_state\x94\x86\x94R\x94C"
+        newer = b"\x80\x04\x95Y" + head + b"WyRand" + call + b"\x08*" + bytes(7) + b"\x94\x85\x94R\x94."
+        stream = b"\x80\x04\x95\x84" + head + b"Stream" + call + b"3" + KEY + bytes(16) + b"abc\x94\x85\x94R\x94."
+        self.assertEqual([pickle.loads(oldest), pickle.loads(newer)], [WyRand(42), WyRand(42)])
+        self.assertEqual(pickle.loads(stream), Stream(KEY, rest=b"abc"))
+        for rng in generators():
+            for protocol in range(pickle.HIGHEST_PROTOCOL + 1):
+                self.assertIn(b"from_state", pickle.dumps(rng, protocol))
+
     def test_wrong_lengths(self):
         lengths = {"wyrand": {8}, "pcg64": {16}, "stream": set(range(48, 112))}
         for name, kind in CLASSES.items():

@@ -42,9 +42,10 @@ class Refuses(list):
         raise KeyError(place)
 
 
-SHARED = [ITEMS, tuple(ITEMS), "text", bytearray(16), array.array("Q", [0] * 9), array.array("d", [0] * 9), Fails(), BIG,
-          Refuses(ITEMS), memoryview(b"12345678"), [1.5] * 9, [2] * 9, object()]
-LIST, TUPLE, TEXT, BUFFER, WORDS, DOUBLES, FAILS, _, REFUSES, READ_ONLY, REALS, WHOLES, OTHER = SHARED
+LIST, TUPLE, TEXT, BUFFER = ITEMS, tuple(ITEMS), "text", bytearray(16)
+WORDS, DOUBLES, READ_ONLY = array.array("Q", [0] * 9), array.array("d", [0] * 9), memoryview(b"12345678")
+FAILS, REFUSES, REALS, WHOLES, OTHER = Fails(), Refuses(ITEMS), [1.5] * 9, [2] * 9, object()
+SHARED = [LIST, TUPLE, TEXT, BUFFER, WORDS, DOUBLES, READ_ONLY, FAILS, REFUSES, REALS, WHOLES, OTHER, BIG]
 
 SUCCEED = {
     "u64": lambda rng: rng.u64(),
@@ -77,38 +78,57 @@ SUCCEED = {
 }
 
 FAIL = {
-    "bytes": [lambda rng: rng.bytes(-1), lambda rng: rng.bytes(BIG), lambda rng: rng.bytes(OTHER), lambda rng: rng.bytes(FAILS),
-              lambda rng: rng.bytes(2**62), lambda rng: rng.bytes(), lambda rng: rng.bytes(1, 2), lambda rng: rng.bytes(size=1),
+    "bytes": [lambda rng: rng.bytes(-1), lambda rng: rng.bytes(BIG), lambda rng: rng.bytes(OTHER),
+              lambda rng: rng.bytes(FAILS),
+              lambda rng: rng.bytes(2**62), lambda rng: rng.bytes(), lambda rng: rng.bytes(1, 2),
+              lambda rng: rng.bytes(size=1),
               lambda rng: rng.bytes(1, length=1)],
-    "below": [lambda rng: rng.below(0), lambda rng: rng.below(BIG), lambda rng: rng.below(-BIG), lambda rng: rng.below(FAILS)],
+    "below": [lambda rng: rng.below(0), lambda rng: rng.below(BIG), lambda rng: rng.below(-BIG),
+              lambda rng: rng.below(FAILS)],
     "range": [lambda rng: rng.range(1000, 1), lambda rng: rng.range(BIG, BIG), lambda rng: rng.range(1, BIG),
               lambda rng: rng.range(1, OTHER), lambda rng: rng.range(-1, 2**63), lambda rng: rng.range(1000, FAILS)],
-    "range32": [lambda rng: rng.range32(1000, 1), lambda rng: rng.range32(1000, BIG), lambda rng: rng.range32(OTHER, 1)],
-    "uniform": [lambda rng: rng.uniform(TEXT, TEXT), lambda rng: rng.uniform(OTHER, 1), lambda rng: rng.uniform({1}, {2})],
+    "range32": [lambda rng: rng.range32(1000, 1), lambda rng: rng.range32(1000, BIG),
+                lambda rng: rng.range32(OTHER, 1)],
+    "uniform": [lambda rng: rng.uniform(TEXT, TEXT), lambda rng: rng.uniform(OTHER, 1),
+                lambda rng: rng.uniform({1}, {2})],
     "choice": [lambda rng: rng.choice([]), lambda rng: rng.choice(OTHER), lambda rng: rng.choice(FAILS)],
-    "choices": [lambda rng: rng.choices([]), lambda rng: rng.choices(LIST, WHOLES[1:]), lambda rng: rng.choices(LIST, [0] * 9),
-                lambda rng: rng.choices(LIST, [-1] * 9), lambda rng: rng.choices(LIST, [-1.5] * 9), lambda rng: rng.choices(FAILS),
+    "choices": [lambda rng: rng.choices([]), lambda rng: rng.choices(LIST, WHOLES[1:]),
+                lambda rng: rng.choices(LIST, [0] * 9),
+                lambda rng: rng.choices(LIST, [-1] * 9), lambda rng: rng.choices(LIST, [-1.5] * 9),
+                lambda rng: rng.choices(FAILS),
                 lambda rng: rng.choices(LIST, [OTHER] * 9), lambda rng: rng.choices(LIST, WHOLES, cum_weights=WHOLES),
-                lambda rng: rng.choices(LIST, [FAILS] * 9), lambda rng: rng.choices(LIST, OTHER), lambda rng: rng.choices(LIST, k=BIG),
+                lambda rng: rng.choices(LIST, [FAILS] * 9), lambda rng: rng.choices(LIST, OTHER),
+                lambda rng: rng.choices(LIST, k=BIG),
                 lambda rng: rng.choices(LIST, cum_weights=[3, 2] + WHOLES[2:]), lambda rng: rng.choices(LIST, k=2**62)],
     "sample": [lambda rng: rng.sample(LIST, 10), lambda rng: rng.sample(FAILS, 2), lambda rng: rng.sample(OTHER, 2),
-               lambda rng: rng.sample(LIST, BIG), lambda rng: rng.sample_below(5, 1000), lambda rng: rng.sample_below(2**63, 2**62),
+               lambda rng: rng.sample(LIST, BIG), lambda rng: rng.sample_below(5, 1000),
+               lambda rng: rng.sample_below(2**63, 2**62),
                lambda rng: rng.sample_below(BIG, 1)],
     "shuffle": [lambda rng: rng.shuffle(TUPLE), lambda rng: rng.shuffle(FAILS), lambda rng: rng.shuffle(REFUSES),
-                lambda rng: rng.shuffle(READ_ONLY), lambda rng: rng.shuffle_full(REFUSES), lambda rng: rng.shuffle(OTHER)],
+                lambda rng: rng.shuffle(READ_ONLY), lambda rng: rng.shuffle_full(REFUSES),
+                lambda rng: rng.shuffle(OTHER)],
     "fill": [lambda rng: rng.fill(READ_ONLY), lambda rng: rng.fill(DOUBLES), lambda rng: rng.fill(OTHER),
              lambda rng: rng.fill(memoryview(BUFFER)[::2]), lambda rng: rng.fill_range(BUFFER, 6, 1),
-             lambda rng: rng.fill_range(BUFFER, 1, BIG), lambda rng: rng.fill_range(WORDS, FAILS, 5), lambda rng: rng.fill_random(WORDS)],
-    "states": [lambda rng: setattr(rng, "state", b"short"), lambda rng: setattr(rng, "state", OTHER), lambda rng: delattr(rng, "state"),
-               lambda rng: type(rng).from_state(b"short"), lambda rng: type(rng).from_state(OTHER), lambda rng: hash(rng),
+             lambda rng: rng.fill_range(BUFFER, 1, BIG), lambda rng: rng.fill_range(WORDS, FAILS, 5),
+             lambda rng: rng.fill_random(WORDS)],
+    "states": [lambda rng: setattr(rng, "state", b"short"), lambda rng: setattr(rng, "state", OTHER),
+               lambda rng: delattr(rng, "state"),
+               lambda rng: type(rng).from_state(b"short"), lambda rng: type(rng).from_state(OTHER),
+               lambda rng: hash(rng),
                lambda rng: Generator(), lambda rng: Generator.from_entropy(), lambda rng: rng < rng],
-    "made": [lambda rng: type(rng)(OTHER), lambda rng: type(rng)(BIG), lambda rng: type(rng)(b"short"), lambda rng: type(rng)(),
-             lambda rng: type(rng)(KEY, b"short"), lambda rng: type(rng)(KEY, NONCE, BIG), lambda rng: Stream(KEY, rest=bytes(64)),
+    "made": [lambda rng: type(rng)(OTHER), lambda rng: type(rng)(BIG), lambda rng: type(rng)(b"short"),
+             lambda rng: type(rng)(),
+             lambda rng: type(rng)(KEY, b"short"), lambda rng: type(rng)(KEY, NONCE, BIG),
+             lambda rng: Stream(KEY, rest=bytes(64)),
              lambda rng: Stream(KEY, rest=OTHER), lambda rng: type(rng).__new__(type(rng)).u64(),
-             lambda rng: type(rng).__new__(type(rng)).bytes(100), lambda rng: type(rng).__new__(type(rng)).choices(LIST, WHOLES),
-             lambda rng: type(rng).__new__(type(rng)).sample(LIST, 5), lambda rng: type(rng).__new__(type(rng)).shuffle(BUFFER),
-             lambda rng: type(rng).__new__(type(rng)).fill(BUFFER), lambda rng: type(rng).__new__(type(rng)).uniform(1.5, BIG)],
-    "jump": [lambda rng: rng.jump(-1), lambda rng: rng.jump(OTHER), lambda rng: rng.jump(FAILS), lambda rng: rng.jump(10**60)],
+             lambda rng: type(rng).__new__(type(rng)).bytes(100),
+             lambda rng: type(rng).__new__(type(rng)).choices(LIST, WHOLES),
+             lambda rng: type(rng).__new__(type(rng)).sample(LIST, 5),
+             lambda rng: type(rng).__new__(type(rng)).shuffle(BUFFER),
+             lambda rng: type(rng).__new__(type(rng)).fill(BUFFER),
+             lambda rng: type(rng).__new__(type(rng)).uniform(1.5, BIG)],
+    "jump": [lambda rng: rng.jump(-1), lambda rng: rng.jump(OTHER), lambda rng: rng.jump(FAILS),
+             lambda rng: rng.jump(10**60)],
 }
 
 OF_RANDOM = {
@@ -120,9 +140,12 @@ OF_RANDOM = {
     "states": lambda rng: rng.setstate(rng.getstate()),
     "made": lambda rng: type(rng)(5).random(),
     "refused": lambda rng: [refused(call, rng) for call in (
-        lambda rng: setattr(rng, "generator", OTHER), lambda rng: delattr(rng, "generator"), lambda rng: rng.getrandbits(-1),
-        lambda rng: rng.getrandbits(OTHER), lambda rng: rng.randbytes(-1), lambda rng: rng.seed(OTHER), lambda rng: rng.setstate(5),
-        lambda rng: rng.getrandbits(2**62), lambda rng: type(rng)([]), lambda rng: type(rng).__new__(type(rng)).random())],
+        lambda rng: setattr(rng, "generator", OTHER), lambda rng: delattr(rng, "generator"),
+        lambda rng: rng.getrandbits(-1),
+        lambda rng: rng.getrandbits(OTHER), lambda rng: rng.randbytes(-1), lambda rng: rng.seed(OTHER),
+        lambda rng: rng.setstate(5),
+        lambda rng: rng.getrandbits(2**62), lambda rng: type(rng)([]),
+        lambda rng: type(rng).__new__(type(rng)).random())],
 }
 
 OF_LOTS = {
@@ -130,7 +153,8 @@ OF_LOTS = {
     "count": lambda: (lots.count(b"a\nb\n"), refused(lots.count, b"\n"), refused(lots.count, OTHER)),
     "draw": lambda: (lots.draw("seed", LIST, 5), lots.draw("seed", b"a\nb\n")),
     "refused": lambda: [refused(lots.draw, *arguments) for arguments in (
-        ("", LIST), (b"\xff", LIST), ("seed", LIST, 10), ("seed", OTHER), ("seed", FAILS), ("seed", LIST, BIG), ("seed", TEXT))],
+        ("", LIST), (b"\xff", LIST), ("seed", LIST, 10), ("seed", OTHER), ("seed", FAILS), ("seed", LIST, BIG),
+        ("seed", TEXT))],
 }
 
 
@@ -194,12 +218,22 @@ class Leaks(unittest.TestCase):
     def test_long_memory(self):
         """Arrays that are too long for Python's own allocator, by what the process holds."""
         rng, items, buffer = WyRand(5), list(range(50_000)), bytearray(400_000)
-        calls = [lambda: rng.shuffle(items), lambda: rng.shuffle(buffer[:50_000]), lambda: rng.sample_below(10**6, 3000),
-                 lambda: rng.choices(items, k=50_000), lambda: rng.choices(items, [1] * 50_000),
-                 lambda: rng.choices(items, [1.5] * 50_000), lambda: rng.bytes(400_000), lambda: rng.fill(buffer),
-                 lambda: refused(rng.choices, items, [0] * 50_000), lambda: refused(rng.choices, items, [1] * 49_999 + [-1]),
-                 lambda: refused(rng.choices, items, [0.5] * 49_999 + [-1]), lambda: refused(rng.shuffle, Refuses(items)),
-                 lambda: lots.draw("seed", items, 5), lambda: refused(lots.draw, "seed", range(50_000), 50_001)]
+        calls = [
+            lambda: rng.shuffle(items),
+            lambda: rng.shuffle(buffer[:50_000]),
+            lambda: rng.sample_below(10**6, 3000),
+            lambda: rng.choices(items, k=50_000),
+            lambda: rng.choices(items, [1] * 50_000),
+            lambda: rng.choices(items, [1.5] * 50_000),
+            lambda: rng.bytes(400_000),
+            lambda: rng.fill(buffer),
+            lambda: refused(rng.choices, items, [0] * 50_000),
+            lambda: refused(rng.choices, items, [1] * 49_999 + [-1]),
+            lambda: refused(rng.choices, items, [0.5] * 49_999 + [-1]),
+            lambda: refused(rng.shuffle, Refuses(items)),
+            lambda: lots.draw("seed", items, 5),
+            lambda: refused(lots.draw, "seed", range(50_000), 50_001),
+        ]
         for place, call in enumerate(calls):
             for _ in range(5):
                 call()
@@ -271,7 +305,8 @@ class Changing(unittest.TestCase):
                 return 3
 
         for rng in generators():
-            for call in (rng.choice, rng.choices, rng.shuffle, rng.shuffle_full, lambda items, rng=rng: rng.sample(items, 5)):
+            for call in (rng.choice, rng.choices, rng.shuffle, rng.shuffle_full,
+            lambda items, rng=rng: rng.sample(items, 5)):
                 with self.assertRaises(IndexError):
                     call(Shrinks("abc"))
             items = list("abcdef")
@@ -346,7 +381,8 @@ class Changing(unittest.TestCase):
 
             calls = [lambda rng: rng.u64(), lambda rng: rng.state, lambda rng: rng.copy(), lambda rng: repr(rng),
                      lambda rng: rng.fill(bytearray(100_000)), lambda rng: pickle.dumps(rng), lambda rng: rng == Own(),
-                     lambda rng: rng.shuffle([1, 2]), lambda rng: rng.shuffle(bytearray(2)), lambda rng: rng.choice("ab"),
+                     lambda rng: rng.shuffle([1, 2]), lambda rng: rng.shuffle(bytearray(2)),
+                     lambda rng: rng.choice("ab"),
                      lambda rng: rng.sample("ab", 1), lambda rng: rng.choices("ab"), lambda rng: rng.uniform(1, 2),
                      lambda rng: rng.range32(1, 2), lambda rng: rng.range(-1, 2), lambda rng: rng.bytes(5)]
             for call in calls:

@@ -252,6 +252,19 @@ class Randoms(unittest.TestCase):
                 made.random()
                 self.assertNotEqual(made.getstate(), rng.getstate())
 
+    def test_pickles_of_version_1(self):
+        """As the package wrote them when it was written in Python."""
+        oldest = (
+            b"\x80\x02cnanorand.randoms\nWyRandRandom\nq\0)Rq\1X\6\0\0\0WyRandq\2c_codecs\nencode\nq\3X\x08\0\0\0"
+            b"*\0\0\0\0\0\0\0q\4X\6\0\0\0latin1q\5\x86q\6Rq\7N\x87q\x08b."
+        )
+        newer = (
+            b"\x80\x04\x95@\0\0\0\0\0\0\0\x8c\x10nanorand.randoms\x94\x8c\x0cWyRandRandom\x94\x93\x94)R\x94"
+            b"\x8c\x06WyRand\x94C\x08*\0\0\0\0\0\0\0\x94N\x87\x94b."
+        )
+        for text in (oldest, newer):
+            self.assertEqual(pickle.loads(text).getstate(), WyRandRandom(42).getstate())
+
     def test_refused_bits(self):
         for kind in RANDOMS:
             rng = kind(1)

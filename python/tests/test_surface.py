@@ -70,9 +70,10 @@ class Arguments(unittest.TestCase):
 
     def test_arguments_that_do_not_fit(self):
         """Too few and too many, one twice, and one of another name: of each call."""
-        good = {"first": 0, "last": 9, "count": 9, "length": 1, "population": "abc", "end": 5, "draws": 1, "a": 1, "b": 2,
-                "items": [1, 2], "buffer": b"", "state": b""}
-        calls = [name for name in dir(kinds.Generator) if not name.startswith("_") and callable(getattr(kinds.Generator, name))]
+        good = {"first": 0, "last": 9, "count": 9, "length": 1, "population": "abc", "end": 5, "draws": 1, "a": 1,
+                "b": 2, "items": [1, 2], "buffer": b"", "state": b""}
+        members = [name for name in dir(kinds.Generator) if not name.startswith("_")]
+        calls = [name for name in members if callable(getattr(kinds.Generator, name))]
         self.assertGreater(len(calls), 18)
         for rng in generators():
             for name in [*calls, *(name for name in ("jump", "block") if hasattr(rng, name))]:
@@ -81,7 +82,7 @@ class Arguments(unittest.TestCase):
                 own = {"state": rng.state, "buffer": array.array("d" if name == "fill_random" else "Q", [0])}
                 values = [{**good, **own}[one] for one in names]
                 for arguments, named in (
-                    *(((*values, *range(5)), {}) for _ in range(1)),
+                    ((*values, *range(5)), {}),
                     (values, {"no_such_name": 1}),
                     *((values, {one: good[one]}) for one in names),
                     *((values[:place], {}) for place in range(len(names))),
@@ -189,6 +190,25 @@ class Errors(unittest.TestCase):
 
 
 class Imports(unittest.TestCase):
+    def test_another_interpreter_of_the_process(self):
+        """It has classes and errors of its own, and this one's are as before when it ends."""
+        if sys.version_info >= (3, 12):
+            self.skipTest("the way to one is another since Python 3.12")
+        import _xxsubinterpreters
+
+        code = f"import sys; sys.path[:] = {sys.path}\n" \
+               "import nanorand\n" \
+               "assert nanorand.WyRand(42).range(1, 100) == 69\n" \
+               "assert nanorand.randoms.WyRandRandom(42).generator == nanorand.WyRand(42)\n" \
+               "try:\n    nanorand.WyRand(-1)\nexcept nanorand.OutOfBounds:\n    pass\n"
+        for _ in range(3):
+            other = _xxsubinterpreters.create()
+            _xxsubinterpreters.run_string(other, code)
+            _xxsubinterpreters.destroy(other)
+        self.assertEqual(WyRand(42).range(1, 100), 69)
+        self.assertRaises(OutOfBounds, WyRand, -1)
+        self.assertEqual([kind(5).random() for kind in RANDOMS], [kind(5).generator.random() for kind in RANDOMS])
+
     def test_an_import_does_nothing_else(self):
         code = "import random; state = random.getstate(); import nanorand; assert state == random.getstate()"
         for flags in (["-W", "error"], ["-OO"]):
