@@ -1,4 +1,5 @@
--- The generators: their blocks and requests, what many draws leave, their seeds and their texts.
+-- The generators: their blocks and requests, what many draws leave, their parts, their seeds and
+-- their texts.
 pub mod Halves
 pub mod WyRand
 pub mod ChaChaRounds
@@ -8,3 +9,4 @@ pub mod Pcg64
 pub mod Frequencies
 pub mod Entropy
 pub mod DebugTexts
+pub mod Parts

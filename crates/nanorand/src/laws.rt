@@ -1,10 +1,12 @@
 //! Laws of the three generators, beside those of every generator. Each contract states a law. The
 //! functions do nothing; a proof calls one to use its law.
-ghost use Rattle.std.specs.Prelude.{◌≡◌, ◌<◌, ◌≤◌, Bool, ℕ, ◌+◌, ◌*◌, ◌^◌, bit_xor, ◌≢◌, ◌%◌, ◌↔◌, List, [], length, slice_index};
+ghost use Rattle.std.specs.Prelude.{◌≡◌, ◌<◌, ◌≤◌, Bool, ℕ, ◌+◌, ◌*◌, ◌^◌, bit_xor, ◌≢◌, ◌%◌, ◌↔◌, List, [], length, slice_index, map};
+ghost use Rattle.std.specs.List.{Contains, flat_map, range_with_len};
 ghost use Rattle.std.specs.Fn.{iterate};
 ghost use Rattle.std.specs.Int.{w64, to_le_bytes, ◌∣◌};
 ghost use Rattle.nanorand_core.specs.generators.Cycles.{AgreeModulo, DrawsAdd, DrawsLeave, OneMoreDraw, PeriodsAreMultiplesOf, IsPeriod, Reaches, ReachesOnceBelow};
 ghost use Rattle.nanorand_core.specs.generators.Equality.{DecidesEquality};
+ghost use Rattle.nanorand_core.specs.values.Draws.{next_word};
 ghost use Rattle.nanorand_core.specs.values.Runs.{words_that};
 ghost use Rattle.nanorand_core.specs.values.Values.{number_of};
 ghost use Rattle.nanorand_replay.specs.generators.Buffered.{Buffered, buffer_of};
@@ -14,6 +16,7 @@ ghost use Rattle.nanorand.specs.generators.Frequencies.{SomeWordNeverComes, pcg6
 ghost use Rattle.nanorand.specs.generators.Halves.{folded};
 ghost use Rattle.nanorand.specs.generators.ChaCha.{counter, key_of, nonce_of, advanced, next_state, chacha_after, chacha_block, chacha_requests};
 ghost use Rattle.nanorand.specs.generators.ChaChaRounds.{IsMatrix, RoundsAreInjective};
+ghost use Rattle.nanorand.specs.generators.Parts.{PartsAreApart, after_draws, numbers, numbers_of_part, part_at, results_after};
 ghost use Rattle.nanorand.specs.generators.Pcg64.{pcg64_requests};
 ghost use Rattle.nanorand.specs.generators.Pcg64 as pcg64;
 ghost use Rattle.nanorand.specs.generators.WyRand.{wyrand_requests};
@@ -187,6 +190,51 @@ pub fn streams_deliver_chacha<const ROUNDS: u8>()
     fresh_delivery::<ChaChaGroups<ROUNDS>, 512>();
     fresh_delivery::<ChaCha<ROUNDS>, 64>();
 }
+
+/// Parts of equal length are the stream, cut.
+///
+/// A draw is what a number of 64 bits takes. `numbers`: number j of part i, counted from 0, is
+/// number i * draws + j of the stream. `joined`: the numbers of the first parts, one part after
+/// another, are those of the stream. `next`: where a part ends the next one begins.
+pub fn parts_are_the_stream<G: Rng<OUTPUT>, const OUTPUT: usize>()
+    ensures numbers { (draws i j : ℕ) (g : G) → j < draws
+        → slice_index (numbers_of_part G.requests draws g i) j
+        ≡ next_word G.requests 64 (after_draws G.requests (i * draws + j) g) }
+    ensures joined { (parts draws : ℕ) (g : G) →
+        flat_map (numbers_of_part G.requests draws g) (range_with_len 0 parts)
+        ≡ numbers G.requests (parts * draws) g }
+    ensures next { (draws i : ℕ) (g : G) →
+        let start = part_at G.requests draws in
+        after_draws G.requests draws (start i g) ≡ start (i + 1) g }
+{}
+
+/// Parts that together stay within the period do not overlap: no state comes in two of them, and in
+/// none twice.
+///
+/// Of `Pcg64` no seed comes twice, which alone decides the blocks. A stream of ChaCha has buffered
+/// less than a group.
+pub fn parts_are_apart<const ROUNDS: u8>()
+    ensures wyrand { (seed : ℕ) → seed < 2 ^ 64
+        → PartsAreApart (2 ^ 64) (λ n. after_draws wyrand_requests n seed) }
+    ensures pcg64 { (g : pcg64.Generator) → g.seed < 2 ^ 128
+        → PartsAreApart (2 ^ 126) (λ n. (after_draws pcg64_requests n g).seed) }
+    ensures chacha { (x : List ℕ) → IsMatrix x
+        → PartsAreApart (2 ^ 64) (λ n. after_draws (chacha_requests ROUNDS) n x) }
+    ensures streams { (b : Buffered (List ℕ)) → IsMatrix b.inner → length b.rest < 512
+        → PartsAreApart (2 ^ 67) (λ n. after_draws (stream_requests ROUNDS) n b) }
+{}
+
+/// Tasks that draw each from the part of its index leave the results of the plain loop, in whatever
+/// order they run and however often.
+///
+/// A schedule is the list of the indices in the order in which their tasks run, and has each index
+/// below `count` at least once. What stood in the results before does not matter.
+pub fn parts_in_any_order<G: Rng<OUTPUT>, const OUTPUT: usize, T>()
+    ensures { (task : G → T) (draws count : ℕ) (g : G) (schedule : List ℕ) (results : List T)
+        → length results ≡ count → ((i : ℕ) → i < count → Contains schedule i) →
+        let own = λ (i : ℕ). task (part_at G.requests draws i g) in
+        results_after own schedule results ≡ map own (range_with_len 0 count) }
+{}
 
 /// Which seeds of `Pcg64` are reached from which.
 ///

@@ -15,10 +15,12 @@
 pub mod crypto;
 pub mod entropy;
 pub mod laws;
+pub mod parts;
 pub mod rand;
 
 pub use nanorand_core::{RandomGen, RandomRange, RangeError, choices, samples, shuffles, values};
 pub use nanorand_replay::{BufferedRng, buffer, replay};
+pub use parts::{Parts, PastPeriod};
 pub use rand::chacha::{ChaCha, ChaCha8, ChaCha12, ChaCha20};
 pub use rand::chacha_groups::ChaChaGroups;
 pub use rand::keystream::{ChaCha8Stream, ChaCha12Stream, ChaCha20Stream, ChaChaStream, Keystream};

@@ -1,10 +1,9 @@
 pub mod DeckLemmas
 pub mod WordCountLemmas
 pub mod HandLemmas
-pub mod PartLemmas
+pub mod PlaceLemmas
 pub mod ResultLemmas
 pub mod RetryLemmas
 pub mod SampleCountLemmas
 pub mod SampleLemmas
 pub mod SampleWordLemmas
-pub mod StreamLemmas

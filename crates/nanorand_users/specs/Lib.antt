@@ -5,4 +5,3 @@ pub mod Deals
 pub mod Reservoir
 pub mod Retry
 pub mod SplitMix
-pub mod Streams

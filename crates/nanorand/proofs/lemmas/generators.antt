@@ -3,3 +3,4 @@ pub mod SeedLemmas
 pub mod WordLemmas
 pub mod EqualityLemmas
 pub mod StreamLemmas
+pub mod PartLemmas

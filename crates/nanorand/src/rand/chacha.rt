@@ -1,5 +1,5 @@
 //! ChaCha as a generator: a block of 64 bytes per draw, from a 256-bit key.
-ghost use Rattle.std.specs.Prelude.{◌≡◌, ◌==◌, ◌↔◌, ℕ, ◌-◌, ◌%◌, ◌≤◌, ◌⊎◌, List, ◌++◌, length, take, drop, ⊤, refl, Some, IfOk, IfErr, OnErr, IsTrue, codes};
+ghost use Rattle.std.specs.Prelude.{◌≡◌, ◌==◌, ◌↔◌, ℕ, ◌+◌, ◌-◌, ◌*◌, ◌%◌, ◌^◌, ◌≤◌, ◌⊎◌, List, ◌++◌, length, take, drop, ⊤, refl, Some, IfOk, IfErr, OnErr, IsOk, IsTrue, codes};
 ghost use Rattle.std.specs.Cmp.Lexicographic.{pointwise};
 ghost use Rattle.std.specs.Cmp.Rules.{comparing};
 ghost use Rattle.std.specs.Fmt.{decimal};
@@ -10,6 +10,7 @@ ghost use Rattle.nanorand.specs.generators.ChaChaRounds.{IsMatrix};
 ghost use Rattle.nanorand.specs.support.ChaChaDrawLemmas.{length-chacha_block};
 ghost use Rattle.nanorand.specs.generators.Entropy.{HasFewer, IsMadeOf, TakesFewer};
 ghost use Rattle.nanorand.specs.generators.DebugTexts.{chacha_debug};
+ghost use Rattle.nanorand.specs.generators.Parts.{part_at};
 ghost use Rattle.nanorand.specs.declared.entropy.EntropyError.TheVariants.{Short, Fault};
 
 use crate::crypto::chacha::{
@@ -17,6 +18,7 @@ use crate::crypto::chacha::{
     eight_blocks, four_blocks, set_counter,
 };
 use crate::entropy::{EntropyError, system};
+use crate::parts::{Parts, PastPeriod, draws_before};
 use nanorand_core::rand::{Blocks, Rng, SeedableRng, fill_by_blocks};
 use std::alloc::AllocError;
 use std::fmt;
@@ -325,6 +327,23 @@ impl<const ROUNDS: u8> Rng<64> for ChaCha<ROUNDS> {
     ghost after_nothing = { λ _. refl };
 
     ghost after_block = { λ _. refl };
+}
+
+/// The period is 2^64 draws, which are blocks.
+impl<const ROUNDS: u8> Parts<64> for ChaCha<ROUNDS> {
+    ghost period = { 2 ^ 64 };
+
+    #[inline]
+    fn part(&self, index: u64, draws: u64) -> Result<Self, PastPeriod>
+        ensures begins { let outset = part_at (chacha_requests ROUNDS) draws index self.now in
+            IfOk result (λ part. part ≡ outset) }
+        ensures within { IsOk result ↔ ((index + 1) * draws ≤ 2 ^ 64) }
+    {
+        let before = draws_before(index, draws, 1 << 64)?;
+        let mut part = ChaCha { state: self.state };
+        part.jump(before as u64);
+        Ok(part)
+    }
 }
 
 impl<const ROUNDS: u8> SeedableRng<40, 64> for ChaCha<ROUNDS> {

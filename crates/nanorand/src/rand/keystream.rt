@@ -1,9 +1,11 @@
 //! Streams of ChaCha, which can be sought.
-ghost use Rattle.std.specs.Prelude.{◌≡◌, ◌%◌, ◌^◌, []};
+ghost use Rattle.std.specs.Prelude.{◌≡◌, ◌↔◌, ◌+◌, ◌*◌, ◌%◌, ◌^◌, ◌<◌, ◌≤◌, [], length, IfOk, IsOk};
 ghost use Rattle.nanorand_replay.specs.generators.Buffered.{buffer_of};
 ghost use Rattle.nanorand.specs.generators.ChaCha.{initial_state, state_at};
 ghost use Rattle.nanorand.specs.generators.ChaChaGroups.{stream_position, stream_requests, stream_start};
+ghost use Rattle.nanorand.specs.generators.Parts.{part_at};
 
+use crate::parts::{Parts, PastPeriod, draws_before};
 use crate::rand::chacha_groups::ChaChaGroups;
 use nanorand_core::rand::Rng;
 use nanorand_replay::buffer::BufferedRng;
@@ -64,11 +66,7 @@ impl<const ROUNDS: u8> Keystream for BufferedRng<ChaChaGroups<ROUNDS>, 512> {
         ensures state { self.new ≡ (stream_requests ROUNDS).after (stream_start self.old) byte }
         ensures position { stream_position self.new ≡ byte % 2 ^ 70 }
     {
-        let index = byte / 512 % (1 << 61) * 8;
-        let mut stream = BufferedRng::new(self.inner().at_index(index as u64));
-        let mut skipped = [0; 512];
-        stream.fill_bytes(&mut skipped[..(byte % 512) as usize]);
-        *self = stream;
+        *self = stream_from(&self.inner().at_index(0), byte);
     }
 
     fn position(&self) -> u128
@@ -77,4 +75,51 @@ impl<const ROUNDS: u8> Keystream for BufferedRng<ChaChaGroups<ROUNDS>, 512> {
         let ahead = u128::from(self.inner().counter()) * 64;
         (ahead + (1 << 70) - self.buffered() as u128) % (1 << 70)
     }
+}
+
+/// The period is 2^67 draws, which have eight bytes each.
+impl<const ROUNDS: u8> Parts<512> for BufferedRng<ChaChaGroups<ROUNDS>, 512> {
+    ghost period = { 2 ^ 67 };
+
+    fn part(&self, index: u64, draws: u64) -> Result<Self, PastPeriod>
+        ensures begins { let outset = part_at (stream_requests ROUNDS) draws index self.now in
+            IfOk result (λ part. part ≡ outset) }
+        ensures within { IsOk result ↔ ((index + 1) * draws ≤ 2 ^ 67) }
+    {
+        let bytes = draws_before(index, draws, 1 << 67)? * 8;
+        let kept = self.rest();
+        let groups = self.inner();
+        if bytes <= kept.len() as u128 {
+            Ok(stream_with(groups, &kept[bytes as usize..]))
+        } else {
+            Ok(stream_from(groups, bytes - kept.len() as u128))
+        }
+    }
+}
+
+// The stream of these groups, with these bytes buffered.
+fn stream_with<const ROUNDS: u8>(
+    groups: &ChaChaGroups<ROUNDS>,
+    rest: &[u8],
+) -> BufferedRng<ChaChaGroups<ROUNDS>, 512>
+    requires { length rest.now < 512 }
+    ensures { result ≡ buffer_of rest.now groups.now }
+{
+    let groups = groups.at_index(groups.counter());
+    BufferedRng::with_rest(groups, rest).unwrap()
+}
+
+// The stream of these groups, after so many bytes.
+fn stream_from<const ROUNDS: u8>(
+    groups: &ChaChaGroups<ROUNDS>,
+    bytes: u128,
+) -> BufferedRng<ChaChaGroups<ROUNDS>, 512>
+    ensures { result ≡ (stream_requests ROUNDS).after (buffer_of [] groups.now) bytes }
+{
+    let blocks = bytes / 512 % (1 << 61) * 8;
+    let index = groups.counter().wrapping_add(blocks as u64);
+    let mut stream = BufferedRng::new(groups.at_index(index));
+    let mut skipped = [0; 512];
+    stream.fill_bytes(&mut skipped[..(bytes % 512) as usize]);
+    stream
 }

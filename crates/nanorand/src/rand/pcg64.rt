@@ -1,13 +1,15 @@
 //! Pcg64: a 128-bit seed, and a 64-bit word per draw.
-ghost use Rattle.std.specs.Prelude.{◌≡◌, length, ◌⊎◌, ⊤, refl, Some, IfOk, IfErr, OnErr, codes, ℕ, ◌<◌, ◌^◌, ◌↔◌, IsTrue, IsSome, IfSome};
+ghost use Rattle.std.specs.Prelude.{◌≡◌, length, ◌⊎◌, ⊤, refl, Some, IfOk, IfErr, OnErr, IsOk, codes, ℕ, ◌+◌, ◌*◌, ◌<◌, ◌≤◌, ◌^◌, ◌↔◌, IsTrue, IsSome, IfSome};
 ghost use Rattle.std.specs.Cmp.Rules.{comparing};
 ghost use Rattle.std.proofs.Common.{rules};
 ghost use Rattle.nanorand.specs.generators.Entropy.{HasFewer, IsMadeOf, TakesFewer};
 ghost use Rattle.nanorand.specs.generators.Pcg64.{seeded_generator, next, pcg64_after, pcg64_block, reseeded, same_generator, seed_after, SameCycle, initial_generator, pcg64_requests};
 ghost use Rattle.nanorand.specs.generators.DebugTexts.{pcg64_debug};
+ghost use Rattle.nanorand.specs.generators.Parts.{part_at};
 ghost use Rattle.nanorand.specs.declared.entropy.EntropyError.TheVariants.{Short, Fault};
 
 use crate::entropy::{EntropyError, system};
+use crate::parts::{Parts, PastPeriod, draws_before};
 use crate::rand::halves::folded;
 use crate::rand::hexadecimal::Hexadecimal;
 use nanorand_core::rand::{Blocks, Rng, SeedableRng, fill_by_blocks};
@@ -127,6 +129,17 @@ impl Pcg64 {
             None
         }
     }
+
+    #[inline]
+    fn copied(&self) -> Self
+        ensures { result ≡ self.now }
+    {
+        Pcg64 {
+            seed: self.seed,
+            state: self.state,
+            inc: self.inc,
+        }
+    }
 }
 
 /// An equal generator. Nothing is allocated, so it never fails.
@@ -137,11 +150,7 @@ impl Clone for Pcg64 {
 
     #[inline]
     fn clone(&self) -> Result<Self, AllocError> {
-        Ok(Pcg64 {
-            seed: self.seed,
-            state: self.state,
-            inc: self.inc,
-        })
+        Ok(self.copied())
     }
 }
 
@@ -223,6 +232,22 @@ impl Rng<8> for Pcg64 {
     ghost after_nothing = { λ _. refl };
 
     ghost after_block = { λ _. refl };
+}
+
+/// The period is 2^126 draws.
+impl Parts<8> for Pcg64 {
+    ghost period = { 2 ^ 126 };
+
+    fn part(&self, index: u64, draws: u64) -> Result<Self, PastPeriod>
+        ensures begins { let outset = part_at pcg64_requests draws index self.now in
+            IfOk result (λ part. part ≡ outset) }
+        ensures within { IsOk result ↔ ((index + 1) * draws ≤ 2 ^ 126) }
+    {
+        let before = draws_before(index, draws, 1 << 126)?;
+        let mut part = self.copied();
+        part.jump(before);
+        Ok(part)
+    }
 }
 
 impl SeedableRng<16, 8> for Pcg64 {

@@ -1,14 +1,16 @@
 //! WyRand: a 64-bit seed, and a 64-bit word per draw.
-ghost use Rattle.std.specs.Prelude.{◌≡◌, ◌==◌, ◌↔◌, length, ◌⊎◌, ⊤, refl, Some, IfOk, IfErr, OnErr, IsTrue, codes, ℕ, ◌<◌, ◌^◌};
+ghost use Rattle.std.specs.Prelude.{◌≡◌, ◌==◌, ◌↔◌, length, ◌⊎◌, ⊤, refl, Some, IfOk, IfErr, OnErr, IsOk, IsTrue, codes, ℕ, ◌+◌, ◌*◌, ◌<◌, ◌≤◌, ◌^◌};
 ghost use Rattle.std.specs.Cmp.Rules.{comparing};
 ghost use Rattle.std.proofs.Common.{rules};
 ghost use Rattle.nanorand.specs.generators.Entropy.{HasFewer, IsMadeOf, TakesFewer};
 ghost use Rattle.nanorand.specs.generators.DebugTexts.{wyrand_debug};
 ghost use Rattle.nanorand_core.specs.values.Values.{number_of};
+ghost use Rattle.nanorand.specs.generators.Parts.{part_at};
 ghost use Rattle.nanorand.specs.generators.WyRand.{next_seed, wyrand_block, word, seed_after, wyrand_after, wyrand_requests};
 ghost use Rattle.nanorand.specs.declared.entropy.EntropyError.TheVariants.{Short, Fault};
 
 use crate::entropy::{EntropyError, system};
+use crate::parts::{Parts, PastPeriod, draws_before};
 use crate::rand::halves::folded;
 use nanorand_core::rand::{Blocks, Rng, SeedableRng, fill_by_blocks};
 use std::alloc::AllocError;
@@ -184,6 +186,23 @@ impl Rng<8> for WyRand {
     ghost after_nothing = { λ _. refl };
 
     ghost after_block = { λ _. refl };
+}
+
+/// The period is 2^64 draws.
+impl Parts<8> for WyRand {
+    ghost period = { 2 ^ 64 };
+
+    #[inline]
+    fn part(&self, index: u64, draws: u64) -> Result<Self, PastPeriod>
+        ensures begins { let outset = part_at wyrand_requests draws index self.now in
+            IfOk result (λ part. part ≡ outset) }
+        ensures within { IsOk result ↔ ((index + 1) * draws ≤ 2 ^ 64) }
+    {
+        let before = draws_before(index, draws, 1 << 64)?;
+        let mut part = WyRand { seed: self.seed };
+        part.jump(before as u64);
+        Ok(part)
+    }
 }
 
 impl SeedableRng<8, 8> for WyRand {

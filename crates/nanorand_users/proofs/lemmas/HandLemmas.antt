@@ -2,7 +2,7 @@
 use Rattle.std.proofs.Common.{◌≡◌, ℕ, zero, suc, ◌+◌, ◌*◌, ◌<◌, ◌≤◌, List, ◌++◌, length, get_or, drop, sym, ◌∙◌, ap, arith, append_assoc}
 use Rattle.std.proofs.lemmas.List.{take-append-drop, drop-drop, get_or-take, get_or-drop}
 use Rattle.nanorand_users.specs.Deals.{HoldsNoneTwice, HandsAreApart, hand_of, hands}
-use Rattle.nanorand_users.proofs.lemmas.PartLemmas.{place_below, same_place}
+use Rattle.nanorand_users.proofs.lemmas.PlaceLemmas.{place_below, same_place}
 
 pub hands-rest : (size players : ℕ) (deck : List ℕ) → hands size players deck ++ drop (players * size) deck ≡ deck
 hands-rest size zero deck = ap (λ (n : ℕ). drop n deck) (let e : 0 * size ≡ 0 = omega arith in e)

@@ -1,7 +1,11 @@
 -- How many words several draws take.
-use Rattle.std.proofs.Common.{◌≡◌, ℕ, ◌+◌, ◌*◌, ◌≤◌, ◌∙◌, ap, arith}
+use Rattle.std.proofs.Common.{◌≡◌, ℕ, zero, suc, ◌+◌, ◌*◌, ◌≤◌, ◌∙◌, ap, arith}
 use Rattle.std.specs.Fn.{iterate}
-use Rattle.nanorand_users.proofs.lemmas.StreamLemmas.{iterate-add}
+
+iterate-add : {G : Type 0} (step : G → G) (m n : ℕ) (g : G) → iterate step n (iterate step m g) ≡ iterate step (m + n) g
+iterate-add step zero n g = ap (λ (k : ℕ). iterate step k g) (let e : n ≡ 0 + n = omega arith in e)
+iterate-add step (suc m) n g =
+    iterate-add step m n (step g) ∙ ap (λ (k : ℕ). iterate step k g) (let e : suc (m + n) ≡ suc m + n = omega arith in e)
 
 -- after one draw more
 pub words_more : {A : Type 0} (h : A → A) (limit i : ℕ) (x y z : A)

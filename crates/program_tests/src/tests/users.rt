@@ -173,11 +173,11 @@ const PARTS: [(u64, [u64; 2], [u64; 2], [u64; 2]); 2] = [
 fn parts(rt: HostRuntime) {
     for (worker, of_wyrand, of_pcg64, of_chacha) in PARTS {
         let mut words = [0; 2];
-        part(WyRand::new_seed(0), worker, &mut words);
+        let _ = part(&WyRand::new_seed(0), worker, &mut words);
         equal_at(&rt, words, of_wyrand, &worker);
-        part(Pcg64::new_seed(0), worker, &mut words);
+        let _ = part(&Pcg64::new_seed(0), worker, &mut words);
         equal_at(&rt, words, of_pcg64, &worker);
-        part(ChaCha20::new_key([0; 32], [0; 8]), worker, &mut words);
+        let _ = part(&ChaCha20::new_key([0; 32], [0; 8]), worker, &mut words);
         equal_at(&rt, words, of_chacha, &worker);
     }
 }

@@ -1,34 +1,27 @@
-use Rattle.std.proofs.Common.{◌≡◌, ℕ, ◌*◌, ◌/◌, ◌%◌, ◌^◌, ◌<◌, List, [], length, set, ap, ◌∙◌, arith, rules, length-set}
+use Rattle.std.proofs.Common.{◌≡◌, ℕ, ◌/◌, ◌%◌, ◌^◌, ◌<◌, List, [], length, set, ap, ◌∙◌, arith, length-set, subst}
 use Rattle.nanorand_replay.specs.generators.Buffered.{buffer_of, buffered_after}
-use Rattle.nanorand_replay.specs.support.BufferedLemmas.{same_buffer}
 use Rattle.nanorand.specs.generators.ChaCha.{with_counter}
+use Rattle.nanorand.specs.generators.ChaChaRounds.{IsMatrix}
 use Rattle.nanorand.specs.generators.ChaChaGroups.{chacha_group, next_group, stream_position}
-use Rattle.nanorand.proofs.lemmas.generators.StreamLemmas.{sought, position_after}
+use Rattle.nanorand.proofs.lemmas.generators.StreamLemmas.{position_after}
 use Rattle.nanorand.proofs.rand.keystream.BufferedRngChaChaGroups512Keystream.seek.Goals as goal
 
--- a state that is sixteen words long with another counter has both words of a counter
-counter_there : (x y : List ℕ) (n : ℕ) → y ≡ with_counter x n → length y ≡ 16 → 13 < length x
-counter_there x y n made sixteen =
+-- a state that is a matrix with another counter has both words of a counter
+counter_there : (x : List ℕ) (n : ℕ) → IsMatrix (with_counter x n) → 13 < length x
+counter_there x n matrix =
     let same : length (with_counter x n) ≡ length x =
     length-set (set x 12 (n % 2 ^ 32)) 13 (n / 2 ^ 32) ∙ length-set x 12 (n % 2 ^ 32) in
-    omega (arith, same, ap length made, sixteen)
+    omega (arith, same, matrix.sixteen)
 
 pub returns-clause-state : goal.returns-clause-state
 returns-clause-state g c =
-    let x = c.args.self.now.inner in
-    let byte : ℕ = c.args.byte in
-    let at_group = c.at_index.ensures.state ∙ ap (λ (y : List ℕ). with_counter y (byte / 512 % 2 ^ 61 * 8)) c.inner.ensures in
-    let long = counter_there x c.at_index.result (byte / 512 % 2 ^ 61 * 8) at_group c.at_index.ensures.matrix.sixteen in
-    let fresh = same_buffer c.new-stream.ensures.rest (c.new-stream.ensures.inner ∙ at_group) in
     let after = buffered_after (chacha_group g.row.ROUNDS) next_group 512 in
-    let reached : after c.new-stream.result (byte % 512) ≡ after (buffer_of [] (with_counter x 0)) byte =
-    ap (λ b. after b (byte % 512)) fresh ∙ sought x long g.row.ROUNDS byte in
-    let written : c.fill_bytes.new.self ≡ after c.new-stream.result (byte % 512) = search rules in
-    written ∙ reached
+    c.stream_from.ensures
+    ∙ ap (λ x. after (buffer_of [] x) c.args.byte) (c.at_index.ensures.state ∙ ap (λ x. with_counter x 0) c.inner.ensures)
 
 pub returns-clause-position : goal.returns-clause-position
 returns-clause-position g c =
     let x = c.args.self.now.inner in
-    let at_group = c.at_index.ensures.state ∙ ap (λ (y : List ℕ). with_counter y (c.args.byte / 512 % 2 ^ 61 * 8)) c.inner.ensures in
-    let long = counter_there x c.at_index.result (c.args.byte / 512 % 2 ^ 61 * 8) at_group c.at_index.ensures.matrix.sixteen in
-    ap stream_position (returns-clause-state g c) ∙ position_after x long g.row.ROUNDS c.args.byte
+    let start = c.at_index.ensures.state ∙ ap (λ y. with_counter y 0) c.inner.ensures in
+    let matrix : IsMatrix (with_counter x 0) = subst IsMatrix start c.at_index.ensures.matrix in
+    ap stream_position (returns-clause-state g c) ∙ position_after g.row.ROUNDS x c.args.byte (counter_there x 0 matrix) matrix

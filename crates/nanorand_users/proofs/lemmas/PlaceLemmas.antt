@@ -1,8 +1,6 @@
 -- Indices in parts of equal length that follow each other.
 use Rattle.std.proofs.Common.{◌≡◌, ℕ, ◌+◌, ◌*◌, ◌<◌, ◌≤◌, ◌%◌, ◌/◌, sym, ◌∙◌, ap, arith}
 use Rattle.std.proofs.lemmas.Nat.{mul-le, div-mul-add, mod-mul-add}
-use Rattle.std.proofs.Math.Nat.{mod-eq_of_lt}
-use Rattle.nanorand_users.specs.Streams.{PartsAreApart}
 
 -- an index within a part is below the end of all parts
 pub place_below : (parts part end i j : ℕ) → parts * part ≤ end → i < parts → j < part → i * part + j < end
@@ -15,10 +13,3 @@ same_place part i j k l first second same = (
   sym (div-mul-add i part j first) ∙ ap (λ (n : ℕ). n / part) same ∙ div-mul-add k part l second,
   sym (mod-mul-add i part j first) ∙ ap (λ (n : ℕ). n % part) same ∙ mod-mul-add k part l second,
 )
-
--- parts are apart if indices that look equal agree modulo the period
-pub parts-apart : {S : Type 0} (period : ℕ) (seen : ℕ → S) → ((m n : ℕ) → seen m ≡ seen n → m % period ≡ n % period) → PartsAreApart period seen
-parts-apart period seen agree workers share i j k l fits one other first second same =
-    let below : i * share + j < period = place_below workers share period i j fits one first in
-    let over : k * share + l < period = place_below workers share period k l fits other second in
-    same_place share i j k l first second (sym (mod-eq_of_lt below) ∙ agree (i * share + j) (k * share + l) same ∙ mod-eq_of_lt over)

@@ -1,0 +1,39 @@
+-- Known answers: parts of a stream, their numbers, and what tasks write that run on them.
+use Rattle.std.specs.Prelude.{◌≡◌, refl, ◌+◌, ◌*◌, ◌^◌, [], ◌∷◌}
+use Rattle.nanorand.specs.generators.Parts.{PartsAreApart, after_draws, numbers_of_part, part_at, results_after}
+use Rattle.nanorand.specs.generators.Pcg64.{initial_generator, pcg64_requests}
+use Rattle.nanorand.specs.generators.WyRand.{seed_after, wyrand_requests}
+use Rattle.nanorand_core.specs.generators.Blocks.{taken}
+use Rattle.std.proofs.Common.{arith}
+
+-- the numbers of part 1, by two draws a part, from the seed 0
+wyrand_part : numbers_of_part wyrand_requests 2 0 1 ≡ 0x61fb51318f47d2a4 ∷ 0x78bd03c491909760 ∷ []
+unfolding after_draws taken
+wyrand_part = refl
+
+pcg64_part : numbers_of_part pcg64_requests 2 (initial_generator 0) 1 ≡ 0x35f5d616be12c0da ∷ 0x893a4281b9106394 ∷ []
+unfolding after_draws taken
+pcg64_part = refl
+
+-- part 0 begins at the stream itself, and so does each part of no draws
+first_part : part_at wyrand_requests 5 0 7 ≡ 7
+unfolding after_draws
+first_part = refl
+
+empty_part : part_at wyrand_requests 0 5 7 ≡ 7
+unfolding after_draws
+empty_part = refl
+
+-- tasks in another order, one of them twice
+tasks : results_after (λ i. 10 * i + 3) (2 ∷ 0 ∷ 2 ∷ 1 ∷ []) (7 ∷ 7 ∷ 7 ∷ []) ≡ 3 ∷ 13 ∷ 23 ∷ []
+tasks = refl
+
+-- what no task writes stays, and an index past the end writes nothing
+some_tasks : results_after (λ i. 10 * i + 3) (1 ∷ 5 ∷ []) (7 ∷ 7 ∷ 7 ∷ []) ≡ 7 ∷ 13 ∷ 7 ∷ []
+some_tasks = refl
+
+-- the seeds of 2^64 + 1 draws are not apart: the last is the first again
+too_many_draws : PartsAreApart (2 ^ 64 + 1) (λ n. seed_after n 5) → ⊥
+too_many_draws apart =
+    let same = apart (2 ^ 64 + 1) 1 0 0 (2 ^ 64) 0 (omega arith) (omega arith) (omega arith) (omega arith) (omega arith) refl in
+    absurd (omega (arith, same.0))

@@ -1,0 +1,11 @@
+use Rattle.std.proofs.Common.{◌*◌, ◌∙◌, ap₂, sym}
+use Rattle.nanorand.specs.generators.ChaCha.{chacha_after, chacha_requests}
+use Rattle.nanorand.specs.support.ChaChaDrawLemmas.{chacha_steps}
+use Rattle.nanorand.proofs.lemmas.generators.PartLemmas.{draws-leave}
+use Rattle.nanorand.proofs.rand.chacha.ChaChaParts64.part.Goals as goal
+
+pub returns-clause-begins : goal.returns-clause-begins
+returns-clause-begins g c =
+    let before = c.args.index * c.args.draws in
+    c.jump.ensures.state ∙ ap₂ chacha_after c.in_ok-before.ensures.before c.self.view_is
+    ∙ sym (draws-leave (chacha_requests g.row.ROUNDS) before c.args.self.now ∙ chacha_steps before c.args.self.now)

@@ -1,0 +1,38 @@
+-- Parts of a stream: its draws are numbered from 0 and cut into parts of equal length. A draw is
+-- what a number of 64 bits takes.
+use Rattle.std.specs.Prelude.{◌≡◌, ℕ, ◌+◌, ◌*◌, ◌<◌, ◌≤◌, List, [], ◌∷◌, slice_set}
+use Rattle.nanorand_core.specs.generators.Blocks.{Requests}
+use Rattle.nanorand_core.specs.values.Draws.{after_word, after_words, next_word}
+use Rattle.nanorand_core.specs.values.Values.{values_from}
+
+module _ {G : Type 0} (requests : Requests G) where
+  -- The state after n draws, made one by one. It does not unfold by itself, because the number may
+  -- be a large literal.
+  unfoldable pub after_draws : ℕ → G → G
+  after_draws n g = after_words requests 64 n g
+
+  -- The state at the beginning of part i, where each part has so many draws.
+  abbrev pub part_at : ℕ → ℕ → G → G
+  part_at draws i g = after_draws (i * draws) g
+
+  -- The next n numbers of 64 bits, one for each draw.
+  abbrev pub numbers : ℕ → G → List ℕ
+  numbers n g = values_from (next_word requests 64) (after_word requests 64) n g
+
+  -- The numbers of part i.
+  abbrev pub numbers_of_part : ℕ → G → ℕ → List ℕ
+  numbers_of_part draws g i = numbers draws (part_at draws i g)
+
+-- Parts that together stay within the period do not meet: if `seen` gives the same for draw j of
+-- part i and draw l of part k, they are the same draw of the same part.
+abbrev pub PartsAreApart : {S : Type 0} → ℕ → (ℕ → S) → Type 0
+PartsAreApart period seen =
+    (parts draws i j k l : ℕ) → parts * draws ≤ period → i < parts → k < parts → j < draws
+    → l < draws
+    → seen (i * draws + j) ≡ seen (k * draws + l) → (i ≡ k) × (j ≡ l)
+
+-- The results after tasks have run by a schedule, a list of indices: the task of an index writes
+-- the result of that index, over what stood there. `own` is what each task writes.
+abbrev pub results_after : {T : Type 0} → (ℕ → T) → List ℕ → List T → List T
+results_after own [] results = results
+results_after own (i ∷ schedule) results = results_after own schedule (slice_set results i (own i))
