@@ -27,10 +27,11 @@
 /* 10000 * major + 100 * minor + patch of this header. nanorand_version() returns that of the library. */
 #define NANORAND_VERSION 10000
 
-/* The status of ranges, shuffles and samples. */
-#define NANORAND_OK 0        /* drawn */
-#define NANORAND_EMPTY 1     /* the range is empty, or the sample too large: nothing drawn or written */
-#define NANORAND_EXHAUSTED 2 /* 128 words in a row were rejected; they stay drawn */
+/* The status of ranges, shuffles, samples and parts. */
+#define NANORAND_OK 0          /* drawn, or moved */
+#define NANORAND_EMPTY 1       /* the range is empty, or the sample too large: nothing drawn or written */
+#define NANORAND_EXHAUSTED 2   /* 128 words in a row were rejected; they stay drawn */
+#define NANORAND_PAST_PERIOD 3 /* the part ends past the period of the generator: nothing moved */
 
 /* The status of nanorand_lots_count and nanorand_lots_draw, which is else NANORAND_OK. */
 #define NANORAND_LOTS_BAD_SEED 2   /* the seed is empty or not UTF-8: nothing written */
@@ -53,6 +54,7 @@
 #define nanorand_wyrand_shuffle_full nanorand_v1_wyrand_shuffle_full
 #define nanorand_wyrand_sample nanorand_v1_wyrand_sample
 #define nanorand_wyrand_jump nanorand_v1_wyrand_jump
+#define nanorand_wyrand_part nanorand_v1_wyrand_part
 #define nanorand_pcg64_u64 nanorand_v1_pcg64_u64
 #define nanorand_pcg64_fill_bytes nanorand_v1_pcg64_fill_bytes
 #define nanorand_pcg64_range_u32 nanorand_v1_pcg64_range_u32
@@ -63,6 +65,7 @@
 #define nanorand_pcg64_shuffle_full nanorand_v1_pcg64_shuffle_full
 #define nanorand_pcg64_sample nanorand_v1_pcg64_sample
 #define nanorand_pcg64_jump nanorand_v1_pcg64_jump
+#define nanorand_pcg64_part nanorand_v1_pcg64_part
 #define nanorand_chacha8_block nanorand_v1_chacha8_block
 #define nanorand_chacha8_u64 nanorand_v1_chacha8_u64
 #define nanorand_chacha8_fill_bytes nanorand_v1_chacha8_fill_bytes
@@ -73,6 +76,7 @@
 #define nanorand_chacha8_shuffle nanorand_v1_chacha8_shuffle
 #define nanorand_chacha8_shuffle_full nanorand_v1_chacha8_shuffle_full
 #define nanorand_chacha8_sample nanorand_v1_chacha8_sample
+#define nanorand_chacha8_part nanorand_v1_chacha8_part
 #define nanorand_chacha12_block nanorand_v1_chacha12_block
 #define nanorand_chacha12_u64 nanorand_v1_chacha12_u64
 #define nanorand_chacha12_fill_bytes nanorand_v1_chacha12_fill_bytes
@@ -83,6 +87,7 @@
 #define nanorand_chacha12_shuffle nanorand_v1_chacha12_shuffle
 #define nanorand_chacha12_shuffle_full nanorand_v1_chacha12_shuffle_full
 #define nanorand_chacha12_sample nanorand_v1_chacha12_sample
+#define nanorand_chacha12_part nanorand_v1_chacha12_part
 #define nanorand_chacha20_block nanorand_v1_chacha20_block
 #define nanorand_chacha20_u64 nanorand_v1_chacha20_u64
 #define nanorand_chacha20_fill_bytes nanorand_v1_chacha20_fill_bytes
@@ -93,6 +98,7 @@
 #define nanorand_chacha20_shuffle nanorand_v1_chacha20_shuffle
 #define nanorand_chacha20_shuffle_full nanorand_v1_chacha20_shuffle_full
 #define nanorand_chacha20_sample nanorand_v1_chacha20_sample
+#define nanorand_chacha20_part nanorand_v1_chacha20_part
 #define nanorand_stream_u64 nanorand_v1_stream_u64
 #define nanorand_stream_fill_bytes nanorand_v1_stream_fill_bytes
 #define nanorand_stream_range_u32 nanorand_v1_stream_range_u32
@@ -111,6 +117,7 @@
 #define nanorand_keystream_shuffle nanorand_v1_keystream_shuffle
 #define nanorand_keystream_shuffle_full nanorand_v1_keystream_shuffle_full
 #define nanorand_keystream_sample nanorand_v1_keystream_sample
+#define nanorand_keystream_part nanorand_v1_keystream_part
 #define nanorand_lots_digest nanorand_v1_lots_digest
 #define nanorand_lots_count nanorand_v1_lots_count
 #define nanorand_lots_draw nanorand_v1_lots_draw
@@ -173,11 +180,11 @@ typedef struct nanorand_v1_keystream {
     uint64_t buffered;
 } nanorand_keystream;
 
-/* ---- The nine calls that every generator has. ---- */
+/* ---- The nine calls that every generator has, and that of parts. ---- */
 
 /*
  * `..` stands for the name of a generator: wyrand, pcg64, chacha8, chacha12, chacha20, stream or
- * keystream.
+ * keystream. stream has no part.
  *
  * nanorand_.._u64: Draws a number of 64 bits: the next 8 bytes, least byte first.
  *
@@ -209,6 +216,11 @@ typedef struct nanorand_v1_keystream {
  * algorithm; each set of them has equally many words, their order is not uniform. It returns 0, or
  * 1 if there are more places than numbers (nothing is drawn or written), or 2 if 128 words in a row
  * were rejected for one place; the places before it are then written, and the draws stay.
+ *
+ * nanorand_.._part: Moves to the beginning of part `index`, counted from 0, of parts of so many
+ * draws: `index * draws` draws further on, where a draw is what a `uint64_t` takes. Parts of one
+ * length do not overlap. It returns 0, or 3 if the part ends past the period: 2^64 draws of WyRand
+ * and ChaCha, 2^126 of Pcg64, 2^67 of the keystream. Nothing moves then.
  */
 
 /* ---- WyRand: 64 bits of state, the fastest. Not cryptographically secure. ---- */
@@ -242,6 +254,10 @@ uint8_t nanorand_wyrand_sample(
 /* Advances by so many draws, in one step. */
 void nanorand_wyrand_jump(nanorand_wyrand *rng, uint64_t draws) NANORAND_NOT_NULL((1));
 
+uint8_t nanorand_wyrand_part(
+    nanorand_wyrand *rng, uint64_t index, uint64_t draws)
+    NANORAND_NOT_NULL((1)) NANORAND_USE_STATUS;
+
 /* ---- Pcg64: a seed of 128 bits. Not cryptographically secure. ---- */
 
 uint64_t nanorand_pcg64_u64(nanorand_pcg64 *seed) NANORAND_NOT_NULL((1));
@@ -270,6 +286,10 @@ uint8_t nanorand_pcg64_sample(
 /* Advances by so many draws, in at most 128 steps and one draw. */
 void nanorand_pcg64_jump(
     nanorand_pcg64 *seed, const nanorand_pcg64 *draws) NANORAND_NOT_NULL((1, 2));
+
+uint8_t nanorand_pcg64_part(
+    nanorand_pcg64 *seed, uint64_t index, uint64_t draws)
+    NANORAND_NOT_NULL((1)) NANORAND_USE_STATUS;
 
 /* ---- ChaCha with 8 rounds. Each call begins a new block, also for a single number. ---- */
 
@@ -305,6 +325,9 @@ uint8_t nanorand_chacha8_shuffle_full(
     NANORAND_NOT_NULL((1)) NANORAND_USE_STATUS;
 uint8_t nanorand_chacha8_sample(
     nanorand_chacha *state, size_t count, size_t *places, size_t length)
+    NANORAND_NOT_NULL((1)) NANORAND_USE_STATUS;
+uint8_t nanorand_chacha8_part(
+    nanorand_chacha *state, uint64_t index, uint64_t draws)
     NANORAND_NOT_NULL((1)) NANORAND_USE_STATUS;
 
 /* ---- ChaCha with 12 rounds. Each call begins a new block, also for a single number. ---- */
@@ -342,6 +365,9 @@ uint8_t nanorand_chacha12_shuffle_full(
 uint8_t nanorand_chacha12_sample(
     nanorand_chacha *state, size_t count, size_t *places, size_t length)
     NANORAND_NOT_NULL((1)) NANORAND_USE_STATUS;
+uint8_t nanorand_chacha12_part(
+    nanorand_chacha *state, uint64_t index, uint64_t draws)
+    NANORAND_NOT_NULL((1)) NANORAND_USE_STATUS;
 
 /* ---- ChaCha with 20 rounds. Each call begins a new block, also for a single number. ---- */
 
@@ -377,6 +403,9 @@ uint8_t nanorand_chacha20_shuffle_full(
     NANORAND_NOT_NULL((1)) NANORAND_USE_STATUS;
 uint8_t nanorand_chacha20_sample(
     nanorand_chacha *state, size_t count, size_t *places, size_t length)
+    NANORAND_NOT_NULL((1)) NANORAND_USE_STATUS;
+uint8_t nanorand_chacha20_part(
+    nanorand_chacha *state, uint64_t index, uint64_t draws)
     NANORAND_NOT_NULL((1)) NANORAND_USE_STATUS;
 
 /* ---- The keystream of ChaCha with 20 rounds, without a gap between calls. ---- */
@@ -431,6 +460,9 @@ uint8_t nanorand_keystream_shuffle_full(
     NANORAND_NOT_NULL((1)) NANORAND_USE_STATUS;
 uint8_t nanorand_keystream_sample(
     nanorand_keystream *stream, size_t count, size_t *places, size_t length)
+    NANORAND_NOT_NULL((1)) NANORAND_USE_STATUS;
+uint8_t nanorand_keystream_part(
+    nanorand_keystream *stream, uint64_t index, uint64_t draws)
     NANORAND_NOT_NULL((1)) NANORAND_USE_STATUS;
 
 /* ---- The public draw by lot. ---- */

@@ -150,6 +150,10 @@ static void check_pcg64_jumps(void)
     draws = wide_of(1000, 0);
     nanorand_pcg64_jump(seed_in(&memory), seed_in(&draws));
     check("pcg64_jump: 1000 draws from 42", wide_is(&memory, 0xd2717c7cd985cbca, 0xd39cf3ae66b76eb1));
+
+    memory = wide_of(42, 0);
+    check("pcg64_part: part 4 of 250 draws", nanorand_pcg64_part(seed_in(&memory), 4, 250) == 0);
+    check("pcg64_part: the seed", wide_is(&memory, 0xd2717c7cd985cbca, 0xd39cf3ae66b76eb1));
 }
 
 static void check_pcg64_ranges(void)
@@ -204,6 +208,10 @@ static void check_wyrand_words(void)
     memory = word_of(42);
     nanorand_wyrand_jump(rng_in(&memory), 1000);
     check("wyrand_jump: 1000 draws from 42", word_is(&memory, 0xcd62d077a3cf57c2));
+
+    memory = word_of(42);
+    check("wyrand_part: part 4 of 250 draws", nanorand_wyrand_part(rng_in(&memory), 4, 250) == 0);
+    check("wyrand_part: the seed", word_is(&memory, 0xcd62d077a3cf57c2));
 }
 
 static void check_wyrand_ranges(void)
@@ -299,6 +307,10 @@ static void check_chacha(void)
     uint64_t word = nanorand_chacha20_u64(&memory.stream.chacha);
     check("chacha20_u64: the word", memcmp(&word, bytes, 8) == 0);
     check("chacha20_u64: the state", stream_is(&memory, counter + 1, 0xdddd) && block_is(&memory, 0xbb));
+
+    memory = stream_of(counter, 0xdddd);
+    check("chacha20_part: part 4 of 250 draws", nanorand_chacha20_part(&memory.stream.chacha, 4, 250) == 0);
+    check("chacha20_part: the state", stream_is(&memory, counter + 1000, 0xdddd) && block_is(&memory, 0xbb));
 
     size_t items[10] = {0, 1, 2, 3, 4, 5, 6, 7, 8, 9};
     memory = stream_of(UINT64_MAX, 0xdddd);

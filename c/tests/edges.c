@@ -1,7 +1,7 @@
 /*
  * The edges of the interface, of every generator: null pointers with length 0, empty and whole
- * ranges, samples that are too large, odd addresses, large lengths, each status that can be reached,
- * and what a refusal leaves.
+ * ranges, samples that are too large, odd addresses, large lengths, parts of a stream, each status that
+ * can be reached, and what a refusal leaves.
  *
  * Not reached: NANORAND_EXHAUSTED and NANORAND_LOTS_EXHAUSTED. No state is known that gives them.
  */
@@ -18,6 +18,7 @@ HOLDS(version, NANORAND_VERSION == 10000);
 HOLDS(ok, NANORAND_OK == 0);
 HOLDS(empty, NANORAND_EMPTY == 1);
 HOLDS(exhausted, NANORAND_EXHAUSTED == 2);
+HOLDS(past_period, NANORAND_PAST_PERIOD == 3);
 HOLDS(lots_bad_seed, NANORAND_LOTS_BAD_SEED == 2);
 HOLDS(lots_too_few, NANORAND_LOTS_TOO_FEW == 3);
 HOLDS(lots_empty_line, NANORAND_LOTS_EMPTY_LINE == 4);
@@ -190,6 +191,50 @@ TESTS(chacha20, nanorand_chacha)
 TESTS(stream, nanorand_stream)
 TESTS(keystream, nanorand_keystream)
 
+/* The tests of parts, of one generator that has them. */
+#define PARTS(G, S)                                                                                \
+    static void parts_##G(S start)                                                                 \
+    {                                                                                              \
+        int follows = 1;                                                                           \
+        S state = start;                                                                           \
+        S drawn = start;                                                                           \
+        for (uint64_t index = 0; index < 40; index++) {                                            \
+            uint8_t some[SHORT], same[SHORT];                                                      \
+            S after = drawn;                                                                       \
+            state = start;                                                                         \
+            follows = follows && nanorand_##G##_part(&state, index, 7) == NANORAND_OK;             \
+            nanorand_##G##_fill_bytes(&state, some, SHORT);                                        \
+            nanorand_##G##_fill_bytes(&after, same, SHORT);                                        \
+            follows = follows && memcmp(some, same, SHORT) == 0;                                   \
+            for (int draw = 0; draw < 7; draw++) {                                                 \
+                nanorand_##G##_u64(&drawn);                                                        \
+            }                                                                                      \
+        }                                                                                          \
+        check(#G, "a part follows the one before it", follows);                                    \
+        state = start;                                                                             \
+        check(#G, "no draws", nanorand_##G##_part(&state, UINT64_MAX, 0) == NANORAND_OK);          \
+        check(#G, "the first part", nanorand_##G##_part(&state, 0, UINT64_MAX) == NANORAND_OK);    \
+        check(#G, "begins here", memcmp(&state, &start, sizeof state) == 0);                       \
+        check(#G, "a part too far",                                                                \
+              nanorand_##G##_part(&state, UINT64_MAX, UINT64_MAX) == NANORAND_PAST_PERIOD);        \
+        check(#G, "nothing moves", memcmp(&state, &start, sizeof state) == 0);                     \
+    }
+
+PARTS(wyrand, nanorand_wyrand)
+PARTS(pcg64, nanorand_pcg64)
+PARTS(chacha8, nanorand_chacha)
+PARTS(chacha12, nanorand_chacha)
+PARTS(chacha20, nanorand_chacha)
+PARTS(keystream, nanorand_keystream)
+
+/* Of no buffered byte to the most of them. */
+static void parts_of_keystream(nanorand_keystream start)
+{
+    for (start.buffered = 0; start.buffered < 512; start.buffered += 7) {
+        parts_keystream(start);
+    }
+}
+
 static const uint8_t *text_of(const char *text)
 {
     return (const uint8_t *)text;
@@ -268,6 +313,12 @@ int main(void)
     all_chacha20(stream.chacha);
     all_stream(stream);
     all_keystream(keystream);
+    parts_wyrand(nanorand_wyrand_new_seed(42));
+    parts_pcg64(pcg64);
+    parts_chacha8(stream.chacha);
+    parts_chacha12(stream.chacha);
+    parts_chacha20(stream.chacha);
+    parts_of_keystream(keystream);
     one_keystream(stream, keystream);
     digests();
     lists();

@@ -80,6 +80,21 @@ TESTS(chacha20, nanorand_chacha)
 TESTS(stream, nanorand_stream)
 TESTS(keystream, nanorand_keystream)
 
+#define PARTS(G, S)                                                                                \
+    static void part_##G(S start, int at_end)                                                      \
+    {                                                                                              \
+        S *state = (S *)(void *)placed(at_end, sizeof start);                                      \
+        memcpy(state, &start, sizeof start);                                                       \
+        check(#G ": a part", nanorand_##G##_part(state, 3, 1000) == NANORAND_OK);                  \
+    }
+
+PARTS(wyrand, nanorand_wyrand)
+PARTS(pcg64, nanorand_pcg64)
+PARTS(chacha8, nanorand_chacha)
+PARTS(chacha12, nanorand_chacha)
+PARTS(chacha20, nanorand_chacha)
+PARTS(keystream, nanorand_keystream)
+
 /* A list, a seed and a digest at the edge, and draws of as many as a size_t can say. */
 static void lots(int at_end)
 {
@@ -159,6 +174,23 @@ CALLS(keystream)
 TOO_MANY_BUFFERED(stream, 63)
 TOO_MANY_BUFFERED(keystream, 511)
 
+/* The same of parts: one within the buffered bytes, one behind them, and one past the period. */
+static void too_many_buffered_parts(uint64_t buffered)
+{
+    const uint64_t draws[3] = {3, 1000, UINT64_MAX};
+    for (int place = 0; place < 3; place++) {
+        nanorand_keystream state, other;
+        memset(&state, 0x5a, sizeof state);
+        other = state;
+        state.buffered = buffered;
+        other.buffered = 511;
+        check("keystream: too many buffered, in parts",
+              nanorand_keystream_part(&state, 20, draws[place])
+                      == nanorand_keystream_part(&other, 20, draws[place])
+                  && memcmp(&state, &other, sizeof state) == 0 && state.buffered <= 511);
+    }
+}
+
 int main(void)
 {
     nanorand_pcg64 pcg64 = {5, 1};
@@ -184,12 +216,20 @@ int main(void)
         arrays_chacha20(stream.chacha, at_end);
         arrays_stream(stream, at_end);
         arrays_keystream(keystream, at_end);
+        part_wyrand(nanorand_wyrand_new_seed(42), at_end);
+        part_pcg64(pcg64, at_end);
+        part_chacha8(stream.chacha, at_end);
+        part_chacha12(stream.chacha, at_end);
+        part_chacha20(stream.chacha, at_end);
+        part_keystream(keystream, at_end);
         lots(at_end);
     }
     too_many_buffered_stream(64);
     too_many_buffered_stream(UINT64_MAX);
     too_many_buffered_keystream(512);
     too_many_buffered_keystream(UINT64_MAX);
+    too_many_buffered_parts(512);
+    too_many_buffered_parts(UINT64_MAX);
     printf("%u passed, %u failed\n", passed, failed);
     return failed == 0 ? 0 : 1;
 }

@@ -1,6 +1,5 @@
 -- A number that was drawn between two bounds, and a request that buffered bytes serve.
-use Rattle.std.proofs.Common.{◌≡◌, ℕ, ◌≤◌, ◌-◌, true, List, length, take, drop, Result, Ok, IfOk, nat_le, nat_lt, refl, ◌∙◌, ap, arith}
-use Rattle.std.specs.Int.{div_ceil}
+use Rattle.std.proofs.Common.{◌≡◌, ℕ, ◌≤◌, ◌-◌, true, List, length, take, drop, Result, Ok, IfOk, nat_le, nat_lt, refl, arith}
 use Rattle.std.proofs.Math.Nat.{zero-div, zero-mod}
 use Rattle.std.proofs.lemmas.Bool.{leb-true}
 use Rattle.std.proofs.lemmas.List.{append-nil, take-append-le}

@@ -3,12 +3,13 @@ ghost use Rattle.std.specs.Prelude.{◌≡◌, ◌≢◌, ◌<◌, ◌≤◌, �
 ghost use Rattle.std.specs.List.{AllPairs};
 ghost use Rattle.nanorand_core.specs.shuffles.Shuffles.{from_all, from_itself, shuffled};
 ghost use Rattle.nanorand_c.specs.Between.{between, between_signed};
+ghost use Rattle.nanorand_c.specs.Parts.{parting};
 ghost use Rattle.nanorand_c.specs.Sampling.{sampling};
 ghost use Rattle.nanorand_c.specs.Status.{drawn_or, status};
 
 use crate::status::{hand_over, status};
 use nanorand::values::range::draw_number;
-use nanorand::{Rng, samples, shuffles};
+use nanorand::{Parts, Rng, samples, shuffles};
 use std::ops::Bound;
 
 pub(crate) fn range_u32<G: Rng<OUTPUT>, const OUTPUT: usize>(
@@ -116,4 +117,21 @@ pub(crate) fn sample<G: Rng<OUTPUT>, const OUTPUT: usize>(
     }
     let outcome = samples::sample(rng, count, places);
     status(&outcome)
+}
+
+// Moves the generator to the beginning of the part. A part past the period is refused, with 3.
+pub(crate) fn part<G: Parts<OUTPUT> + Drop, const OUTPUT: usize>(
+    rng: &mut G,
+    index: u64,
+    draws: u64,
+) -> u8
+    ensures status { result ≡ (parting G.requests G.period draws index rng.old).0 }
+    ensures state { rng.new ≡ (parting G.requests G.period draws index rng.old).1 }
+{
+    if let Ok(part) = rng.part(index, draws) {
+        *rng = part;
+        0
+    } else {
+        3
+    }
 }

@@ -7,10 +7,13 @@ ghost use Rattle.std.specs.Int.{div_ceil};
 ghost use Rattle.nanorand.specs.generators.ChaCha.{chacha_block, chacha_requests, next_state};
 ghost use Rattle.nanorand_c.specs.Between.{between, between_signed};
 ghost use Rattle.nanorand_c.specs.ChaChaStates.{chacha_at};
+ghost use Rattle.nanorand_c.specs.Parts.{parting};
 ghost use Rattle.nanorand_c.specs.Sampling.{sampling};
 ghost use Rattle.nanorand_c.specs.Status.{drawn_or, status};
 
-use crate::calls::{range_i64, range_u32, range_u64, range_usize, sample, shuffle, shuffle_full};
+use crate::calls::{
+    part, range_i64, range_u32, range_u64, range_usize, sample, shuffle, shuffle_full,
+};
 use crate::chacha::{ChaChaState, block, fill_bytes, loaded, number, store};
 
 /// Writes the block at the counter, and adds 1 to the counter.
@@ -217,6 +220,23 @@ pub extern "C" fn nanorand_v1_chacha20_sample(
 {
     let mut rng = loaded::<20>(state);
     let status = sample(&mut rng, count, places);
+    store(state, &rng);
+    status
+}
+
+/// Moves to the beginning of part `index`, counted from 0, of parts of so many draws: `index *
+/// draws` draws further on, where a draw is what a `u64` takes. Parts of one length do not overlap.
+/// It returns 0, or 3 if the part ends past the period: 2^64 draws of WyRand and ChaCha, 2^126 of
+/// Pcg64, 2^67 of the keystream. Nothing moves then.
+#[unsafe(no_mangle)]
+pub extern "C" fn nanorand_v1_chacha20_part(state: &mut ChaChaState, index: u64, draws: u64) -> u8
+    ensures status { let start = chacha_at state.old in
+        result ≡ (parting (chacha_requests 20) (2 ^ 64) draws index start).0 }
+    ensures state { let start = chacha_at state.old in
+        chacha_at state.new ≡ (parting (chacha_requests 20) (2 ^ 64) draws index start).1 }
+{
+    let mut rng = loaded::<20>(state);
+    let status = part(&mut rng, index, draws);
     store(state, &rng);
     status
 }

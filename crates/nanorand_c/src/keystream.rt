@@ -1,17 +1,20 @@
 //! The key stream of ChaCha with 20 rounds without a gap, which computes eight blocks at once.
 //!
 //! The law `nanorand::laws::streams_deliver_chacha` says that it delivers what `Stream` delivers.
-ghost use Rattle.std.specs.Prelude.{◌≡◌, ◌≢◌, ◌<◌, ◌≤◌, ◌≤ℤ◌, All, IsPermutation, length};
+ghost use Rattle.std.specs.Prelude.{◌≡◌, ◌≢◌, ◌<◌, ◌≤◌, ◌≤ℤ◌, All, IsPermutation, length, ◌^◌};
 ghost use Rattle.std.specs.Bool.{OnFalse, OnTrue};
 ghost use Rattle.std.specs.List.{AllPairs};
 ghost use Rattle.nanorand_core.specs.shuffles.Shuffles.{from_all, from_itself, shuffled};
 ghost use Rattle.nanorand_core.specs.values.Values.{number_of};
 ghost use Rattle.nanorand_c.specs.Between.{between, between_signed};
 ghost use Rattle.nanorand_c.specs.ChaChaStates.{groups_at, by_groups};
+ghost use Rattle.nanorand_c.specs.Parts.{parting};
 ghost use Rattle.nanorand_c.specs.Sampling.{sampling};
 ghost use Rattle.nanorand_c.specs.Status.{drawn_or, status};
 
-use crate::calls::{range_i64, range_u32, range_u64, range_usize, sample, shuffle, shuffle_full};
+use crate::calls::{
+    part, range_i64, range_u32, range_u64, range_usize, sample, shuffle, shuffle_full,
+};
 use crate::chacha::ChaChaState;
 use nanorand::{BufferedRng, ChaCha20Stream, ChaChaGroups, Rng};
 
@@ -285,6 +288,24 @@ pub extern "C" fn nanorand_v1_keystream_sample(
 {
     let mut rng = loaded(stream);
     let status = sample(&mut rng, count, places);
+    store(stream, &rng);
+    status
+}
+
+/// Moves to the beginning of part `index`, counted from 0, of parts of so many draws: `index *
+/// draws` draws further on, where a draw is what a `u64` takes. Parts of one length do not overlap.
+/// It returns 0, or 3 if the part ends past the period: 2^64 draws of WyRand and ChaCha, 2^126 of
+/// Pcg64, 2^67 of the keystream. Nothing moves then.
+#[unsafe(no_mangle)]
+pub extern "C" fn nanorand_v1_keystream_part(stream: &mut GroupStream, index: u64, draws: u64) -> u8
+    ensures status { let start = groups_at stream.old in
+        result ≡ (parting by_groups (2 ^ 67) draws index start).0 }
+    ensures state { let start = groups_at stream.old in
+        groups_at stream.new ≡ (parting by_groups (2 ^ 67) draws index start).1 }
+    ensures buffered { stream.new.buffered < 512 }
+{
+    let mut rng = loaded(stream);
+    let status = part(&mut rng, index, draws);
     store(stream, &rng);
     status
 }

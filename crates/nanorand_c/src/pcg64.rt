@@ -1,15 +1,18 @@
 //! Pcg64. Its seed is the caller's memory, and each draw advances it. Not cryptographically secure.
-ghost use Rattle.std.specs.Prelude.{◌≡◌, ◌≢◌, ◌<◌, ◌≤◌, ◌≤ℤ◌, All, IsPermutation, length};
+ghost use Rattle.std.specs.Prelude.{◌≡◌, ◌≢◌, ◌<◌, ◌≤◌, ◌≤ℤ◌, All, IsPermutation, length, ◌^◌};
 ghost use Rattle.std.specs.List.{AllPairs};
 ghost use Rattle.nanorand_core.specs.shuffles.Shuffles.{from_all, from_itself, shuffled};
 ghost use Rattle.nanorand_core.specs.values.Values.{number_of};
 ghost use Rattle.nanorand.specs.generators.Pcg64.{pcg64_requests, seed_after};
 ghost use Rattle.nanorand_c.specs.Between.{between, between_signed};
+ghost use Rattle.nanorand_c.specs.Parts.{parting};
 ghost use Rattle.nanorand_c.specs.Sampling.{sampling};
 ghost use Rattle.nanorand_c.specs.Status.{drawn_or, status};
 ghost use Rattle.nanorand_c.specs.WideNumber.{at_seed, wide_number};
 
-use crate::calls::{range_i64, range_u32, range_u64, range_usize, sample, shuffle, shuffle_full};
+use crate::calls::{
+    part, range_i64, range_u32, range_u64, range_usize, sample, shuffle, shuffle_full,
+};
 use crate::wide::{Wide, joined, split};
 use nanorand::laws::pcg64_cycles;
 use nanorand::{Pcg64, Rng};
@@ -203,4 +206,21 @@ pub extern "C" fn nanorand_v1_pcg64_jump(seed: &mut Wide, draws: &Wide)
     let mut rng = Pcg64::new_seed(joined(seed));
     rng.jump(joined(draws));
     *seed = split(rng.seed());
+}
+
+/// Moves to the beginning of part `index`, counted from 0, of parts of so many draws: `index *
+/// draws` draws further on, where a draw is what a `u64` takes. Parts of one length do not overlap.
+/// It returns 0, or 3 if the part ends past the period: 2^64 draws of WyRand and ChaCha, 2^126 of
+/// Pcg64, 2^67 of the keystream. Nothing moves then.
+#[unsafe(no_mangle)]
+pub extern "C" fn nanorand_v1_pcg64_part(seed: &mut Wide, index: u64, draws: u64) -> u8
+    ensures status { let start = at_seed seed.old in
+        result ≡ (parting pcg64_requests (2 ^ 126) draws index start).0 }
+    ensures seed { let start = at_seed seed.old in
+        wide_number seed.new ≡ (parting pcg64_requests (2 ^ 126) draws index start).1.seed }
+{
+    let mut rng = Pcg64::new_seed(joined(seed));
+    let status = part(&mut rng, index, draws);
+    *seed = split(rng.seed());
+    status
 }

@@ -1,14 +1,17 @@
 //! WyRand. The generator itself is the caller's memory. Not cryptographically secure.
-ghost use Rattle.std.specs.Prelude.{◌≡◌, ◌≢◌, ◌<◌, ◌≤◌, ◌≤ℤ◌, All, IsPermutation, length};
+ghost use Rattle.std.specs.Prelude.{◌≡◌, ◌≢◌, ◌<◌, ◌≤◌, ◌≤ℤ◌, All, IsPermutation, length, ◌^◌};
 ghost use Rattle.std.specs.List.{AllPairs};
 ghost use Rattle.nanorand_core.specs.shuffles.Shuffles.{from_all, from_itself, shuffled};
 ghost use Rattle.nanorand_core.specs.values.Values.{number_of};
 ghost use Rattle.nanorand.specs.generators.WyRand.{seed_after, wyrand_requests};
 ghost use Rattle.nanorand_c.specs.Between.{between, between_signed};
+ghost use Rattle.nanorand_c.specs.Parts.{parting};
 ghost use Rattle.nanorand_c.specs.Sampling.{sampling};
 ghost use Rattle.nanorand_c.specs.Status.{drawn_or, status};
 
-use crate::calls::{range_i64, range_u32, range_u64, range_usize, sample, shuffle, shuffle_full};
+use crate::calls::{
+    part, range_i64, range_u32, range_u64, range_usize, sample, shuffle, shuffle_full,
+};
 use nanorand::{Rng, WyRand};
 
 /// The generator with this seed.
@@ -169,4 +172,18 @@ pub extern "C" fn nanorand_v1_wyrand_jump(rng: &mut WyRand, draws: u64)
     ensures { rng.new ≡ seed_after draws rng.old }
 {
     rng.jump(draws);
+}
+
+/// Moves to the beginning of part `index`, counted from 0, of parts of so many draws: `index *
+/// draws` draws further on, where a draw is what a `u64` takes. Parts of one length do not overlap.
+/// It returns 0, or 3 if the part ends past the period: 2^64 draws of WyRand and ChaCha, 2^126 of
+/// Pcg64, 2^67 of the keystream. Nothing moves then.
+#[unsafe(no_mangle)]
+pub extern "C" fn nanorand_v1_wyrand_part(rng: &mut WyRand, index: u64, draws: u64) -> u8
+    ensures status { let parting = parting wyrand_requests (2 ^ 64) draws index rng.old in
+        result ≡ parting.0 }
+    ensures state { let parting = parting wyrand_requests (2 ^ 64) draws index rng.old in
+        rng.new ≡ parting.1 }
+{
+    part(rng, index, draws)
 }

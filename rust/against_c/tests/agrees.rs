@@ -5,8 +5,8 @@ mod common;
 
 use common::{Calls, ChaChaState, Chooser, GroupStream, Stream, Wide, WyRand};
 use nanorand_proved::{
-    self as proved, BufferedRng, ChaCha, ChaCha20, ChaCha20Stream, ChaChaGroups, Pcg64,
-    RandomRange, RangeError, Rng,
+    self as proved, BufferedRng, ChaCha, ChaCha20, ChaCha20Stream, ChaChaGroups, Parts, PastPeriod,
+    Pcg64, RandomRange, RangeError, Rng,
 };
 use std::fmt::{Debug, Display};
 
@@ -84,12 +84,27 @@ impl<G: Rng<N>, S: PartialEq + Debug, const N: usize> Pair<G, S, N> {
     }
 }
 
-/// Makes the same calls of a generator of the crate, made by `new`, and of the library's state of it.
+/// Moves both to the beginning of parts of numbers that `seed` chooses.
+fn parts<G: Parts<N>, S: PartialEq + Debug, const N: usize>(pair: &mut Pair<G, S, N>, seed: u32) {
+    let mut chooser = Chooser(u64::from(seed));
+    let part = pair.calls.part.expect("a call of parts");
+    for _ in 0..20 {
+        let (index, draws) = (chooser.end(), chooser.end());
+        let status = part(&mut pair.state, index, draws);
+        let moved = pair.rng.part(index, draws).map(|part| pair.rng = part);
+        let refused = if status == 3 { Err(PastPeriod) } else { Ok(()) };
+        assert_eq!(moved, refused, "status {status}");
+        pair.same(format_args!("part {index} of {draws} draws"));
+    }
+}
+
+/// Makes the same calls of a generator of the crate, made by `new`, and of the library's state of it. Then come the
+/// moves, by a power of two.
 fn compare<G: Rng<N>, S: PartialEq + Debug, const N: usize>(
     calls: fn() -> Calls<S>,
     new: fn(&mut Chooser) -> G,
     state_of: fn(&G) -> S,
-    jump: fn(&mut Pair<G, S, N>, u32),
+    moves: fn(&mut Pair<G, S, N>, u32),
 ) {
     for seed in 0..20 {
         let mut chooser = Chooser(seed);
@@ -105,7 +120,7 @@ fn compare<G: Rng<N>, S: PartialEq + Debug, const N: usize>(
         (0..=64).for_each(|count| pair.items(count));
         (0..2000).for_each(|_| pair.ranges(&mut chooser));
         for power in 0..128 {
-            jump(&mut pair, power);
+            moves(&mut pair, power);
             pair.same(format_args!("a jump by 2^{power}"));
         }
     }
@@ -120,6 +135,7 @@ fn wyrand() {
         |pair, power| {
             pair.rng.jump(1_u64.wrapping_shl(power));
             (common::one_library().wyrand_jump)(&mut pair.state, 1_u64.wrapping_shl(power));
+            parts(pair, power);
         },
     );
 }
@@ -138,6 +154,7 @@ fn pcg64() {
         |pair, power| {
             pair.rng.jump(1 << power);
             (common::one_library().pcg64_jump)(&mut pair.state, &wide(1 << power));
+            parts(pair, power);
         },
     );
 }
@@ -158,7 +175,7 @@ fn chacha_state<const ROUNDS: u8>(rng: &ChaCha<ROUNDS>) -> ChaChaState {
 }
 
 fn compare_chacha<const ROUNDS: u8>(calls: fn() -> Calls<ChaChaState>) {
-    compare(calls, chacha::<ROUNDS>, chacha_state, |_, _| ());
+    compare(calls, chacha::<ROUNDS>, chacha_state, parts);
 }
 
 #[test]
@@ -226,6 +243,6 @@ fn keystream() {
         || common::one_library().keystream,
         |chooser| BufferedRng::new(groups(chooser)),
         keystream_state,
-        |_, _| (),
+        parts,
     );
 }

@@ -39,14 +39,14 @@ fn beside(chooser: &mut Chooser, number: usize) -> usize {
     }
 }
 
-/// One call, of nine, makes the same of both states, and of all memory around what it writes.
+/// One call, of nine or ten, makes the same of both states, and of all memory around what it writes.
 fn call<S>(library: &Calls<S>, state: &mut S, mut chooser: Chooser) -> (u8, Vec<u8>, Vec<usize>) {
     let (mut bytes, mut items) = (vec![0xee; 2100], (0..80).collect::<Vec<_>>());
     let [first, last] = [chooser.end(), chooser.end()];
     let mut narrow = first as u32;
     let mut signed = first as i64;
     let mut number = first;
-    let chosen = chooser.below(9);
+    let chosen = chooser.below(if library.part.is_some() { 10 } else { 9 });
     let places = 7..7 + count(&mut chooser);
     let status = match chosen {
         0 => {
@@ -65,10 +65,11 @@ fn call<S>(library: &Calls<S>, state: &mut S, mut chooser: Chooser) -> (u8, Vec<
         5 => (library.range_usize)(state, first as usize, last as usize, &mut items[3]),
         6 => (library.shuffle)(state, &mut items[places]),
         7 => (library.shuffle_full)(state, &mut items[places]),
-        _ => {
+        8 => {
             let count = beside(&mut chooser, places.len());
             (library.sample)(state, count, &mut items[places])
         }
+        _ => library.part.expect("the tenth call")(state, first, last),
     };
     items.extend([narrow as usize, signed as usize, number as usize]);
     (status, bytes, items)
@@ -80,7 +81,7 @@ fn compare<S: Clone + PartialEq + Debug>(
     new: fn(&mut Chooser) -> S,
 ) {
     let (one, other) = (calls(one_library()), calls(other_library()));
-    let mut statuses = [0; 3];
+    let mut statuses = [0; 4];
     for seed in 0..2000 {
         let mut chooser = Chooser(seed);
         let mut state = new(&mut chooser);
@@ -96,8 +97,9 @@ fn compare<S: Clone + PartialEq + Debug>(
             statuses[made.0 as usize] += 1;
         }
     }
+    let refused = if one.part.is_some() { 500..4000 } else { 0..1 };
     assert!(
-        statuses[0] > 1000 && statuses[1] > 1000,
+        statuses[0] > 1000 && statuses[1] > 1000 && refused.contains(&statuses[3]),
         "of each status there are {statuses:?}"
     );
 }
@@ -152,29 +154,29 @@ fn group_stream(chooser: &mut Chooser) -> GroupStream {
 }
 
 #[test]
-fn the_nine_calls_of_wyrand() {
+fn the_calls_of_wyrand() {
     compare(|library| library.wyrand, wyrand);
 }
 
 #[test]
-fn the_nine_calls_of_pcg64() {
+fn the_calls_of_pcg64() {
     compare(|library| library.pcg64, wide);
 }
 
 #[test]
-fn the_nine_calls_of_chacha() {
+fn the_calls_of_chacha() {
     compare(|library| library.chacha8, chacha);
     compare(|library| library.chacha12, chacha);
     compare(|library| library.chacha20, chacha);
 }
 
 #[test]
-fn the_nine_calls_of_stream() {
+fn the_calls_of_stream() {
     compare(|library| library.stream, stream);
 }
 
 #[test]
-fn the_nine_calls_of_keystream() {
+fn the_calls_of_keystream() {
     compare(|library| library.keystream, group_stream);
 }
 

@@ -1,6 +1,7 @@
-//! The nine calls that every generator has: the body of each, and the exports that a generator has of them.
+//! The nine calls that every generator has, and that of parts: the body of each, and the exports that a generator has
+//! of them.
 
-use nanorand_proved::{shuffles, RandomRange, RangeError, Rng};
+use nanorand_proved::{shuffles, Parts, PastPeriod, RandomRange, RangeError, Rng};
 
 /// Memory of C that holds the state of a generator.
 pub trait State<const OUTPUT: usize> {
@@ -57,6 +58,18 @@ pub fn sample<S: State<N>, const N: usize>(
             rng.sample(count, places)
         }
     }))
+}
+
+/// Moves to the beginning of the part. `NANORAND_OK`, or `NANORAND_PAST_PERIOD`, and nothing moves.
+pub fn part<S, const N: usize>(state: &mut S, index: u64, draws: u64) -> u8
+where
+    S: State<N>,
+    S::Generator: Parts<N>,
+{
+    match state.call(|rng| rng.part(index, draws).map(|part| *rng = part)) {
+        Ok(()) => 0,
+        Err(PastPeriod) => 3,
+    }
 }
 
 /// Exports the nine calls of a generator, by its name in C and the type of its state. They stand in a block of
@@ -139,6 +152,18 @@ macro_rules! export_calls {
                 length: usize,
             ) -> u8 {
                 calls::sample(state, count, places.items(length))
+            }
+        };
+    };
+}
+
+/// Exports the call of parts, of a generator that has it.
+macro_rules! export_part {
+    ($generator:literal, $state:ty) => {
+        const _: () = {
+            #[export_name = concat!("nanorand_v1_", $generator, "_part")]
+            extern "C" fn part(state: &mut $state, index: u64, draws: u64) -> u8 {
+                crate::calls::part(state, index, draws)
             }
         };
     };

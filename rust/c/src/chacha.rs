@@ -26,6 +26,9 @@ impl<const ROUNDS: u8> State<64> for ChaChaState<ROUNDS> {
 export_calls!("chacha8", ChaChaState<8>);
 export_calls!("chacha12", ChaChaState<12>);
 export_calls!("chacha20", ChaChaState<20>);
+export_part!("chacha8", ChaChaState<8>);
+export_part!("chacha12", ChaChaState<12>);
+export_part!("chacha20", ChaChaState<20>);
 
 #[no_mangle]
 extern "C" fn nanorand_v1_chacha8_block(state: &mut ChaChaState<8>, out: &mut [u8; 64]) {

@@ -36,6 +36,7 @@ impl State<8> for Wide {
 }
 
 export_calls!("pcg64", Wide);
+export_part!("pcg64", Wide);
 
 #[no_mangle]
 extern "C" fn nanorand_v1_pcg64_jump(seed: &mut Wide, draws: &Wide) {

@@ -2,7 +2,7 @@
 
 use crate::calls::State;
 use crate::chacha::ChaChaState;
-use nanorand_proved::{BufferedRng, ChaChaGroups, Rng};
+use nanorand_proved::{BufferedRng, ChaCha20Stream, ChaChaGroups, Parts, PastPeriod, Rng};
 
 /// A generator of groups: its key, its nonce, and the number of the first block of its next group.
 #[repr(transparent)]
@@ -83,8 +83,30 @@ impl<C: State<OUTPUT>, const OUTPUT: usize> State<OUTPUT> for Gapless<C, OUTPUT>
 type Stream = Gapless<ChaChaState<20>, 64>;
 type GroupStream = Gapless<Groups, 512>;
 
+impl Parts<512> for GroupStream {
+    /// What lies before the buffered bytes stays as it is.
+    fn part(&self, index: u64, draws: u64) -> Result<Self, PastPeriod> {
+        let (chacha, mut block) = (&self.chacha.0, self.block);
+        let groups = ChaChaGroups::at(chacha.key, chacha.nonce, chacha.counter);
+        let stream = BufferedRng::with_rest(groups, &block[self.start()..]);
+        let part: ChaCha20Stream = stream.expect("less than a block").part(index, draws)?;
+        let (groups, rest) = (part.inner(), part.rest());
+        block[512 - rest.len()..].copy_from_slice(rest);
+        Ok(Gapless {
+            chacha: Groups(ChaChaState {
+                key: groups.key(),
+                nonce: groups.nonce(),
+                counter: groups.counter(),
+            }),
+            block,
+            buffered: rest.len() as u64,
+        })
+    }
+}
+
 export_calls!("stream", Stream);
 export_calls!("keystream", GroupStream);
+export_part!("keystream", GroupStream);
 
 #[test]
 fn a_block_is_the_next_bytes() {

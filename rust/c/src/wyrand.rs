@@ -12,6 +12,7 @@ impl State<8> for WyRand {
 }
 
 export_calls!("wyrand", WyRand);
+export_part!("wyrand", WyRand);
 
 #[no_mangle]
 extern "C" fn nanorand_v1_wyrand_new_seed(seed: u64) -> WyRand {

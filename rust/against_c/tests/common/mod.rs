@@ -54,7 +54,7 @@ impl PartialEq for GroupStream {
     }
 }
 
-/// The nine calls that every generator has, over the state that it has in C.
+/// The nine calls that every generator has, over the state that it has in C, and that of parts, if it has it.
 pub struct Calls<S> {
     pub u64: fn(&mut S) -> u64,
     pub fill_bytes: fn(&mut S, &mut [u8]),
@@ -65,9 +65,10 @@ pub struct Calls<S> {
     pub shuffle: fn(&mut S, &mut [usize]) -> u8,
     pub shuffle_full: fn(&mut S, &mut [usize]) -> u8,
     pub sample: fn(&mut S, usize, &mut [usize]) -> u8,
+    pub part: Option<fn(&mut S, u64, u64) -> u8>,
 }
 
-/// Those of a generator, in the library of a prefix. They are made where calls of C are safe.
+/// The nine calls of a generator, in the library of a prefix. They are made where calls of C are safe.
 macro_rules! calls {
     ($prefix:literal, $generator:literal, $state:ty) => {{
         extern "C" {
@@ -100,7 +101,19 @@ macro_rules! calls {
             shuffle: |rng, items| shuffle(rng, items.as_mut_ptr(), items.len()),
             shuffle_full: |rng, items| shuffle_full(rng, items.as_mut_ptr(), items.len()),
             sample: |rng, count, places| sample(rng, count, places.as_mut_ptr(), places.len()),
+            part: None,
         }
+    }};
+}
+
+/// The call of parts of a generator, in the library of a prefix.
+macro_rules! part {
+    ($prefix:literal, $generator:literal, $state:ty) => {{
+        extern "C" {
+            #[link_name = concat!($prefix, $generator, "_part")]
+            fn part(rng: &mut $state, index: u64, draws: u64) -> u8;
+        }
+        Some(|rng, index, draws| part(rng, index, draws))
     }};
 }
 
@@ -157,13 +170,31 @@ macro_rules! library {
         // SAFETY: a pointer and a length are those of one slice.
         unsafe {
             Library {
-                wyrand: calls!($prefix, "wyrand", WyRand),
-                pcg64: calls!($prefix, "pcg64", Wide),
-                chacha8: calls!($prefix, "chacha8", ChaChaState),
-                chacha12: calls!($prefix, "chacha12", ChaChaState),
-                chacha20: calls!($prefix, "chacha20", ChaChaState),
+                wyrand: Calls {
+                    part: part!($prefix, "wyrand", WyRand),
+                    ..calls!($prefix, "wyrand", WyRand)
+                },
+                pcg64: Calls {
+                    part: part!($prefix, "pcg64", Wide),
+                    ..calls!($prefix, "pcg64", Wide)
+                },
+                chacha8: Calls {
+                    part: part!($prefix, "chacha8", ChaChaState),
+                    ..calls!($prefix, "chacha8", ChaChaState)
+                },
+                chacha12: Calls {
+                    part: part!($prefix, "chacha12", ChaChaState),
+                    ..calls!($prefix, "chacha12", ChaChaState)
+                },
+                chacha20: Calls {
+                    part: part!($prefix, "chacha20", ChaChaState),
+                    ..calls!($prefix, "chacha20", ChaChaState)
+                },
                 stream: calls!($prefix, "stream", Stream),
-                keystream: calls!($prefix, "keystream", GroupStream),
+                keystream: Calls {
+                    part: part!($prefix, "keystream", GroupStream),
+                    ..calls!($prefix, "keystream", GroupStream)
+                },
                 new_seed: |seed| new_seed(seed),
                 wyrand_jump: |rng, draws| wyrand_jump(rng, draws),
                 pcg64_jump: |seed, draws| pcg64_jump(seed, draws),

@@ -1,5 +1,5 @@
 use Rattle.std.proofs.lemmas.Grind.{common_steps}
-use Rattle.std.proofs.Common.{◌≡◌, ◌≤◌, ℕ, List, length, length-drop, take, drop, ◌+◌, ◌-◌, arith, ap, sym, ◌∙◌}
+use Rattle.std.proofs.Common.{◌≡◌, ◌≤◌, ℕ, length, length-drop, take, drop, ◌+◌, ◌-◌, arith, ap, sym, ◌∙◌}
 use Rattle.std.specs.Prelude.{min}
 use Rattle.std.proofs.lemmas.List.{drop-drop}
 use Rattle.nanorand_replay.specs.generators.Buffered.{buffer_of}
