@@ -59,6 +59,10 @@ def call_jump(rng, low, high=0):
     return rules.DRAWN, "-"
 
 
+def call_part(rng, index, draws):
+    return rules.part(rng, index, draws), "-"
+
+
 def call_block(rng):
     return rules.DRAWN, hexadecimal(rng.draw())
 
@@ -74,6 +78,7 @@ CALLS = {
     "shuffle_full": call_shuffle_full,
     "sample": call_sample,
     "jump": call_jump,
+    "part": call_part,
     "block": call_block,
 }
 

@@ -7,7 +7,7 @@ import hashlib
 import struct
 
 WORD_LIMIT = 128  # rejected words after which a range gives up
-DRAWN, EMPTY, EXHAUSTED = 0, 1, 2
+DRAWN, EMPTY, EXHAUSTED, PAST_PERIOD = 0, 1, 2, 3
 SEED_REFUSED, TOO_FEW, EMPTY_LINE, LOTS_EXHAUSTED = 2, 3, 4, 8
 
 
@@ -31,6 +31,7 @@ class Plain:
 class WyRand(Plain):
     """Wang Yi's wyrand. Its state is the seed's 8 bytes, least first."""
 
+    PERIOD = 2**64
     def __init__(self, state):
         (self.seed,) = struct.unpack("<Q", state)
 
@@ -49,6 +50,7 @@ class WyRand(Plain):
 class Pcg64(Plain):
     """The library's Pcg64. Its state is the seed's 16 bytes, least first."""
 
+    PERIOD = 2**126
     M = 47026247687942121848144207491837523525
     FACTOR = 3 * M * M + 2 * M + 2
     SUMMAND = M * M + M + 1
@@ -77,6 +79,7 @@ class ChaCha(Plain):
     """Daniel J. Bernstein's ChaCha. Its state is key, nonce and counter: 32, 8 and 8 bytes."""
 
     BLOCK = 64
+    PERIOD = 2**64
     COLUMNS = [(0, 4, 8, 12), (1, 5, 9, 13), (2, 6, 10, 14), (3, 7, 11, 15)]
     DIAGONALS = [(0, 5, 10, 15), (1, 6, 11, 12), (2, 7, 8, 13), (3, 4, 9, 14)]
 
@@ -95,6 +98,10 @@ class ChaCha(Plain):
         self.counter = (self.counter + 1) % 2**64
         return struct.pack("<16I", *((a + b) % 2**32 for a, b in zip(before, words)))
 
+    def jump(self, draws):
+        """A block is a draw."""
+        self.counter = (self.counter + draws) % 2**64
+
     def state(self):
         return self.key + self.nonce + struct.pack("<Q", self.counter)
 
@@ -109,6 +116,8 @@ def quarter_round(words, a, b, c, d):
 class Stream:
     """ChaCha20 without a gap. Its state is ChaCha's, and then the 0 to 63 buffered bytes."""
 
+    PERIOD = 2**67
+
     def __init__(self, state):
         self.inner = ChaCha(state[:48], 20)
         self.rest = state[48:]
@@ -118,6 +127,15 @@ class Stream:
             self.rest += self.inner.draw()
         taken, self.rest = self.rest[:length], self.rest[length:]
         return taken
+
+    def jump(self, draws):
+        """Eight bytes are a draw. No block is made of which nothing is left."""
+        length = 8 * draws
+        if length > len(self.rest):
+            blocks, length = divmod(length - len(self.rest), 64)
+            self.inner.jump(blocks)
+            self.rest = b""
+        self.request(length)
 
     def state(self):
         return self.inner.state() + self.rest
@@ -171,6 +189,14 @@ def sample(rng, count, length):
         number = number_in(rng, 0, last, 64)
         numbers.append(last if number in numbers else number)
     return numbers
+
+
+def part(rng, index, draws):
+    """A status, and the state moves to the beginning of the part if this ends within the period."""
+    if (index + 1) * draws > rng.PERIOD:
+        return PAST_PERIOD
+    rng.jump(index * draws)
+    return DRAWN
 
 
 def lots_digest(text):

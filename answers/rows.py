@@ -15,6 +15,16 @@ SAMPLES = [
 ]
 DRAWS = [0, 1, 2, 3, 1000, 2**32, 2**63 - 1, 2**63, 2**63 + 1, LAST]
 WIDE_DRAWS = [(low, 0) for low in DRAWS] + [(0, 1), (5, 7), (0, 2**61), (0, 2**62), (0, 2**63), (LAST, LAST)]
+# An index and a number of draws: small ones, great ones, and those whose part ends at most one draw before the end of
+# a period of 2^64, 2^67 or 2^126 draws, with it, or one after it.
+PARTS = [
+    *[(0, 0), (1, 0), (LAST, 0), (0, 1), (1, 1), (2, 1), (3, 2), (1, 7), (2, 7), (1, 8), (2, 8), (1, 9), (3, 9)],
+    *[(7, 8), (1000, 64), (5, 65), (1, 2**32), (2**32, 5), (3, 2**61 - 1), (0, 2**63), (0, LAST), (1, LAST)],
+    *[(LAST, LAST), (2**32 - 2, 2**32 + 1), (2**32 - 1, 2**32), (1, 2**63), (LAST, 1), (LAST, 2)],
+    *[(274176, 67280421310721), (193707720, 761838257287), (15, 2**63), (LAST, 8), (21982970, 6713103182899)],
+    *[(16, 2**63), (LAST, 9), (2**63 - 2, 2**63 + 1), (2**63 - 1, 2**63), (LAST, 2**62), (LAST, 2**62 + 1)],
+    (118750098349 * 1429 * 14449 * 5 - 1, 40388473189 * 13 * 29 * 37 * 109 * 113),
+]
 
 # Each list has ranges of one number, whole types, powers of two, sizes that reject nearly every other
 # word, sizes around those, and ranges without a number.
@@ -92,6 +102,7 @@ def calls(generator):
     for name in "shuffle", "shuffle_full":
         yield from ((name, (length,)) for length in ITEMS)
     yield from (("sample", sizes) for sizes in SAMPLES)
+    yield from (("part", part) for part in PARTS)
     if generator == "wyrand":
         yield from (("jump", (draws,)) for draws in DRAWS)
     if generator == "pcg64":
@@ -120,6 +131,7 @@ def rows_of(generator, its_states):
         yield generator, state.hex(), call, ",".join(map(str, arguments))
     for place, state in enumerate(its_states):  # no state keeps a fill that fits its blocks alone
         yield generator, state.hex(), "fill_bytes", str((66, 130, 200, 258, 321)[place % 5])
+        yield generator, state.hex(), "part", ("1,4", "1,8", "3,3", "2,9", "1,70")[place % 5]
 
 
 def lots_rows():

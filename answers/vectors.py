@@ -1,8 +1,12 @@
 """Checks of definitions.py against published vectors, and against examples of the documents and of the
 library's own tests."""
 
+import doctest
+from pathlib import Path
+
 import definitions as rules
 
+SCALE = Path(__file__).resolve().parent.parent / "docs/SCALE.md"
 ZEROS = bytes(48)
 COUNTING = bytes(range(32)) + bytes(range(8)) + bytes(8)
 
@@ -59,6 +63,17 @@ def jumped(rng, draws):
     return rng
 
 
+def drawn(rng, draws):
+    for _ in range(draws):
+        rng.request(8)
+    return rng
+
+
+def parted(rng, index, draws):
+    """The status, and the state that is left."""
+    return rules.part(rng, index, draws), rng.state()
+
+
 def refused(rng, size, bits=64):
     try:
         return rules.number_below(rng, size, bits)
@@ -96,6 +111,40 @@ def lists():
     yield "a sample", rules.sample(Script(112, 99, 89), 10, 3), [3, 8, 9]
 
 
+def states_of(generator):
+    """Some states of a generator; those of the stream have more and less buffered."""
+    length = {"wyrand": 8, "pcg64": 16}.get(generator, 48)
+    return [bytes(range(length + buffered)) for buffered in ((0, 1, 8, 33, 63) if generator == "stream" else (0,))]
+
+
+def begins_of_parts(generator):
+    """A part begins where its draws lead one by one."""
+    make = rules.GENERATORS[generator]
+    for index, draws in (0, 5), (1, 1), (2, 7), (3, 8), (5, 9):
+        wanted = [(rules.DRAWN, drawn(make(state), index * draws).state()) for state in states_of(generator)]
+        given = [parted(make(state), index, draws) for state in states_of(generator)]
+        yield f"{generator} part {index} of {draws}", given, wanted
+
+
+def ends_of_parts(generator):
+    """The last part ends with the period, after which the state comes again."""
+    make, state = rules.GENERATORS[generator], states_of(generator)[0]
+    period = make(state).PERIOD
+    yield f"{generator} after its period", jumped(make(state), period).state(), state
+    yield f"{generator} after half its period", jumped(make(state), period // 2).state() == state, False
+    for index in 0, 1, period // 2 - 1, period - 1:
+        draws = period // (index + 1)
+        yield f"{generator} part {index} to the end", parted(make(state), index, draws)[0], rules.DRAWN
+        refusal = rules.PAST_PERIOD, state
+        yield f"{generator} part {index} past the end", parted(make(state), index, draws + 1), refusal
+
+
+def parts():
+    for generator in rules.GENERATORS:
+        yield from begins_of_parts(generator)
+        yield from ends_of_parts(generator)
+
+
 def lots():
     """The example of docs/LOTS.md."""
     seed = b"4 1 6 3 3 2 5 6 1 4 2 6 5 3 1 1 6 2 4 5"
@@ -109,6 +158,12 @@ def lots():
     yield "a list", rules.lots_count(b"a\n\nb\n"), (rules.EMPTY_LINE, 2)
 
 
+def examples():
+    found = doctest.testfile(str(SCALE), module_relative=False)
+    yield "examples of docs/SCALE.md that fail", found.failed, 0
+    yield "whether there are any", found.attempted > 0, True
+
+
 def checks():
     """The name of each check, what the definitions give, and what is published."""
     for generator, state, published in BYTES:
@@ -116,4 +171,6 @@ def checks():
         yield f"{generator} {published[:8]}", given.hex(), published
     yield from numbers_and_words()
     yield from lists()
+    yield from parts()
     yield from lots()
+    yield from examples()
