@@ -13,6 +13,31 @@ mod row;
 mod here {
     include!("parts/here.rs");
     include!("parts/works.rs");
+
+    #[inline(never)]
+    fn parts_of<R: library::Parts<OUTPUT>, const OUTPUT: usize>(rng: &R) -> u64 {
+        for index in 0..u64::from(black_box(DRAWS)) {
+            let _ = black_box(rng.part(index, 1000));
+        }
+        0
+    }
+
+    /// A part of a stream is none of the old crate's calls.
+    pub fn parts() -> [Work; 4] {
+        [
+            work("WyRand, a part", 1.05, DRAWS, || parts_of(&wyrand())),
+            work("Pcg64, a part", 1.05, DRAWS, || parts_of(&pcg64())),
+            work(
+                "ChaCha20, a part",
+                1.05,
+                DRAWS,
+                || parts_of(&chacha::<20>()),
+            ),
+            work("ChaCha20 stream, a part", 1.05, DRAWS, || {
+                parts_of(&stream::<20>())
+            }),
+        ]
+    }
 }
 
 use row::Row;
@@ -24,7 +49,7 @@ fn main() {
     }
     println!("| Work | ns |");
     println!("|---|---|");
-    for work in here::works() {
+    for work in here::works().into_iter().chain(here::parts()) {
         let mut row = Row::new(work, None, Vec::new());
         let times = row.timed();
         println!("| {} | {:.2} |", times.name, times.here);

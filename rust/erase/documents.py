@@ -17,6 +17,7 @@ LEFT_OUT = (
 
 # Sentences that are otherwise in Rust. An empty one is left out.
 SENTENCES = {
+    " (`laws::parts_are_apart`)": "",
     " (`laws::samples_are_fair`)": "",
     "Rust's `Pcg64::new()` takes its seed from the system; here the caller passes a reader.": (
         "`from_entropy` takes a seed from the system."

@@ -57,6 +57,7 @@ TRAITS = (
     "From",
     "Keystream",
     "Number",
+    "Parts",
     "PartialEq",
     "RandomGen",
     "RandomRange",

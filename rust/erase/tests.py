@@ -421,7 +421,7 @@ class Documents(unittest.TestCase):
 
 
 class Examples(unittest.TestCase):
-    """A text of examples, added to a file with the functions f and g."""
+    """A text of examples, added to a file with the functions f and g, or with the trait T."""
 
     SECTION = "## {}\n\n```\na();\n\nb();\n```\n"
 
@@ -435,6 +435,11 @@ class Examples(unittest.TestCase):
         g, f = self.SECTION.format("g"), self.SECTION.format("f")
         self.assertEqual(self.docs(g), [[" Doc."], added])
         self.assertEqual(self.docs(f"{g}\n{f}"), [added, added])
+
+    def test_a_section_of_a_trait_is_added(self):
+        file = file_of(source_of("/// Doc.\ntrait T {}"))
+        examples.add(self.SECTION.format("T"), "x.md", file)
+        self.assertEqual(file.items[0].docs[:4], [" Doc.", "", " # Examples", ""])
 
     def test_what_is_no_section_stops_it(self):
         section = self.SECTION.format("f")

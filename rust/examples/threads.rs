@@ -1,7 +1,7 @@
-//! Generators of threads: one stream in parts that do not overlap, to which each thread jumps, and one generator
-//! behind a lock, whose seed is a constant.
+//! Generators of threads: one stream in parts that do not overlap, one for each thread, and one generator behind a lock,
+//! whose seed is a constant.
 
-use nanorand_proved::{Pcg64, Rng, WyRand};
+use nanorand_proved::{Parts, Pcg64, Rng, WyRand};
 use std::sync::Mutex;
 use std::thread;
 
@@ -10,9 +10,9 @@ const SHARE: usize = 1000;
 static SHARED: Mutex<WyRand> = Mutex::new(WyRand::new_seed(42));
 
 /// The part of a stream that belongs to a worker.
-fn part(worker: usize) -> Vec<u64> {
-    let mut rng = Pcg64::new_seed(99);
-    rng.jump(u128::try_from(worker * SHARE).expect("a small number"));
+fn part(worker: u64) -> Vec<u64> {
+    let part = Pcg64::new_seed(99).part(worker, SHARE as u64);
+    let mut rng = part.expect("within the period");
     let mut numbers = vec![0; SHARE];
     rng.fill(&mut numbers);
     let ticket: u64 = SHARED.lock().expect("no thread panics").generate();

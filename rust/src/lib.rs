@@ -73,8 +73,8 @@
 //! # Ok::<(), RangeError>(())
 //! ```
 //!
-//! Seeds and jumps. A seed is a number, bytes, a reader's bytes, or the operating system's; a jump leads
-//! to any point of a stream at once:
+//! Seeds and jumps. A seed is a number, bytes, a reader's bytes, or the operating system's; [`Parts`] of
+//! one stream are for many tasks; a jump leads to any point of a stream at once:
 //!
 //! ```
 //! use nanorand_proved::{ChaCha8, Pcg64, Rng, WyRand};
@@ -177,6 +177,8 @@ pub mod entropy;
 #[forbid(unsafe_code)]
 mod layer;
 #[forbid(unsafe_code)]
+pub mod parts;
+#[forbid(unsafe_code)]
 pub mod rand;
 #[forbid(unsafe_code)]
 pub mod replay;
@@ -202,6 +204,7 @@ struct Readme;
 
 pub use buffer::BufferedRng;
 pub use layer::{AnyRng, GenerateIter, Lent};
+pub use parts::{Parts, PastPeriod};
 pub use rand::{ChaCha, ChaCha12, ChaCha20, ChaCha8, Pcg64, Rng, SeedableRng, WyRand};
 pub use rand::{
     ChaCha12Stream, ChaCha20Stream, ChaCha8Stream, ChaChaGroups, ChaChaStream, Keystream,

@@ -3,7 +3,10 @@
 
 use nanorand_proved::samples::sample;
 use nanorand_proved::shuffles::shuffle_full;
-use nanorand_proved::{BufferedRng, ChaCha, ChaCha20, Pcg64, RandomRange, RangeError, Rng, WyRand};
+use nanorand_proved::{
+    BufferedRng, ChaCha, ChaCha20, ChaCha20Stream, ChaChaGroups, Parts, PastPeriod, Pcg64,
+    RandomRange, RangeError, Rng, WyRand,
+};
 use std::collections::BTreeSet;
 use std::fmt::{Debug, Display};
 use std::str::FromStr;
@@ -45,11 +48,14 @@ fn rows() -> impl Iterator<Item = Row<'static>> {
 
 /// A generator whose state the table has as bytes.
 trait Stored: Sized {
+    /// Whether its stream can be cut into parts.
+    const PARTS: bool = true;
+
     fn restored(state: &[u8]) -> Self;
 
     fn stored(&self) -> Vec<u8>;
 
-    /// The calls that this generator alone has.
+    /// The calls that not every generator has.
     fn own_call(&mut self, call: &str, arguments: &[u64]) -> Answer {
         panic!("no call {call} with {arguments:?}")
     }
@@ -65,8 +71,10 @@ impl Stored for WyRand {
     }
 
     fn own_call(&mut self, call: &str, arguments: &[u64]) -> Answer {
-        assert_eq!(call, "jump");
-        self.jump(arguments[0]);
+        match call {
+            "jump" => self.jump(arguments[0]),
+            _ => return parted(self, call, arguments),
+        }
         ("0", "-".to_owned())
     }
 }
@@ -82,8 +90,10 @@ impl Stored for Pcg64 {
     }
 
     fn own_call(&mut self, call: &str, arguments: &[u64]) -> Answer {
-        assert_eq!(call, "jump");
-        self.jump(wide(arguments[0], arguments[1]));
+        match call {
+            "jump" => self.jump(wide(arguments[0], arguments[1])),
+            _ => return parted(self, call, arguments),
+        }
         ("0", "-".to_owned())
     }
 }
@@ -100,13 +110,17 @@ impl<const ROUNDS: u8> Stored for ChaCha<ROUNDS> {
         [&self.key()[..], &self.nonce(), &counter].concat()
     }
 
-    fn own_call(&mut self, call: &str, _: &[u64]) -> Answer {
-        assert_eq!(call, "block");
-        ("0", hexadecimal(&self.rand()))
+    fn own_call(&mut self, call: &str, arguments: &[u64]) -> Answer {
+        match call {
+            "block" => ("0", hexadecimal(&self.rand())),
+            _ => parted(self, call, arguments),
+        }
     }
 }
 
 impl Stored for BufferedRng<ChaCha20, 64> {
+    const PARTS: bool = false;
+
     fn restored(state: &[u8]) -> Self {
         let (inner, rest) = state.split_at(48);
         BufferedRng::with_rest(ChaCha20::restored(inner), rest).expect("less than a block")
@@ -114,6 +128,28 @@ impl Stored for BufferedRng<ChaCha20, 64> {
 
     fn stored(&self) -> Vec<u8> {
         [&self.inner().stored(), self.rest()].concat()
+    }
+}
+
+/// The same stream by groups of eight blocks. The whole blocks that it has buffered are not yet drawn.
+impl Stored for ChaCha20Stream {
+    fn restored(state: &[u8]) -> Self {
+        let (inner, rest) = state.split_at(48);
+        let first = ChaCha20::restored(inner);
+        let groups = ChaChaGroups::at(first.key(), first.nonce(), first.counter());
+        BufferedRng::with_rest(groups, rest).expect("less than a block")
+    }
+
+    fn stored(&self) -> Vec<u8> {
+        let (groups, rest) = (self.inner(), self.rest());
+        let whole = u64::try_from(rest.len() / 64).expect("less than eight");
+        let counter = groups.counter().wrapping_sub(whole);
+        let first = ChaCha20::at(groups.key(), groups.nonce(), counter);
+        [&first.stored(), &rest[..rest.len() % 64]].concat()
+    }
+
+    fn own_call(&mut self, call: &str, arguments: &[u64]) -> Answer {
+        parted(self, call, arguments)
     }
 }
 
@@ -193,6 +229,22 @@ fn sampled<G: Rng<OUTPUT>, const OUTPUT: usize>(rng: &mut G, arguments: &str) ->
     answer(sample(rng, sizes[0], &mut places).map(|()| listed(&places)))
 }
 
+/// The generator moves to the beginning of the part, as in C.
+fn parted<G: Parts<OUTPUT>, const OUTPUT: usize>(
+    rng: &mut G,
+    call: &str,
+    arguments: &[u64],
+) -> Answer {
+    assert_eq!(call, "part");
+    match rng.part(arguments[0], arguments[1]) {
+        Ok(part) => {
+            *rng = part;
+            ("0", "-".to_owned())
+        }
+        Err(PastPeriod) => ("3", "-".to_owned()),
+    }
+}
+
 fn called<G, const OUTPUT: usize>(rng: &mut G, call: &str, arguments: &str) -> Answer
 where
     G: Rng<OUTPUT> + Stored,
@@ -215,11 +267,11 @@ where
     }
 }
 
-/// Runs the rows of one generator. Each of them counts.
+/// Runs the rows of one generator that it has calls for. Each of them counts.
 fn check<G: Rng<OUTPUT> + Stored, const OUTPUT: usize>(generator: &str, calls: usize) {
     let mut tried = BTreeSet::new();
     let its_rows = rows().filter(|row| row.generator == generator && row.before != "-");
-    for row in its_rows {
+    for row in its_rows.filter(|row| G::PARTS || row.call != "part") {
         let mut rng = G::restored(&bytes(row.before));
         let (status, result) = called(&mut rng, row.call, row.arguments);
         let given = (status, &*result, hexadecimal(&rng.stored()));
@@ -233,7 +285,7 @@ fn check<G: Rng<OUTPUT> + Stored, const OUTPUT: usize>(generator: &str, calls: u
 
 #[test]
 fn wyrand() {
-    check::<WyRand, 8>("wyrand", 10);
+    check::<WyRand, 8>("wyrand", 11);
     for row in rows().filter(|row| row.call == "new_seed") {
         let rng = WyRand::new_seed(numbers(row.arguments)[0]);
         assert_eq!(hexadecimal(&rng.stored()), row.after);
@@ -242,27 +294,28 @@ fn wyrand() {
 
 #[test]
 fn pcg64() {
-    check::<Pcg64, 8>("pcg64", 10);
+    check::<Pcg64, 8>("pcg64", 11);
 }
 
 #[test]
 fn chacha_of_8_rounds() {
-    check::<ChaCha<8>, 64>("chacha8", 10);
+    check::<ChaCha<8>, 64>("chacha8", 11);
 }
 
 #[test]
 fn chacha_of_12_rounds() {
-    check::<ChaCha<12>, 64>("chacha12", 10);
+    check::<ChaCha<12>, 64>("chacha12", 11);
 }
 
 #[test]
 fn chacha_of_20_rounds() {
-    check::<ChaCha<20>, 64>("chacha20", 10);
+    check::<ChaCha<20>, 64>("chacha20", 11);
 }
 
 #[test]
 fn streams() {
     check::<BufferedRng<ChaCha20, 64>, 64>("stream", 9);
+    check::<ChaCha20Stream, 512>("stream", 10);
 }
 
 /// No generator of the table is left out.

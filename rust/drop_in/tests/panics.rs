@@ -48,8 +48,17 @@ fn ranges_without_a_number() {
 #[test]
 fn words_that_are_rejected() {
     let rejected = "128 words in a row were rejected";
-    let ranged = text(|| Stuck.generate_range(10_u8..=12));
-    assert_eq!(ranged, format!("{rejected} for the range 10..=12"));
+    let check = |range: (Bound<u8>, Bound<u8>), shown| {
+        let ranged = text(|| Stuck.generate_range(range));
+        assert_eq!(ranged, format!("{rejected} for the range {shown}"));
+    };
+    check((Bound::Included(10), Bound::Included(12)), "10..=12");
+    check((Bound::Included(10), Bound::Excluded(13)), "10..13");
+    check((Bound::Included(10), Bound::Unbounded), "10..");
+    check((Bound::Unbounded, Bound::Included(10)), "..=10");
+    check((Bound::Unbounded, Bound::Excluded(10)), "..10");
+    let shown = "(Excluded(9), Excluded(13))";
+    check((Bound::Excluded(9), Bound::Excluded(13)), shown);
     assert_eq!(text(|| Stuck.shuffle([1, 2, 3])), rejected);
 }
 

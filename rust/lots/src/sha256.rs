@@ -124,3 +124,21 @@ fn bytes_of(state: [u32; 8]) -> [u8; 32] {
     }
     bytes
 }
+
+#[cfg(test)]
+mod tests {
+    use super::{ending, LENGTH};
+
+    /// A text of any length ends with its number of bits, which may be 2^32 and more.
+    #[test]
+    fn lengths() {
+        for power in 6..usize::BITS.min(61) {
+            for rest in [0, 55, 56, 63] {
+                let length = (1 << power) + rest;
+                let (end, size) = ending(&[7; 63][..rest], length);
+                let bits = 8 * u64::try_from(length).expect("at most 64 bits");
+                assert_eq!(end[size - LENGTH..size], bits.to_be_bytes(), "{length}");
+            }
+        }
+    }
+}

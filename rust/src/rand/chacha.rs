@@ -9,6 +9,7 @@ use crate::crypto::chacha::{
 };
 #[cfg(feature = "std")]
 use crate::entropy::{system, EntropyError};
+use crate::parts::{draws_before, Parts, PastPeriod};
 use crate::rand::{fill_by_blocks, Rng, SeedableRng};
 use core::fmt;
 #[cfg(feature = "std")]
@@ -225,6 +226,17 @@ impl<const ROUNDS: u8> Rng<64> for ChaCha<ROUNDS> {
             filled += 256;
         }
         fill_by_blocks(self, &mut buffer[filled..])
+    }
+}
+
+/// The period is 2^64 draws, which are blocks.
+impl<const ROUNDS: u8> Parts<64> for ChaCha<ROUNDS> {
+    #[inline]
+    fn part(&self, index: u64, draws: u64) -> Result<Self, PastPeriod> {
+        let before = draws_before(index, draws, 1 << 64)?;
+        let mut part = ChaCha { state: self.state };
+        part.jump(before as u64);
+        Ok(part)
     }
 }
 

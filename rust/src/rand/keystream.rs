@@ -4,6 +4,7 @@
 //! Streams of ChaCha, which can be sought.
 
 use crate::buffer::BufferedRng;
+use crate::parts::{draws_before, Parts, PastPeriod};
 use crate::rand::chacha_groups::ChaChaGroups;
 use crate::rand::Rng;
 
@@ -47,15 +48,47 @@ impl<const ROUNDS: u8> Keystream for BufferedRng<ChaChaGroups<ROUNDS>, 512> {
 
     /// Leaves the state that one request for `byte` bytes leaves from byte 0 on.
     fn seek(&mut self, byte: u128) {
-        let index = byte / 512 % (1 << 61) * 8;
-        let mut stream = BufferedRng::new(self.inner().at_index(index as u64));
-        let mut skipped = [0; 512];
-        stream.fill_bytes(&mut skipped[..(byte % 512) as usize]);
-        *self = stream;
+        *self = stream_from(&self.inner().at_index(0), byte);
     }
 
     fn position(&self) -> u128 {
         let ahead = u128::from(self.inner().counter()) * 64;
         (ahead + (1 << 70) - self.buffered() as u128) % (1 << 70)
     }
+}
+
+/// The period is 2^67 draws, which have eight bytes each.
+impl<const ROUNDS: u8> Parts<512> for BufferedRng<ChaChaGroups<ROUNDS>, 512> {
+    fn part(&self, index: u64, draws: u64) -> Result<Self, PastPeriod> {
+        let bytes = draws_before(index, draws, 1 << 67)? * 8;
+        let kept = self.rest();
+        let groups = self.inner();
+        if bytes <= kept.len() as u128 {
+            Ok(stream_with(groups, &kept[bytes as usize..]))
+        } else {
+            Ok(stream_from(groups, bytes - kept.len() as u128))
+        }
+    }
+}
+
+// The stream of these groups, with these bytes buffered.
+fn stream_with<const ROUNDS: u8>(
+    groups: &ChaChaGroups<ROUNDS>,
+    rest: &[u8],
+) -> BufferedRng<ChaChaGroups<ROUNDS>, 512> {
+    let groups = groups.at_index(groups.counter());
+    BufferedRng::with_rest(groups, rest).unwrap()
+}
+
+// The stream of these groups, after so many bytes.
+fn stream_from<const ROUNDS: u8>(
+    groups: &ChaChaGroups<ROUNDS>,
+    bytes: u128,
+) -> BufferedRng<ChaChaGroups<ROUNDS>, 512> {
+    let blocks = bytes / 512 % (1 << 61) * 8;
+    let index = groups.counter().wrapping_add(blocks as u64);
+    let mut stream = BufferedRng::new(groups.at_index(index));
+    let mut skipped = [0; 512];
+    stream.fill_bytes(&mut skipped[..(bytes % 512) as usize]);
+    stream
 }

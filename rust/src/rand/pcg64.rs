@@ -5,6 +5,7 @@
 
 #[cfg(feature = "std")]
 use crate::entropy::{system, EntropyError};
+use crate::parts::{draws_before, Parts, PastPeriod};
 use crate::rand::halves::folded;
 use crate::rand::hexadecimal::Hexadecimal;
 use crate::rand::{fill_by_blocks, Rng, SeedableRng};
@@ -99,17 +100,22 @@ impl Pcg64 {
             None
         }
     }
+
+    #[inline]
+    fn copied(&self) -> Self {
+        Pcg64 {
+            seed: self.seed,
+            state: self.state,
+            inc: self.inc,
+        }
+    }
 }
 
 /// An equal generator. Nothing is allocated.
 impl Clone for Pcg64 {
     #[inline]
     fn clone(&self) -> Self {
-        Pcg64 {
-            seed: self.seed,
-            state: self.state,
-            inc: self.inc,
-        }
+        self.copied()
     }
 }
 
@@ -154,6 +160,16 @@ impl Rng<8> for Pcg64 {
     #[inline]
     fn fill_bytes(&mut self, buffer: &mut [u8]) {
         fill_by_blocks(self, buffer)
+    }
+}
+
+/// The period is 2^126 draws.
+impl Parts<8> for Pcg64 {
+    fn part(&self, index: u64, draws: u64) -> Result<Self, PastPeriod> {
+        let before = draws_before(index, draws, 1 << 126)?;
+        let mut part = self.copied();
+        part.jump(before);
+        Ok(part)
     }
 }
 

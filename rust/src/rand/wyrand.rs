@@ -5,6 +5,7 @@
 
 #[cfg(feature = "std")]
 use crate::entropy::{system, EntropyError};
+use crate::parts::{draws_before, Parts, PastPeriod};
 use crate::rand::halves::folded;
 use crate::rand::{fill_by_blocks, Rng, SeedableRng};
 use core::fmt;
@@ -114,6 +115,17 @@ impl Rng<8> for WyRand {
     #[inline]
     fn fill_bytes(&mut self, buffer: &mut [u8]) {
         fill_by_blocks(self, buffer)
+    }
+}
+
+/// The period is 2^64 draws.
+impl Parts<8> for WyRand {
+    #[inline]
+    fn part(&self, index: u64, draws: u64) -> Result<Self, PastPeriod> {
+        let before = draws_before(index, draws, 1 << 64)?;
+        let mut part = WyRand { seed: self.seed };
+        part.jump(before as u64);
+        Ok(part)
     }
 }
 

@@ -20,6 +20,7 @@ mod equality;
 mod floats;
 mod methods;
 mod own_types;
+mod parts;
 mod ranges;
 mod replays;
 #[cfg(feature = "std")]

@@ -4,7 +4,7 @@ use nanorand_proved::buffer::{RestTooLong, TextRefused};
 use nanorand_proved::choices::weighted::WeightError;
 use nanorand_proved::entropy::EntropyError;
 use nanorand_proved::shuffles::NotArrangement;
-use nanorand_proved::{BufferedRng, RangeError, Rng, WyRand};
+use nanorand_proved::{BufferedRng, PastPeriod, RangeError, Rng, WyRand};
 use nanorand_proved::{ChaCha, ChaCha12, ChaCha20, ChaCha8, Pcg64};
 use std::error::Error;
 use std::fmt::{Debug, Display};
@@ -107,7 +107,7 @@ fn of_a_buffer() {
 #[test]
 fn of_errors() {
     let rejected = "128 words in a row were rejected";
-    let rows: [(&dyn Error, &str); 11] = [
+    let rows: [(&dyn Error, &str); 12] = [
         (&RangeError::Empty, "the range contains no number"),
         (&RangeError::Exhausted, rejected),
         (&WeightError::NoWeight, "no item has a weight"),
@@ -118,6 +118,10 @@ fn of_errors() {
         (&EntropyError::Unavailable, "no entropy source is available"),
         (&TextRefused, "a generator cannot be read into a string"),
         (&RestTooLong, "a buffer holds less than a block"),
+        (
+            &PastPeriod,
+            "the part ends past the period of the generator",
+        ),
         (&NotArrangement, "the list is no arrangement"),
     ];
     for (error, text) in rows {

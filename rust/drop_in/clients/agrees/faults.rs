@@ -24,6 +24,13 @@ pub enum Fault {
     SignedToMax,
 }
 
+impl Fault {
+    /// Whether the call draws as many words as it should, so that the calls after it are not moved.
+    fn keeps_the_stream(self) -> bool {
+        matches!(self, Self::SignedTooLow | Self::SignedFromMin)
+    }
+}
+
 /// How often a call showed each fault.
 pub type Faults = BTreeMap<Fault, u32>;
 
@@ -164,6 +171,9 @@ where
                 let drawn = caught(|| old.generate_range(range));
                 if drawn != self.right_number(range, first, last) {
                     *faults.entry(fault).or_default() += 1;
+                }
+                if fault.keeps_the_stream() {
+                    assert_eq!(self.new.state(), old.state(), "{range:?}");
                 }
             }
         }

@@ -45,3 +45,21 @@ pub const fn chacha_init(key: [u8; 32], nonce: [u8; 8]) -> [u32; 16] {
 pub fn chacha_increment_counter(state: &mut [u32; 16]) -> bool {
     proved::chacha_increment_counter(state)
 }
+
+#[cfg(test)]
+mod tests {
+    use super::*;
+
+    /// The rounds that are made two at a time are those of the proved block.
+    #[test]
+    fn rounds() {
+        macro_rules! check {
+            ($($rounds:literal)+) => { $(
+                let input = chacha_init([3; 32], [4; 8]);
+                let proved = proved::chacha_block::<$rounds>(input);
+                assert_eq!(chacha_block::<$rounds>(input), proved, "{}", $rounds);
+            )+ };
+        }
+        check!(0 2 4 6 8 10 12 14 16 18 20 22 62 64 66 126 128 130 190 252 254);
+    }
+}
