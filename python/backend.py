@@ -86,12 +86,19 @@ def compiler():
     return given or (own if own and shutil.which(own[0]) else ["cc"])
 
 
-def link(archive, module):
+def headers():
+    """The folders of Python's own headers, which Debian has in a package apart."""
+    folders = sorted({sysconfig.get_path("include"), sysconfig.get_path("platinclude")})
+    if not any((Path(folder) / "Python.h").is_file() for folder in folders):
+        raise BuildFailed(f"there is no Python.h in {' or '.join(folders)}: on Debian, install python3-dev")
+    return folders
+
+
+def link(includes, archive, module):
     """Compiles the extension module. No time or path is in it."""
-    includes = {sysconfig.get_path("include"), sysconfig.get_path("platinclude")}
     run(
         *[*compiler(), "-shared", "-fPIC", "-std=c11", "-O2", "-DNDEBUG", "-fvisibility=hidden", "-o", str(module)],
-        *[f"-I{folder}" for folder in [TOP / "include", *sorted(includes)]],
+        *[f"-I{folder}" for folder in [TOP / "include", *includes]],
         *[str(source) for source in sorted((HERE / "native").glob("*.c"))],
         *[str(archive), "-s", "-Wl,--exclude-libs,ALL", "-Wl,--gc-sections", "-Wl,-z,now"],
     )
@@ -159,7 +166,7 @@ def build_wheel(wheel_directory, config_settings=None, metadata_directory=None):
     python = interpreter()
     with tempfile.TemporaryDirectory() as room:
         module = Path(room) / MODULE
-        link(library(), module)
+        link(headers(), library(), module)
         check(module)
         tag = f"{python}-{python}-{platform(module)}"
         contents = files(module, tag)

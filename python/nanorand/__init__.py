@@ -11,7 +11,15 @@ and `nanorand.errors` every error.
 """
 
 from nanorand import errors
-from nanorand.errors import EmptyRange, Exhausted, LibraryRefused, NanorandError, OutOfBounds, WrongLength
+from nanorand.errors import (
+    EmptyRange,
+    Exhausted,
+    LibraryRefused,
+    NanorandError,
+    OutOfBounds,
+    PastPeriod,
+    WrongLength,
+)
 
 try:
     from nanorand import _native as _native
@@ -34,6 +42,7 @@ __all__ = [
     "Generator",
     "NanorandError",
     "OutOfBounds",
+    "PastPeriod",
     "Pcg64",
     "Stream",
     "WrongLength",

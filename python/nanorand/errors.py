@@ -21,6 +21,7 @@ __all__ = [
     "LibraryRefused",
     "NanorandError",
     "OutOfBounds",
+    "PastPeriod",
     "SeedNotText",
     "TooFew",
     "WrongLength",
@@ -64,6 +65,16 @@ class OutOfBounds(NanorandError, OverflowError, ValueError):
     >>> WyRand(2**64)
     Traceback (most recent call last):
     nanorand.errors.OutOfBounds: seed is 18446744073709551616, not in 0..=18446744073709551615
+    """
+
+
+class PastPeriod(NanorandError, ValueError):
+    """A part ends past the period of the generator, where its draws come again.
+
+    >>> from nanorand import WyRand
+    >>> WyRand(42).part(2**32, 2**32)
+    Traceback (most recent call last):
+    nanorand.errors.PastPeriod: part 4294967296, of 4294967296 draws, ends past the period
     """
 
 

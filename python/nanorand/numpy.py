@@ -62,10 +62,15 @@ class GeneratorBits(BitGenerator):
     def of(cls: type[Bits], generator: Generator) -> Bits:
         """A bit generator that goes on where a generator is, by a copy of it. Without a seed, it spawns none.
 
-        >>> from nanorand import WyRand
+        For one of many tasks it is that of the task's part of one stream.
+
+        >>> from nanorand import Pcg64, WyRand
         >>> rng = WyRand(42)
         >>> WyRandBits.of(rng).random_raw() == rng.u64()
         True
+        >>> tasks = [numpy.random.Generator(Pcg64Bits.of(Pcg64(42).part(task, 2**40 + 1))) for task in range(4)]
+        >>> len({task.integers(2**60) for task in tasks})
+        4
         """
         if type(generator) is not cls._kind:
             raise TypeError(f"generator is a {type(generator).__name__}, not a {cls._kind.__name__}")

@@ -70,7 +70,10 @@ static double next_double(void *state)
     return unit_of(next_uint64(state));
 }
 
-/* Begins at the state of a generator, with the half of a word that is drawn before it, or with None. */
+/*
+ * Begins at the state of a generator, once no thread draws from it, with the half of a word that is drawn before it,
+ * or with None.
+ */
 static int begin_at(Words *words, Generator *rng, PyObject *half)
 {
     size_t next = HALVES;
@@ -81,8 +84,13 @@ static int begin_at(Words *words, Generator *rng, PyObject *half)
         }
         next = HALVES - 1;
     }
-    set_state(words->start, rng->state);
-    memcpy(words->ahead, rng->state, rng->kind->size);
+    Saved state;
+    if (ready(rng) < 0) {
+        return -1;
+    }
+    keep_state(rng, &state);
+    set_state(words->start, state.bytes);
+    memcpy(words->ahead, state.bytes, rng->kind->size);
     words->halves[HALVES - 1] = (uint32_t)number;
     words->begin = HALVES;
     words->next = next;

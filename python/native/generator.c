@@ -1,4 +1,4 @@
-/* The object `Generator`: its life, its state as bytes, copies, and turns of threads. */
+/* The object `Generator`: its life, its state as bytes, copies, parts, and turns of threads. */
 #include "native.h"
 
 #include <string.h>
@@ -239,7 +239,7 @@ static PyObject *call_from_entropy(PyObject *class, PyObject *Py_UNUSED(nothing)
     return made;
 }
 
-/* ---- Copies and comparisons. ---- */
+/* ---- Copies, parts and comparisons. ---- */
 
 static PyObject *call_copy(PyObject *self, PyObject *Py_UNUSED(nothing))
 {
@@ -249,6 +249,30 @@ static PyObject *call_copy(PyObject *self, PyObject *Py_UNUSED(nothing))
     }
     PyObject *made = of_state((PyObject *)Py_TYPE(self), state);
     Py_DECREF(state);
+    return made;
+}
+
+/* A copy is moved there, as one of its own kind: what a class's `__new__` makes may be of another. */
+static PyObject *call_part(PyObject *self, PyObject *const *given, Py_ssize_t placed, PyObject *names)
+{
+    static const Parameters wanted = {"part", 2, 2, 2, {"index", "draws"}};
+    PyObject *values[2];
+    uint64_t index, draws;
+    if (take_arguments(&wanted, given, placed, names, values) < 0
+        || take_u64("index", values[0], UINT64_MAX, &index) < 0
+        || take_u64("draws", values[1], UINT64_MAX, &draws) < 0) {
+        return NULL;
+    }
+    PyObject *made = call_copy(self, NULL);
+    if (made == NULL) {
+        return NULL;
+    }
+    Generator *part = (Generator *)made;
+    if (part->kind->part(part->state, index, draws) != NANORAND_OK) {
+        raise_text("PastPeriod", "part %llu, of %llu draws, ends past the period", (unsigned long long)index,
+                   (unsigned long long)draws);
+        Py_CLEAR(made);
+    }
     return made;
 }
 
@@ -338,10 +362,30 @@ PyDoc_STRVAR(copy_doc,
 ">>> rng.copy().u64() == rng.u64()\n"
 "True\n");
 
+PyDoc_STRVAR(part_doc,
+"part($self, /, index, draws)\n"
+"--\n"
+"\n"
+"A generator at the beginning of part `index`, counted from 0, of parts of so many draws: one for each task.\n"
+"\n"
+"A draw is what `u64` takes. The part begins `index * draws` draws further on; this generator stays where it is.\n"
+"Parts of one length do not overlap, if no task draws more than `draws` draws.\n"
+"\n"
+"A part that ends past the period (2^64 draws of `WyRand` and ChaCha, 2^126 of `Pcg64`, 2^67 of `Stream`) is\n"
+"`PastPeriod`. An index or a number of draws below 0 or from 2^64 on is `OutOfBounds`.\n"
+"\n"
+">>> from nanorand import Pcg64\n"
+">>> rng = Pcg64(42)\n"
+">>> parts = [rng.part(index, 2) for index in range(3)]\n"
+">>> drawn = [part.u64() for part in parts for _ in range(2)]\n"
+">>> drawn == [rng.u64() for _ in range(6)]\n"
+"True\n");
+
 static PyMethodDef calls[] = {
     {"from_state", CALL(call_from_state), METH_CLASS | METH_FASTCALL | METH_KEYWORDS, from_state_doc},
     {"from_entropy", call_from_entropy, METH_CLASS | METH_NOARGS, from_entropy_doc},
     {"copy", call_copy, METH_NOARGS, copy_doc},
+    {"part", CALL(call_part), METH_FASTCALL | METH_KEYWORDS, part_doc},
     {"__copy__", call_copy, METH_NOARGS, NULL},
     {"__deepcopy__", call_copy, METH_O, NULL},
     {"__reduce__", call_reduce, METH_NOARGS, NULL},

@@ -3,7 +3,7 @@
 
 #include <string.h>
 
-/* The functions that every generator of nanorand.h has. */
+/* The functions that every generator of nanorand.h has, and that of parts. */
 #define FUNCTIONS(name)                                                                                       \
     static uint64_t name##_u64(void *state)                                                                   \
     {                                                                                                         \
@@ -36,6 +36,10 @@
     static uint8_t name##_sample(void *state, size_t count, size_t *places, size_t length)                    \
     {                                                                                                         \
         return nanorand_##name##_sample(state, count, places, length);                                        \
+    }                                                                                                         \
+    static uint8_t name##_part(void *state, uint64_t index, uint64_t draws)                                   \
+    {                                                                                                         \
+        return nanorand_##name##_part(state, index, draws);                                                   \
     }
 
 #define BLOCKS(name)                                                                                          \
@@ -47,7 +51,7 @@
 #define TABLE(name)                                                                                           \
     .u64 = name##_u64, .fill_bytes = name##_fill_bytes, .range_u32 = name##_range_u32,                        \
     .range_u64 = name##_range_u64, .range_i64 = name##_range_i64, .shuffle = name##_shuffle,                  \
-    .shuffle_full = name##_shuffle_full, .sample = name##_sample
+    .shuffle_full = name##_shuffle_full, .sample = name##_sample, .part = name##_part
 
 /* A state whose bytes are those of its structure. */
 #define PLAIN(structure)                                                                                      \

@@ -40,6 +40,7 @@ typedef struct {
     uint8_t (*range_i64)(void *state, int64_t first, int64_t last, int64_t *number);
     Permutation *shuffle, *shuffle_full;
     uint8_t (*sample)(void *state, size_t count, size_t *places, size_t length);
+    uint8_t (*part)(void *state, uint64_t index, uint64_t draws);
     void (*block)(void *state, uint8_t *block); /* of ChaCha alone */
     /* The state as bytes, and how many they are; and the state of so many bytes, which are enough. */
     size_t (*save)(const void *state, size_t size, uint8_t *bytes);

@@ -90,6 +90,26 @@ class Tools(unittest.TestCase):
             with mock.patch.dict(os.environ, CC=given), of_python:
                 self.assertEqual(backend.compiler(), wanted)
 
+    def test_headers(self):
+        with tempfile.TemporaryDirectory() as with_headers, tempfile.TemporaryDirectory() as without:
+            (Path(with_headers) / "Python.h").write_bytes(b"")
+            cases = [(with_headers, without), (without, with_headers), (with_headers, with_headers)]
+            for own, platform in cases:
+                with self.paths(include=own, platinclude=platform):
+                    self.assertEqual(backend.headers(), sorted({own, platform}))
+            with self.paths(include=without, platinclude=without):
+                wanted = f"^there is no Python.h in {without}: on Debian, install python3-dev$"
+                self.assertRaisesRegex(backend.BuildFailed, wanted, backend.headers)
+
+    def paths(self, **folders):
+        return mock.patch.object(sysconfig, "get_path", side_effect=folders.get)
+
+    def test_no_headers_end_a_build_before_cargo_begins(self):
+        with tempfile.TemporaryDirectory() as folder, mock.patch.object(backend, "run") as run:
+            with self.paths(include=folder, platinclude=folder):
+                self.assertRaises(backend.BuildFailed, backend.build_wheel, folder)
+            run.assert_not_called()
+
     def test_commands_that_fail(self):
         with self.assertRaisesRegex(backend.BuildFailed, "^no_such_command: No such file"):
             backend.run("no_such_command")
@@ -162,7 +182,7 @@ class Wheels(unittest.TestCase):
             self.assertEqual(set(modes.values()), {0o100644})
 
     def test_a_module_is_looked_at_before_it_is_packed(self):
-        def link(archive, module):
+        def link(includes, archive, module):
             module.write_bytes(b"a module")
 
         patches = {"library": mock.Mock(), "link": link, "symbols": mock.Mock(return_value=["PyInit__native", "more"])}

@@ -12,7 +12,7 @@ import unittest
 
 from makers import CLASSES
 
-from nanorand import EmptyRange, Exhausted, lots
+from nanorand import EmptyRange, Exhausted, PastPeriod, lots
 from nanorand.errors import SeedNotText, TooFew
 
 CALLS = {
@@ -55,6 +55,18 @@ class Refusals(unittest.TestCase):
                             call(rng)
                         self.assertIs(type(caught.exception), error)
                         self.assertEqual(rng.state[2], 1)
+
+    def test_parts(self):
+        """For every status but 0 a part is refused, and what was refused is a copy."""
+        for kind in CLASSES:
+            self.assertEqual(refusing(kind, 0).part(1, 1).state[:3], bytes([0, 0, 1]))
+            for status in (1, 2, 3, 7, 255):
+                rng = refusing(kind, status)
+                before = rng.state
+                with self.assertRaises(PastPeriod) as caught:
+                    rng.part(1, 1)
+                self.assertIs(type(caught.exception), PastPeriod)
+                self.assertEqual(rng.state, before)
 
     def test_texts(self):
         with self.assertRaisesRegex(Exhausted, "^128 words in a row were rejected$"):

@@ -65,6 +65,11 @@ static uint8_t permuted(void *state, size_t *items, size_t length)
         (void)count;                                                                                         \
         memset(places, 0, length * sizeof *places);                                                          \
         return drawn(state);                                                                                 \
+    }                                                                                                        \
+    uint8_t nanorand_##name##_part(state_type *state, uint64_t index, uint64_t draws)                        \
+    {                                                                                                        \
+        (void)index, (void)draws;                                                                            \
+        return drawn(state);                                                                                 \
     }
 
 #define BLOCK(name)                                                                                          \

@@ -5,7 +5,7 @@ from pathlib import Path
 
 from makers import CLASSES
 
-from nanorand import EmptyRange, WyRand, lots
+from nanorand import EmptyRange, PastPeriod, WyRand, lots
 from nanorand.errors import EmptyLine, EmptySeed, SeedNotText, TooFew
 
 TABLE = Path(__file__).resolve().parents[2] / "answers/answers.tsv"
@@ -61,9 +61,13 @@ def given(generator, before, call, arguments):
         return 0, "-", WyRand(int(arguments)).state.hex()
     rng = CLASSES[generator].from_state(bytes.fromhex(before))
     try:
+        if call == "part":
+            return 0, "-", rng.part(*numbers(arguments)).state.hex()
         result = CALLS[call](rng, *numbers(arguments))
     except EmptyRange:
         return 1, "-", rng.state.hex()
+    except PastPeriod:
+        return 3, "-", rng.state.hex()
     return 0, result, rng.state.hex()
 
 
@@ -100,8 +104,8 @@ class Answers(unittest.TestCase):
                 answer = given(generator, before, call, arguments)
                 self.assertEqual(answer, (int(status), result, after))
                 tried.add((generator, call))
-        # Nine calls of six generators, three blocks, two jumps and a new seed.
-        self.assertEqual(len(tried), 9 * 6 + 6)
+        # Ten calls of six generators, three blocks, two jumps and a new seed.
+        self.assertEqual(len(tried), 10 * 6 + 6)
 
     def test_every_row_of_lots(self):
         calls = {"digest": given_digest, "count": given_count, "draw": given_draw}

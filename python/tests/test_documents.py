@@ -82,6 +82,10 @@ class Documents(unittest.TestCase):
             if name != "GeneratorRandom":
                 self.assertRegex(text, rf"`(errors\.)?{name}`")
 
+    def test_the_package_names_its_classes(self):
+        classes = {name for name, thing in vars(nanorand).items() if inspect.isclass(thing)}
+        self.assertLessEqual(classes - {"LibraryRefused"}, set(nanorand.__all__))
+
     def test_names(self):
         for module in MODULES:
             for name in module.__all__:

@@ -246,12 +246,16 @@ class Refusals(unittest.TestCase):
 
     def test_formats_with_an_order(self):
         """As ctypes and NumPy write this machine's order."""
-        kinds = {ctypes.c_uint32: "I", ctypes.c_int64: "q", ctypes.c_int16: "h", ctypes.c_uint8: "B"}
-        for kind, letter in kinds.items():
-            memory, items = (kind * 50)(), array.array(letter, [0] * 50)
-            WyRand(5).fill_range(memory, 3, 99)
-            WyRand(5).fill_range(items, 3, 99)
-            self.assertEqual(list(memory), items.tolist())
+        kinds = [(ctypes.c_uint8, "B"), (ctypes.c_uint16, "H"), (ctypes.c_uint32, "I"), (ctypes.c_ulong, "L"),
+                 (ctypes.c_int8, "b"), (ctypes.c_int16, "h"), (ctypes.c_int32, "i"), (ctypes.c_long, "l")]
+        for kind, letter in kinds:
+            width = 8 * ctypes.sizeof(kind)
+            least = -(2 ** (width - 1)) if letter.islower() else 0
+            for first, last in [(3, 99), (least, least + 2**width - 1)]:
+                memory, items = (kind * 50)(), array.array(letter, [0] * 50)
+                WyRand(5).fill_range(memory, first, last)
+                WyRand(5).fill_range(items, first, last)
+                self.assertEqual(list(memory), items.tolist())
         memory = (ctypes.c_double * 50)()
         rng = WyRand(5)
         WyRand(5).fill_random(memory)

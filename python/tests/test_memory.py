@@ -67,6 +67,7 @@ SUCCEED = {
     "fill_random": lambda rng: rng.fill_random(DOUBLES),
     "states": lambda rng: (rng.state, setattr(rng, "state", rng.state), type(rng).from_state(rng.state), rng.copy()),
     "from_entropy": lambda rng: type(rng).from_entropy(),
+    "part": lambda rng: (rng.part(2**60, 3), rng.part(index=1, draws=2**60)),
     "compared": lambda rng: (rng == rng.copy(), rng != rng.copy(), rng == 5, rng < rng.copy() if False else None),
     "pickled": lambda rng: pickle.loads(pickle.dumps(rng)),
     "shown": lambda rng: repr(rng),
@@ -129,6 +130,9 @@ FAIL = {
              lambda rng: type(rng).__new__(type(rng)).uniform(1.5, BIG)],
     "jump": [lambda rng: rng.jump(-1), lambda rng: rng.jump(OTHER), lambda rng: rng.jump(FAILS),
              lambda rng: rng.jump(10**60)],
+    "part": [lambda rng: rng.part(2**63, 2**63), lambda rng: rng.part(BIG, 1), lambda rng: rng.part(1, OTHER),
+             lambda rng: rng.part(FAILS, 1), lambda rng: rng.part(1, FAILS), lambda rng: rng.part(1),
+             lambda rng: type(rng).__new__(type(rng)).part(1, 1)],
 }
 
 OF_RANDOM = {

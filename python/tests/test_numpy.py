@@ -8,6 +8,7 @@ import subprocess
 import sys
 import threading
 import unittest
+from array import array
 
 from makers import KEY, NONCE
 from test_answers import octets, rows
@@ -113,6 +114,12 @@ class Words(unittest.TestCase):
                 if chooser.random() < 0.02:
                     bits = pickle.loads(pickle.dumps(bits))
 
+    def test_parts(self):
+        for start in STARTS:
+            words = [bits_of(start.part(task, 7)).random_raw(7).tolist() for task in range(12)]
+            model = start.copy()
+            self.assertEqual(words, [[model.u64() for _ in range(7)] for _ in range(12)])
+
     def test_arrays(self):
         for start in STARTS:
             model = start.copy()
@@ -181,6 +188,24 @@ class States(unittest.TestCase):
                 thread.join(0.05)
                 self.assertTrue(thread.is_alive())
             thread.join()
+
+    def test_waits_for_who_draws_from_the_generator(self):
+        """It goes on where a long call of another thread begins or ends, and not within it."""
+        words = array("Q", bytes(4_000_000))
+        for start in STARTS:
+            shared, after = start.copy(), start.copy()
+            after.fill_range(words, 0, 99)
+            thread = threading.Thread(target=shared.fill_range, args=(words, 0, 99))
+            thread.start()
+            found = {start.state}
+            while thread.is_alive():
+                found.add(bits_of(shared).generator.state)
+            self.assertLessEqual(found, {start.state, after.state})
+
+    def test_of_a_generator_without_a_state(self):
+        for kind, made in BITS.items():
+            with self.assertRaisesRegex(RuntimeError, f"^{made.__name__} has no state: its __init__ was not called$"):
+                kind.of(made.__new__(made))
 
     def test_pickles_and_copies(self):
         for bits in [*map(bits_of, STARTS), *(kind(SeedSequence(5)) for kind in BITS)]:
@@ -295,14 +320,24 @@ class Memory(unittest.TestCase):
             (lambda: _native.drawn(foreign.capsule), TypeError),
             (lambda: _native.drawn(bits), ValueError),
             (lambda: _native.restart(foreign.capsule, WyRand(1), None), TypeError),
-            *[(lambda rng=rng: _native.restart(bits.capsule, rng, None), TypeError) for rng in (*STARTS[1:], 5, bits)],
-            (lambda: _native.restart(bits.capsule, ChaCha20(KEY), None), TypeError),
+            *[(lambda rng=rng: _native.restart(bits.capsule, rng, None), TypeError) for rng in (5, bits)],
             *[(lambda half=half: _native.restart(bits.capsule, WyRand(1), half), OutOfBounds) for half in (-1, 2**32)],
             (lambda: _native.restart(bits.capsule, WyRand(1), "1"), TypeError),
         ]:
             self.assertRaises(error, call)
             self.assertEqual(bits.state, before)
         self.assertEqual(foreign.random_raw(), numpy.random.PCG64(1).random_raw())
+
+    def test_a_generator_of_another_kind(self):
+        for start in STARTS:
+            bits = bits_of(start)
+            bits.random_raw()
+            before = bits.state
+            for other in (*STARTS, ChaCha20(KEY)):
+                if type(other) is not type(start):
+                    self.assertRaises(TypeError, _native.restart, bits.capsule, other, None)
+                    self.assertRaises(TypeError, type(bits).of, other)
+                    self.assertEqual(bits.state, before)
 
     def test_a_generator_outlives_its_bit_generator(self):
         for start in STARTS:

@@ -221,7 +221,9 @@ class Randoms(unittest.TestCase):
     def test_foreign_states(self):
         for kind in RANDOMS:
             rng = kind(1)
+            rng.gauss(0, 1)
             good = rng.getstate()
+            self.assertIsNotNone(good[2])
             foreign = [other(1).getstate() for other in RANDOMS if other is not kind]
             foreign += [random.Random(1).getstate(), (), None, 5, good[:2], (*good, None), list(good)]
             foreign += [(good[0], good[1], "x")]

@@ -57,9 +57,9 @@ class Arguments(unittest.TestCase):
             self.assertEqual(parameters(chacha), ["key", "nonce", "counter"])
 
     def test_an_error_names_the_argument(self):
-        good = {"first": 0, "last": 9, "count": 9, "length": 1, "population": "abc", "end": 5, "draws": 1}
+        good = {"first": 0, "last": 9, "count": 9, "length": 1, "population": "abc", "end": 5, "index": 1, "draws": 1}
         for rng in generators():
-            for call in ("bytes", "below", "range", "range32", "sample", "sample_below", "jump"):
+            for call in ("bytes", "below", "range", "range32", "sample", "sample_below", "jump", "part"):
                 for name in parameters(getattr(rng, call, lambda: None)):
                     given = {other: good[other] for other in parameters(getattr(rng, call))}
                     for bad, kind in ((None, TypeError), (HUGE, OutOfBounds), (-HUGE, OutOfBounds)):
@@ -71,7 +71,7 @@ class Arguments(unittest.TestCase):
     def test_arguments_that_do_not_fit(self):
         """Too few and too many, one twice, and one of another name: of each call."""
         good = {"first": 0, "last": 9, "count": 9, "length": 1, "population": "abc", "end": 5, "draws": 1, "a": 1,
-                "b": 2, "items": [1, 2], "buffer": b"", "state": b""}
+                "b": 2, "index": 1, "items": [1, 2], "buffer": b"", "state": b""}
         members = [name for name in dir(kinds.Generator) if not name.startswith("_")]
         calls = [name for name in members if callable(getattr(kinds.Generator, name))]
         self.assertGreater(len(calls), 18)
@@ -181,7 +181,8 @@ class Errors(unittest.TestCase):
         """As of a pool of workers, which pickles them."""
         made = [errors.EmptyLine(7), errors.TooFew(3, 4), errors.ForeignState("WyRand")]
         made += [getattr(errors, name)() for name in ("EmptyRange", "Exhausted", "EmptySeed", "SeedNotText")]
-        made += [getattr(errors, name)("why") for name in ("OutOfBounds", "WrongLength", "LibraryRefused")]
+        texts = ("OutOfBounds", "PastPeriod", "WrongLength", "LibraryRefused")
+        made += [getattr(errors, name)("why") for name in texts]
         self.assertEqual({type(error).__name__ for error in made} | {"NanorandError"}, set(errors.__all__))
         for error in made:
             for again in (pickle.loads(pickle.dumps(error)), copy.copy(error)):

@@ -48,6 +48,7 @@ CALLS = {
     "rest": lambda rng: getattr(rng, "rest", None),
     "block": lambda rng: rng.block() if hasattr(rng, "block") else None,
     "jump": lambda rng: rng.jump(3) if hasattr(rng, "jump") else None,
+    "part": lambda rng: rng.part(3, 5).state,
     "state is set": lambda rng: setattr(rng, "state", bytes(len(rng.state))),
     "__init__": lambda rng: rng.__init__(*((5,) if hasattr(rng, "seed") else (bytes(32),))),
 }
@@ -151,25 +152,24 @@ class Turns(unittest.TestCase):
                     self.assertTrue(any(self.runs_meanwhile(rng, call) for _ in range(20)))
 
     def runs_meanwhile(self, rng, call):
-        """Whether this thread never stands still for half as long as the other's call takes."""
-        times = []
+        """Whether this thread goes on before the other's call has ended. Python itself lets it wait for that."""
+        begun, ended = threading.Event(), []
 
         def draw():
-            time.sleep(0.01)  # till this thread counts
-            times.append(time.perf_counter())
+            begun.set()
             call(rng)
-            times.append(time.perf_counter())
+            ended.append(True)
 
         thread = threading.Thread(target=draw)
         interval = sys.getswitchinterval()
-        sys.setswitchinterval(1e-4)
-        thread.start()
-        longest, last = 0.0, time.perf_counter()
-        while thread.is_alive():
-            now = time.perf_counter()
-            longest, last = max(longest, now - last), now
-        sys.setswitchinterval(interval)
-        return max(longest, time.perf_counter() - last) < (times[1] - times[0]) / 2
+        sys.setswitchinterval(1000)
+        try:
+            thread.start()
+            begun.wait()
+            return not ended
+        finally:
+            sys.setswitchinterval(interval)
+            thread.join()
 
     def test_python_s_lock_is_given_up_for_choices(self):
         """Where a draw takes longer than what Python makes of it."""

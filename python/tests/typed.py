@@ -8,7 +8,7 @@ import random
 from fractions import Fraction
 from typing import assert_type
 
-from nanorand import ChaCha8, ChaCha20, EmptyRange, Generator, NanorandError, Pcg64, Stream, WyRand, lots
+from nanorand import ChaCha8, ChaCha20, EmptyRange, Generator, NanorandError, PastPeriod, Pcg64, Stream, WyRand, lots
 from nanorand.errors import EmptyLine, TooFew
 from nanorand.generators import ChaCha12
 from nanorand.randoms import GeneratorRandom, Pcg64Random, StreamRandom, WyRandRandom
@@ -22,6 +22,9 @@ def makes() -> None:
     assert_type(WyRand.from_state(bytes(8)), WyRand)
     assert_type(ChaCha20.from_entropy(), ChaCha20)
     assert_type(Pcg64(1).copy(), Pcg64)
+    assert_type(Pcg64(1).part(3, draws=2**40), Pcg64)
+    Stream(bytes(32)).part(1)  # type: ignore[call-arg]
+    WyRand(1).part(0.5, 1)  # type: ignore[arg-type]
     WyRand()  # type: ignore[call-arg]
     WyRand("42")  # type: ignore[arg-type]
     WyRand(4.2)  # type: ignore[arg-type]
@@ -112,5 +115,5 @@ def errors(one: EmptyLine, other: TooFew) -> None:
     assert_type(one.line, int)
     assert_type((other.entrants, other.count), tuple[int, int])
     base: NanorandError = EmptyRange("why")
-    value: ValueError = EmptyRange()
+    value: ValueError = PastPeriod()
     print(base, value)
