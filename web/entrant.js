@@ -72,13 +72,31 @@ export function shown(bytes) {
   return { isText: true, parts: joined };
 }
 
+/** The pieces of a printed entrant: letters, a backslash or an escaped byte. @param {string} text */
+function piecesOf(text) {
+  return text.match(/[^\\]+|\\\\|\\x[0-9a-f]{2}/gsu) ?? [];
+}
+
+/** The bytes that a piece stands for. @param {string} piece @returns {number[]} */
+function bytesOf(piece) {
+  if (piece === "\\\\") return [0x5c];
+  return piece[0] === "\\" ? [Number.parseInt(piece.slice(2), 16)] : Array.from(utf8(piece));
+}
+
+/** For each byte of a printed entrant, whether it is escaped. @param {string} text */
+function escapesOf(text) {
+  return piecesOf(text).flatMap((piece) => bytesOf(piece).map(() => piece.startsWith("\\x")));
+}
+
+/** Whether a text escapes all bytes of an entrant that cannot be seen as they are. */
+function hidesNothing(text, bytes) {
+  const escapes = escapesOf(text);
+  return escapesOf(printed(bytes)).every((isEscaped, place) => !isEscaped || escapes[place]);
+}
+
 /** @param {string} text a printed entrant @returns {?Uint8Array} its bytes, null if it is none */
 export function unprinted(text) {
   if (!/^(?:[^\\]|\\\\|\\x[0-9a-f]{2})+$/su.test(text)) return null;
-  const parts = text.match(/[^\\]+|\\\\|\\x[0-9a-f]{2}/gsu);
-  const bytes = parts.flatMap((part) => {
-    if (part === "\\\\") return [0x5c];
-    return part[0] === "\\" ? [Number.parseInt(part.slice(2), 16)] : Array.from(utf8(part));
-  });
-  return bytes.includes(10) ? null : Uint8Array.from(bytes);
+  const bytes = Uint8Array.from(piecesOf(text).flatMap(bytesOf));
+  return bytes.includes(10) || !hidesNothing(text, bytes) ? null : bytes;
 }

@@ -45,19 +45,22 @@ export function warningsOf(list) {
   const text = textOf(list);
   const lines = (text ?? new TextDecoder("latin1").decode(list)).split("\n");
   if (lines[lines.length - 1] === "") lines.pop();
-  const found = { returns: 0, spaces: 0 };
-  for (const line of lines) {
+  const found = { returns: 0, spaces: 0, firstSpaced: 0 };
+  lines.forEach((line, place) => {
     const [first, last] = [line.charCodeAt(0), line.charCodeAt(line.length - 1)];
     if (last === CARRIAGE_RETURN) found.returns += 1;
-    else if ([first, last].some((code) => code === SPACE || code === TAB)) found.spaces += 1;
-  }
+    else if ([first, last].some((code) => code === SPACE || code === TAB)) {
+      found.spaces += 1;
+      found.firstSpaced ||= place + 1;
+    }
+  });
   const blank = blankLine(lines);
   return [
     ...marks(list),
     found.returns && `${counted(found.returns)} with a carriage return, as files of Windows do. ` +
       "It belongs to the entrant, as all bytes do: the same list without it is another list.",
     found.spaces && `${counted(found.spaces, "begin or end", "begins or ends")} with a space or ` +
-      "a tab, which belongs to the entrant.",
+      `a tab, which belongs to the entrant: look at line ${found.firstSpaced}.`,
     blank && `Line ${blank} is an entrant of spaces alone.`,
     ...alikeIn(lines, text !== null).map(alikeWords),
   ].filter(Boolean);
@@ -67,7 +70,8 @@ export function warningsOf(list) {
 function alikeWords({ name, count, line }) {
   const equal = `${count} of the lines ${count === 1 ? "equals" : "equal"} an earlier line`;
   return count && (name === ""
-    ? `${equal}. Equal lines are separate entrants, each with its own chance.`
+    ? `${equal}: look at line ${line}. Equal lines are separate entrants, each with its own ` +
+      "chance."
     : `${equal} but for ${name}: look at line ${line}. They are separate entrants.`);
 }
 

@@ -7,8 +7,8 @@ import { bitsOfBrowser } from "./module.js";
 import { writtenSeed } from "./record.js";
 import { Refusal } from "./refusal.js";
 import {
-  clearRefusals, copy, fieldOf, grouped, part, save, say, showCheck, showList, showRefusal,
-  showResult, showTab,
+  clearRefusals, copy, fieldOf, grouped, hideList, part, save, say, showCheck, showList,
+  showRefusal, showResult, showTab,
 } from "./view.js";
 
 /** In milliseconds: after the last key of a list, and before the progress is shown. */
@@ -88,9 +88,8 @@ function listChanged(pause) {
   state.listTurn += 1;
   clearTimeout(state.pending);
   clearRefusals("list", "page");
-  part("list-facts").hidden = true;
+  hideList();
   part("tidy").hidden = true;
-  say("tidied", "");
   state.pending = setTimeout(() => { state.sent = sendList(); }, pause);
 }
 
@@ -224,6 +223,11 @@ function seedChanged() {
     "counts: others must type exactly the same." : "");
 }
 
+/** Says to screen readers how the seed is read, once it is typed. */
+function seedTyped() {
+  part("heard").textContent = part("seed-read").textContent;
+}
+
 function countChanged() {
   changed();
   clearRefusals("count");
@@ -297,10 +301,15 @@ function on(id, event, action) {
   part(id).addEventListener(event, action);
 }
 
-/** Of two tabs an arrow leads from each to the other. @param {KeyboardEvent} event */
+/**
+ * An arrow leads from each of the two tabs to the other, Home to the first, End to the last.
+ * @param {KeyboardEvent} event
+ */
 function moveTab(event) {
-  if (!["ArrowLeft", "ArrowRight"].includes(event.key)) return;
-  const name = event.target.id === "tab-draw" ? "check" : "draw";
+  const other = event.target.id === "tab-draw" ? "check" : "draw";
+  const name = { ArrowLeft: other, ArrowRight: other, Home: "draw", End: "check" }[event.key];
+  if (!name) return;
+  event.preventDefault();
   showTab(name);
   part(`tab-${name}`).focus();
 }
@@ -316,6 +325,7 @@ on("close-file", "click", closeFile);
 on("list-text", "paste", pasteLong);
 for (const change of ["empty", "trim", "unique"]) on(`tidy-${change}`, "click", () => tidy(change));
 on("seed", "input", seedChanged);
+on("seed", "change", seedTyped);
 on("count", "input", countChanged);
 on("seed", "keydown", drawOnEnter);
 on("count", "keydown", drawOnEnter);

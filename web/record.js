@@ -57,11 +57,22 @@ export function writtenSeed(seed) {
     (letter !== " " && isUnseen(letter) ? escapedUnits(letter) : letter)).join("");
 }
 
+/**
+ * Whether a text shows all that it says: no white space around the string, and within it nothing
+ * that cannot be seen. Else a seed could look like the one that was announced.
+ * @param {string} text of a JSON string
+ */
+function showsAll(text) {
+  return text.startsWith("\"") &&
+    Array.from(text).every((letter) => letter === " " || !isUnseen(letter));
+}
+
 /** @param {string} text @returns {?string} */
 function readSeed(text) {
   try {
     const seed = JSON.parse(text);
-    return typeof seed === "string" && seed !== "" && !hasHalfCharacter(seed) ? seed : null;
+    const isSeed = typeof seed === "string" && seed !== "" && !hasHalfCharacter(seed);
+    return isSeed && showsAll(text) ? seed : null;
   } catch {
     return null;
   }

@@ -53,6 +53,14 @@ export function grouped(number) {
   return String(number).replace(/\B(?=(\d{3})+$)/g, "\u202f");
 }
 
+/** Hides what was said of an earlier list. */
+export function hideList() {
+  say("tidied", "");
+  say("entrants", "");
+  itemize("list-warnings", []);
+  part("list-facts").hidden = true;
+}
+
 /** @param {string} digest @param {number} entrants @param {string[]} warnings */
 export function showList({ digest, entrants, warnings }) {
   say("entrants", entrants === 1 ? "1 entrant" : `${grouped(entrants)} entrants`);
@@ -102,6 +110,21 @@ function withDigests(text) {
   });
 }
 
+/** What the list is for, in each tab. */
+const LIST_WORDS = {
+  draw: {
+    "list-heading": "1. Close the list",
+    "list-hint": "One entrant a line, no empty line. Publish the list with its SHA-256 before " +
+      "anybody knows the seed.",
+    "digest-label": "SHA-256 to publish:",
+  },
+  check: {
+    "list-heading": "The list",
+    "list-hint": "The list that was published, as a file if there is one: each byte counts.",
+    "digest-label": "SHA-256, to compare with the one that was published:",
+  },
+};
+
 /** Shows the parts of a tab. @param {"draw"|"check"} name */
 export function showTab(name) {
   for (const tab of document.querySelectorAll("[role=tab]")) {
@@ -112,7 +135,7 @@ export function showTab(name) {
   part("panel").setAttribute("aria-labelledby", `tab-${name}`);
   for (const id of ["draw-step", "publish-step"]) part(id).hidden = name !== "draw";
   part("check-step").hidden = name !== "check";
-  say("list-heading", name === "draw" ? "1. Close the list" : "The list");
+  for (const [id, words] of Object.entries(LIST_WORDS[name])) say(id, words);
 }
 
 /** @param {import("./check.js").Check} check */
@@ -133,7 +156,7 @@ export function save(bytes, name) {
 }
 
 /**
- * Copies a text, and says on the button that it did.
+ * Copies a text, and says on the button that it did, and to screen readers.
  * @param {HTMLElement} button @param {string} text
  */
 export async function copy(button, text) {
@@ -144,5 +167,9 @@ export async function copy(button, text) {
   } catch {
     button.textContent = "Not copied: select the text";
   }
-  setTimeout(() => { button.textContent = button.dataset.label; }, 2000);
+  part("heard").textContent = button.textContent;
+  setTimeout(() => {
+    button.textContent = button.dataset.label;
+    part("heard").textContent = "";
+  }, 2000);
 }

@@ -6,7 +6,6 @@ const [code, table, bits] = arguments;
 const bytes = Uint8Array.from(atob(code), (letter) => letter.charCodeAt(0));
 const module = new WebAssembly.Module(bytes);
 const MASK = 2n ** 64n - 1n;
-const STATE = 120;
 const ROOM = 1 << 20;
 /** A pointer or a length of this module, and the numbers that it writes as lengths. */
 const size = bits === 64 ? BigInt : Number;
@@ -29,27 +28,41 @@ const toHex = (part) =>
   Array.from(part, (byte) => byte.toString(16).padStart(2, "0")).join("") || "-";
 const listed = (numbers) => numbers.join(",") || "-";
 
+/** The generator that a row is of in C: a stream has parts by groups of eight blocks alone. */
+const nameOf = (generator, call) =>
+  generator === "stream" && call === "part" ? "keystream" : generator;
+/** How many bytes of a stream are computed at once. */
+const BLOCKS = { stream: 64, keystream: 512 };
+const CHACHA = 48;
+
 /** Lays a state down as the C structure has it. */
 function layState(world, generator, before) {
   const state = fromHex(before);
-  if (generator !== "stream") {
+  const block = BLOCKS[generator];
+  if (block === undefined) {
     world.memory.set(state, world.state);
     return state.length;
   }
-  const buffered = state.slice(48);
-  world.memory.set(state.slice(0, 48), world.state);
-  world.memory.set(buffered, world.state + STATE - 8 - buffered.length);
-  world.memory[world.state + STATE - 8] = buffered.length;
-  return STATE;
+  const buffered = state.slice(CHACHA);
+  const end = world.state + CHACHA + block;
+  world.memory.set(state.slice(0, CHACHA), world.state);
+  world.memory.set(buffered, end - buffered.length);
+  world.memory[end] = buffered.length;
+  return CHACHA + block + 8;
 }
 
-/** The state after a call, as the table has it. */
+/** The state after a call, as the table has it. A whole block that is buffered is not yet drawn. */
 function stateOf(world, generator, length) {
   const all = world.memory.slice(world.state, world.state + length);
-  if (generator !== "stream") return toHex(all);
-  const buffered = all[STATE - 8];
-  const rest = toHex(all.slice(STATE - 8 - buffered, STATE - 8));
-  return toHex(all.slice(0, 48)) + rest.replace("-", "");
+  const block = BLOCKS[generator];
+  if (block === undefined) return toHex(all);
+  const end = CHACHA + block;
+  const view = new DataView(all.buffer);
+  const buffered = view.getBigUint64(end, true);
+  view.setBigUint64(CHACHA - 8, view.getBigUint64(CHACHA - 8, true) - buffered / 64n, true);
+  const first = end - Number(buffered);
+  const rest = toHex(all.slice(first, first + Number(buffered % 64n)));
+  return toHex(all.slice(0, CHACHA)) + rest.replace("-", "");
 }
 
 /** The calls of the generators: what they return, and their result read from memory. */
@@ -96,6 +109,7 @@ const CALLS = {
     }
     return { result: "-" };
   },
+  part: (call, [index, draws]) => ({ status: call(index, draws), result: "-" }),
 };
 CALLS.shuffle_full = CALLS.shuffle;
 
@@ -118,7 +132,8 @@ const LOTS = {
   },
 };
 
-function runRow([generator, before, call, given, status, result, after]) {
+function runRow([kind, before, call, given, status, result, after]) {
+  const generator = nameOf(kind, call);
   const world = start();
   const length = layState(world, generator, before);
   const name = world.exports[`nanorand_v1_${generator}_${call}`];

@@ -136,7 +136,8 @@ def no_records(counts: Counts, page: Page, record: str) -> None:
         no(f"lines {number} and {number + 1} swapped", "\n".join(swapped), number)
         for value in ("", "x", "null", "-1", "[]", "{}"):
             no(f"{name} is {value!r}", with_line(record, number, f"{name}: {value}"), number)
-    bad = {2: ['""', '"', '"a', 'a"', "'a'", '"\\ud800"', '"a" "b"', '["a"]', "7", '"\\x41"'],
+    bad = {2: ['""', '"', '"a', 'a"', "'a'", '"\\ud800"', '"a" "b"', '["a"]', "7", '"\\x41"', ' "a"', '\t"a"',
+               *(f'"a{letter}b"' for letter in UNSEEN)],
            3: ["A" * 64, "a" * 63, "a" * 65, "g" * 64], 4: ["012", "1e3", "+1", "1.0", "9" * 16, "9" * 100000],
            5: ["0003", "٣", "9" * 15], 6: ["1.0", "1.0.0.0", "v1.0.0", "1.0.x"], 8: ["F" * 64, "0x" + "a" * 62]}
     for number, values in bad.items():
@@ -146,6 +147,8 @@ def no_records(counts: Counts, page: Page, record: str) -> None:
     for text in ("1: ", "1:", "01: Katherine", "2: Katherine", "1. Katherine", "1: Kath\\erine", "1: Kath\\x4",
                  "1: Kath\\X4B", "1: \\x0a", "1: a\\"):
         no(f"the entrant {text!r}", with_line(record, 9, text), 9)
+    for text in (*(f"Kath{letter}erine" for letter in UNSEEN), " Katherine", "é\\xff", "\\xe2\\x80\u200b"):
+        no(f"the entrant {text!r}, unescaped", with_line(record, 9, f"1: {text}"), 9)
 
 
 def folded(line: str, width: int) -> str:
@@ -207,6 +210,9 @@ def seeds_survive(counts: Counts, page: Page, program: str) -> None:
             right = right and sha256(lots(program, seed, "all", LIST.encode()).output) in record
         counts.case(f"the seed {seed!r}", "" if right else record)
         outcome(counts, page, f"a check of the seed {seed!r}", record.replace("\n", "\r\n"), "agrees")
+        unescaped = record.replace(line, f"seed: {json.dumps(seed, ensure_ascii=False)}")
+        if unescaped != record:
+            outcome(counts, page, f"the seed {seed!r} unescaped", unescaped, "no record", "Line 2: ")
 
 
 def seed_of_lines(counts: Counts, page: Page, program: str, record: str) -> None:

@@ -90,6 +90,10 @@ class Browser:
     def dark(self, is_dark: bool) -> None:
         raise NotImplementedError
 
+    def media(self, kind: str = "", **features: str) -> bool:
+        """Shows the page as on paper, the kind print, or by a feature of CSS. False if the driver cannot."""
+        return False
+
     def lose(self, feature: str) -> None:
         """Pages opened from now on lack WebAssembly, or its memory64."""
         raise NotImplementedError
@@ -164,8 +168,12 @@ class Chromium(Browser):
                        deviceScaleFactor=1, mobile=False)
 
     def dark(self, is_dark: bool) -> None:
-        feature = {"name": "prefers-color-scheme", "value": "dark" if is_dark else "light"}
-        self._protocol("Emulation.setEmulatedMedia", features=[feature])
+        self.media(prefers_color_scheme="dark" if is_dark else "light")
+
+    def media(self, kind: str = "", **features: str) -> bool:
+        named = [{"name": name.replace("_", "-"), "value": value} for name, value in features.items()]
+        self._protocol("Emulation.setEmulatedMedia", media=kind, features=named)
+        return True
 
     def lose(self, feature: str) -> None:
         """A script before those of the page does it; no flag would."""

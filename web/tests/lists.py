@@ -32,16 +32,18 @@ SECONDS = {100_000: 1.0, 1_000_000: 5.0}
 SLOWNESS = 3
 NFC, NFD = "Zo\u00eb", "Zoe\u0308"
 ONE = "1 of the lines equals an earlier line"
+SPACED = "1 line begins or ends with a space or a tab, which belongs to the entrant"
 ALIKE = {
     "Ada\nada\n": ["1 of the lines equals an earlier line but for small and capital letters: look at line 2."],
     "Ada\nMax\nADA\nmax\n": ["2 of the lines equal an earlier line but for small and capital letters: look at line 3."],
     f"{NFC}\n{NFD}\n": [f"{ONE} but for how an accented letter is encoded: look at line 2."],
     f"x\n{NFD}\n{NFC.upper()}\n": [f"{ONE} but for small and capital letters: look at line 3."],
-    "Ada\nAda \n": ["1 line begins or ends with a space", f"{ONE} but for the spaces at its ends: look at line 2."],
+    "Ada\nAda \n": [f"{SPACED}: look at line 2.", f"{ONE} but for the spaces at its ends: look at line 2."],
     "\tada\nx\nAda\n": ["1 line begins or ends with a space", f"{ONE} but for small and capital letters: look at line 3."],
-    "Ada\nAda\nada\n": [f"{ONE}. ", f"{ONE} but for small and capital letters: look at line 3."],
-    "Ada\nx\n \n": ["1 line begins or ends with a space", "Line 3 is an entrant of spaces alone."],
-    "\t\nx\n  \n": ["2 lines begin or end with a space", "Line 1 is an entrant of spaces alone.",
+    "Ada\nAda\nada\n": [f"{ONE}: look at line 2. ", f"{ONE} but for small and capital letters: look at line 3."],
+    "Ada\nx\n \n": [f"{SPACED}: look at line 3.", "Line 3 is an entrant of spaces alone."],
+    "\t\nx\n  \n": ["2 lines begin or end with a space or a tab, which belongs to the entrant: look at line 1.",
+                    "Line 1 is an entrant of spaces alone.",
                     "1 of the lines equals an earlier line but for the spaces at its ends: look at line 3."],
     "Ada\nAdah\nA da\n\u0410da\n": [],
     "stra\u00dfe\nSTRASSE\n": [],

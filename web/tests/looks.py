@@ -22,7 +22,7 @@ HIDDEN = ["check-text", "check"]
 ORDER = ["tab-draw", "list-file", "list-text", "tidy-empty", "tidy-trim", "tidy-unique", "copy-digest",
          "save-list", "seed", "count", "draw", "drawn", "record",
          "copy-record", "save-record", "save-result", "print"]
-CONTRAST = """
+COLOURS = """
 const number = (colour) => colour.match(/[\\d.]+/g).map(Number);
 const light = (colour) => {
   const [red, green, blue] = number(colour).slice(0, 3).map((part) => part / 255)
@@ -36,12 +36,20 @@ const behind = (element) => {
   }
   return "rgb(255, 255, 255)";
 };
-return Array.from(document.querySelectorAll(
-    "p, li, label, h1, h2, h3, code, pre, summary, textarea, input, button, strong"))
+const low = (elements, least, colours) => Array.from(document.querySelectorAll(elements))
   .filter((element) => element.checkVisibility() && !element.disabled).map((element) => {
-    const two = [light(getComputedStyle(element).color), light(behind(element))];
+    const two = colours(element).map(light);
     return [element.id || element.tagName, (Math.max(...two) + 0.05) / (Math.min(...two) + 0.05)];
-  }).filter(([, contrast]) => contrast < 4.5);
+  }).filter(([, contrast]) => contrast < least);
+"""
+# Texts on what is behind them, and the borders of fields and buttons on what is around them.
+CONTRAST = COLOURS + """
+return [
+  ...low("p, li, label, h1, h2, h3, code, pre, summary, textarea, input, button, strong", 4.5,
+    (element) => [getComputedStyle(element).color, behind(element)]),
+  ...low("textarea, input:not([type=file]), button", 3,
+    (element) => [getComputedStyle(element).borderTopColor, behind(element.parentElement)]),
+];
 """
 WIDE = """
 return Array.from(document.querySelectorAll("body *")).filter((element) => element.checkVisibility() &&
@@ -111,8 +119,8 @@ def names(counts: Counts, page: Page) -> None:
     roles = page.browser.run("""return Object.fromEntries(Array.from(document.querySelectorAll("[id][role]"),
         (element) => [element.id, element.getAttribute("role")]));""")
     wanted = {f"{field}-error": "alert" for field in ("page", "list", "seed", "count")}
-    wanted.update({"list-facts": "status", "progress": "status", "outcome": "status", "tidied": "status",
-                   "panel": "tabpanel", "record": "region", "tab-draw": "tab", "tab-check": "tab"})
+    wanted.update({"list-status": "status", "progress-status": "status", "outcome-status": "status",
+                   "heard": "status", "panel": "tabpanel", "record": "region", "tab-draw": "tab", "tab-check": "tab"})
     counts.same("roles", roles, wanted)
     counts.same("each reference has its element", page.browser.run("""
         return Array.from(document.querySelectorAll("[aria-describedby], [aria-labelledby], label[for]"))
@@ -163,13 +171,30 @@ def keyboard(counts: Counts, page: Page) -> None:
     ring = page.browser.run("""document.getElementById("draw").focus({focusVisible: true});
         return getComputedStyle(document.getElementById("draw")).outlineWidth;""")
     counts.same("the focus is seen", ring, "3px")
+    page.browser.press(ENTER)
+    page.browser.wait("return document.activeElement.id === 'result-title';")
+    ring = page.browser.run("return getComputedStyle(document.activeElement).outlineStyle;")
+    counts.same("the focus is seen after a draw", ring, "solid")
+
+
+def forced_colours(counts: Counts, page: Page) -> None:
+    """Where the user's own colours take the place of the page's, the tab that is shown still differs."""
+    page.load()
+    if page.browser.media(forced_colors="active"):
+        for tab in ("draw", "check"):
+            page.tab(tab)
+            found = page.browser.run(COLOURS + """return low("[role=tab][aria-selected=true]", 3,
+                (tab) => [behind(tab), behind(tab.parentElement)]);""")
+            counts.same(f"forced colours, {tab}", found, [])
+        page.browser.media()
 
 
 def said_of_lists(counts: Counts, page: Page) -> None:
     page.load()
     cases = {
         b"a\r\nb\r\n": ["2 lines end with a carriage return"], b"a\r\nb\n": ["1 line ends with a carriage return"],
-        b" a\nb \n\tc\n": ["3 lines begin or end with a space"], b"a\nb\na\na\n": ["2 of the lines equal an earlier"],
+        b" a\nb \n\tc\n": ["3 lines begin or end with a space"],
+        b"a\nb\na\na\n": ["2 of the lines equal an earlier line: look at line 3."],
         b"a\na\n": ["1 of the lines equals an earlier"], b"a\nb": ["The last line has no line feed"],
         b"\xef\xbb\xbfa\n": ["The list begins with a byte order mark"], b"a\0\nb\n": ["The list has bytes of value 0"],
         b"\xff\n": ["The list is not UTF-8"], b"a\nb\n": [], b"\xc3\xa9\n\xe2\x82\xac\n": [],
@@ -230,5 +255,6 @@ def run(counts: Counts, page: Page, pictures: Path) -> None:
     widths_and_colours(counts, page, pictures)
     names(counts, page)
     keyboard(counts, page)
+    forced_colours(counts, page)
     said_of_lists(counts, page)
     no_request(counts, page)

@@ -11,7 +11,7 @@ from page import Page
 
 LIST = "Ada\nBarbara\nChidi\nDmitri\nElif\nFarid\nGrace\nHedy\nInes\nJun\nKatherine\nLise\n"
 SEED = "4 1 6 3 3 2 5 6 1 4 2 6 5 3 1 1 6 2 4 5"
-ARROW_LEFT, ARROW_RIGHT = "\ue012", "\ue014"
+ARROW_LEFT, ARROW_RIGHT, HOME, END = "\ue012", "\ue014", "\ue011", "\ue010"
 # The height of two screens of a phone that is 360 wide.
 TWO_SCREENS = 1600
 HEADINGS = """return Array.from(document.querySelectorAll("h2"))
@@ -38,6 +38,14 @@ return Array.from(document.querySelectorAll(".digest")).map((digest) => {
   }
   return Array.from(rows.values());
 });
+"""
+ON_PAPER = """
+return ["tab-draw", "list-text", "list-facts", "seed", "check-text", "outcome", "drawn", "record", "print"]
+  .filter((id) => document.getElementById(id).checkVisibility());
+"""
+FRAMED = """
+document.getElementById(arguments[0]).focus({ focusVisible: true });
+return getComputedStyle(document.activeElement).outlineStyle;
 """
 DROP = """
 const [id, name, text] = arguments;
@@ -72,7 +80,8 @@ def tabs(counts: Counts, page: Page) -> None:
     counts.same("a check", page.browser.run(HEADINGS), ["The list", "The record that was published", "Why believe it"])
     shown = page.shown()
     counts.same("its answer", shown["outcome"], "no record")
-    for key, name in ((ARROW_LEFT, "draw"), (ARROW_RIGHT, "check"), (ARROW_RIGHT, "draw"), (ARROW_LEFT, "check")):
+    for key, name in ((ARROW_LEFT, "draw"), (ARROW_RIGHT, "check"), (ARROW_RIGHT, "draw"), (ARROW_LEFT, "check"),
+                      (HOME, "draw"), (HOME, "draw"), (END, "check"), (END, "check")):
         page.browser.run("document.querySelector('[role=tab][aria-selected=true]').focus();")
         page.browser.press(key)
         found = page.browser.run("""return Array.from(document.querySelectorAll("[role=tab]"),
@@ -155,10 +164,18 @@ def sheets(document: bytes) -> int:
 
 
 def paper(counts: Counts, page: Page) -> None:
+    """One sheet: of a draw the winners and the record, of a check the record and the outcome."""
     drawn(page)
-    for name in ("draw", "check"):
+    page.browser.run("document.getElementById('check-text').value = document.getElementById('record').textContent;")
+    page.browser.run("document.getElementById('check').click();")
+    page.browser.wait("return !document.getElementById('outcome').hidden;")
+    for name, wanted in (("draw", ["drawn", "record"]), ("check", ["check-text", "outcome"])):
         page.tab(name)
         counts.same(f"sheets of paper, {name}", sheets(page.browser.printed()), 1)
+        if page.browser.media("print"):
+            counts.same(f"on paper, {name}", page.browser.run(ON_PAPER), wanted)
+            counts.same(f"no focus on paper, {name}", page.browser.run(FRAMED, wanted[0]), "none")
+            page.browser.media()
 
 
 def by_keyboard(counts: Counts, page: Page) -> None:
