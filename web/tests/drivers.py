@@ -219,6 +219,8 @@ class Firefox(Browser):
             "browser.shell.checkDefaultBrowser": False, "app.update.enabled": False,
             "datareporting.policy.dataSubmissionEnabled": False, "network.captive-portal-service.enabled": False,
             "network.connectivity-service.enabled": False, "browser.aboutwelcome.enabled": False,
+            # Else Firefox warns if a list above what is seen changes faster than a person types.
+            "layout.css.scroll-anchoring.max-consecutive-adjustments": 0,
         }
         lines = [f"user_pref({json.dumps(name)}, {json.dumps(value)});" for name, value in values.items()]
         (self.profile / "user.js").write_text("\n".join(lines) + "\n")
