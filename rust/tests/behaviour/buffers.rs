@@ -3,8 +3,10 @@
 use crate::common::{Forking, Rising, Steps, Waste};
 use nanorand_proved::buffer::{RestTooLong, TextRefused};
 use nanorand_proved::{BufferedRng, ChaCha12, ChaCha20, ChaCha8, Pcg64, Rng, SeedableRng, WyRand};
+use std::cell::Cell;
 use std::fmt::Debug;
 use std::io::Read;
+use std::panic::{catch_unwind, AssertUnwindSafe};
 
 /// A buffer around `Steps` that has given five bytes.
 fn after_five() -> BufferedRng<Steps, 8> {
@@ -112,6 +114,45 @@ fn reseeded_behind_the_buffer() {
     let mut four = [0_u8; 4];
     rng.fill(&mut four);
     assert_eq!(four, [126, 3, 231, 179]);
+}
+
+/// As many blocks of `Steps` as are left, and then a panic.
+struct Ending<'a> {
+    steps: Steps,
+    left: &'a Cell<usize>,
+}
+
+impl Rng<8> for Ending<'_> {
+    fn rand(&mut self) -> [u8; 8] {
+        let left = self.left.get().checked_sub(1);
+        self.left.set(left.expect("no block is left"));
+        self.steps.rand()
+    }
+}
+
+/// After a request for which so many blocks were left, the stream goes on behind what was drawn for it.
+fn goes_on_behind(taken: usize, length: usize, blocks: usize) {
+    let (steps, left) = (Steps::new(), Cell::new(usize::MAX));
+    let mut rng = BufferedRng::new(Ending { steps, left: &left });
+    rng.fill_bytes(&mut vec![0; taken]);
+    left.set(blocks);
+    let request = || rng.fill_bytes(&mut vec![0; length]);
+    let ended = catch_unwind(AssertUnwindSafe(request)).is_err();
+    left.set(usize::MAX);
+    let drawn = 8 * ((taken + 7) / 8 + blocks);
+    let next = if ended { drawn } else { taken + length };
+    assert_eq!(usize::from(rng.generate::<u8>()), next, "{taken} {length}");
+}
+
+#[test]
+fn a_panic_makes_no_byte_come_again() {
+    for taken in 0..20 {
+        for length in 0..40 {
+            for blocks in 0..6 {
+                goes_on_behind(taken, length, blocks);
+            }
+        }
+    }
 }
 
 #[test]
