@@ -2,6 +2,7 @@
 #include "native.h"
 
 #include <inttypes.h>
+#include <stdarg.h>
 #include <stdio.h>
 #include <string.h>
 
@@ -64,6 +65,17 @@ int take_arguments(const Parameters *wanted, PyObject *const *given, Py_ssize_t 
         return -1;
     }
     return has_required(wanted, values);
+}
+
+int take_constructor(PyObject *self, PyObject *placed, PyObject *named, const char *letters, char **names, ...)
+{
+    char format[80];
+    va_list values;
+    snprintf(format, sizeof format, "%s:%s", letters, type_name(self));
+    va_start(values, names);
+    int taken = PyArg_VaParseTupleAndKeywords(placed, named, format, names, values);
+    va_end(values);
+    return taken ? 0 : -1;
 }
 
 /* ---- Whole numbers. ---- */

@@ -23,7 +23,7 @@ static int start_chacha(PyObject *self, PyObject *placed, PyObject *named)
     static char *names[] = {"key", "nonce", "counter", NULL};
     PyObject *key, *nonce = NULL, *counter = NULL;
     nanorand_chacha chacha;
-    if (!PyArg_ParseTupleAndKeywords(placed, named, "O|OO", names, &key, &nonce, &counter)
+    if (take_constructor(self, placed, named, "O|OO", names, &key, &nonce, &counter) < 0
         || take_chacha(key, nonce, counter, &chacha) < 0) {
         return -1;
     }
@@ -55,7 +55,7 @@ static int start_stream(PyObject *self, PyObject *placed, PyObject *named)
     static char *names[] = {"key", "nonce", "counter", "rest", NULL};
     PyObject *key, *nonce = NULL, *counter = NULL, *rest = NULL;
     nanorand_keystream stream = {.buffered = 0};
-    if (!PyArg_ParseTupleAndKeywords(placed, named, "O|OOO", names, &key, &nonce, &counter, &rest)
+    if (take_constructor(self, placed, named, "O|OOO", names, &key, &nonce, &counter, &rest) < 0
         || take_chacha(key, nonce, counter, &stream.chacha) < 0 || (rest != NULL && take_rest(rest, &stream) < 0)) {
         return -1;
     }

@@ -86,6 +86,8 @@ extern const Parameters jump_parameters;
 /* Finds each parameter's value among the arguments of a call, or NULL. The values are borrowed. */
 int take_arguments(const Parameters *wanted, PyObject *const *given, Py_ssize_t placed, PyObject *names,
                    PyObject **values);
+/* The arguments of a constructor, as PyArg_ParseTupleAndKeywords takes them. An error names the class. */
+int take_constructor(PyObject *self, PyObject *placed, PyObject *named, const char *letters, char **names, ...);
 
 /* A number from -2^63 to 2^64 - 1, as its 64 bits. */
 typedef struct {

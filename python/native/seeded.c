@@ -3,17 +3,17 @@
 
 #include <string.h>
 
-static int take_seed(PyObject *placed, PyObject *named, PyObject **seed)
+static int take_seed(PyObject *self, PyObject *placed, PyObject *named, PyObject **seed)
 {
     static char *names[] = {"seed", NULL};
-    return PyArg_ParseTupleAndKeywords(placed, named, "O", names, seed) ? 0 : -1;
+    return take_constructor(self, placed, named, "O", names, seed);
 }
 
 static int start_wyrand(PyObject *self, PyObject *placed, PyObject *named)
 {
     PyObject *seed;
     nanorand_wyrand state;
-    if (take_seed(placed, named, &seed) < 0 || take_u64("seed", seed, UINT64_MAX, &state.seed) < 0) {
+    if (take_seed(self, placed, named, &seed) < 0 || take_u64("seed", seed, UINT64_MAX, &state.seed) < 0) {
         return -1;
     }
     set_state((Generator *)self, &state);
@@ -24,7 +24,7 @@ static int start_pcg64(PyObject *self, PyObject *placed, PyObject *named)
 {
     PyObject *seed;
     nanorand_pcg64 state;
-    if (take_seed(placed, named, &seed) < 0 || take_u128("seed", seed, &state) < 0) {
+    if (take_seed(self, placed, named, &seed) < 0 || take_u128("seed", seed, &state) < 0) {
         return -1;
     }
     set_state((Generator *)self, &state);

@@ -105,6 +105,13 @@ class Arguments(unittest.TestCase):
                     with self.assertRaisesRegex((TypeError, OutOfBounds), f"^{name} is "):
                         kind(**{**{other: good[other] for other in names}, name: bad})
 
+    def test_an_error_of_a_maker_names_the_class(self):
+        for kind in CLASSES.values():
+            for made in (kind, type("Own", (kind,), {})):
+                for arguments, named in (((), {}), (range(9), {}), ((KEY,), {"no_such_name": 1})):
+                    with self.assertRaisesRegex(TypeError, rf"\b{made.__name__}\(\)"):
+                        made(*arguments, **named)
+
 
 class Types(unittest.TestCase):
     def test_bytes_are_bytes(self):
