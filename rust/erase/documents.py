@@ -19,6 +19,9 @@ LEFT_OUT = (
 SENTENCES = {
     " (`laws::parts_are_apart`)": "",
     " (`laws::samples_are_fair`)": "",
+    "Why a ranged draw returned no number.": (
+        "Why a ranged draw returned no number. `Rng::range` and `Rng::permute` panic in its place."
+    ),
     "Rust's `Pcg64::new()` takes its seed from the system; here the caller passes a reader.": (
         "`from_entropy` takes a seed from the system."
     ),

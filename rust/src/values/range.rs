@@ -13,7 +13,7 @@ use crate::values::word::draw_below;
 use crate::values::RandomGen;
 use core::ops::Bound;
 
-/// Why a ranged draw returned no number.
+/// Why a ranged draw returned no number. `Rng::range` and `Rng::permute` panic in its place.
 #[derive(Clone, Copy, Debug, PartialEq, Eq)]
 pub enum RangeError {
     /// The range has no number. Nothing was drawn.
