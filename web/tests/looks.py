@@ -51,6 +51,16 @@ return [
     (element) => [getComputedStyle(element).borderTopColor, behind(element.parentElement)]),
 ];
 """
+LAST_IS_LEFT = """
+const [text] = document.querySelector("#drawn li").childNodes;
+const left = (place) => {
+  const range = document.createRange();
+  range.setStart(text, place);
+  range.setEnd(text, place + 1);
+  return range.getBoundingClientRect().left;
+};
+return left(text.length - 1) < left(0);
+"""
 WIDE = """
 return Array.from(document.querySelectorAll("body *")).filter((element) => element.checkVisibility() &&
   !element.closest("pre, textarea, ol") && element.getBoundingClientRect().right > innerWidth + 0.5)
@@ -177,6 +187,17 @@ def keyboard(counts: Counts, page: Page) -> None:
     counts.same("the focus is seen after a draw", ring, "solid")
 
 
+def directions(counts: Counts, page: Page) -> None:
+    """A name is read in the direction of its first letter, whatever stands around it."""
+    ada = "\u05d0\u05d3\u05d4"
+    for entrant, is_left in (("Ada!", False), ("7 Ada (7)", False), (f"Ada {ada}!", False), (f"{ada}!", True),
+                             ("\u0639\u0644\u064a!", True), (f"7 {ada}!", True), (f"{ada} Ada!", True)):
+        page.paste(f"{entrant}\n")
+        page.fill("seed", "all")
+        page.draw()
+        counts.same(f"the direction of {entrant!r}", page.browser.run(LAST_IS_LEFT), is_left)
+
+
 def forced_colours(counts: Counts, page: Page) -> None:
     """Where the user's own colours take the place of the page's, the tab that is shown still differs."""
     page.load()
@@ -255,6 +276,7 @@ def run(counts: Counts, page: Page, pictures: Path) -> None:
     widths_and_colours(counts, page, pictures)
     names(counts, page)
     keyboard(counts, page)
+    directions(counts, page)
     forced_colours(counts, page)
     said_of_lists(counts, page)
     no_request(counts, page)

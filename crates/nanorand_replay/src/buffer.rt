@@ -323,7 +323,7 @@ fn deliver<G: Rng<OUTPUT>, const OUTPUT: usize>(
         let start = OUTPUT.min(start);
         let kept = OUTPUT - start;
         out[..kept].copy_from_slice(&bytes[start..]);
-        // A panic in the next block, as Rust has it, makes none of these bytes come again.
+        // In Rust the inner generator may panic: these bytes do not come again then.
         *cursor = OUTPUT;
         // Stored here, and not there, the cursor of a loop of draws stays in a register.
         *cursor = deliver_blocks(inner, block, &mut out[kept..]);
