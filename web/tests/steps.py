@@ -4,6 +4,7 @@ import re
 import time
 import zlib
 from pathlib import Path
+from typing import List
 
 from counts import Counts
 from drivers import BACKSPACE, CONTROL, ENTER, SHIFT, SPACE, TAB
@@ -40,7 +41,8 @@ return Array.from(document.querySelectorAll(".digest")).map((digest) => {
 });
 """
 ON_PAPER = """
-return ["tab-draw", "list-text", "list-facts", "seed", "check-text", "outcome", "drawn", "record", "print"]
+return ["tab-draw", "list-heading", "list-hint", "list-file", "list-text", "file-name", "close-file", "entrants",
+  "list-digest", "seed", "check-text", "outcome", "publish-hint", "drawn", "record", "print"]
   .filter((id) => document.getElementById(id).checkVisibility());
 """
 FRAMED = """
@@ -163,19 +165,32 @@ def sheets(document: bytes) -> int:
     return len(re.findall(rb"/Type\s*/Page\b(?!s)", b"\n".join(parts)))
 
 
+def on_paper(counts: Counts, page: Page, name: str, wanted: List[str]) -> None:
+    """One sheet, with no more than is wanted."""
+    counts.same(f"sheets of paper, {name}", sheets(page.browser.printed()), 1)
+    if page.browser.media("print"):
+        counts.same(f"on paper, {name}", page.browser.run(ON_PAPER), wanted)
+        counts.same(f"no focus on paper, {name}", page.browser.run(FRAMED, wanted[0]), "none")
+        page.browser.media()
+
+
 def paper(counts: Counts, page: Page) -> None:
-    """One sheet: of a draw the winners and the record, of a check the record and the outcome."""
+    """Before a draw what is to be published of the list, after it the winners and the record; of a check the record
+    and the outcome."""
+    page.load()
+    page.paste(LIST)
+    page.facts()
+    on_paper(counts, page, "a list", ["entrants", "list-digest"])
+    page.check("")
+    on_paper(counts, page, "a check without a draw", ["check-text", "outcome"])
+    page.tab("draw")
+    page.open_file(LIST.encode())
+    page.facts()
+    on_paper(counts, page, "a file", ["file-name", "entrants", "list-digest"])
     drawn(page)
-    page.browser.run("document.getElementById('check-text').value = document.getElementById('record').textContent;")
-    page.browser.run("document.getElementById('check').click();")
-    page.browser.wait("return !document.getElementById('outcome').hidden;")
-    for name, wanted in (("draw", ["drawn", "record"]), ("check", ["check-text", "outcome"])):
-        page.tab(name)
-        counts.same(f"sheets of paper, {name}", sheets(page.browser.printed()), 1)
-        if page.browser.media("print"):
-            counts.same(f"on paper, {name}", page.browser.run(ON_PAPER), wanted)
-            counts.same(f"no focus on paper, {name}", page.browser.run(FRAMED, wanted[0]), "none")
-            page.browser.media()
+    on_paper(counts, page, "a draw", ["drawn", "record"])
+    page.check(page.shown()["record"])
+    on_paper(counts, page, "a check", ["check-text", "outcome"])
 
 
 def by_keyboard(counts: Counts, page: Page) -> None:
