@@ -32,6 +32,7 @@ class WyRand(Plain):
     """Wang Yi's wyrand. Its state is the seed's 8 bytes, least first."""
 
     PERIOD = 2**64
+
     def __init__(self, state):
         (self.seed,) = struct.unpack("<Q", state)
 
