@@ -42,7 +42,7 @@ return Array.from(document.querySelectorAll(".digest")).map((digest) => {
 """
 ON_PAPER = """
 return ["tab-draw", "list-heading", "list-hint", "list-file", "list-text", "file-name", "close-file", "entrants",
-  "list-digest", "seed", "check-text", "outcome", "publish-hint", "drawn", "record", "print"]
+  "list-warnings", "list-digest", "seed", "check-text", "outcome", "publish-hint", "drawn", "record", "print"]
   .filter((id) => document.getElementById(id).checkVisibility());
 """
 FRAMED = """
@@ -184,9 +184,9 @@ def paper(counts: Counts, page: Page) -> None:
     page.check("")
     on_paper(counts, page, "a check without a draw", ["check-text", "outcome"])
     page.tab("draw")
-    page.open_file(LIST.encode())
+    page.open_file(LIST[:-1].encode())
     page.facts()
-    on_paper(counts, page, "a file", ["file-name", "entrants", "list-digest"])
+    on_paper(counts, page, "a file with a warning", ["file-name", "entrants", "list-warnings", "list-digest"])
     drawn(page)
     on_paper(counts, page, "a draw", ["drawn", "record"])
     page.check(page.shown()["record"])
