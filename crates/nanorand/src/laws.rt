@@ -16,12 +16,13 @@ ghost use Rattle.nanorand.specs.generators.Frequencies.{SomeWordNeverComes, pcg6
 ghost use Rattle.nanorand.specs.generators.Halves.{folded};
 ghost use Rattle.nanorand.specs.generators.ChaCha.{counter, key_of, nonce_of, advanced, next_state, chacha_after, chacha_block, chacha_requests};
 ghost use Rattle.nanorand.specs.generators.ChaChaRounds.{IsMatrix, RoundsAreInjective};
-ghost use Rattle.nanorand.specs.generators.Parts.{PartsAreApart, after_draws, numbers, numbers_of_part, part_at, results_after};
+ghost use Rattle.nanorand.specs.generators.Parts.{ComesAgain, PartsAreApart, after_draws, left_in_turn, numbers, numbers_of_part, on_a_copy, part_at, results_after, results_in_turn};
 ghost use Rattle.nanorand.specs.generators.Pcg64.{pcg64_requests};
 ghost use Rattle.nanorand.specs.generators.Pcg64 as pcg64;
 ghost use Rattle.nanorand.specs.generators.WyRand.{wyrand_requests};
 ghost use Rattle.nanorand.specs.generators.WyRand as wyrand;
 
+use crate::parts::Parts;
 use crate::rand::{Blocks, ChaCha, ChaChaGroups, Pcg64, Rng, WyRand};
 pub use nanorand_core::laws::{
     choices_and_arrangements, choices_are_fair, fairness, partial_shuffles,
@@ -224,16 +225,71 @@ pub fn parts_are_apart<const ROUNDS: u8>()
         → PartsAreApart (2 ^ 67) (λ n. after_draws (stream_requests ROUNDS) n b) }
 {}
 
-/// Tasks that draw each from the part of its index leave the results of the plain loop, in whatever
-/// order they run and however often.
+/// The parts of every generator that implements `Parts` are apart, and what it draws comes again
+/// after its period.
 ///
-/// A schedule is the list of the indices in the order in which their tasks run, and has each index
-/// below `count` at least once. What stood in the results before does not matter.
+/// `apart`: parts of one length that together stay within the period do not overlap: no state comes
+/// in two of them, and in none twice. `again`: from some draw on, the 64-bit numbers that are drawn
+/// are those of `period` draws before. That equal numbers come no sooner is not claimed, since two
+/// states may have equal blocks: `wyrand_cycle` and `pcg64_cycles` say it of their generators.
+pub fn all_parts_are_apart<G: Parts<OUTPUT> + Drop, const OUTPUT: usize>(stream: &G)
+    ensures apart { PartsAreApart G.period (λ n. after_draws G.requests n stream.now) }
+    ensures again { ComesAgain G.period
+        (λ n. next_word G.requests 64 (after_draws G.requests n stream.now)) }
+{
+    let _ = stream.part(0, 0);
+}
+
+/// Tasks of which each draws from the part of its index alone leave the same results, in whatever
+/// order they run and however often: for each index, what its task gives on its part.
+///
+/// A task is a function of the generator that it is given, and writes its own result. A schedule is
+/// the list of the indices in the order in which their tasks run, and has each index below `count`
+/// at least once. What stood in the results before does not matter. That these are the results of
+/// one loop over one generator is `parts_as_one_loop`.
 pub fn parts_in_any_order<G: Rng<OUTPUT>, const OUTPUT: usize, T>()
     ensures { (task : G → T) (draws count : ℕ) (g : G) (schedule : List ℕ) (results : List T)
         → length results ≡ count → ((i : ℕ) → i < count → Contains schedule i) →
         let own = λ (i : ℕ). task (part_at G.requests draws i g) in
         results_after own schedule results ≡ map own (range_with_len 0 count) }
+{}
+
+/// Tasks that each use up one part of a stream do what one loop does that runs them one after another
+/// over one generator.
+///
+/// A task is a function of the generator's state: it gives a result and the state that it leaves.
+/// The premise of the first three clauses: on each part, the task leaves the state `draws` draws
+/// further on. It draws exactly `draws` times, or fewer and then jumps to the end of its part.
+/// `parts`: the loop's results are those of the tasks, each alone on the part of its index. `left`:
+/// the loop leaves the stream at the part after the last one. `schedules`: tasks that run by a
+/// schedule, in whatever order and however often, leave the loop's results.
+///
+/// `jumps` has no premise: a loop that runs each task on a copy of its generator, and then jumps
+/// `draws` draws ahead, has the results of the tasks on their parts. `jumping_schedules`: tasks that
+/// run by a schedule leave this loop's results.
+pub fn parts_as_one_loop<G: Rng<OUTPUT>, const OUTPUT: usize, T>()
+    ensures parts { (task : G → T × G) (draws count : ℕ) (g : G) →
+        let start = λ (i : ℕ). part_at G.requests draws i g in
+        ((i : ℕ) → i < count → (task (start i)).1 ≡ after_draws G.requests draws (start i))
+        → results_in_turn task count g ≡ map (λ i. (task (start i)).0) (range_with_len 0 count) }
+    ensures left { (task : G → T × G) (draws count : ℕ) (g : G) →
+        let start = λ (i : ℕ). part_at G.requests draws i g in
+        ((i : ℕ) → i < count → (task (start i)).1 ≡ after_draws G.requests draws (start i))
+        → left_in_turn task count g ≡ start count }
+    ensures schedules { (task : G → T × G) (draws count : ℕ) (g : G) (schedule : List ℕ)
+        (results : List T) →
+        let start = λ (i : ℕ). part_at G.requests draws i g in
+        ((i : ℕ) → i < count → (task (start i)).1 ≡ after_draws G.requests draws (start i))
+        → length results ≡ count → ((i : ℕ) → i < count → Contains schedule i)
+        → results_after (λ i. (task (start i)).0) schedule results ≡ results_in_turn task count g }
+    ensures jumps { (task : G → T) (draws count : ℕ) (g : G)
+        → results_in_turn (on_a_copy G.requests task draws) count g
+        ≡ map (λ i. task (part_at G.requests draws i g)) (range_with_len 0 count) }
+    ensures jumping_schedules { (task : G → T) (draws count : ℕ) (g : G) (schedule : List ℕ)
+        (results : List T)
+        → length results ≡ count → ((i : ℕ) → i < count → Contains schedule i)
+        → results_after (λ i. task (part_at G.requests draws i g)) schedule results
+        ≡ results_in_turn (on_a_copy G.requests task draws) count g }
 {}
 
 /// Which seeds of `Pcg64` are reached from which.

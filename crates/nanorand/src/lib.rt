@@ -23,7 +23,10 @@ pub use nanorand_replay::{BufferedRng, buffer, replay};
 pub use parts::{Parts, PastPeriod};
 pub use rand::chacha::{ChaCha, ChaCha8, ChaCha12, ChaCha20};
 pub use rand::chacha_groups::ChaChaGroups;
-pub use rand::keystream::{ChaCha8Stream, ChaCha12Stream, ChaCha20Stream, ChaChaStream, Keystream};
+pub use rand::keystream::{
+    ChaCha8Stream, ChaCha12Stream, ChaCha20Stream, ChaChaStream, Keystream, chacha_stream,
+    chacha_stream_at,
+};
 pub use rand::pcg64::Pcg64;
 pub use rand::wyrand::WyRand;
 pub use rand::{Blocks, Rng, SeedableRng};

@@ -1,6 +1,6 @@
 //! Parts of a stream, one for each task of a program that runs on many machines.
 ghost use Rattle.std.specs.Prelude.{◌≡◌, ◌↔◌, ◌+◌, ◌*◌, ◌≤◌, ℕ, IfOk, IsOk};
-ghost use Rattle.nanorand.specs.generators.Parts.{part_at};
+ghost use Rattle.nanorand.specs.generators.Parts.{ComesAgain, NothingTwice, after_draws, part_at};
 
 use nanorand_core::rand::Rng;
 use thiserror::Error;
@@ -15,10 +15,16 @@ pub struct PastPeriod;
 /// The stream is what the generator draws from now on, and a draw is what a `u64` takes: a word of
 /// `WyRand` and `Pcg64`, a block of `ChaCha`, and eight bytes of a stream of ChaCha. Part 0 is the
 /// first `draws` draws, part 1 the next, and so on. What a task draws depends on the index of its
-/// part alone, so tasks may run in any order, on any machine, and more than once; and no state
-/// comes in two parts of one stream and one length (`laws::parts_are_apart`).
+/// part alone, so tasks may run in any order, on any machine, and more than once
+/// (`laws::parts_in_any_order`, `laws::parts_as_one_loop`).
+///
+/// Every implementation proves that no state comes twice within the period, so that no state comes
+/// in two parts of one stream and one length (`laws::all_parts_are_apart`), and that the states come
+/// again after the period. These are facts about states, and two different states may draw the same
+/// numbers. `laws::wyrand_cycle` and `laws::pcg64_cycles` prove that the blocks of `WyRand` and
+/// `Pcg64` have no smaller period. For ChaCha's blocks no such proof is known.
 pub trait Parts<const OUTPUT: usize>: Rng<OUTPUT> {
-    // The draws after which the states come again.
+    // The draws after which the states come again, and before which none comes twice.
     ghost period: { ℕ };
 
     /// The generator at the beginning of a part, which is `index * draws` draws further on. The
@@ -29,7 +35,11 @@ pub trait Parts<const OUTPUT: usize>: Rng<OUTPUT> {
     fn part(&self, index: u64, draws: u64) -> Result<Self, PastPeriod>
         ensures begins { let outset = part_at Self.requests draws index self.now in
             IfOk result (λ part. part ≡ outset) }
-        ensures within { IsOk result ↔ ((index + 1) * draws ≤ period) };
+        ensures within { IsOk result ↔ ((index + 1) * draws ≤ period) }
+        ensures once { IfOk result (λ _. NothingTwice period
+            (λ n. after_draws Self.requests n self.now)) }
+        ensures again { IfOk result (λ _. ComesAgain period
+            (λ n. after_draws Self.requests n self.now)) };
 }
 
 // The draws before a part, if it ends within the period.

@@ -1,9 +1,10 @@
 //! The traits that every generator implements, and the `fill_bytes` that plain generators share.
-ghost use Rattle.std.specs.Prelude.{◌≡◌, ℕ, ◌^◌, ◌<◌, List, length, IfErr, OnOk, IsPermutation};
+ghost use Rattle.std.specs.Prelude.{◌≡◌, ℕ, ◌*◌, ◌^◌, ◌<◌, ◌≤◌, List, length, IfErr, OnOk, IsPermutation};
 ghost use Rattle.std.specs.Fn.{iterate};
 ghost use Rattle.nanorand_core.specs.shuffles.Arrangements.{IsValid};
 ghost use Rattle.nanorand_core.specs.generators.Blocks.{Requests, taken, plain_after};
 ghost use Rattle.nanorand_core.specs.shuffles.Shuffles.{from_itself, partner_drawn, shuffled};
+ghost use Rattle.nanorand_core.specs.values.Draws.{after_words, word_limit};
 ghost use Rattle.nanorand_core.specs.values.Values.{values_from};
 ghost use Rattle.nanorand_core.specs.declared.values.range.RangeError.TheVariants.{Exhausted};
 
@@ -117,6 +118,8 @@ pub trait Rng<const OUTPUT: usize>: Clone + Blocks<OUTPUT> {
             OnOk result (length shuffle.choices ≡ length target.old) }
         ensures valid { let shuffle = shuffled requests from_itself self.old target.old in
             OnOk result (IsValid shuffle.choices) }
+        ensures words { (n : ℕ) × (n ≤ word_limit * length target.old)
+            × (self.new ≡ after_words requests 64 n self.old) }
     {
         let count = target.len();
         for place in 0..count {

@@ -117,6 +117,8 @@ pub fn shuffle_and_record<G: Rng<OUTPUT>, T, const OUTPUT: usize>(
         choices.new ≡ completed (length target.old) shuffle.choices }
     ensures valid { IsValid choices.new }
     ensures makes { arranged choices.new target.old ≡ target.new }
+    ensures words { (n : ℕ) × (n ≤ word_limit * length target.old)
+        × (rng.new ≡ after_words G.requests 64 n rng.old) }
 {
     write_places(choices);
     let count = target.len();
@@ -182,6 +184,8 @@ pub fn shuffle_full<G: Rng<OUTPUT>, T, const OUTPUT: usize>(
     ensures state { rng.new ≡ (shuffled G.requests from_all rng.old target.old).state }
     ensures arrangement { IsPermutation target.old target.new }
     ensures refusal { IfErr result (λ refusal. refusal ≡ Exhausted) }
+    ensures words { (n : ℕ) × (n ≤ word_limit * length target.old)
+        × (rng.new ≡ after_words G.requests 64 n rng.old) }
 {
     let count = target.len();
     for place in 0..count {

@@ -1,7 +1,7 @@
 //! The values that a generator draws.
-ghost use Rattle.std.specs.Prelude.{◌≡◌, All, Bool, length, true};
+ghost use Rattle.std.specs.Prelude.{◌≡◌, ℕ, ◌*◌, ◌≤◌, All, Bool, length, true};
 ghost use Rattle.std.specs.Fn.{CalledAtMut, iterate};
-ghost use Rattle.nanorand_core.specs.values.Fills.{CallsReturn, EachCallDraws, EachCallLeaves, EachCallPasses};
+ghost use Rattle.nanorand_core.specs.values.Fills.{CallsReturn, EachCallDraws, EachCallLeaves, EachCallPasses, EachCallTakes};
 ghost use Rattle.nanorand_core.specs.values.Values.{truth_of, values_from};
 
 mod bytes;
@@ -55,8 +55,9 @@ impl<G: Rng<OUTPUT>, const OUTPUT: usize> RandomGen<G, OUTPUT> for bool {
 /// `ran`: the items are what the calls returned, one after another. The other clauses follow from
 /// what holds of every call. `values`: if a call returns a function of the state before it, and
 /// leaves another function of it, the items are the values of these two. `state`: if a call leaves
-/// a function of the state before it, the state is that after one call for each item. `all`: if
-/// the value of a call passes a test, all items pass.
+/// a function of the state before it, the state is that after one call for each item. `words`: if a
+/// call makes at most `most` steps, such as the 128 words of a range, all calls together make at
+/// most `most` steps per item. `all`: if the value of a call passes a test, all items pass.
 ///
 /// Precondition: the closure may be called at any state.
 pub fn fill_with<G, T: Drop, F: FnMut(&mut G) -> T>(rng: &mut G, target: &mut [T], mut draw: F)
@@ -67,6 +68,8 @@ pub fn fill_with<G, T: Drop, F: FnMut(&mut G) -> T>(rng: &mut G, target: &mut [T
         → target.new ≡ values_from value after (length target.old) rng.old }
     ensures state { (after : G → G) → EachCallLeaves (CalledAtMut F.FnMut) after
         → rng.new ≡ iterate after (length target.old) rng.old }
+    ensures words { (step : G → G) (most : ℕ) → EachCallTakes (CalledAtMut F.FnMut) step most
+        → (n : ℕ) × (n ≤ most * length target.old) × (rng.new ≡ iterate step n rng.old) }
     ensures all { (test : T → Bool) → EachCallPasses (CalledAtMut F.FnMut) test
         → All (λ item. test item ≡ true) target.new }
 {

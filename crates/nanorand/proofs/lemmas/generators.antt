@@ -3,4 +3,6 @@ pub mod SeedLemmas
 pub mod WordLemmas
 pub mod EqualityLemmas
 pub mod StreamLemmas
+pub mod StatePeriodLemmas
 pub mod PartLemmas
+pub mod LoopLemmas

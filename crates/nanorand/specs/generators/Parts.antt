@@ -1,6 +1,7 @@
 -- Parts of a stream: its draws are numbered from 0 and cut into parts of equal length. A draw is
 -- what a number of 64 bits takes.
 use Rattle.std.specs.Prelude.{◌≡◌, ℕ, ◌+◌, ◌*◌, ◌<◌, ◌≤◌, List, [], ◌∷◌, slice_set}
+use Rattle.std.specs.Fn.{iterate}
 use Rattle.nanorand_core.specs.generators.Blocks.{Requests}
 use Rattle.nanorand_core.specs.values.Draws.{after_word, after_words, next_word}
 use Rattle.nanorand_core.specs.values.Values.{values_from}
@@ -23,6 +24,20 @@ module _ {G : Type 0} (requests : Requests G) where
   abbrev pub numbers_of_part : ℕ → G → ℕ → List ℕ
   numbers_of_part draws g i = numbers draws (part_at draws i g)
 
+  -- A task runs on a copy of the generator, which then jumps so many draws ahead.
+  abbrev pub on_a_copy : {T : Type 0} → (G → T) → ℕ → G → T × G
+  on_a_copy task draws g = (task g, after_draws draws g)
+
+-- Below the period nothing comes twice: where `seen` gives the same, it is the same place.
+abbrev pub NothingTwice : {S : Type 0} → ℕ → (ℕ → S) → Type 0
+NothingTwice period seen =
+    (m n : ℕ) → m < period → n < period → seen m ≡ seen n → m ≡ n
+
+-- From some place on, everything comes again after `period` places, which are at least one.
+abbrev pub ComesAgain : {S : Type 0} → ℕ → (ℕ → S) → Type 0
+ComesAgain period seen =
+    (0 < period) × (start : ℕ) × ((n : ℕ) → start ≤ n → seen (n + period) ≡ seen n)
+
 -- Parts that together stay within the period do not meet: if `seen` gives the same for draw j of
 -- part i and draw l of part k, they are the same draw of the same part.
 abbrev pub PartsAreApart : {S : Type 0} → ℕ → (ℕ → S) → Type 0
@@ -36,3 +51,12 @@ PartsAreApart period seen =
 abbrev pub results_after : {T : Type 0} → (ℕ → T) → List ℕ → List T → List T
 results_after own [] results = results
 results_after own (i ∷ schedule) results = results_after own schedule (slice_set results i (own i))
+
+-- The results of a task that runs n times, one after another, over one generator. The task gives a
+-- result and the state that it leaves.
+abbrev pub results_in_turn : {G T : Type 0} → (G → T × G) → ℕ → G → List T
+results_in_turn task n g = values_from (λ h. (task h).0) (λ h. (task h).1) n g
+
+-- The state that these n runs leave.
+abbrev pub left_in_turn : {G T : Type 0} → (G → T × G) → ℕ → G → G
+left_in_turn task n g = iterate (λ h. (task h).1) n g

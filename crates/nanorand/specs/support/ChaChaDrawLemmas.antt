@@ -95,6 +95,11 @@ chacha_steps = draws_leave next_state chacha_after chacha_none chacha_more
 pub chacha_adds : DrawsAdd chacha_after
 chacha_adds = draws_add next_state chacha_after chacha_none chacha_more
 
+-- draws move the counter alone
+pub with_counter-after : (n m : ℕ) (x : List ℕ) → with_counter (chacha_after n x) m ≡ with_counter x m
+with_counter-after zero m x = refl
+with_counter-after (suc n) m x = with_counter-twice x _ m
+
 -- setting the counter that a matrix has changes nothing
 with_counter-same : (x : List ℕ) → IsMatrix x → with_counter x (counter x % 2 ^ 64) ≡ x
 with_counter-same x matrix =

@@ -1,15 +1,17 @@
 -- Lemmas about blocks drawn by groups. Nobody has to believe this file: it is in specs/ only because
 -- laws of impls cite its lemmas.
-use Rattle.std.proofs.Common.{◌≡◌, ℕ, zero, suc, ◌+◌, ◌-◌, ◌*◌, ◌<◌, ◌≤◌, List, ◌++◌, length, take, refl, sym, ap, ◌∙◌, arith}
+use Rattle.std.proofs.Common.{◌≡◌, ℕ, zero, suc, ◌+◌, ◌-◌, ◌*◌, ◌<◌, ◌≤◌, List, [], ◌++◌, length, take, refl, sym, ap, ◌∙◌, arith}
 use Rattle.std.proofs.lemmas.List.{take_at}
 use Rattle.std.proofs.Math.Nat.{suc-mul, zero-mul}
 use Rattle.std.specs.Fn.{iterate}
 use Rattle.nanorand_core.specs.generators.Blocks.{blocks, taken, plain_after}
 use Rattle.nanorand_core.specs.support.BlockLemmas.{blocks_add, length-blocks, take_blocks, le-mul_self}
 use Rattle.nanorand_core.specs.support.IterateLemmas.{iterate-add}
-use Rattle.nanorand.specs.generators.ChaCha.{chacha_block, next_state}
-use Rattle.nanorand.specs.generators.ChaChaGroups.{chacha_group, next_group}
-use Rattle.nanorand.specs.support.ChaChaDrawLemmas.{length-chacha_block}
+use Rattle.nanorand_replay.specs.generators.Buffered.{Buffered, buffer_of, blocks_needed, buffered_after}
+use Rattle.nanorand_replay.specs.support.BufferedLemmas.{after_add, taken_add}
+use Rattle.nanorand.specs.generators.ChaCha.{chacha_block, initial_state, next_state, state_at, with_counter}
+use Rattle.nanorand.specs.generators.ChaChaGroups.{chacha_group, next_group, stream_requests, stream_start}
+use Rattle.nanorand.specs.support.ChaChaDrawLemmas.{chacha_steps, length-chacha_block, with_counter-after, with_counter-twice}
 
 -- one more group of k
 one_more : (n k : ℕ) → k + n * k ≡ suc n * k
@@ -71,3 +73,27 @@ taken_chacha_groups R x n = taken_grouped (chacha_block R) next_state 8 64 (omeg
 pub steps_of_groups : (n : ℕ) (x : List ℕ) → iterate next_group n x ≡ iterate next_state (n * 8) x
 unfolding next_group
 steps_of_groups n x = steps_grouped next_state 8 x n
+
+-- The stream of a key and a nonce, over groups with a buffer: two requests are one of their total
+-- size,
+pub stream_states_join : (R : ℕ) (b : Buffered (List ℕ)) (m n : ℕ)
+    → (stream_requests R).after ((stream_requests R).after b m) n ≡ (stream_requests R).after b (m + n)
+stream_states_join R = after_add (chacha_group R) next_group 512 (omega arith) (length-chacha_group R)
+
+pub stream_bytes_join : (R : ℕ) (b : Buffered (List ℕ)) (m n : ℕ)
+    → (stream_requests R).bytes b m ++ (stream_requests R).bytes ((stream_requests R).after b m) n
+    ≡ (stream_requests R).bytes b (m + n)
+stream_bytes_join R b m n = sym (taken_add (chacha_group R) next_group 512 (omega arith) (length-chacha_group R) b m n)
+
+-- no request leaves the stream,
+pub stream_stays : (R : ℕ) (b : Buffered (List ℕ)) (n : ℕ) → stream_start ((stream_requests R).after b n) ≡ stream_start b
+unfolding buffered_after
+stream_stays R b n =
+    let q : ℕ = blocks_needed (chacha_group R) next_group 512 b n in
+    ap (λ (x : List ℕ). buffer_of [] (with_counter x 0)) (steps_of_groups q b.inner ∙ chacha_steps (q * 8) b.inner)
+    ∙ ap (buffer_of []) (with_counter-after (q * 8) 0 b.inner)
+
+-- and each of its blocks leads back to its first byte
+pub stream_starts : (key nonce : List ℕ) (index : ℕ) → stream_start (buffer_of [] (state_at key nonce index)) ≡ buffer_of [] (state_at key nonce 0)
+unfolding state_at
+stream_starts key nonce index = ap (buffer_of []) (with_counter-twice (initial_state key nonce) index 0)

@@ -10,7 +10,7 @@ ghost use Rattle.nanorand.specs.generators.ChaChaRounds.{IsMatrix};
 ghost use Rattle.nanorand.specs.support.ChaChaDrawLemmas.{length-chacha_block};
 ghost use Rattle.nanorand.specs.generators.Entropy.{HasFewer, IsMadeOf, TakesFewer};
 ghost use Rattle.nanorand.specs.generators.DebugTexts.{chacha_debug};
-ghost use Rattle.nanorand.specs.generators.Parts.{part_at};
+ghost use Rattle.nanorand.specs.generators.Parts.{ComesAgain, NothingTwice, after_draws, part_at};
 ghost use Rattle.nanorand.specs.declared.entropy.EntropyError.TheVariants.{Short, Fault};
 
 use crate::crypto::chacha::{
@@ -338,6 +338,10 @@ impl<const ROUNDS: u8> Parts<64> for ChaCha<ROUNDS> {
         ensures begins { let outset = part_at (chacha_requests ROUNDS) draws index self.now in
             IfOk result (λ part. part ≡ outset) }
         ensures within { IsOk result ↔ ((index + 1) * draws ≤ 2 ^ 64) }
+        ensures once { IfOk result (λ _. NothingTwice (2 ^ 64)
+            (λ n. after_draws (chacha_requests ROUNDS) n self.now)) }
+        ensures again { IfOk result (λ _. ComesAgain (2 ^ 64)
+            (λ n. after_draws (chacha_requests ROUNDS) n self.now)) }
     {
         let before = draws_before(index, draws, 1 << 64)?;
         let mut part = ChaCha { state: self.state };

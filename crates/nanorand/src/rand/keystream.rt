@@ -1,9 +1,11 @@
 //! Streams of ChaCha, which can be sought.
-ghost use Rattle.std.specs.Prelude.{◌≡◌, ◌↔◌, ◌+◌, ◌*◌, ◌%◌, ◌^◌, ◌<◌, ◌≤◌, [], length, IfOk, IsOk};
+ghost use Rattle.std.specs.Prelude.{◌≡◌, ◌↔◌, ℕ, List, ◌+◌, ◌*◌, ◌%◌, ◌^◌, ◌<◌, ◌≤◌, [], ◌++◌, length, IfOk, IsOk};
 ghost use Rattle.nanorand_replay.specs.generators.Buffered.{buffer_of};
 ghost use Rattle.nanorand.specs.generators.ChaCha.{initial_state, state_at};
+ghost use Rattle.nanorand.specs.generators.ChaChaRounds.{IsMatrix};
 ghost use Rattle.nanorand.specs.generators.ChaChaGroups.{stream_position, stream_requests, stream_start};
-ghost use Rattle.nanorand.specs.generators.Parts.{part_at};
+ghost use Rattle.nanorand.specs.support.ChaChaGroupLemmas.{stream_bytes_join, stream_starts, stream_states_join, stream_stays};
+ghost use Rattle.nanorand.specs.generators.Parts.{ComesAgain, NothingTwice, after_draws, part_at};
 
 use crate::parts::{Parts, PastPeriod, draws_before};
 use crate::rand::chacha_groups::ChaChaGroups;
@@ -22,59 +24,149 @@ pub type ChaCha12Stream = ChaChaStream<12>;
 /// The stream of ChaCha with the standard's 20 rounds.
 pub type ChaCha20Stream = ChaChaStream<20>;
 
-/// A stream of bytes that a key and a nonce make. The bytes are numbered from 0.
-pub trait Keystream {
-    // What a new stream needs: of ChaCha an even number of rounds.
+/// The keystream of a key and a nonce: 2^70 bytes, in blocks of 64 bytes. The bytes are numbered from
+/// 0, and after the last one the first one comes again.
+///
+/// Requests join without a break: two in a row take the bytes that one of their total size takes.
+/// The trait says where a stream goes on, and not which bytes it has: those are the implementation's
+/// own (for ChaCha, `laws::streams_deliver_chacha`).
+pub trait Keystream<const OUTPUT: usize>: Rng<OUTPUT> {
+    // What a new stream needs: for ChaCha an even number of rounds.
     ghost can_start: { Type 0 };
 
-    /// The stream of this key and nonce, at its byte 0. Of a ChaCha the number of rounds is even.
+    // The stream of a key and a nonce, at the first byte of a block.
+    ghost at: { List ℕ → List ℕ → ℕ → Self };
+
+    // The stream of a state, at its byte 0.
+    ghost restarted: { Self → Self };
+
+    // The number of a state's next byte.
+    ghost position: { Self → ℕ };
+
+    /// The stream of this key and nonce, at its byte 0. For ChaCha the number of rounds is even.
     fn new_key(key: [u8; 32], nonce: [u8; 8]) -> Self
-        requires { can_start };
+        requires { can_start }
+        ensures state { result ≡ at key nonce 0 }
+        ensures position { position result ≡ 0 };
 
-    /// The stream of this key and nonce, at the first byte of the block at this index. Of a ChaCha
-    /// the number of rounds is even.
+    /// The stream of this key and nonce, at the first byte of the block at this index, which is byte
+    /// `index * 64`. For ChaCha the number of rounds is even.
     fn at_block(key: [u8; 32], nonce: [u8; 8], index: u64) -> Self
-        requires { can_start };
+        requires { can_start }
+        ensures state { result ≡ at key nonce index }
+        ensures position { position result ≡ index * 64 }
+        ensures bytes { (n : ℕ) → let sought = Self.requests.after (at key nonce 0) (index * 64) in
+            Self.requests.bytes result n ≡ Self.requests.bytes sought n };
 
-    /// Goes to this byte, forward or back.
-    fn seek(&mut self, byte: u128);
+    /// Goes to this byte, forward or back. Byte 2^70 is byte 0 again.
+    ///
+    /// The state is the one that a request for the bytes before this byte leaves, from byte 0 on.
+    fn seek(&mut self, byte: u128)
+        ensures state { self.new ≡ Self.requests.after (restarted self.old) byte }
+        ensures position { position self.new ≡ byte % 2 ^ 70 }
+        ensures wraps { (n : ℕ) → let sought = Self.requests.after (restarted self.old) in
+            sought (n + 2 ^ 70) ≡ sought n };
 
-    /// The number of the next byte.
-    fn position(&self) -> u128;
+    /// The number of the next byte. A request for n bytes adds n to it, modulo 2^70.
+    fn position(&self) -> u128
+        ensures value { result ≡ position self.now }
+        ensures moves { (n : ℕ) →
+            position (Self.requests.after self.now n) ≡ (position self.now + n) % 2 ^ 70 };
+
+    // Two requests leave, and take, what one of their total size does.
+    ghost states_join: { (g : Self) (m n : ℕ) → let after = Self.requests.after in
+        after (after g m) n ≡ after g (m + n) };
+
+    ghost bytes_join: { (g : Self) (m n : ℕ) → let bytes = Self.requests.bytes in
+        bytes g m ++ bytes (Self.requests.after g m) n ≡ bytes g (m + n) };
+
+    // A request stays in the stream, and so does a beginning at any block.
+    ghost stays: { (g : Self) (n : ℕ) → restarted (Self.requests.after g n) ≡ restarted g };
+
+    ghost starts: { (key nonce : List ℕ) (index : ℕ)
+        → restarted (at key nonce index) ≡ at key nonce 0 };
 }
 
-/// The stream has 2^70 bytes, and after the last one comes the first.
-impl<const ROUNDS: u8> Keystream for BufferedRng<ChaChaGroups<ROUNDS>, 512> {
+/// The stream of this key and nonce, at its byte 0, as `Keystream::new_key` makes it. A call needs no
+/// import of that trait. Precondition: `ROUNDS` is even.
+pub fn chacha_stream<const ROUNDS: u8>(key: [u8; 32], nonce: [u8; 8]) -> ChaChaStream<ROUNDS>
+    requires { ROUNDS % 2 ≡ 0 }
+    ensures state { result ≡ buffer_of [] (initial_state key nonce) }
+    ensures position { stream_position result ≡ 0 }
+{
+    Keystream::new_key(key, nonce)
+}
+
+/// The stream of this key and nonce, at the first byte of the block at this index, as
+/// `Keystream::at_block` makes it. A call needs no import of that trait. Precondition: `ROUNDS` is
+/// even.
+pub fn chacha_stream_at<const ROUNDS: u8>(
+    key: [u8; 32],
+    nonce: [u8; 8],
+    index: u64,
+) -> ChaChaStream<ROUNDS>
+    requires { ROUNDS % 2 ≡ 0 }
+    ensures state { result ≡ buffer_of [] (state_at key nonce index) }
+    ensures position { stream_position result ≡ index * 64 }
+{
+    Keystream::at_block(key, nonce, index)
+}
+
+impl<const ROUNDS: u8> Keystream<512> for BufferedRng<ChaChaGroups<ROUNDS>, 512> {
     ghost can_start = { ROUNDS % 2 ≡ 0 };
+
+    ghost at = { λ key nonce index. buffer_of [] (state_at key nonce index) };
+
+    ghost restarted = { stream_start };
+
+    ghost position = { stream_position };
 
     fn new_key(key: [u8; 32], nonce: [u8; 8]) -> Self
         requires { ROUNDS % 2 ≡ 0 }
-        ensures { result ≡ buffer_of [] (initial_state key nonce) }
+        ensures start { result ≡ buffer_of [] (initial_state key nonce) }
+        ensures state { result ≡ buffer_of [] (state_at key nonce 0) }
+        ensures position { stream_position result ≡ 0 }
     {
         BufferedRng::new(ChaChaGroups::new_key(key, nonce))
     }
 
     fn at_block(key: [u8; 32], nonce: [u8; 8], index: u64) -> Self
         requires { ROUNDS % 2 ≡ 0 }
-        ensures { result ≡ buffer_of [] (state_at key nonce index) }
+        ensures state { result ≡ buffer_of [] (state_at key nonce index) }
+        ensures position { stream_position result ≡ index * 64 }
+        ensures bytes { (n : ℕ) → let start = buffer_of [] (state_at key nonce 0) in
+            let sought = (stream_requests ROUNDS).after start (index * 64) in
+            (stream_requests ROUNDS).bytes result n ≡ (stream_requests ROUNDS).bytes sought n }
     {
         BufferedRng::new(ChaChaGroups::at(key, nonce, index))
     }
 
-    /// Leaves the state that one request for `byte` bytes leaves from byte 0 on.
     fn seek(&mut self, byte: u128)
         ensures state { self.new ≡ (stream_requests ROUNDS).after (stream_start self.old) byte }
         ensures position { stream_position self.new ≡ byte % 2 ^ 70 }
+        ensures wraps { (n : ℕ) →
+            let sought = (stream_requests ROUNDS).after (stream_start self.old) in
+            sought (n + 2 ^ 70) ≡ sought n }
     {
         *self = stream_from(&self.inner().at_index(0), byte);
     }
 
     fn position(&self) -> u128
-        ensures { result ≡ stream_position self.now }
+        ensures value { result ≡ stream_position self.now }
+        ensures moves { (n : ℕ) → let left = (stream_requests ROUNDS).after self.now n in
+            stream_position left ≡ (stream_position self.now + n) % 2 ^ 70 }
     {
         let ahead = u128::from(self.inner().counter()) * 64;
         (ahead + (1 << 70) - self.buffered() as u128) % (1 << 70)
     }
+
+    ghost states_join = { stream_states_join ROUNDS };
+
+    ghost bytes_join = { stream_bytes_join ROUNDS };
+
+    ghost stays = { stream_stays ROUNDS };
+
+    ghost starts = { stream_starts };
 }
 
 /// The period is 2^67 draws, which have eight bytes each.
@@ -85,6 +177,10 @@ impl<const ROUNDS: u8> Parts<512> for BufferedRng<ChaChaGroups<ROUNDS>, 512> {
         ensures begins { let outset = part_at (stream_requests ROUNDS) draws index self.now in
             IfOk result (λ part. part ≡ outset) }
         ensures within { IsOk result ↔ ((index + 1) * draws ≤ 2 ^ 67) }
+        ensures once { IfOk result (λ _. NothingTwice (2 ^ 67)
+            (λ n. after_draws (stream_requests ROUNDS) n self.now)) }
+        ensures again { IfOk result (λ _. ComesAgain (2 ^ 67)
+            (λ n. after_draws (stream_requests ROUNDS) n self.now)) }
     {
         let bytes = draws_before(index, draws, 1 << 67)? * 8;
         let kept = self.rest();
@@ -103,7 +199,8 @@ fn stream_with<const ROUNDS: u8>(
     rest: &[u8],
 ) -> BufferedRng<ChaChaGroups<ROUNDS>, 512>
     requires { length rest.now < 512 }
-    ensures { result ≡ buffer_of rest.now groups.now }
+    ensures state { result ≡ buffer_of rest.now groups.now }
+    ensures matrix { IsMatrix groups.now }
 {
     let groups = groups.at_index(groups.counter());
     BufferedRng::with_rest(groups, rest).unwrap()
@@ -114,7 +211,8 @@ fn stream_from<const ROUNDS: u8>(
     groups: &ChaChaGroups<ROUNDS>,
     bytes: u128,
 ) -> BufferedRng<ChaChaGroups<ROUNDS>, 512>
-    ensures { result ≡ (stream_requests ROUNDS).after (buffer_of [] groups.now) bytes }
+    ensures state { result ≡ (stream_requests ROUNDS).after (buffer_of [] groups.now) bytes }
+    ensures matrix { IsMatrix groups.now }
 {
     let blocks = bytes / 512 % (1 << 61) * 8;
     let index = groups.counter().wrapping_add(blocks as u64);

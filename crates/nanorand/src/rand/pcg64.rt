@@ -5,7 +5,7 @@ ghost use Rattle.std.proofs.Common.{rules};
 ghost use Rattle.nanorand.specs.generators.Entropy.{HasFewer, IsMadeOf, TakesFewer};
 ghost use Rattle.nanorand.specs.generators.Pcg64.{seeded_generator, next, pcg64_after, pcg64_block, reseeded, same_generator, seed_after, SameCycle, initial_generator, pcg64_requests};
 ghost use Rattle.nanorand.specs.generators.DebugTexts.{pcg64_debug};
-ghost use Rattle.nanorand.specs.generators.Parts.{part_at};
+ghost use Rattle.nanorand.specs.generators.Parts.{ComesAgain, NothingTwice, after_draws, part_at};
 ghost use Rattle.nanorand.specs.declared.entropy.EntropyError.TheVariants.{Short, Fault};
 
 use crate::entropy::{EntropyError, system};
@@ -132,10 +132,11 @@ impl Pcg64 {
 
     #[inline]
     fn copied(&self) -> Self
-        ensures { result ≡ self.now }
+        ensures state { result ≡ self.now }
+        ensures fits { self.now.seed < 2 ^ 128 }
     {
         Pcg64 {
-            seed: self.seed,
+            seed: self.seed(),
             state: self.state,
             inc: self.inc,
         }
@@ -242,6 +243,10 @@ impl Parts<8> for Pcg64 {
         ensures begins { let outset = part_at pcg64_requests draws index self.now in
             IfOk result (λ part. part ≡ outset) }
         ensures within { IsOk result ↔ ((index + 1) * draws ≤ 2 ^ 126) }
+        ensures once { IfOk result (λ _. NothingTwice (2 ^ 126)
+            (λ n. after_draws pcg64_requests n self.now)) }
+        ensures again { IfOk result (λ _. ComesAgain (2 ^ 126)
+            (λ n. after_draws pcg64_requests n self.now)) }
     {
         let before = draws_before(index, draws, 1 << 126)?;
         let mut part = self.copied();

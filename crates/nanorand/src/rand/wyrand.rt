@@ -5,7 +5,7 @@ ghost use Rattle.std.proofs.Common.{rules};
 ghost use Rattle.nanorand.specs.generators.Entropy.{HasFewer, IsMadeOf, TakesFewer};
 ghost use Rattle.nanorand.specs.generators.DebugTexts.{wyrand_debug};
 ghost use Rattle.nanorand_core.specs.values.Values.{number_of};
-ghost use Rattle.nanorand.specs.generators.Parts.{part_at};
+ghost use Rattle.nanorand.specs.generators.Parts.{ComesAgain, NothingTwice, after_draws, part_at};
 ghost use Rattle.nanorand.specs.generators.WyRand.{next_seed, wyrand_block, word, seed_after, wyrand_after, wyrand_requests};
 ghost use Rattle.nanorand.specs.declared.entropy.EntropyError.TheVariants.{Short, Fault};
 
@@ -197,6 +197,10 @@ impl Parts<8> for WyRand {
         ensures begins { let outset = part_at wyrand_requests draws index self.now in
             IfOk result (λ part. part ≡ outset) }
         ensures within { IsOk result ↔ ((index + 1) * draws ≤ 2 ^ 64) }
+        ensures once { IfOk result (λ _. NothingTwice (2 ^ 64)
+            (λ n. after_draws wyrand_requests n self.now)) }
+        ensures again { IfOk result (λ _. ComesAgain (2 ^ 64)
+            (λ n. after_draws wyrand_requests n self.now)) }
     {
         let before = draws_before(index, draws, 1 << 64)?;
         let mut part = WyRand { seed: self.seed };

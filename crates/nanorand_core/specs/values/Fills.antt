@@ -1,6 +1,7 @@
 -- What calls of a closure, one for each item, write to a slice. `Call f g x f' g'` says that a call
 -- of the closure f in state g may return x, and leave the closure f' and the state g'.
-use Rattle.std.specs.Prelude.{◌≡◌, Bool, true, List, [], ◌∷◌}
+use Rattle.std.specs.Prelude.{◌≡◌, ℕ, ◌≤◌, Bool, true, List, [], ◌∷◌}
+use Rattle.std.specs.Fn.{iterate}
 
 module _ {F G T : Type 0} (Call : F → G → T → F → G → Type 0) where
   -- Calls one after another, from f and g on, that return these values and leave the state `end`.
@@ -17,6 +18,12 @@ module _ {F G T : Type 0} (Call : F → G → T → F → G → Type 0) where
   abbrev pub EachCallLeaves : (G → G) → Type 0
   EachCallLeaves after =
       (f : F) (g : G) (x : T) (f' : F) (g' : G) → Call f g x f' g' → g' ≡ after g
+
+  -- Every call makes at most `most` steps: it leaves the state after so many.
+  abbrev pub EachCallTakes : (G → G) → ℕ → Type 0
+  EachCallTakes step most =
+      (f : F) (g : G) (x : T) (f' : F) (g' : G) → Call f g x f' g'
+      → (n : ℕ) × (n ≤ most) × (g' ≡ iterate step n g)
 
   -- Every call returns a value that passes the test.
   abbrev pub EachCallPasses : (T → Bool) → Type 0

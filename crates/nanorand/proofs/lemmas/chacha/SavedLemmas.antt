@@ -1,12 +1,13 @@
 -- ChaCha's state, and its key, nonce and counter.
 use Rattle.std.proofs.Common.{◌≡◌, ℕ, zero, suc, ◌+◌, ◌%◌, ◌^◌, ◌<◌, List, [], ◌∷◌, ◌++◌, length, take, drop}
 use Rattle.std.proofs.Common.{slice_index, slice_range, refl, sym, ap, ap₂, ◌∙◌, arith, lit<}
+use Rattle.std.specs.Fn.{iterate}
 use Rattle.std.specs.Int.{w32, from_le_bytes}
 use Rattle.std.proofs.lemmas.List.{get_or-drop}
 use Rattle.std.proofs.lemmas.Nat.{le_bytes_4, from_le_bytes-to_le_bytes_4}
 use Rattle.nanorand.specs.generators.ChaChaRounds.{IsMatrix}
-use Rattle.nanorand.specs.generators.ChaCha.{constants, words, bytes, initial_state, state_at, key_of, nonce_of, counter, with_counter}
-use Rattle.nanorand.specs.support.ChaChaDrawLemmas.{counter-with_counter, chacha_closed}
+use Rattle.nanorand.specs.generators.ChaCha.{constants, words, bytes, initial_state, state_at, key_of, next_state, nonce_of, counter, with_counter}
+use Rattle.nanorand.specs.support.ChaChaDrawLemmas.{counter-with_counter, chacha_closed, chacha_steps, with_counter-twice}
 use Rattle.nanorand.proofs.lemmas.chacha.MatrixLemmas.{sixteen}
 use Rattle.nanorand.proofs.lemmas.chacha.ChaChaStateLemmas.{words_of_8, words_of_32}
 
@@ -52,6 +53,11 @@ bytes-words (a ∷ b ∷ c ∷ d ∷ rest) whole fits =
     (le_bytes_4 (a ∷ b ∷ c ∷ d ∷ []) (from_le_bytes w32 (a ∷ b ∷ c ∷ d ∷ [])) refl (four_bytes a b c d rest fits) refl)
     (bytes-words rest (omega (arith, whole)) (λ k. fits (suc (suc (suc (suc k))))))
 
+-- the state at block 0 is the initial one
+pub state_at-first : (key nonce : List ℕ) → length key ≡ 32 → length nonce ≡ 8 → state_at key nonce 0 ≡ initial_state key nonce
+unfolding state_at initial_state
+state_at-first key nonce key_long nonce_long = rw (words_of_32 key key_long, words_of_8 nonce nonce_long) refl
+
 module _ (key nonce : List ℕ) (n : ℕ) (key_long : length key ≡ 32) (nonce_long : length nonce ≡ 8) where
   pub counter-state_at : counter (state_at key nonce n) ≡ n
   unfolding state_at initial_state
@@ -71,6 +77,18 @@ module _ (key nonce : List ℕ) (n : ℕ) (key_long : length key ≡ 32) (nonce_
       let read : nonce_of (state_at key nonce n) ≡ bytes (words nonce) =
       rw (words_of_32 key key_long, words_of_8 nonce nonce_long) refl in
       read ∙ bytes-words nonce (omega (arith, nonce_long)) fits
+
+-- n blocks after block 0 comes block n
+pub blocks-state_at : (key nonce : List ℕ) → length key ≡ 32 → length nonce ≡ 8 → (n : ℕ) → n < 2 ^ 64
+    → iterate next_state n (state_at key nonce 0) ≡ state_at key nonce n
+unfolding state_at
+blocks-state_at key nonce key_long nonce_long zero fits = refl
+blocks-state_at key nonce key_long nonce_long (suc n) fits =
+    let start = state_at key nonce 0 in
+    let total : (0 + suc n) % 2 ^ 64 ≡ suc n = omega (arith, fits) in
+    chacha_steps (suc n) start
+    ∙ ap (λ (c : ℕ). with_counter start ((c + suc n) % 2 ^ 64)) (counter-state_at key nonce 0 key_long nonce_long)
+    ∙ ap (with_counter start) total ∙ with_counter-twice (initial_state key nonce) 0 (suc n)
 
 -- a part of a list of words has words
 drop-fits : (n : ℕ) (x : List ℕ) → ((k : ℕ) → slice_index x k < 2 ^ 32) → (k : ℕ) → slice_index (drop n x) k < 2 ^ 32

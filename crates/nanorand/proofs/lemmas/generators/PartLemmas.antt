@@ -1,10 +1,10 @@
 -- Parts of a stream: where they begin, that they do not meet, and what tasks write that run on them.
-use Rattle.std.proofs.Common.{◌≡◌, ℕ, zero, suc, ◌+◌, ◌*◌, ◌<◌, ◌≤◌, ◌/◌, ◌%◌, ◌⊎◌, inl, inr, List, [], ◌∷◌, ◌++◌, map, length, get_or, set, refl, sym, ◌∙◌, ap, arith, ⊎_elim}
+use Rattle.std.proofs.Common.{Result, Ok, Err, IsOk, IfOk, ◌≡◌, ℕ, zero, suc, ◌+◌, ◌*◌, ◌<◌, ◌≤◌, ◌/◌, ◌%◌, ◌⊎◌, inl, inr, List, [], ◌∷◌, ◌++◌, map, length, get_or, set, refl, sym, ◌∙◌, ap, arith, ⊎_elim}
 use Rattle.std.proofs.Common.{ext_get_or, get_or-set_other, get_or-set_same, length-set}
-use Rattle.std.proofs.lemmas.Bool.{cases_eq}
+use Rattle.std.proofs.lemmas.Bool.{cases_eq, false≢true}
 use Rattle.std.proofs.lemmas.List.FromFn.{get_or-map-range_with_len, length-map-range_with_len}
 use Rattle.std.proofs.lemmas.Nat.{mul-le, div-mul-add, mod-mul-add}
-use Rattle.std.proofs.Math.Nat.{mod-eq_of_lt, suc-mul, zero-mul}
+use Rattle.std.proofs.Math.Nat.{suc-mul, zero-mul}
 use Rattle.std.specs.Fn.{iterate}
 use Rattle.std.specs.List.{Contains, flat_map, range_with_len}
 use Rattle.nanorand_core.specs.generators.Blocks.{Requests}
@@ -14,7 +14,7 @@ use Rattle.nanorand_core.specs.values.Values.{values_from}
 use Rattle.nanorand_replay.specs.generators.Buffered.{Buffered}
 use Rattle.nanorand_replay.specs.support.BufferedLemmas.{after_add, after_nothing}
 use Rattle.nanorand.specs.generators.ChaChaGroups.{chacha_group, next_group, stream_requests}
-use Rattle.nanorand.specs.generators.Parts.{PartsAreApart, after_draws, numbers, part_at, results_after}
+use Rattle.nanorand.specs.generators.Parts.{NothingTwice, PartsAreApart, after_draws, numbers, part_at, results_after}
 use Rattle.nanorand.specs.support.ChaChaGroupLemmas.{length-chacha_group}
 
 pub draws-leave : {G : Type 0} (requests : Requests G) (n : ℕ) (g : G) → after_draws requests n g ≡ iterate (after_word requests 64) n g
@@ -51,12 +51,17 @@ same_place part i j k l first second same = (
   sym (mod-mul-add i part j first) ∙ ap (λ (n : ℕ). n % part) same ∙ mod-mul-add k part l second,
 )
 
--- parts are apart if indices that look equal agree modulo the period
-pub parts-apart : {S : Type 0} (period : ℕ) (seen : ℕ → S) → ((m n : ℕ) → seen m ≡ seen n → m % period ≡ n % period) → PartsAreApart period seen
-parts-apart period seen agree parts draws i j k l fits one other first second same =
+-- where nothing comes twice, parts are apart
+pub parts-apart : {S : Type 0} (period : ℕ) (seen : ℕ → S) → NothingTwice period seen → PartsAreApart period seen
+parts-apart period seen once parts draws i j k l fits one other first second same =
     let below : i * draws + j < period = place_below parts draws period i j fits one first in
     let over : k * draws + l < period = place_below parts draws period k l fits other second in
-    same_place draws i j k l first second (sym (mod-eq_of_lt below) ∙ agree (i * draws + j) (k * draws + l) same ∙ mod-eq_of_lt over)
+    same_place draws i j k l first second (once (i * draws + j) (k * draws + l) below over same)
+
+-- a fact of every part there is, where there is one
+pub of_the_part : {A E P : Type 0} (result : Result A E) → IsOk result → IfOk result (λ _. P) → P
+of_the_part (Ok part) ok fact = fact
+of_the_part (Err refusal) ok fact = absurd (false≢true ok)
 
 -- The numbers of parts that follow each other.
 module _ {G : Type 0} (word : G → ℕ) (after : G → G) where

@@ -1,20 +1,20 @@
 -- Streams of ChaCha: where a seek leads, and what two streams of the same bytes deliver.
-use Rattle.std.proofs.Common.{◌≡◌, ℕ, ◌+◌, ◌-◌, ◌*◌, ◌/◌, ◌%◌, ◌^◌, ◌<◌, List, [], ◌++◌, length, length-append, drop, sum, sym, ap, ◌∙◌, arith}
+use Rattle.std.proofs.Common.{◌≡◌, ℕ, ◌+◌, ◌-◌, ◌*◌, ◌/◌, ◌%◌, ◌^◌, ◌<◌, List, [], ◌++◌, length, length-append, drop, sum, sym, ap, ap₂, ◌∙◌, arith}
 use Rattle.std.proofs.lemmas.Grind.{div_ceil_times}
 use Rattle.std.proofs.lemmas.List.{drop_at}
 use Rattle.std.specs.Fn.{iterate}
 use Rattle.std.specs.Int.{div_ceil}
-use Rattle.nanorand_core.specs.generators.Blocks.{Requests, blocks, plain_after}
+use Rattle.nanorand_core.specs.generators.Blocks.{Requests, blocks, plain_after, taken}
 use Rattle.nanorand_core.specs.support.BlockLemmas.{length-blocks}
 use Rattle.std.proofs.lemmas.List.{length-drop}
-use Rattle.nanorand_replay.specs.generators.Buffered.{Buffered, buffer_of, buffered_after}
-use Rattle.nanorand_replay.specs.support.BufferedLemmas.{after_add, after_fresh}
+use Rattle.nanorand_replay.specs.generators.Buffered.{Buffered, buffer_of, buffered_after, buffered_taken}
+use Rattle.nanorand_replay.specs.support.BufferedLemmas.{after_add, after_fresh, length-buffered_taken, taken_add, taken_fresh}
 use Rattle.nanorand_replay.specs.replay.Unbroken.{IsUnbroken, taken_all}
-use Rattle.nanorand.specs.generators.ChaCha.{counter, with_counter}
+use Rattle.nanorand.specs.generators.ChaCha.{chacha_block, counter, next_state, with_counter}
 use Rattle.nanorand.specs.generators.ChaChaRounds.{IsMatrix}
 use Rattle.nanorand.specs.generators.ChaChaGroups.{chacha_group, next_group, stream_position, DeliverAlike}
-use Rattle.nanorand.specs.support.ChaChaDrawLemmas.{counter-with_counter, chacha_closed, chacha_counts, chacha_steps}
-use Rattle.nanorand.specs.support.ChaChaGroupLemmas.{length-chacha_group, steps_of_groups}
+use Rattle.nanorand.specs.support.ChaChaDrawLemmas.{counter-with_counter, chacha_closed, chacha_counts, chacha_steps, length-chacha_block}
+use Rattle.nanorand.specs.support.ChaChaGroupLemmas.{length-chacha_group, steps_of_groups, taken_chacha_groups}
 
 module _ (x : List ℕ) (matrix : IsMatrix x) where
   -- q groups later
@@ -41,6 +41,47 @@ module _ (x : List ℕ) (matrix : IsMatrix x) where
       ap (λ b. buffered_after (chacha_group R) next_group 512 b (n % 512)) (sym group)
       ∙ after_add (chacha_group R) next_group 512 positive size start (q * 512) (n % 512)
       ∙ ap (buffered_after (chacha_group R) next_group 512 start) split
+
+  -- n bytes later and m bytes later are the same place if m and n agree modulo 2^70
+  pub bytes_agree : (R m n : ℕ) → m % 2 ^ 70 ≡ n % 2 ^ 70
+      → buffered_after (chacha_group R) next_group 512 (buffer_of [] x) m ≡ buffered_after (chacha_group R) next_group 512 (buffer_of [] x) n
+  bytes_agree R m n agree =
+      let group : m / 512 % 2 ^ 61 ≡ n / 512 % 2 ^ 61 = omega (arith, agree) in
+      let left : m % 512 ≡ n % 512 = omega (arith, agree) in
+      sym (bytes_after R m)
+      ∙ ap₂ (λ (q k : ℕ). buffered_after (chacha_group R) next_group 512 (buffer_of [] (with_counter x ((counter x + q * 8) % 2 ^ 64))) k) group left
+      ∙ bytes_after R n
+
+-- From an empty buffer, a request after one of m bytes takes what the generator has after m bytes.
+bytes_later : {G : Type 0} (block : G → List ℕ) (step : G → G) (output : ℕ) → 0 < output → ((g : G) → length (block g) ≡ output)
+    → (g : G) (m n : ℕ)
+    → buffered_taken block step output (buffered_after block step output (buffer_of [] g) m) n ≡ drop m (taken block step g (m + n))
+bytes_later block step output positive size g m n =
+    let b = buffer_of [] g in
+    sym (drop_at (buffered_taken block step output b m) (buffered_taken block step output (buffered_after block step output b m) n)
+    m (length-buffered_taken block step output positive size b m))
+    ∙ ap (drop m) (sym (taken_add block step output positive size b m n) ∙ taken_fresh block step output positive size g (m + n))
+
+-- a stream takes from its byte 64 * index on what one takes that begins at this block
+pub bytes_of_block : (R : ℕ) (x : List ℕ) (index n : ℕ)
+    → buffered_taken (chacha_group R) next_group 512 (buffer_of [] (iterate next_state index x)) n
+    ≡ buffered_taken (chacha_group R) next_group 512 (buffered_after (chacha_group R) next_group 512 (buffer_of [] x) (index * 64)) n
+bytes_of_block R x index n =
+    let some : 0 < 512 = omega arith in
+    let also : 0 < 64 = omega arith in
+    let even : index * 64 % 64 ≡ 0 = omega arith in
+    let whole : div_ceil (index * 64) 64 ≡ index = omega (arith, div_ceil_times (index * 64) 64 also) in
+    let y = iterate next_state index x in
+    let left : buffered_after (chacha_block R) next_state 64 (buffer_of [] x) (index * 64) ≡ buffer_of [] y =
+    after_fresh (chacha_block R) next_state 64 also (length-chacha_block R) x (index * 64) even
+    ∙ ap (λ (m : ℕ). buffer_of [] (iterate next_state m x)) whole in
+    taken_fresh (chacha_group R) next_group 512 some (length-chacha_group R) y n
+    ∙ taken_chacha_groups R y n
+    ∙ sym (taken_fresh (chacha_block R) next_state 64 also (length-chacha_block R) y n)
+    ∙ ap (λ b. buffered_taken (chacha_block R) next_state 64 b n) (sym left)
+    ∙ bytes_later (chacha_block R) next_state 64 also (length-chacha_block R) x (index * 64) n
+    ∙ ap (drop (index * 64)) (sym (taken_chacha_groups R x (index * 64 + n)))
+    ∙ sym (bytes_later (chacha_group R) next_group 512 some (length-chacha_group R) x (index * 64) n)
 
 -- a request of n bytes moves the number of the next byte by n
 pub position_moves : (R : ℕ) (b : Buffered (List ℕ)) (n : ℕ) → IsMatrix b.inner → length b.rest < 512

@@ -2,7 +2,7 @@ use Rattle.std.proofs.Common.{length, ◌∙◌, ap, arith}
 use Rattle.std.proofs.lemmas.Result.{err_from_is_err_and}
 use Rattle.nanorand_core.specs.shuffles.Arrangements.{rising}
 use Rattle.nanorand_core.specs.shuffles.Shuffles.{from_itself, partner_drawn}
-use Rattle.nanorand_core.proofs.lemmas.shuffles.ShuffleLemmas.{shuffling-start, choice-below, shuffling-step, refused, done, count-refused, count-done}
+use Rattle.nanorand_core.proofs.lemmas.shuffles.ShuffleLemmas.{shuffling-start, choice-below, shuffling-step, refused, done, count-refused, count-done, partial-words}
 use Rattle.nanorand_core.proofs.lemmas.shuffles.RecordLemmas.{completed-whole, recorded-start, recorded-step, recorded}
 use Rattle.nanorand_core.proofs.shuffles.shuffle_and_record.Goals as goal
 
@@ -20,6 +20,7 @@ unfolding partner_drawn
 returns-in_err-partner g c =
     let so_far = c.loop-place.invariant in
     let ended = refused so_far.shuffling c.loop-place-test.true c.in_err-partner.ensures.value (omega arith) (omega arith) in
+    let words = partial-words g.G.Rng.requests from_itself (length c.args.target.now) (length c.args.target.now) c.args.rng.now in
     let size = count-refused so_far.shuffling c.loop-place-test.true c.in_err-partner.ensures.value in
     let stored = recorded so_far (omega arith) size in
     let kept = err_from_is_err_and c.from_residual.result c.from_residual.ensures.1 in
@@ -33,6 +34,7 @@ returns-in_err-partner g c =
       recorded = stored.is;
       valid = stored.valid;
       makes = stored.makes;
+      words = (words.0, words.1, ended.left ∙ words.2);
     })
 
 pub swap-requires : goal.swap-requires
@@ -55,6 +57,7 @@ pub returns : goal.returns
 returns g c =
     let so_far = c.loop-place.invariant in
     let ended = done so_far.shuffling (omega arith) in
+    let words = partial-words g.G.Rng.requests from_itself (length c.args.target.now) (length c.args.target.now) c.args.rng.now in
     let size = count-done so_far.shuffling (omega arith) in
     let stored = recorded so_far (omega arith) size in
     record {
@@ -67,4 +70,5 @@ returns g c =
       recorded = stored.is;
       valid = stored.valid;
       makes = stored.makes;
+      words = (words.0, words.1, ended.left ∙ words.2);
     }

@@ -1,10 +1,10 @@
-use Rattle.std.proofs.Common.{◌≡◌, ◌<◌, ◌∷◌, [], length, take, append_assoc, refl, ap, ◌∙◌, arith, of_calls}
+use Rattle.std.proofs.Common.{◌≡◌, ◌*◌, ◌<◌, ◌≤◌, subst, ◌∷◌, [], length, take, append_assoc, refl, ap, ◌∙◌, arith, of_calls}
 use Rattle.std.proofs.lemmas.List.{take_more_set, take_all, append-nil}
 use Rattle.std.proofs.RetainMut.{Called-Mut}
 use Rattle.std.specs.Fn.{CalledAtMut, iterate}
 use Rattle.nanorand_core.specs.values.Fills.{CallsReturn}
 use Rattle.nanorand_core.specs.values.Values.{values_from}
-use Rattle.nanorand_core.proofs.lemmas.FillLemmas.{values_drawn, state_left, all_pass}
+use Rattle.nanorand_core.proofs.lemmas.FillLemmas.{values_drawn, state_left, steps_taken, all_pass}
 use Rattle.nanorand_core.proofs.values.fill_with.Goals as goal
 
 pub loop-item-preserved : goal.loop-item-preserved
@@ -32,5 +32,8 @@ returns g c =
           ∙ ap (λ n. values_from value after n c.args.rng.now) long;
       state = λ after each. state_left Call after each at.target c.args.draw c.args.rng.now at.rng ran
           ∙ ap (λ n. iterate after n c.args.rng.now) long;
+      words = λ step most each.
+          let taken = steps_taken Call step most each at.target c.args.draw c.args.rng.now at.rng ran in
+          (taken.0, subst (λ count. taken.0 ≤ most * count) long taken.1, taken.2);
       all = λ test each. all_pass Call test each at.target c.args.draw c.args.rng.now at.rng ran;
     }

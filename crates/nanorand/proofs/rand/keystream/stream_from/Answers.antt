@@ -6,8 +6,8 @@ use Rattle.nanorand.specs.generators.ChaChaGroups.{chacha_group, next_group}
 use Rattle.nanorand.proofs.lemmas.generators.StreamLemmas.{bytes_after}
 use Rattle.nanorand.proofs.rand.keystream.stream_from.Goals as goal
 
-pub returns : goal.returns
-returns g c =
+pub returns-clause-state : goal.returns-clause-state
+returns-clause-state g c =
     let x = c.args.groups.now in
     let bytes : ℕ = c.args.bytes in
     let after = buffered_after (chacha_group g.row.ROUNDS) next_group 512 in

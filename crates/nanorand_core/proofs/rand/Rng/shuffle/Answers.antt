@@ -5,7 +5,7 @@ use Rattle.nanorand_core.specs.values.Values.{number_of}
 use Rattle.nanorand_core.specs.shuffles.Shuffles.{from_itself}
 use Rattle.nanorand_core.proofs.lemmas.ranges.DrawLemmas.{Ended, first_word, first_decides, next_word, last_word}
 use Rattle.nanorand_core.proofs.lemmas.shuffles.PartnerLemmas.{partner-number, partner-exhausted, partner-state}
-use Rattle.nanorand_core.proofs.lemmas.shuffles.ShuffleLemmas.{Shuffling, shuffling-start, shuffling-step, refused, done, count-done, choices-valid}
+use Rattle.nanorand_core.proofs.lemmas.shuffles.ShuffleLemmas.{Shuffling, shuffling-start, shuffling-step, refused, done, count-done, choices-valid, partial-words}
 use Rattle.nanorand_core.proofs.lemmas.ValueLemmas.{number_of_8}
 use Rattle.nanorand_core.proofs.rand.Rng.shuffle.Given as Given
 use Rattle.nanorand_core.proofs.rand.Rng.shuffle.Goals as goal
@@ -72,6 +72,7 @@ returns-in-None g c =
     let state = partner-state g.Self.Rng.requests (length c.args.target.now) c.loop-place.place over.start
     c.loop-place-test.true (omega arith) c.if-is_none.self over.draw.state in
     let ended = refused over.so_far c.loop-place-test.true partner (omega arith) (omega arith) in
+    let words = partial-words g.Self.Rng.requests from_itself (length c.args.target.now) (length c.args.target.now) c.args.self.now in
     rw state (record {
       answer = ended.answered;
       refusal = ended.reason;
@@ -80,6 +81,7 @@ returns-in-None g c =
       arrangement = over.so_far.shuffled;
       whole = tt;
       valid = tt;
+      words = (words.0, words.1, ended.left ∙ words.2);
     })
 
 some_over : (g : Given.Over) (c : goal.After-swap-arg-1 g)
@@ -147,6 +149,7 @@ returns g c =
     let so_far = c.loop-place.invariant in
     let ended = done so_far (omega arith) in
     let size = count-done so_far (omega arith) ∙ omega arith in
+    let words = partial-words g.Self.Rng.requests from_itself (length c.args.target.now) (length c.args.target.now) c.args.self.now in
     record {
       answer = ended.answered;
       refusal = ended.reason;
@@ -155,4 +158,5 @@ returns g c =
       arrangement = so_far.shuffled;
       whole = size;
       valid = choices-valid g.Self.Rng.requests (length c.args.target.now) c.args.self.now size;
+      words = (words.0, words.1, ended.left ∙ words.2);
     }

@@ -1,10 +1,10 @@
-use Rattle.std.proofs.Common.{◌≡◌, ℕ, ◌/◌, ◌%◌, ◌^◌, ◌<◌, List, [], length, set, ap, ◌∙◌, arith, length-set, subst}
+use Rattle.std.proofs.Common.{◌≡◌, ℕ, ◌+◌, ◌/◌, ◌%◌, ◌^◌, ◌<◌, List, [], length, set, ap, ◌∙◌, arith, length-set, subst}
 use Rattle.nanorand_replay.specs.generators.Buffered.{buffer_of, buffered_after}
 use Rattle.nanorand.specs.generators.ChaCha.{with_counter}
 use Rattle.nanorand.specs.generators.ChaChaRounds.{IsMatrix}
 use Rattle.nanorand.specs.generators.ChaChaGroups.{chacha_group, next_group, stream_position}
-use Rattle.nanorand.proofs.lemmas.generators.StreamLemmas.{position_after}
-use Rattle.nanorand.proofs.rand.keystream.BufferedRngChaChaGroups512Keystream.seek.Goals as goal
+use Rattle.nanorand.proofs.lemmas.generators.StreamLemmas.{bytes_agree, position_after}
+use Rattle.nanorand.proofs.rand.keystream.BufferedRngChaChaGroups512Keystream512.seek.Goals as goal
 
 -- a state that is a matrix with another counter has both words of a counter
 counter_there : (x : List ℕ) (n : ℕ) → IsMatrix (with_counter x n) → 13 < length x
@@ -16,7 +16,7 @@ counter_there x n matrix =
 pub returns-clause-state : goal.returns-clause-state
 returns-clause-state g c =
     let after = buffered_after (chacha_group g.row.ROUNDS) next_group 512 in
-    c.stream_from.ensures
+    c.stream_from.ensures.state
     ∙ ap (λ x. after (buffer_of [] x) c.args.byte) (c.at_index.ensures.state ∙ ap (λ x. with_counter x 0) c.inner.ensures)
 
 pub returns-clause-position : goal.returns-clause-position
@@ -25,3 +25,9 @@ returns-clause-position g c =
     let start = c.at_index.ensures.state ∙ ap (λ y. with_counter y 0) c.inner.ensures in
     let matrix : IsMatrix (with_counter x 0) = subst IsMatrix start c.at_index.ensures.matrix in
     ap stream_position (returns-clause-state g c) ∙ position_after g.row.ROUNDS x c.args.byte (counter_there x 0 matrix) matrix
+
+pub returns-clause-wraps : goal.returns-clause-wraps
+returns-clause-wraps g c = λ n.
+    let start = c.at_index.ensures.state ∙ ap (λ y. with_counter y 0) c.inner.ensures in
+    bytes_agree (with_counter c.args.self.now.inner 0) (subst IsMatrix start c.at_index.ensures.matrix)
+    g.row.ROUNDS (n + 2 ^ 70) n (omega arith)
