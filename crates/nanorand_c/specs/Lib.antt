@@ -4,3 +4,4 @@ pub mod Sampling
 pub mod ChaChaStates
 pub mod Parts
 pub mod WideNumber
+pub mod Words

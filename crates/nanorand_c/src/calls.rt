@@ -1,11 +1,13 @@
 //! What the exports of every generator share: a call, its result as a status, and what it writes.
-ghost use Rattle.std.specs.Prelude.{◌≡◌, ◌≢◌, ◌<◌, ◌≤◌, ◌≤ℤ◌, All, IsPermutation};
+ghost use Rattle.std.specs.Prelude.{◌≡◌, ◌≢◌, ◌<◌, ◌≤◌, ◌≤ℤ◌, All, IsPermutation, ℕ, ◌*◌, length};
 ghost use Rattle.std.specs.List.{AllPairs};
+ghost use Rattle.nanorand_core.specs.values.Draws.{after_words};
 ghost use Rattle.nanorand_core.specs.shuffles.Shuffles.{from_all, from_itself, shuffled};
 ghost use Rattle.nanorand_c.specs.Between.{between, between_signed};
 ghost use Rattle.nanorand_c.specs.Parts.{parting};
 ghost use Rattle.nanorand_c.specs.Sampling.{sampling};
 ghost use Rattle.nanorand_c.specs.Status.{drawn_or, status};
+ghost use Rattle.nanorand_c.specs.Words.{IsAfterAtMost};
 
 use crate::status::{hand_over, status};
 use nanorand::values::range::draw_number;
@@ -23,6 +25,7 @@ pub(crate) fn range_u32<G: Rng<OUTPUT>, const OUTPUT: usize>(
         number.new ≡ drawn_or number.old draw.0 }
     ensures within { result ≡ 0 → (first ≤ number.new) × (number.new ≤ last) }
     ensures state { rng.new ≡ (between G.requests 32 first last rng.old).1 }
+    ensures words { IsAfterAtMost 128 (λ n. after_words G.requests 32 n rng.old) rng.new }
 {
     let outcome = draw_number(rng, Bound::Included(first), Bound::Included(last));
     hand_over(&outcome, number)
@@ -39,6 +42,7 @@ pub(crate) fn range_u64<G: Rng<OUTPUT>, const OUTPUT: usize>(
         number.new ≡ drawn_or number.old draw.0 }
     ensures within { result ≡ 0 → (first ≤ number.new) × (number.new ≤ last) }
     ensures state { rng.new ≡ (between G.requests 64 first last rng.old).1 }
+    ensures words { IsAfterAtMost 128 (λ n. after_words G.requests 64 n rng.old) rng.new }
 {
     let outcome = draw_number(rng, Bound::Included(first), Bound::Included(last));
     hand_over(&outcome, number)
@@ -55,6 +59,7 @@ pub(crate) fn range_i64<G: Rng<OUTPUT>, const OUTPUT: usize>(
         number.new ≡ drawn_or number.old draw.0 }
     ensures within { result ≡ 0 → (first ≤ℤ number.new) × (number.new ≤ℤ last) }
     ensures state { rng.new ≡ (between_signed G.requests 64 first last rng.old).1 }
+    ensures words { IsAfterAtMost 128 (λ n. after_words G.requests 64 n rng.old) rng.new }
 {
     let outcome = draw_number(rng, Bound::Included(first), Bound::Included(last));
     hand_over(&outcome, number)
@@ -71,6 +76,7 @@ pub(crate) fn range_usize<G: Rng<OUTPUT>, const OUTPUT: usize>(
         number.new ≡ drawn_or number.old draw.0 }
     ensures within { result ≡ 0 → (first ≤ number.new) × (number.new ≤ last) }
     ensures state { rng.new ≡ (between G.requests 64 first last rng.old).1 }
+    ensures words { IsAfterAtMost 128 (λ n. after_words G.requests 64 n rng.old) rng.new }
 {
     let outcome = draw_number(rng, Bound::Included(first), Bound::Included(last));
     hand_over(&outcome, number)
@@ -81,6 +87,8 @@ pub(crate) fn shuffle<G: Rng<OUTPUT>, const OUTPUT: usize>(rng: &mut G, items: &
         result ≡ status shuffle.answer }
     ensures items { items.new ≡ (shuffled G.requests from_itself rng.old items.old).items }
     ensures state { rng.new ≡ (shuffled G.requests from_itself rng.old items.old).state }
+    ensures words { let after = λ (n : ℕ). after_words G.requests 64 n rng.old in
+        IsAfterAtMost (128 * length items.old) after rng.new }
     ensures arrangement { IsPermutation items.old items.new }
 {
     let outcome = rng.shuffle(items);
@@ -95,6 +103,8 @@ pub(crate) fn shuffle_full<G: Rng<OUTPUT>, const OUTPUT: usize>(
         result ≡ status shuffle.answer }
     ensures items { items.new ≡ (shuffled G.requests from_all rng.old items.old).items }
     ensures state { rng.new ≡ (shuffled G.requests from_all rng.old items.old).state }
+    ensures words { let after = λ (n : ℕ). after_words G.requests 64 n rng.old in
+        IsAfterAtMost (128 * length items.old) after rng.new }
     ensures arrangement { IsPermutation items.old items.new }
 {
     let outcome = shuffles::shuffle_full(rng, items);
@@ -109,6 +119,8 @@ pub(crate) fn sample<G: Rng<OUTPUT>, const OUTPUT: usize>(
     ensures status { result ≡ (sampling G.requests count rng.old places.old).status }
     ensures places { places.new ≡ (sampling G.requests count rng.old places.old).places }
     ensures state { rng.new ≡ (sampling G.requests count rng.old places.old).state }
+    ensures words { let after = λ (n : ℕ). after_words G.requests 64 n rng.old in
+        IsAfterAtMost (128 * length places.old) after rng.new }
     ensures below { result ≡ 0 → All (λ number. number < count) places.new }
     ensures apart { result ≡ 0 → AllPairs (λ number other. number ≢ other) places.new }
 {

@@ -1,6 +1,7 @@
 //! ChaCha with 12 rounds, fewer than the standard has. Each request begins a new block.
-ghost use Rattle.std.specs.Prelude.{◌≡◌, ◌≢◌, ◌<◌, ◌≤◌, ◌≤ℤ◌, All, IsPermutation, length, ◌+◌, ◌%◌, ◌^◌};
+ghost use Rattle.std.specs.Prelude.{◌≡◌, ◌≢◌, ◌<◌, ◌≤◌, ◌≤ℤ◌, All, IsPermutation, length, ◌+◌, ◌%◌, ◌^◌, ℕ, ◌*◌};
 ghost use Rattle.std.specs.List.{AllPairs};
+ghost use Rattle.nanorand_core.specs.values.Draws.{after_words};
 ghost use Rattle.nanorand_core.specs.shuffles.Shuffles.{from_all, from_itself, shuffled};
 ghost use Rattle.nanorand_core.specs.values.Values.{number_of};
 ghost use Rattle.std.specs.Int.{div_ceil};
@@ -10,6 +11,7 @@ ghost use Rattle.nanorand_c.specs.ChaChaStates.{chacha_at};
 ghost use Rattle.nanorand_c.specs.Parts.{parting};
 ghost use Rattle.nanorand_c.specs.Sampling.{sampling};
 ghost use Rattle.nanorand_c.specs.Status.{drawn_or, status};
+ghost use Rattle.nanorand_c.specs.Words.{IsAfterAtMost};
 
 use crate::calls::{
     part, range_i64, range_u32, range_u64, range_usize, sample, shuffle, shuffle_full,
@@ -72,6 +74,9 @@ pub extern "C" fn nanorand_v1_chacha12_range_u32(
     ensures within { result ≡ 0 → (first ≤ number.new) × (number.new ≤ last) }
     ensures state { let draw = between (chacha_requests 12) 32 first last (chacha_at state.old) in
         chacha_at state.new ≡ draw.1 }
+    ensures words { let start = chacha_at state.old in
+        let after = λ (n : ℕ). after_words (chacha_requests 12) 32 n start in
+        IsAfterAtMost 128 after (chacha_at state.new) }
 {
     let mut rng = loaded::<12>(state);
     let status = range_u32(&mut rng, first, last, number);
@@ -94,6 +99,9 @@ pub extern "C" fn nanorand_v1_chacha12_range_u64(
     ensures within { result ≡ 0 → (first ≤ number.new) × (number.new ≤ last) }
     ensures state { let draw = between (chacha_requests 12) 64 first last (chacha_at state.old) in
         chacha_at state.new ≡ draw.1 }
+    ensures words { let start = chacha_at state.old in
+        let after = λ (n : ℕ). after_words (chacha_requests 12) 64 n start in
+        IsAfterAtMost 128 after (chacha_at state.new) }
 {
     let mut rng = loaded::<12>(state);
     let status = range_u64(&mut rng, first, last, number);
@@ -120,6 +128,9 @@ pub extern "C" fn nanorand_v1_chacha12_range_i64(
     ensures state { let start = chacha_at state.old in
         let draw = between_signed (chacha_requests 12) 64 first last start in
         chacha_at state.new ≡ draw.1 }
+    ensures words { let start = chacha_at state.old in
+        let after = λ (n : ℕ). after_words (chacha_requests 12) 64 n start in
+        IsAfterAtMost 128 after (chacha_at state.new) }
 {
     let mut rng = loaded::<12>(state);
     let status = range_i64(&mut rng, first, last, number);
@@ -143,6 +154,9 @@ pub extern "C" fn nanorand_v1_chacha12_range_usize(
     ensures within { result ≡ 0 → (first ≤ number.new) × (number.new ≤ last) }
     ensures state { let draw = between (chacha_requests 12) 64 first last (chacha_at state.old) in
         chacha_at state.new ≡ draw.1 }
+    ensures words { let start = chacha_at state.old in
+        let after = λ (n : ℕ). after_words (chacha_requests 12) 64 n start in
+        IsAfterAtMost 128 after (chacha_at state.new) }
 {
     let mut rng = loaded::<12>(state);
     let status = range_usize(&mut rng, first, last, number);
@@ -164,6 +178,9 @@ pub extern "C" fn nanorand_v1_chacha12_shuffle(state: &mut ChaChaState, items: &
     ensures state { let start = chacha_at state.old in
         let shuffle = shuffled (chacha_requests 12) from_itself start items.old in
         chacha_at state.new ≡ shuffle.state }
+    ensures words { let start = chacha_at state.old in
+        let after = λ (n : ℕ). after_words (chacha_requests 12) 64 n start in
+        IsAfterAtMost (128 * length items.old) after (chacha_at state.new) }
     ensures arrangement { IsPermutation items.old items.new }
 {
     let mut rng = loaded::<12>(state);
@@ -188,6 +205,9 @@ pub extern "C" fn nanorand_v1_chacha12_shuffle_full(
     ensures state { let start = chacha_at state.old in
         let shuffle = shuffled (chacha_requests 12) from_all start items.old in
         chacha_at state.new ≡ shuffle.state }
+    ensures words { let start = chacha_at state.old in
+        let after = λ (n : ℕ). after_words (chacha_requests 12) 64 n start in
+        IsAfterAtMost (128 * length items.old) after (chacha_at state.new) }
     ensures arrangement { IsPermutation items.old items.new }
 {
     let mut rng = loaded::<12>(state);
@@ -215,6 +235,9 @@ pub extern "C" fn nanorand_v1_chacha12_sample(
     ensures state { let start = chacha_at state.old in
         let sample = sampling (chacha_requests 12) count start places.old in
         chacha_at state.new ≡ sample.state }
+    ensures words { let start = chacha_at state.old in
+        let after = λ (n : ℕ). after_words (chacha_requests 12) 64 n start in
+        IsAfterAtMost (128 * length places.old) after (chacha_at state.new) }
     ensures below { result ≡ 0 → All (λ number. number < count) places.new }
     ensures apart { result ≡ 0 → AllPairs (λ number other. number ≢ other) places.new }
 {

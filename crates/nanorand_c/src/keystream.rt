@@ -1,9 +1,10 @@
 //! The key stream of ChaCha with 20 rounds without a gap, which computes eight blocks at once.
 //!
 //! The law `nanorand::laws::streams_deliver_chacha` says that it delivers what `Stream` delivers.
-ghost use Rattle.std.specs.Prelude.{◌≡◌, ◌≢◌, ◌<◌, ◌≤◌, ◌≤ℤ◌, All, IsPermutation, length, ◌^◌};
+ghost use Rattle.std.specs.Prelude.{◌≡◌, ◌≢◌, ◌<◌, ◌≤◌, ◌≤ℤ◌, All, IsPermutation, length, ◌^◌, ℕ, ◌*◌};
 ghost use Rattle.std.specs.Bool.{OnFalse, OnTrue};
 ghost use Rattle.std.specs.List.{AllPairs};
+ghost use Rattle.nanorand_core.specs.values.Draws.{after_words};
 ghost use Rattle.nanorand_core.specs.shuffles.Shuffles.{from_all, from_itself, shuffled};
 ghost use Rattle.nanorand_core.specs.values.Values.{number_of};
 ghost use Rattle.nanorand_c.specs.Between.{between, between_signed};
@@ -11,6 +12,7 @@ ghost use Rattle.nanorand_c.specs.ChaChaStates.{groups_at, by_groups};
 ghost use Rattle.nanorand_c.specs.Parts.{parting};
 ghost use Rattle.nanorand_c.specs.Sampling.{sampling};
 ghost use Rattle.nanorand_c.specs.Status.{drawn_or, status};
+ghost use Rattle.nanorand_c.specs.Words.{IsAfterAtMost};
 
 use crate::calls::{
     part, range_i64, range_u32, range_u64, range_usize, sample, shuffle, shuffle_full,
@@ -134,6 +136,9 @@ pub extern "C" fn nanorand_v1_keystream_range_u32(
     ensures within { result ≡ 0 → (first ≤ number.new) × (number.new ≤ last) }
     ensures state { let draw = between by_groups 32 first last (groups_at stream.old) in
         groups_at stream.new ≡ draw.1 }
+    ensures words { let start = groups_at stream.old in
+        let after = λ (n : ℕ). after_words by_groups 32 n start in
+        IsAfterAtMost 128 after (groups_at stream.new) }
     ensures buffered { stream.new.buffered < 512 }
 {
     let mut rng = loaded(stream);
@@ -157,6 +162,9 @@ pub extern "C" fn nanorand_v1_keystream_range_u64(
     ensures within { result ≡ 0 → (first ≤ number.new) × (number.new ≤ last) }
     ensures state { let draw = between by_groups 64 first last (groups_at stream.old) in
         groups_at stream.new ≡ draw.1 }
+    ensures words { let start = groups_at stream.old in
+        let after = λ (n : ℕ). after_words by_groups 64 n start in
+        IsAfterAtMost 128 after (groups_at stream.new) }
     ensures buffered { stream.new.buffered < 512 }
 {
     let mut rng = loaded(stream);
@@ -184,6 +192,9 @@ pub extern "C" fn nanorand_v1_keystream_range_i64(
     ensures state { let start = groups_at stream.old in
         let draw = between_signed by_groups 64 first last start in
         groups_at stream.new ≡ draw.1 }
+    ensures words { let start = groups_at stream.old in
+        let after = λ (n : ℕ). after_words by_groups 64 n start in
+        IsAfterAtMost 128 after (groups_at stream.new) }
     ensures buffered { stream.new.buffered < 512 }
 {
     let mut rng = loaded(stream);
@@ -208,6 +219,9 @@ pub extern "C" fn nanorand_v1_keystream_range_usize(
     ensures within { result ≡ 0 → (first ≤ number.new) × (number.new ≤ last) }
     ensures state { let draw = between by_groups 64 first last (groups_at stream.old) in
         groups_at stream.new ≡ draw.1 }
+    ensures words { let start = groups_at stream.old in
+        let after = λ (n : ℕ). after_words by_groups 64 n start in
+        IsAfterAtMost 128 after (groups_at stream.new) }
     ensures buffered { stream.new.buffered < 512 }
 {
     let mut rng = loaded(stream);
@@ -230,6 +244,9 @@ pub extern "C" fn nanorand_v1_keystream_shuffle(stream: &mut GroupStream, items:
     ensures state { let start = groups_at stream.old in
         let shuffle = shuffled by_groups from_itself start items.old in
         groups_at stream.new ≡ shuffle.state }
+    ensures words { let start = groups_at stream.old in
+        let after = λ (n : ℕ). after_words by_groups 64 n start in
+        IsAfterAtMost (128 * length items.old) after (groups_at stream.new) }
     ensures arrangement { IsPermutation items.old items.new }
     ensures buffered { stream.new.buffered < 512 }
 {
@@ -255,6 +272,9 @@ pub extern "C" fn nanorand_v1_keystream_shuffle_full(
     ensures state { let start = groups_at stream.old in
         let shuffle = shuffled by_groups from_all start items.old in
         groups_at stream.new ≡ shuffle.state }
+    ensures words { let start = groups_at stream.old in
+        let after = λ (n : ℕ). after_words by_groups 64 n start in
+        IsAfterAtMost (128 * length items.old) after (groups_at stream.new) }
     ensures arrangement { IsPermutation items.old items.new }
     ensures buffered { stream.new.buffered < 512 }
 {
@@ -282,6 +302,9 @@ pub extern "C" fn nanorand_v1_keystream_sample(
         places.new ≡ sampling.places }
     ensures state { let sample = sampling by_groups count (groups_at stream.old) places.old in
         groups_at stream.new ≡ sample.state }
+    ensures words { let start = groups_at stream.old in
+        let after = λ (n : ℕ). after_words by_groups 64 n start in
+        IsAfterAtMost (128 * length places.old) after (groups_at stream.new) }
     ensures below { result ≡ 0 → All (λ number. number < count) places.new }
     ensures apart { result ≡ 0 → AllPairs (λ number other. number ≢ other) places.new }
     ensures buffered { stream.new.buffered < 512 }

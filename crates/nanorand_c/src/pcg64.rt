@@ -1,6 +1,7 @@
 //! Pcg64. Its seed is the caller's memory, and each draw advances it. Not cryptographically secure.
-ghost use Rattle.std.specs.Prelude.{◌≡◌, ◌≢◌, ◌<◌, ◌≤◌, ◌≤ℤ◌, All, IsPermutation, length, ◌^◌};
+ghost use Rattle.std.specs.Prelude.{◌≡◌, ◌≢◌, ◌<◌, ◌≤◌, ◌≤ℤ◌, All, IsPermutation, length, ◌^◌, ℕ, ◌*◌};
 ghost use Rattle.std.specs.List.{AllPairs};
+ghost use Rattle.nanorand_core.specs.values.Draws.{after_words};
 ghost use Rattle.nanorand_core.specs.shuffles.Shuffles.{from_all, from_itself, shuffled};
 ghost use Rattle.nanorand_core.specs.values.Values.{number_of};
 ghost use Rattle.nanorand.specs.generators.Pcg64.{pcg64_requests, seed_after};
@@ -8,6 +9,7 @@ ghost use Rattle.nanorand_c.specs.Between.{between, between_signed};
 ghost use Rattle.nanorand_c.specs.Parts.{parting};
 ghost use Rattle.nanorand_c.specs.Sampling.{sampling};
 ghost use Rattle.nanorand_c.specs.Status.{drawn_or, status};
+ghost use Rattle.nanorand_c.specs.Words.{IsAfterAtMost};
 ghost use Rattle.nanorand_c.specs.WideNumber.{at_seed, wide_number};
 
 use crate::calls::{
@@ -58,6 +60,9 @@ pub extern "C" fn nanorand_v1_pcg64_range_u32(
     ensures within { result ≡ 0 → (first ≤ number.new) × (number.new ≤ last) }
     ensures seed { let draw = between pcg64_requests 32 first last (at_seed seed.old) in
         wide_number seed.new ≡ draw.1.seed }
+    ensures words { let start = at_seed seed.old in
+        let after = λ (n : ℕ). (after_words pcg64_requests 32 n start).seed in
+        IsAfterAtMost 128 after (wide_number seed.new) }
 {
     let mut rng = Pcg64::new_seed(joined(seed));
     let status = range_u32(&mut rng, first, last, number);
@@ -80,6 +85,9 @@ pub extern "C" fn nanorand_v1_pcg64_range_u64(
     ensures within { result ≡ 0 → (first ≤ number.new) × (number.new ≤ last) }
     ensures seed { let draw = between pcg64_requests 64 first last (at_seed seed.old) in
         wide_number seed.new ≡ draw.1.seed }
+    ensures words { let start = at_seed seed.old in
+        let after = λ (n : ℕ). (after_words pcg64_requests 64 n start).seed in
+        IsAfterAtMost 128 after (wide_number seed.new) }
 {
     let mut rng = Pcg64::new_seed(joined(seed));
     let status = range_u64(&mut rng, first, last, number);
@@ -103,6 +111,9 @@ pub extern "C" fn nanorand_v1_pcg64_range_i64(
     ensures within { result ≡ 0 → (first ≤ℤ number.new) × (number.new ≤ℤ last) }
     ensures seed { let draw = between_signed pcg64_requests 64 first last (at_seed seed.old) in
         wide_number seed.new ≡ draw.1.seed }
+    ensures words { let start = at_seed seed.old in
+        let after = λ (n : ℕ). (after_words pcg64_requests 64 n start).seed in
+        IsAfterAtMost 128 after (wide_number seed.new) }
 {
     let mut rng = Pcg64::new_seed(joined(seed));
     let status = range_i64(&mut rng, first, last, number);
@@ -126,6 +137,9 @@ pub extern "C" fn nanorand_v1_pcg64_range_usize(
     ensures within { result ≡ 0 → (first ≤ number.new) × (number.new ≤ last) }
     ensures seed { let draw = between pcg64_requests 64 first last (at_seed seed.old) in
         wide_number seed.new ≡ draw.1.seed }
+    ensures words { let start = at_seed seed.old in
+        let after = λ (n : ℕ). (after_words pcg64_requests 64 n start).seed in
+        IsAfterAtMost 128 after (wide_number seed.new) }
 {
     let mut rng = Pcg64::new_seed(joined(seed));
     let status = range_usize(&mut rng, first, last, number);
@@ -146,6 +160,9 @@ pub extern "C" fn nanorand_v1_pcg64_shuffle(seed: &mut Wide, items: &mut [usize]
         items.new ≡ shuffle.items }
     ensures seed { let shuffle = shuffled pcg64_requests from_itself (at_seed seed.old) items.old in
         wide_number seed.new ≡ shuffle.state.seed }
+    ensures words { let start = at_seed seed.old in
+        let after = λ (n : ℕ). (after_words pcg64_requests 64 n start).seed in
+        IsAfterAtMost (128 * length items.old) after (wide_number seed.new) }
     ensures arrangement { IsPermutation items.old items.new }
 {
     let mut rng = Pcg64::new_seed(joined(seed));
@@ -164,6 +181,9 @@ pub extern "C" fn nanorand_v1_pcg64_shuffle_full(seed: &mut Wide, items: &mut [u
         items.new ≡ shuffle.items }
     ensures seed { let shuffle = shuffled pcg64_requests from_all (at_seed seed.old) items.old in
         wide_number seed.new ≡ shuffle.state.seed }
+    ensures words { let start = at_seed seed.old in
+        let after = λ (n : ℕ). (after_words pcg64_requests 64 n start).seed in
+        IsAfterAtMost (128 * length items.old) after (wide_number seed.new) }
     ensures arrangement { IsPermutation items.old items.new }
 {
     let mut rng = Pcg64::new_seed(joined(seed));
@@ -188,6 +208,9 @@ pub extern "C" fn nanorand_v1_pcg64_sample(
         places.new ≡ sampling.places }
     ensures seed { let sample = sampling pcg64_requests count (at_seed seed.old) places.old in
         wide_number seed.new ≡ sample.state.seed }
+    ensures words { let start = at_seed seed.old in
+        let after = λ (n : ℕ). (after_words pcg64_requests 64 n start).seed in
+        IsAfterAtMost (128 * length places.old) after (wide_number seed.new) }
     ensures below { result ≡ 0 → All (λ number. number < count) places.new }
     ensures apart { result ≡ 0 → AllPairs (λ number other. number ≢ other) places.new }
 {

@@ -1,13 +1,15 @@
 //! The key stream of ChaCha with 20 rounds without a gap: a generator that buffers the bytes that a
 //! request leaves over.
-ghost use Rattle.std.specs.Prelude.{◌≡◌, ◌≢◌, ◌<◌, ◌≤◌, ◌≤ℤ◌, All, IsPermutation, length};
+ghost use Rattle.std.specs.Prelude.{◌≡◌, ◌≢◌, ◌<◌, ◌≤◌, ◌≤ℤ◌, All, IsPermutation, length, ℕ, ◌*◌};
 ghost use Rattle.std.specs.List.{AllPairs};
+ghost use Rattle.nanorand_core.specs.values.Draws.{after_words};
 ghost use Rattle.nanorand_core.specs.shuffles.Shuffles.{from_all, from_itself, shuffled};
 ghost use Rattle.nanorand_core.specs.values.Values.{number_of};
 ghost use Rattle.nanorand_c.specs.Between.{between, between_signed};
 ghost use Rattle.nanorand_c.specs.ChaChaStates.{stream_at, stream_requests};
 ghost use Rattle.nanorand_c.specs.Sampling.{sampling};
 ghost use Rattle.nanorand_c.specs.Status.{drawn_or, status};
+ghost use Rattle.nanorand_c.specs.Words.{IsAfterAtMost};
 
 use crate::calls::{range_i64, range_u32, range_u64, range_usize, sample, shuffle, shuffle_full};
 use crate::chacha::{self, ChaChaState};
@@ -86,6 +88,9 @@ pub extern "C" fn nanorand_v1_stream_range_u32(
     ensures within { result ≡ 0 → (first ≤ number.new) × (number.new ≤ last) }
     ensures state { let draw = between stream_requests 32 first last (stream_at stream.old) in
         stream_at stream.new ≡ draw.1 }
+    ensures words { let start = stream_at stream.old in
+        let after = λ (n : ℕ). after_words stream_requests 32 n start in
+        IsAfterAtMost 128 after (stream_at stream.new) }
     ensures buffered { stream.new.buffered < 64 }
 {
     let mut rng = loaded(stream);
@@ -109,6 +114,9 @@ pub extern "C" fn nanorand_v1_stream_range_u64(
     ensures within { result ≡ 0 → (first ≤ number.new) × (number.new ≤ last) }
     ensures state { let draw = between stream_requests 64 first last (stream_at stream.old) in
         stream_at stream.new ≡ draw.1 }
+    ensures words { let start = stream_at stream.old in
+        let after = λ (n : ℕ). after_words stream_requests 64 n start in
+        IsAfterAtMost 128 after (stream_at stream.new) }
     ensures buffered { stream.new.buffered < 64 }
 {
     let mut rng = loaded(stream);
@@ -136,6 +144,9 @@ pub extern "C" fn nanorand_v1_stream_range_i64(
     ensures state { let start = stream_at stream.old in
         let draw = between_signed stream_requests 64 first last start in
         stream_at stream.new ≡ draw.1 }
+    ensures words { let start = stream_at stream.old in
+        let after = λ (n : ℕ). after_words stream_requests 64 n start in
+        IsAfterAtMost 128 after (stream_at stream.new) }
     ensures buffered { stream.new.buffered < 64 }
 {
     let mut rng = loaded(stream);
@@ -160,6 +171,9 @@ pub extern "C" fn nanorand_v1_stream_range_usize(
     ensures within { result ≡ 0 → (first ≤ number.new) × (number.new ≤ last) }
     ensures state { let draw = between stream_requests 64 first last (stream_at stream.old) in
         stream_at stream.new ≡ draw.1 }
+    ensures words { let start = stream_at stream.old in
+        let after = λ (n : ℕ). after_words stream_requests 64 n start in
+        IsAfterAtMost 128 after (stream_at stream.new) }
     ensures buffered { stream.new.buffered < 64 }
 {
     let mut rng = loaded(stream);
@@ -182,6 +196,9 @@ pub extern "C" fn nanorand_v1_stream_shuffle(stream: &mut Stream, items: &mut [u
     ensures state { let start = stream_at stream.old in
         let shuffle = shuffled stream_requests from_itself start items.old in
         stream_at stream.new ≡ shuffle.state }
+    ensures words { let start = stream_at stream.old in
+        let after = λ (n : ℕ). after_words stream_requests 64 n start in
+        IsAfterAtMost (128 * length items.old) after (stream_at stream.new) }
     ensures arrangement { IsPermutation items.old items.new }
     ensures buffered { stream.new.buffered < 64 }
 {
@@ -204,6 +221,9 @@ pub extern "C" fn nanorand_v1_stream_shuffle_full(stream: &mut Stream, items: &m
     ensures state { let start = stream_at stream.old in
         let shuffle = shuffled stream_requests from_all start items.old in
         stream_at stream.new ≡ shuffle.state }
+    ensures words { let start = stream_at stream.old in
+        let after = λ (n : ℕ). after_words stream_requests 64 n start in
+        IsAfterAtMost (128 * length items.old) after (stream_at stream.new) }
     ensures arrangement { IsPermutation items.old items.new }
     ensures buffered { stream.new.buffered < 64 }
 {
@@ -231,6 +251,9 @@ pub extern "C" fn nanorand_v1_stream_sample(
         places.new ≡ sampling.places }
     ensures state { let sample = sampling stream_requests count (stream_at stream.old) places.old in
         stream_at stream.new ≡ sample.state }
+    ensures words { let start = stream_at stream.old in
+        let after = λ (n : ℕ). after_words stream_requests 64 n start in
+        IsAfterAtMost (128 * length places.old) after (stream_at stream.new) }
     ensures below { result ≡ 0 → All (λ number. number < count) places.new }
     ensures apart { result ≡ 0 → AllPairs (λ number other. number ≢ other) places.new }
     ensures buffered { stream.new.buffered < 64 }

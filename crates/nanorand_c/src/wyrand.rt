@@ -1,6 +1,7 @@
 //! WyRand. The generator itself is the caller's memory. Not cryptographically secure.
-ghost use Rattle.std.specs.Prelude.{◌≡◌, ◌≢◌, ◌<◌, ◌≤◌, ◌≤ℤ◌, All, IsPermutation, length, ◌^◌};
+ghost use Rattle.std.specs.Prelude.{◌≡◌, ◌≢◌, ◌<◌, ◌≤◌, ◌≤ℤ◌, All, IsPermutation, length, ◌^◌, ℕ, ◌*◌};
 ghost use Rattle.std.specs.List.{AllPairs};
+ghost use Rattle.nanorand_core.specs.values.Draws.{after_words};
 ghost use Rattle.nanorand_core.specs.shuffles.Shuffles.{from_all, from_itself, shuffled};
 ghost use Rattle.nanorand_core.specs.values.Values.{number_of};
 ghost use Rattle.nanorand.specs.generators.WyRand.{seed_after, wyrand_requests};
@@ -8,6 +9,7 @@ ghost use Rattle.nanorand_c.specs.Between.{between, between_signed};
 ghost use Rattle.nanorand_c.specs.Parts.{parting};
 ghost use Rattle.nanorand_c.specs.Sampling.{sampling};
 ghost use Rattle.nanorand_c.specs.Status.{drawn_or, status};
+ghost use Rattle.nanorand_c.specs.Words.{IsAfterAtMost};
 
 use crate::calls::{
     part, range_i64, range_u32, range_u64, range_usize, sample, shuffle, shuffle_full,
@@ -56,6 +58,7 @@ pub extern "C" fn nanorand_v1_wyrand_range_u32(
         number.new ≡ drawn_or number.old draw.0 }
     ensures within { result ≡ 0 → (first ≤ number.new) × (number.new ≤ last) }
     ensures state { rng.new ≡ (between wyrand_requests 32 first last rng.old).1 }
+    ensures words { IsAfterAtMost 128 (λ n. after_words wyrand_requests 32 n rng.old) rng.new }
 {
     range_u32(rng, first, last, number)
 }
@@ -74,6 +77,7 @@ pub extern "C" fn nanorand_v1_wyrand_range_u64(
         number.new ≡ drawn_or number.old draw.0 }
     ensures within { result ≡ 0 → (first ≤ number.new) × (number.new ≤ last) }
     ensures state { rng.new ≡ (between wyrand_requests 64 first last rng.old).1 }
+    ensures words { IsAfterAtMost 128 (λ n. after_words wyrand_requests 64 n rng.old) rng.new }
 {
     range_u64(rng, first, last, number)
 }
@@ -93,6 +97,7 @@ pub extern "C" fn nanorand_v1_wyrand_range_i64(
         number.new ≡ drawn_or number.old draw.0 }
     ensures within { result ≡ 0 → (first ≤ℤ number.new) × (number.new ≤ℤ last) }
     ensures state { rng.new ≡ (between_signed wyrand_requests 64 first last rng.old).1 }
+    ensures words { IsAfterAtMost 128 (λ n. after_words wyrand_requests 64 n rng.old) rng.new }
 {
     range_i64(rng, first, last, number)
 }
@@ -112,6 +117,7 @@ pub extern "C" fn nanorand_v1_wyrand_range_usize(
         number.new ≡ drawn_or number.old draw.0 }
     ensures within { result ≡ 0 → (first ≤ number.new) × (number.new ≤ last) }
     ensures state { rng.new ≡ (between wyrand_requests 64 first last rng.old).1 }
+    ensures words { IsAfterAtMost 128 (λ n. after_words wyrand_requests 64 n rng.old) rng.new }
 {
     range_usize(rng, first, last, number)
 }
@@ -126,6 +132,8 @@ pub extern "C" fn nanorand_v1_wyrand_shuffle(rng: &mut WyRand, items: &mut [usiz
     ensures items { let shuffle = shuffled wyrand_requests from_itself rng.old items.old in
         items.new ≡ shuffle.items }
     ensures state { rng.new ≡ (shuffled wyrand_requests from_itself rng.old items.old).state }
+    ensures words { let after = λ (n : ℕ). after_words wyrand_requests 64 n rng.old in
+        IsAfterAtMost (128 * length items.old) after rng.new }
     ensures arrangement { IsPermutation items.old items.new }
 {
     shuffle(rng, items)
@@ -140,6 +148,8 @@ pub extern "C" fn nanorand_v1_wyrand_shuffle_full(rng: &mut WyRand, items: &mut 
     ensures items { let shuffle = shuffled wyrand_requests from_all rng.old items.old in
         items.new ≡ shuffle.items }
     ensures state { rng.new ≡ (shuffled wyrand_requests from_all rng.old items.old).state }
+    ensures words { let after = λ (n : ℕ). after_words wyrand_requests 64 n rng.old in
+        IsAfterAtMost (128 * length items.old) after rng.new }
     ensures arrangement { IsPermutation items.old items.new }
 {
     shuffle_full(rng, items)
@@ -160,6 +170,8 @@ pub extern "C" fn nanorand_v1_wyrand_sample(
     ensures places { let sampling = sampling wyrand_requests count rng.old places.old in
         places.new ≡ sampling.places }
     ensures state { rng.new ≡ (sampling wyrand_requests count rng.old places.old).state }
+    ensures words { let after = λ (n : ℕ). after_words wyrand_requests 64 n rng.old in
+        IsAfterAtMost (128 * length places.old) after rng.new }
     ensures below { result ≡ 0 → All (λ number. number < count) places.new }
     ensures apart { result ≡ 0 → AllPairs (λ number other. number ≢ other) places.new }
 {
