@@ -1,4 +1,4 @@
-"""The site percolation threshold of the square lattice, by 1000 tasks on Dask, or in a plain loop.
+"""The site percolation threshold of the square lattice, by 1000 tasks on Dask, or by one loop over one generator.
 
 The sites of a lattice are opened one by one, in random order, until open sites lead from its top to its bottom. The
 mean share of sites that are open then tends to the threshold, 0.592746, as lattices grow (Newman and Ziff, 2000).
@@ -23,7 +23,11 @@ DRAWS = len(SIDES) * SITES * 128 + 1
 
 def task(index):
     """The sums of each side, as `sums_of` has them, from part `index` of the stream."""
-    rng = Pcg64(SEED).part(index, DRAWS)
+    return sums_from(Pcg64(SEED).part(index, DRAWS))
+
+
+def sums_from(rng):
+    """The sums of each side, from this generator on."""
     return [sums_of(rng, side) for side in SIDES]
 
 
@@ -74,8 +78,12 @@ def root_of(parents, site):
 
 
 def plain(tasks):
-    """The results of the tasks, one after another."""
-    return [task(index) for index in range(tasks)]
+    """The same results by one loop over one generator, which goes `DRAWS` draws further for each task."""
+    rng, results = Pcg64(SEED), []
+    for _ in range(tasks):
+        results.append(sums_from(rng.copy()))
+        rng.jump(DRAWS)
+    return results
 
 
 def by_dask(client, tasks):
@@ -114,7 +122,7 @@ def print_table(totals):
 
 def arguments():
     parser = argparse.ArgumentParser(description="Estimates the site percolation threshold of the square lattice.")
-    parser.add_argument("--plain", action="store_true", help="run the tasks in a plain loop, and not by Dask")
+    parser.add_argument("--plain", action="store_true", help="run one loop over one generator, without Dask")
     parser.add_argument("--scheduler", metavar="ADDRESS", help="a cluster's scheduler, such as tcp://scheduler:8786")
     parser.add_argument("--workers", type=int, default=4, help="how many local processes there are without a scheduler")
     parser.add_argument("--tasks", type=int, default=TASKS, help="how many tasks there are")

@@ -17,7 +17,15 @@ LEFT_OUT = (
 
 # Sentences that are otherwise in Rust. An empty one is left out.
 SENTENCES = {
-    " (`laws::parts_are_apart`)": "",
+    " (`laws::parts_in_any_order`, `laws::parts_as_one_loop`)": "",
+    "Every implementation proves that no state comes twice within the period, so that no state comes in two parts of"
+    " one stream and one length (`laws::all_parts_are_apart`), and that the states come again after the period.": (
+        "Of this crate's generators it is proved that no state comes in two parts of one stream and one length, and"
+        " that the states come again after the period. An implementation of your own has to see to both."
+    ),
+    "`laws::wyrand_cycle` and `laws::pcg64_cycles` prove that the blocks of `WyRand` and `Pcg64` have no smaller"
+    " period.": "It is proved that the blocks of `WyRand` and `Pcg64` have no smaller period.",
+    " (for ChaCha, `laws::streams_deliver_chacha`)": "",
     " (`laws::samples_are_fair`)": "",
     "Why a ranged draw returned no number.": (
         "Why a ranged draw returned no number. `Rng::range` and `Rng::permute` panic in its place."

@@ -24,8 +24,13 @@ impl std::error::Error for PastPeriod {}
 /// The stream is what the generator draws from now on, and a draw is what a `u64` takes: a word of
 /// `WyRand` and `Pcg64`, a block of `ChaCha`, and eight bytes of a stream of ChaCha. Part 0 is the
 /// first `draws` draws, part 1 the next, and so on. What a task draws depends on the index of its
-/// part alone, so tasks may run in any order, on any machine, and more than once; and no state
-/// comes in two parts of one stream and one length.
+/// part alone, so tasks may run in any order, on any machine, and more than once.
+///
+/// Of this crate's generators it is proved that no state comes in two parts of one stream and one
+/// length, and that the states come again after the period. An implementation of your own has to
+/// see to both. These are facts about states, and two different states may draw the same numbers.
+/// It is proved that the blocks of `WyRand` and `Pcg64` have no smaller period. For ChaCha's
+/// blocks no such proof is known.
 ///
 /// # Examples
 ///

@@ -22,7 +22,10 @@ use crate::{choices, samples, shuffles};
 pub use chacha::{ChaCha, ChaCha12, ChaCha20, ChaCha8};
 pub use chacha_groups::ChaChaGroups;
 use core::ops::RangeBounds;
-pub use keystream::{ChaCha12Stream, ChaCha20Stream, ChaCha8Stream, ChaChaStream, Keystream};
+pub use keystream::{
+    chacha_stream, chacha_stream_at, ChaCha12Stream, ChaCha20Stream, ChaCha8Stream, ChaChaStream,
+    Keystream,
+};
 pub use pcg64::Pcg64;
 pub use wyrand::WyRand;
 

@@ -1,8 +1,8 @@
 //! Streams of ChaCha deliver what buffered generators deliver, and can be sought.
 
 use nanorand_proved::{
-    BufferedRng, ChaCha, ChaCha12Stream, ChaCha20Stream, ChaCha8Stream, ChaChaStream, Keystream,
-    Rng,
+    chacha_stream, chacha_stream_at, BufferedRng, ChaCha, ChaCha12Stream, ChaCha20Stream,
+    ChaCha8Stream, ChaChaStream, Keystream, Rng,
 };
 
 const KEY: [u8; 32] = [1; 32];
@@ -16,6 +16,14 @@ fn streams_of_seeds() {
     let stream = ChaCha20Stream::from_seed(seed);
     assert_eq!(stream, ChaCha20Stream::new_key(KEY, NONCE));
     assert_eq!(stream.position(), 0);
+}
+
+#[test]
+fn streams_by_functions() {
+    let stream: ChaCha20Stream = chacha_stream(KEY, NONCE);
+    assert_eq!(stream, ChaCha20Stream::new_key(KEY, NONCE));
+    let stream: ChaCha8Stream = chacha_stream_at(KEY, NONCE, 3);
+    assert_eq!(stream, ChaCha8Stream::at_block(KEY, NONCE, 3));
 }
 
 #[cfg(unix)]

@@ -7,3 +7,4 @@ pub mod ChaChaInverse
 pub mod ChaChaDrawLemmas
 pub mod ChaChaGroupLemmas
 pub mod Pcg64DrawLemmas
+pub mod OnwardLemmas

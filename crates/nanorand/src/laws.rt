@@ -16,7 +16,7 @@ ghost use Rattle.nanorand.specs.generators.Frequencies.{SomeWordNeverComes, pcg6
 ghost use Rattle.nanorand.specs.generators.Halves.{folded};
 ghost use Rattle.nanorand.specs.generators.ChaCha.{counter, key_of, nonce_of, advanced, next_state, chacha_after, chacha_block, chacha_requests};
 ghost use Rattle.nanorand.specs.generators.ChaChaRounds.{IsMatrix, RoundsAreInjective};
-ghost use Rattle.nanorand.specs.generators.Parts.{ComesAgain, PartsAreApart, after_draws, left_in_turn, numbers, numbers_of_part, on_a_copy, part_at, results_after, results_in_turn};
+ghost use Rattle.nanorand.specs.generators.Parts.{ComesAgain, NothingTwice, PartsAreApart, after_draws, left_in_turn, numbers, numbers_of_part, on_a_copy, part_at, results_after, results_in_turn};
 ghost use Rattle.nanorand.specs.generators.Pcg64.{pcg64_requests};
 ghost use Rattle.nanorand.specs.generators.Pcg64 as pcg64;
 ghost use Rattle.nanorand.specs.generators.WyRand.{wyrand_requests};
@@ -39,7 +39,7 @@ pub use nanorand_replay::laws::{equal_buffers, fresh_delivery, replays_join, unb
 
 /// The generators implement the traits by the definitions that the laws below speak of: their
 /// blocks, the states that draws leave, and their requests. `ChaChaGroups` draws ChaCha's blocks by
-/// groups of eight.
+/// groups of eight, and a stream is a buffer over it.
 pub fn generators_as_defined<const ROUNDS: u8>()
     ensures wyrand_blocks { ⟦<WyRand as Blocks<8>>⟧.block ≡ wyrand.wyrand_block }
     ensures wyrand_steps { ⟦<WyRand as Blocks<8>>⟧.step ≡ wyrand.next_seed }
@@ -53,6 +53,7 @@ pub fn generators_as_defined<const ROUNDS: u8>()
     ensures group_blocks { ⟦<ChaChaGroups<ROUNDS> as Blocks<512>>⟧.block ≡ chacha_group ROUNDS }
     ensures group_steps { ⟦<ChaChaGroups<ROUNDS> as Blocks<512>>⟧.step ≡ next_group }
     ensures group_requests { ⟦<ChaChaGroups<ROUNDS> as Rng<512>>⟧.requests ≡ group_requests ROUNDS }
+    ensures stream_requests { ⟦<BufferedRng<ChaChaGroups<ROUNDS>, 512> as Rng<512>>⟧.requests ≡ stream_requests ROUNDS }
 {}
 
 /// `==` of two generators is true exactly if their states are equal.
@@ -172,7 +173,7 @@ pub fn chacha_counter()
 /// Both begin in the same state, with nothing buffered. `each`: after requests of the same sizes,
 /// the next request takes the same bytes of both. `all`: so do all requests of a list, one after
 /// another. `positions`: a request of n bytes of a stream adds n to the number of the next byte,
-/// modulo 2^70.
+/// modulo 2^70. `keys`, `nonces`: it keeps the key and the nonce.
 pub fn streams_deliver_chacha<const ROUNDS: u8>()
     ensures each { (x : List ℕ) →
         let stream = ⟦<BufferedRng<ChaChaGroups<ROUNDS>, 512> as Rng<512>>⟧.requests in
@@ -185,6 +186,10 @@ pub fn streams_deliver_chacha<const ROUNDS: u8>()
     ensures positions { (b : Buffered (List ℕ)) (n : ℕ) → IsMatrix b.inner → length b.rest < 512
         → stream_position ((stream_requests ROUNDS).after b n)
         ≡ (stream_position b + n) % 2 ^ 70 }
+    ensures keys { (b : Buffered (List ℕ)) (n : ℕ)
+        → key_of ((stream_requests ROUNDS).after b n).inner ≡ key_of b.inner }
+    ensures nonces { (b : Buffered (List ℕ)) (n : ℕ)
+        → nonce_of ((stream_requests ROUNDS).after b n).inner ≡ nonce_of b.inner }
 {
     unbroken_delivery::<ChaChaGroups<ROUNDS>, 512>();
     unbroken_delivery::<ChaCha<ROUNDS>, 64>();
@@ -212,8 +217,9 @@ pub fn parts_are_the_stream<G: Rng<OUTPUT>, const OUTPUT: usize>()
 /// Parts that together stay within the period do not overlap: no state comes in two of them, and in
 /// none twice.
 ///
-/// Of `Pcg64` no seed comes twice, which alone decides the blocks. A stream of ChaCha has buffered
-/// less than a group.
+/// For `Pcg64`, no seed comes twice, and the seed alone decides the blocks. A stream of ChaCha has
+/// buffered less than a group. `bytes`: in 2^70 bytes it is in no state twice, whatever the sizes of
+/// its requests are.
 pub fn parts_are_apart<const ROUNDS: u8>()
     ensures wyrand { (seed : ℕ) → seed < 2 ^ 64
         → PartsAreApart (2 ^ 64) (λ n. after_draws wyrand_requests n seed) }
@@ -223,10 +229,12 @@ pub fn parts_are_apart<const ROUNDS: u8>()
         → PartsAreApart (2 ^ 64) (λ n. after_draws (chacha_requests ROUNDS) n x) }
     ensures streams { (b : Buffered (List ℕ)) → IsMatrix b.inner → length b.rest < 512
         → PartsAreApart (2 ^ 67) (λ n. after_draws (stream_requests ROUNDS) n b) }
+    ensures bytes { (b : Buffered (List ℕ)) → IsMatrix b.inner → length b.rest < 512
+        → NothingTwice (2 ^ 70) (λ n. (stream_requests ROUNDS).after b n) }
 {}
 
-/// The parts of every generator that implements `Parts` are apart, and what it draws comes again
-/// after its period.
+/// The parts of every generator that implements `Parts` (and `Drop`) are apart, and what it draws
+/// comes again after its period.
 ///
 /// `apart`: parts of one length that together stay within the period do not overlap: no state comes
 /// in two of them, and in none twice. `again`: from some draw on, the 64-bit numbers that are drawn
@@ -243,10 +251,11 @@ pub fn all_parts_are_apart<G: Parts<OUTPUT> + Drop, const OUTPUT: usize>(stream:
 /// Tasks of which each draws from the part of its index alone leave the same results, in whatever
 /// order they run and however often: for each index, what its task gives on its part.
 ///
-/// A task is a function of the generator that it is given, and writes its own result. A schedule is
-/// the list of the indices in the order in which their tasks run, and has each index below `count`
-/// at least once. What stood in the results before does not matter. That these are the results of
-/// one loop over one generator is `parts_as_one_loop`.
+/// A task is a function of the generator that it is given, and writes its own result whole. A
+/// schedule is the list of the indices in the order in which their tasks end, and has each index
+/// below `count` at least once. What stood in the results before does not matter, nor do runs that
+/// were cut off before they wrote. That these are the results of one loop over one generator is
+/// `parts_as_one_loop`.
 pub fn parts_in_any_order<G: Rng<OUTPUT>, const OUTPUT: usize, T>()
     ensures { (task : G → T) (draws count : ℕ) (g : G) (schedule : List ℕ) (results : List T)
         → length results ≡ count → ((i : ℕ) → i < count → Contains schedule i) →
@@ -264,7 +273,7 @@ pub fn parts_in_any_order<G: Rng<OUTPUT>, const OUTPUT: usize, T>()
 /// the loop leaves the stream at the part after the last one. `schedules`: tasks that run by a
 /// schedule, in whatever order and however often, leave the loop's results.
 ///
-/// `jumps` has no premise: a loop that runs each task on a copy of its generator, and then jumps
+/// `jumps` has no premise: a loop that runs each task on an equal generator, and then jumps its own
 /// `draws` draws ahead, has the results of the tasks on their parts. `jumping_schedules`: tasks that
 /// run by a schedule leave this loop's results.
 pub fn parts_as_one_loop<G: Rng<OUTPUT>, const OUTPUT: usize, T>()

@@ -1,11 +1,12 @@
 //! Parts of a stream, one for each task of a program that runs on many machines.
 ghost use Rattle.std.specs.Prelude.{◌≡◌, ◌↔◌, ◌+◌, ◌*◌, ◌≤◌, ℕ, IfOk, IsOk};
-ghost use Rattle.nanorand.specs.generators.Parts.{ComesAgain, NothingTwice, after_draws, part_at};
+ghost use Rattle.nanorand.specs.generators.Parts.{ComesAgain, GoesOnward, NothingTwice, after_draws, part_at};
 
 use nanorand_core::rand::Rng;
 use thiserror::Error;
 
-/// The error of `part`: the part would end past the generator's period, where its draws come again.
+/// The error of `part`: the part would end past the generator's period, after which its draws come
+/// again.
 #[derive(Clone, Copy, Debug, PartialEq, Eq, Error)]
 #[error("the part ends past the period of the generator")]
 pub struct PastPeriod;
@@ -19,12 +20,14 @@ pub struct PastPeriod;
 /// (`laws::parts_in_any_order`, `laws::parts_as_one_loop`).
 ///
 /// Every implementation proves that no state comes twice within the period, so that no state comes
-/// in two parts of one stream and one length (`laws::all_parts_are_apart`), and that the states come
-/// again after the period. These are facts about states, and two different states may draw the same
-/// numbers. `laws::wyrand_cycle` and `laws::pcg64_cycles` prove that the blocks of `WyRand` and
-/// `Pcg64` have no smaller period. For ChaCha's blocks no such proof is known.
+/// in two parts of one stream and one length (`laws::all_parts_are_apart`); that, from some draw
+/// on, the states come again after the period; and that a request of any size goes on by draws, at
+/// most one for each eight bytes. These are facts about states, and two different states may draw
+/// the same numbers. `laws::wyrand_cycle` and `laws::pcg64_cycles` prove that the blocks of `WyRand`
+/// and `Pcg64` have no smaller period. For ChaCha's blocks no such proof is known.
 pub trait Parts<const OUTPUT: usize>: Rng<OUTPUT> {
-    // The draws after which the states come again, and before which none comes twice.
+    // The draws of 64 bits after which the states come again, from some draw on, and before which
+    // none comes twice.
     ghost period: { ℕ };
 
     /// The generator at the beginning of a part, which is `index * draws` draws further on. The
@@ -40,6 +43,9 @@ pub trait Parts<const OUTPUT: usize>: Rng<OUTPUT> {
             (λ n. after_draws Self.requests n self.now)) }
         ensures again { IfOk result (λ _. ComesAgain period
             (λ n. after_draws Self.requests n self.now)) };
+
+    // A request of any size goes on by draws, at most one for each eight bytes.
+    ghost onward: { (g : Self) (n : ℕ) → GoesOnward Self.requests n g };
 }
 
 // The draws before a part, if it ends within the period.

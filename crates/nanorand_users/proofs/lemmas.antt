@@ -7,3 +7,4 @@ pub mod RetryLemmas
 pub mod SampleCountLemmas
 pub mod SampleLemmas
 pub mod SampleWordLemmas
+pub mod SplitMixLemmas

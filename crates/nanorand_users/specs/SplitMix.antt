@@ -4,9 +4,17 @@ use Rattle.std.specs.Prelude.{ℕ, ◌+◌, ◌*◌, ◌/◌, ◌%◌, ◌^◌, 
 use Rattle.std.specs.Int.{w64, to_le_bytes}
 use Rattle.nanorand_core.specs.generators.Blocks.{Requests, plain}
 
+-- What a draw adds to the seed, an odd number.
+abbrev pub increment : ℕ
+increment = 0x9e3779b97f4a7c15
+
 -- The seed after one draw.
 abbrev pub next_seed : ℕ → ℕ
-next_seed seed = (seed + 0x9e3779b97f4a7c15) % 2 ^ 64
+next_seed seed = (seed + increment) % 2 ^ 64
+
+-- The draws after which the seeds come again.
+abbrev pub split_mix_period : ℕ
+split_mix_period = 2 ^ 64
 
 -- x xored with itself shifted right.
 abbrev pub folded_by : ℕ → ℕ → ℕ

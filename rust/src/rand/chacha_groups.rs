@@ -71,9 +71,9 @@ impl<const ROUNDS: u8> ChaChaGroups<ROUNDS> {
         self.chacha.counter()
     }
 
-    /// Advances by n blocks of 64 bytes, with one addition: a draw advances by 8.
+    /// Advances by n blocks of 64 bytes, with one addition. A draw advances by 8 of them.
     #[inline]
-    pub fn jump(&mut self, n: u64) {
+    pub fn jump_blocks(&mut self, n: u64) {
         self.chacha.jump(n);
     }
 }

@@ -20,24 +20,53 @@ pub type ChaCha12Stream = ChaChaStream<12>;
 /// The stream of ChaCha with the standard's 20 rounds.
 pub type ChaCha20Stream = ChaChaStream<20>;
 
-/// A stream of bytes that a key and a nonce make. The bytes are numbered from 0.
-pub trait Keystream {
-    /// The stream of this key and nonce, at its byte 0. Of a ChaCha the number of rounds is even.
+/// The keystream of a key and a nonce: 2^70 bytes, in blocks of 64 bytes. The bytes are numbered
+/// from 0, and after the last one the first one comes again.
+///
+/// Requests join without a break: two in a row take the bytes that one of their total size takes.
+/// The trait says where a stream goes on. Which bytes a key and a nonce give is up to the
+/// implementation.
+pub trait Keystream<const OUTPUT: usize>: Rng<OUTPUT> {
+    /// The stream of this key and nonce, at its byte 0. For ChaCha the number of rounds is even.
     fn new_key(key: [u8; 32], nonce: [u8; 8]) -> Self;
 
-    /// The stream of this key and nonce, at the first byte of the block at this index. Of a ChaCha the
-    /// number of rounds is even.
+    /// The stream of this key and nonce, at the first byte of the block at this index, which is byte
+    /// `index * 64`. For ChaCha the number of rounds is even.
     fn at_block(key: [u8; 32], nonce: [u8; 8], index: u64) -> Self;
 
-    /// Goes to this byte, forward or back.
+    /// Goes to this byte, forward or back. Byte 2^70 is byte 0 again.
+    ///
+    /// The state is the one that a request for the bytes before this byte leaves, from byte 0 on.
     fn seek(&mut self, byte: u128);
 
-    /// The number of the next byte.
+    /// The number of the next byte. A request for n bytes adds n to it, modulo 2^70.
     fn position(&self) -> u128;
 }
 
-/// The stream has 2^70 bytes, and after the last one comes the first.
-impl<const ROUNDS: u8> Keystream for BufferedRng<ChaChaGroups<ROUNDS>, 512> {
+/// The stream of this key and nonce, at its byte 0, as `Keystream::new_key` makes it. A call needs
+/// no import of that trait. An odd `ROUNDS` does not compile.
+#[must_use]
+pub fn chacha_stream<const ROUNDS: u8>(key: [u8; 32], nonce: [u8; 8]) -> ChaChaStream<ROUNDS> {
+    let () = crate::layer::Rounds::<ROUNDS>::EVEN;
+
+    Keystream::new_key(key, nonce)
+}
+
+/// The stream of this key and nonce, at the first byte of the block at this index, as
+/// `Keystream::at_block` makes it. A call needs no import of that trait. An odd `ROUNDS` does not
+/// compile.
+#[must_use]
+pub fn chacha_stream_at<const ROUNDS: u8>(
+    key: [u8; 32],
+    nonce: [u8; 8],
+    index: u64,
+) -> ChaChaStream<ROUNDS> {
+    let () = crate::layer::Rounds::<ROUNDS>::EVEN;
+
+    Keystream::at_block(key, nonce, index)
+}
+
+impl<const ROUNDS: u8> Keystream<512> for BufferedRng<ChaChaGroups<ROUNDS>, 512> {
     fn new_key(key: [u8; 32], nonce: [u8; 8]) -> Self {
         BufferedRng::new(ChaChaGroups::new_key(key, nonce))
     }
@@ -46,7 +75,6 @@ impl<const ROUNDS: u8> Keystream for BufferedRng<ChaChaGroups<ROUNDS>, 512> {
         BufferedRng::new(ChaChaGroups::at(key, nonce, index))
     }
 
-    /// Leaves the state that one request for `byte` bytes leaves from byte 0 on.
     fn seek(&mut self, byte: u128) {
         *self = stream_from(&self.inner().at_index(0), byte);
     }

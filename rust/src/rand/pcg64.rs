@@ -104,7 +104,7 @@ impl Pcg64 {
     #[inline]
     fn copied(&self) -> Self {
         Pcg64 {
-            seed: self.seed,
+            seed: self.seed(),
             state: self.state,
             inc: self.inc,
         }

@@ -1,6 +1,6 @@
 -- Known answers: parts of a stream, their numbers, and what tasks write that run on them.
-use Rattle.std.specs.Prelude.{◌≡◌, refl, ◌+◌, ◌*◌, ◌^◌, [], ◌∷◌}
-use Rattle.nanorand.specs.generators.Parts.{PartsAreApart, after_draws, numbers_of_part, part_at, results_after}
+use Rattle.std.specs.Prelude.{◌≡◌, ℕ, refl, ◌+◌, ◌*◌, ◌%◌, ◌^◌, [], ◌∷◌}
+use Rattle.nanorand.specs.generators.Parts.{ComesAgain, NothingTwice, PartsAreApart, after_draws, left_in_turn, numbers_of_part, on_a_copy, part_at, results_after, results_in_turn}
 use Rattle.nanorand.specs.generators.Pcg64.{initial_generator, pcg64_requests}
 use Rattle.nanorand.specs.generators.WyRand.{seed_after, wyrand_requests}
 use Rattle.nanorand_core.specs.generators.Blocks.{taken}
@@ -37,3 +37,35 @@ too_many_draws : PartsAreApart (2 ^ 64 + 1) (λ n. seed_after n 5) → ⊥
 too_many_draws apart =
     let same = apart (2 ^ 64 + 1) 1 0 0 (2 ^ 64) 0 (omega arith) (omega arith) (omega arith) (omega arith) (omega arith) refl in
     absurd (omega (arith, same.0))
+
+-- a generator that stays in its state has something twice in every period of 2 draws or more,
+staying : NothingTwice {S = ℕ} (2 ^ 127) (λ _. 5) → ⊥
+staying once = absurd (omega (arith, once 0 1 (omega arith) (omega arith) refl))
+
+-- and a generator that counts has nothing twice, and nothing again
+counting : NothingTwice {S = ℕ} (2 ^ 127) (λ n. n + 5)
+counting m n low high same = omega (arith, same)
+
+never_again : ComesAgain {S = ℕ} 7 (λ n. n + 5) → ⊥
+never_again again = absurd (omega (arith, again.2 again.1 (omega arith)))
+
+-- a count modulo 7 comes again after 7, from the first place on, and not after 6 or after none
+every_seven : ComesAgain {S = ℕ} 7 (λ n. (n + 5) % 7)
+every_seven = (omega arith, 0, λ n _. omega arith)
+
+not_every_six : ComesAgain {S = ℕ} 6 (λ n. (n + 5) % 7) → ⊥
+not_every_six again = absurd (omega (arith, again.2 again.1 (omega arith)))
+
+not_after_none : ComesAgain {S = ℕ} 0 (λ n. n) → ⊥
+not_after_none again = absurd (omega (arith, again.0))
+
+-- three tasks in turn over one count, each of which counts on by ten
+in_turn : results_in_turn {G = ℕ} {T = ℕ} (λ g. (2 * g, g + 10)) 3 5 ≡ 10 ∷ 30 ∷ 50 ∷ []
+in_turn = refl
+
+left : left_in_turn {G = ℕ} {T = ℕ} (λ g. (2 * g, g + 10)) 3 5 ≡ 35
+left = refl
+
+-- a task on a copy: the result of the seed itself, and the seed two draws later
+copied : on_a_copy wyrand_requests (λ seed. 2 * seed) 2 7 ≡ (14, part_at wyrand_requests 2 1 7)
+copied = refl

@@ -2,6 +2,7 @@
 -- what a number of 64 bits takes.
 use Rattle.std.specs.Prelude.{◌≡◌, ℕ, ◌+◌, ◌*◌, ◌<◌, ◌≤◌, List, [], ◌∷◌, slice_set}
 use Rattle.std.specs.Fn.{iterate}
+use Rattle.std.specs.Int.{div_ceil}
 use Rattle.nanorand_core.specs.generators.Blocks.{Requests}
 use Rattle.nanorand_core.specs.values.Draws.{after_word, after_words, next_word}
 use Rattle.nanorand_core.specs.values.Values.{values_from}
@@ -24,7 +25,15 @@ module _ {G : Type 0} (requests : Requests G) where
   abbrev pub numbers_of_part : ℕ → G → ℕ → List ℕ
   numbers_of_part draws g i = numbers draws (part_at draws i g)
 
-  -- A task runs on a copy of the generator, which then jumps so many draws ahead.
+  -- A request of n bytes goes on by draws, by at most as many as n bytes begin, and by at least one
+  -- if n is not 0. Less than eight bytes of the last draw may be left, which a request for them takes.
+  abbrev pub GoesOnward : ℕ → G → Type 0
+  GoesOnward n g =
+      (m : ℕ) × (rest : ℕ) × (m ≤ div_ceil n 8) × (0 < n → 0 < m) × (rest < 8)
+      × (requests.after (requests.after g n) rest ≡ after_draws m g)
+
+  -- A task runs on a generator in this state, and the loop's generator then jumps so many draws
+  -- ahead.
   abbrev pub on_a_copy : {T : Type 0} → (G → T) → ℕ → G → T × G
   on_a_copy task draws g = (task g, after_draws draws g)
 
@@ -33,10 +42,11 @@ abbrev pub NothingTwice : {S : Type 0} → ℕ → (ℕ → S) → Type 0
 NothingTwice period seen =
     (m n : ℕ) → m < period → n < period → seen m ≡ seen n → m ≡ n
 
--- From some place on, everything comes again after `period` places, which are at least one.
+-- From some place within the first period on, everything comes again after `period` places. So the
+-- period is at least one place.
 abbrev pub ComesAgain : {S : Type 0} → ℕ → (ℕ → S) → Type 0
 ComesAgain period seen =
-    (0 < period) × (start : ℕ) × ((n : ℕ) → start ≤ n → seen (n + period) ≡ seen n)
+    (start : ℕ) × (start < period) × ((n : ℕ) → start ≤ n → seen (n + period) ≡ seen n)
 
 -- Parts that together stay within the period do not meet: if `seen` gives the same for draw j of
 -- part i and draw l of part k, they are the same draw of the same part.

@@ -93,6 +93,10 @@ stream_stays R b n =
     ap (λ (x : List ℕ). buffer_of [] (with_counter x 0)) (steps_of_groups q b.inner ∙ chacha_steps (q * 8) b.inner)
     ∙ ap (buffer_of []) (with_counter-after (q * 8) 0 b.inner)
 
+-- its byte 0 is its byte 0,
+pub stream_restarts : (b : Buffered (List ℕ)) → stream_start (stream_start b) ≡ stream_start b
+stream_restarts b = ap (buffer_of []) (with_counter-twice b.inner 0 0)
+
 -- and each of its blocks leads back to its first byte
 pub stream_starts : (key nonce : List ℕ) (index : ℕ) → stream_start (buffer_of [] (state_at key nonce index)) ≡ buffer_of [] (state_at key nonce 0)
 unfolding state_at

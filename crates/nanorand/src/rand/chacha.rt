@@ -10,6 +10,7 @@ ghost use Rattle.nanorand.specs.generators.ChaChaRounds.{IsMatrix};
 ghost use Rattle.nanorand.specs.support.ChaChaDrawLemmas.{length-chacha_block};
 ghost use Rattle.nanorand.specs.generators.Entropy.{HasFewer, IsMadeOf, TakesFewer};
 ghost use Rattle.nanorand.specs.generators.DebugTexts.{chacha_debug};
+ghost use Rattle.nanorand.specs.support.OnwardLemmas.{onward_64};
 ghost use Rattle.nanorand.specs.generators.Parts.{ComesAgain, NothingTwice, after_draws, part_at};
 ghost use Rattle.nanorand.specs.declared.entropy.EntropyError.TheVariants.{Short, Fault};
 
@@ -348,6 +349,8 @@ impl<const ROUNDS: u8> Parts<64> for ChaCha<ROUNDS> {
         part.jump(before as u64);
         Ok(part)
     }
+
+    ghost onward = { onward_64 (chacha_block ROUNDS) next_state };
 }
 
 impl<const ROUNDS: u8> SeedableRng<40, 64> for ChaCha<ROUNDS> {

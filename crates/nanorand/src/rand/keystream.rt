@@ -4,7 +4,8 @@ ghost use Rattle.nanorand_replay.specs.generators.Buffered.{buffer_of};
 ghost use Rattle.nanorand.specs.generators.ChaCha.{initial_state, state_at};
 ghost use Rattle.nanorand.specs.generators.ChaChaRounds.{IsMatrix};
 ghost use Rattle.nanorand.specs.generators.ChaChaGroups.{stream_position, stream_requests, stream_start};
-ghost use Rattle.nanorand.specs.support.ChaChaGroupLemmas.{stream_bytes_join, stream_starts, stream_states_join, stream_stays};
+ghost use Rattle.nanorand.specs.support.ChaChaGroupLemmas.{stream_bytes_join, stream_restarts, stream_starts, stream_states_join, stream_stays};
+ghost use Rattle.nanorand.specs.support.OnwardLemmas.{onward_stream};
 ghost use Rattle.nanorand.specs.generators.Parts.{ComesAgain, NothingTwice, after_draws, part_at};
 
 use crate::parts::{Parts, PastPeriod, draws_before};
@@ -28,8 +29,8 @@ pub type ChaCha20Stream = ChaChaStream<20>;
 /// 0, and after the last one the first one comes again.
 ///
 /// Requests join without a break: two in a row take the bytes that one of their total size takes.
-/// The trait says where a stream goes on, and not which bytes it has: those are the implementation's
-/// own (for ChaCha, `laws::streams_deliver_chacha`).
+/// The trait says where a stream goes on. Which bytes a key and a nonce give is up to the
+/// implementation (for ChaCha, `laws::streams_deliver_chacha`).
 pub trait Keystream<const OUTPUT: usize>: Rng<OUTPUT> {
     // What a new stream needs: for ChaCha an even number of rounds.
     ghost can_start: { Type 0 };
@@ -40,7 +41,7 @@ pub trait Keystream<const OUTPUT: usize>: Rng<OUTPUT> {
     // The stream of a state, at its byte 0.
     ghost restarted: { Self → Self };
 
-    // The number of a state's next byte.
+    // The number of a state's next byte, if the buffered bytes are of its stream.
     ghost position: { Self → ℕ };
 
     /// The stream of this key and nonce, at its byte 0. For ChaCha the number of rounds is even.
@@ -58,7 +59,7 @@ pub trait Keystream<const OUTPUT: usize>: Rng<OUTPUT> {
         ensures bytes { (n : ℕ) → let sought = Self.requests.after (at key nonce 0) (index * 64) in
             Self.requests.bytes result n ≡ Self.requests.bytes sought n };
 
-    /// Goes to this byte, forward or back. Byte 2^70 is byte 0 again.
+    /// Goes to this byte, forward or back. Byte 2^70 is byte 0 again. Buffered bytes are dropped.
     ///
     /// The state is the one that a request for the bytes before this byte leaves, from byte 0 on.
     fn seek(&mut self, byte: u128)
@@ -67,7 +68,11 @@ pub trait Keystream<const OUTPUT: usize>: Rng<OUTPUT> {
         ensures wraps { (n : ℕ) → let sought = Self.requests.after (restarted self.old) in
             sought (n + 2 ^ 70) ≡ sought n };
 
-    /// The number of the next byte. A request for n bytes adds n to it, modulo 2^70.
+    /// The number of the next byte of a stream that `new_key`, `at_block` or `seek` made. A request
+    /// for n bytes adds n to it, modulo 2^70.
+    ///
+    /// A buffer that `BufferedRng::with_rest` made, or that was reseeded, may hold bytes of no
+    /// stream, or of another one. They come next and are counted all the same, until a `seek`.
     fn position(&self) -> u128
         ensures value { result ≡ position self.now }
         ensures moves { (n : ℕ) →
@@ -80,8 +85,10 @@ pub trait Keystream<const OUTPUT: usize>: Rng<OUTPUT> {
     ghost bytes_join: { (g : Self) (m n : ℕ) → let bytes = Self.requests.bytes in
         bytes g m ++ bytes (Self.requests.after g m) n ≡ bytes g (m + n) };
 
-    // A request stays in the stream, and so does a beginning at any block.
+    // A request stays in the stream, and so do its byte 0 and a beginning at any block.
     ghost stays: { (g : Self) (n : ℕ) → restarted (Self.requests.after g n) ≡ restarted g };
+
+    ghost restarts: { (g : Self) → restarted (restarted g) ≡ restarted g };
 
     ghost starts: { (key nonce : List ℕ) (index : ℕ)
         → restarted (at key nonce index) ≡ at key nonce 0 };
@@ -166,6 +173,8 @@ impl<const ROUNDS: u8> Keystream<512> for BufferedRng<ChaChaGroups<ROUNDS>, 512>
 
     ghost stays = { stream_stays ROUNDS };
 
+    ghost restarts = { stream_restarts };
+
     ghost starts = { stream_starts };
 }
 
@@ -191,6 +200,8 @@ impl<const ROUNDS: u8> Parts<512> for BufferedRng<ChaChaGroups<ROUNDS>, 512> {
             Ok(stream_from(groups, bytes - kept.len() as u128))
         }
     }
+
+    ghost onward = { onward_stream ROUNDS };
 }
 
 // The stream of these groups, with these bytes buffered.

@@ -5,6 +5,7 @@ ghost use Rattle.std.proofs.Common.{rules};
 ghost use Rattle.nanorand.specs.generators.Entropy.{HasFewer, IsMadeOf, TakesFewer};
 ghost use Rattle.nanorand.specs.generators.Pcg64.{seeded_generator, next, pcg64_after, pcg64_block, reseeded, same_generator, seed_after, SameCycle, initial_generator, pcg64_requests};
 ghost use Rattle.nanorand.specs.generators.DebugTexts.{pcg64_debug};
+ghost use Rattle.nanorand.specs.support.OnwardLemmas.{onward_8};
 ghost use Rattle.nanorand.specs.generators.Parts.{ComesAgain, NothingTwice, after_draws, part_at};
 ghost use Rattle.nanorand.specs.declared.entropy.EntropyError.TheVariants.{Short, Fault};
 
@@ -253,6 +254,8 @@ impl Parts<8> for Pcg64 {
         part.jump(before);
         Ok(part)
     }
+
+    ghost onward = { onward_8 pcg64_block next };
 }
 
 impl SeedableRng<16, 8> for Pcg64 {

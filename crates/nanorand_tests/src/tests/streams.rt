@@ -4,7 +4,7 @@ ghost use Rattle.std.specs.Prelude.{◌≡◌, ◌%◌};
 use crate::comparing::{debug_is, display_is, equal, equal_at};
 use nanorand::{
     BufferedRng, ChaCha, ChaCha8Stream, ChaCha12Stream, ChaCha20, ChaCha20Stream, ChaChaGroups,
-    ChaChaStream, Keystream, Rng, SeedableRng,
+    ChaChaStream, Keystream, Rng, SeedableRng, chacha_stream, chacha_stream_at,
 };
 use std::process::Abort;
 use std::test::Fail;
@@ -85,9 +85,9 @@ fn is_sought<const ROUNDS: u8>(rt: &impl Abort, stream: &mut ChaChaStream<ROUNDS
 
 #[test]
 fn seeks(rt: HostRuntime) {
-    let mut short: ChaCha8Stream = Keystream::new_key(KEY, NONCE);
+    let mut short: ChaCha8Stream = chacha_stream(KEY, NONCE);
     let mut middle: ChaCha12Stream = Keystream::new_key(KEY, NONCE);
-    let mut long: ChaCha20Stream = Keystream::at_block(KEY, NONCE, 3);
+    let mut long: ChaCha20Stream = chacha_stream_at(KEY, NONCE, 3);
     equal(&rt, (short.position(), long.position()), (0, 192));
     for byte in PLACES {
         is_sought(&rt, &mut short, byte);
@@ -111,7 +111,7 @@ fn groups(rt: HostRuntime) -> Result<(), Fail> {
     let mut found = [0; 600];
     groups.clone()?.fill_bytes(&mut found);
     assert!(rt; found == expected);
-    groups.jump(8);
+    groups.jump_blocks(8);
     equal(&rt, groups == ChaChaGroups::at(KEY, NONCE, 13), true);
     equal(
         &rt,

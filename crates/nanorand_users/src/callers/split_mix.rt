@@ -1,13 +1,17 @@
 //! A user's own generator: SplitMix64, after Guy Steele, Doug Lea and Christine Flood, "Fast
 //! Splittable Pseudorandom Number Generators" (2014), in Sebastiano Vigna's constants.
-ghost use Rattle.std.specs.Prelude.{◌≡◌, ⊤, refl};
+ghost use Rattle.std.specs.Prelude.{◌≡◌, ◌↔◌, ◌+◌, ◌*◌, ◌^◌, ◌≤◌, ⊤, refl, IfOk, IsOk};
 ghost use Rattle.std.proofs.Common.{rules};
-ghost use Rattle.nanorand_users.specs.SplitMix.{mixed, next_seed, split_mix_block, split_mix_requests};
+ghost use Rattle.nanorand.specs.generators.Parts.{ComesAgain, NothingTwice, after_draws, part_at};
+ghost use Rattle.nanorand_users.specs.SplitMix.{mixed, next_seed, split_mix_block, split_mix_period, split_mix_requests};
 
 use nanorand::rand::fill_by_blocks;
-use nanorand::{Blocks, Rng};
+use nanorand::{Blocks, Parts, PastPeriod, Rng};
 use std::alloc::AllocError;
 use std::marker::Model;
+
+// What a draw adds to the seed.
+const INCREMENT: u64 = 0x9e37_79b9_7f4a_7c15;
 
 /// A generator of 64-bit words.
 #[derive(Drop)]
@@ -49,7 +53,7 @@ impl Blocks<8> for SplitMix64 {
     ghost step = { next_seed };
 
     fn rand(&mut self) -> [u8; 8] {
-        self.seed = self.seed.wrapping_add(0x9e37_79b9_7f4a_7c15);
+        self.seed = self.seed.wrapping_add(INCREMENT);
         mixed(self.seed).to_le_bytes()
     }
 
@@ -72,6 +76,30 @@ impl Rng<8> for SplitMix64 {
     ghost after_nothing = { λ _. refl };
 
     ghost after_block = { λ _. refl };
+}
+
+/// The period is 2^64 draws, since the increment is odd.
+impl Parts<8> for SplitMix64 {
+    ghost period = { split_mix_period };
+
+    fn part(&self, index: u64, draws: u64) -> Result<Self, PastPeriod>
+        ensures begins { let outset = part_at split_mix_requests draws index self.now in
+            IfOk result (λ part. part ≡ outset) }
+        ensures within { IsOk result ↔ ((index + 1) * draws ≤ split_mix_period) }
+        ensures once { IfOk result (λ _. NothingTwice split_mix_period
+            (λ n. after_draws split_mix_requests n self.now)) }
+        ensures again { IfOk result (λ _. ComesAgain split_mix_period
+            (λ n. after_draws split_mix_requests n self.now)) }
+    {
+        let end = (u128::from(index) + 1) * u128::from(draws);
+        if end > 1 << 64 {
+            return Err(PastPeriod);
+        }
+        let before = index.wrapping_mul(draws).wrapping_mul(INCREMENT);
+        Ok(SplitMix64 {
+            seed: self.seed.wrapping_add(before),
+        })
+    }
 }
 
 // The word of a new seed.

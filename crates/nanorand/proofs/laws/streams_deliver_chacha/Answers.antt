@@ -4,7 +4,7 @@ use Rattle.nanorand_replay.specs.support.BufferedLemmas.{length-buffered_taken}
 use Rattle.nanorand.specs.generators.ChaCha.{chacha_block, next_state}
 use Rattle.nanorand.specs.generators.ChaChaGroups.{chacha_group, next_group, stream_requests}
 use Rattle.nanorand.specs.support.ChaChaGroupLemmas.{length-chacha_group, taken_chacha_groups}
-use Rattle.nanorand.proofs.lemmas.generators.StreamLemmas.{deliver_alike, all_alike, position_moves}
+use Rattle.nanorand.proofs.lemmas.generators.StreamLemmas.{deliver_alike, all_alike, key-kept, nonce-kept, position_moves}
 use Rattle.nanorand.proofs.laws.streams_deliver_chacha.Goals as goal
 
 -- a stream's request takes as many bytes as it asks for
@@ -29,3 +29,9 @@ returns-clause-all g c = λ x.
 
 pub returns-clause-positions : goal.returns-clause-positions
 returns-clause-positions g c = position_moves g.row.ROUNDS
+
+pub returns-clause-keys : goal.returns-clause-keys
+returns-clause-keys g c = key-kept g.row.ROUNDS
+
+pub returns-clause-nonces : goal.returns-clause-nonces
+returns-clause-nonces g c = nonce-kept g.row.ROUNDS

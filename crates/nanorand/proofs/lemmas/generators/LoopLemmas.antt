@@ -3,7 +3,8 @@ use Rattle.std.proofs.Common.{◌≡◌, ℕ, zero, suc, ◌+◌, ◌*◌, ◌<�
 use Rattle.std.specs.List.{range_with_len}
 use Rattle.nanorand_core.specs.generators.Blocks.{Requests}
 use Rattle.nanorand.specs.generators.Parts.{after_draws, left_in_turn, part_at, results_in_turn}
-use Rattle.nanorand.proofs.lemmas.generators.PartLemmas.{draws-leave, next-part}
+use Rattle.nanorand.specs.support.OnwardLemmas.{draws-leave}
+use Rattle.nanorand.proofs.lemmas.generators.PartLemmas.{next-part}
 
 module _ {G T : Type 0} (requests : Requests G) (task : G → T × G) (draws : ℕ) (g : G) where
   -- the task leaves part i where the next part begins

@@ -11,33 +11,8 @@ use Rattle.nanorand_core.specs.generators.Blocks.{Requests}
 use Rattle.nanorand_core.specs.support.IterateLemmas.{iterate-add}
 use Rattle.nanorand_core.specs.values.Draws.{after_word, next_word}
 use Rattle.nanorand_core.specs.values.Values.{values_from}
-use Rattle.nanorand_replay.specs.generators.Buffered.{Buffered}
-use Rattle.nanorand_replay.specs.support.BufferedLemmas.{after_add, after_nothing}
-use Rattle.nanorand.specs.generators.ChaChaGroups.{chacha_group, next_group, stream_requests}
 use Rattle.nanorand.specs.generators.Parts.{NothingTwice, PartsAreApart, after_draws, numbers, part_at, results_after}
-use Rattle.nanorand.specs.support.ChaChaGroupLemmas.{length-chacha_group}
-
-pub draws-leave : {G : Type 0} (requests : Requests G) (n : ℕ) (g : G) → after_draws requests n g ≡ iterate (after_word requests 64) n g
-unfolding after_draws
-draws-leave requests n g = refl
-
--- n draws take 8 * n bytes, where requests are delivered without a break
-module _ {G : Type 0} (requests : Requests G) (nothing : (g : G) → requests.after g 0 ≡ g)
-    (adds : (g : G) (m n : ℕ) → requests.after (requests.after g m) n ≡ requests.after g (m + n)) where
-  iterated : (n : ℕ) (g : G) → iterate (after_word requests 64) n g ≡ requests.after g (n * 8)
-  iterated zero g = sym (nothing g) ∙ ap (requests.after g) (omega arith)
-  iterated (suc n) g = iterated n (requests.after g 8) ∙ adds g 8 (n * 8) ∙ ap (requests.after g) (omega (arith, suc-mul n 8))
-
-  pub bytes-of-draws : (n : ℕ) (g : G) → after_draws requests n g ≡ requests.after g (n * 8)
-  bytes-of-draws n g = draws-leave requests n g ∙ iterated n g
-
--- n draws of a stream
-pub stream_draws : (R n : ℕ) (b : Buffered (List ℕ)) → after_draws (stream_requests R) n b ≡ (stream_requests R).after b (n * 8)
-stream_draws R =
-    let positive : 0 < 512 = omega arith in
-    let size = length-chacha_group R in
-    bytes-of-draws (stream_requests R) (after_nothing (chacha_group R) next_group 512 positive size)
-    (after_add (chacha_group R) next_group 512 positive size)
+use Rattle.nanorand.specs.support.OnwardLemmas.{draws-leave}
 
 -- an index within a part is below the end of all parts
 place_below : (parts part end i j : ℕ) → parts * part ≤ end → i < parts → j < part → i * part + j < end

@@ -16,7 +16,7 @@ use Rattle.nanorand.specs.support.WyRandDrawLemmas.{wyrand_closed, wyrand_steps}
 use Rattle.nanorand.proofs.lemmas.cycles.ModulusLemmas.{mod_cancel_left}
 use Rattle.nanorand.proofs.lemmas.cycles.Pcg64Lemmas as pcg64_lemmas
 use Rattle.nanorand.proofs.lemmas.cycles.WyRandLemmas as wyrand_lemmas
-use Rattle.nanorand.proofs.lemmas.generators.PartLemmas.{draws-leave, stream_draws}
+use Rattle.nanorand.specs.support.OnwardLemmas.{draws-leave, stream_draws}
 use Rattle.nanorand.proofs.lemmas.generators.StreamLemmas.{bytes_agree, position_moves}
 
 -- nothing comes twice if places that look equal agree modulo the period
@@ -24,10 +24,10 @@ nothing-twice : {S : Type 0} (period : ℕ) (seen : ℕ → S) → ((m n : ℕ) 
 nothing-twice period seen agree m n low high same = sym (mod-eq_of_lt low) ∙ agree m n same ∙ mod-eq_of_lt high
 
 -- everything comes again if later places that agree modulo the period look equal
-comes-again : {S : Type 0} (period start : ℕ) (seen : ℕ → S) → 0 < period
+comes-again : {S : Type 0} (period start : ℕ) (seen : ℕ → S) → start < period
     → ((m n : ℕ) → start ≤ m → start ≤ n → m % period ≡ n % period → seen m ≡ seen n) → ComesAgain period seen
-comes-again period start seen some agree =
-    (some, start, λ n from. agree (n + period) n (omega arith) from (add-mod_right n period))
+comes-again period start seen soon agree =
+    (start, soon, λ n from. agree (n + period) n (omega arith) from (add-mod_right n period))
 
 -- of WyRand
 module _ (seed : ℕ) (fits : seed < 2 ^ 64) where
@@ -103,8 +103,8 @@ module _ (R : ℕ) (b : Buffered (List ℕ)) (matrix : IsMatrix b.inner) where
   past_buffered n past =
       stream_draws R n b ∙ after_past (chacha_group R) next_group 512 (omega arith) (length-chacha_group R) b (n * 8) (omega arith)
 
-  pub stream_again : ComesAgain (2 ^ 67) (λ n. after_draws (stream_requests R) n b)
-  stream_again =
+  pub stream_again : length b.rest < 512 → ComesAgain (2 ^ 67) (λ n. after_draws (stream_requests R) n b)
+  stream_again below =
       comes-again (2 ^ 67) (length b.rest) (λ n. after_draws (stream_requests R) n b) (omega arith)
       (λ m n from also agree.
       past_buffered m from

@@ -7,13 +7,14 @@ use Rattle.std.specs.Int.{div_ceil}
 use Rattle.nanorand_core.specs.generators.Blocks.{Requests, blocks, plain_after, taken}
 use Rattle.nanorand_core.specs.support.BlockLemmas.{length-blocks}
 use Rattle.std.proofs.lemmas.List.{length-drop}
-use Rattle.nanorand_replay.specs.generators.Buffered.{Buffered, buffer_of, buffered_after, buffered_taken}
+use Rattle.nanorand_replay.specs.generators.Buffered.{Buffered, blocks_needed, buffer_of, buffered_after, buffered_taken}
 use Rattle.nanorand_replay.specs.support.BufferedLemmas.{after_add, after_fresh, length-buffered_taken, taken_add, taken_fresh}
 use Rattle.nanorand_replay.specs.replay.Unbroken.{IsUnbroken, taken_all}
-use Rattle.nanorand.specs.generators.ChaCha.{chacha_block, counter, next_state, with_counter}
+use Rattle.nanorand.specs.generators.ChaCha.{chacha_after, chacha_block, counter, key_of, next_state, nonce_of, with_counter}
+use Rattle.nanorand.specs.generators.Parts.{NothingTwice}
 use Rattle.nanorand.specs.generators.ChaChaRounds.{IsMatrix}
 use Rattle.nanorand.specs.generators.ChaChaGroups.{chacha_group, next_group, stream_position, DeliverAlike}
-use Rattle.nanorand.specs.support.ChaChaDrawLemmas.{counter-with_counter, chacha_closed, chacha_counts, chacha_steps, length-chacha_block}
+use Rattle.nanorand.specs.support.ChaChaDrawLemmas.{counter-with_counter, chacha_closed, chacha_counts, chacha_key, chacha_nonce, chacha_steps, length-chacha_block}
 use Rattle.nanorand.specs.support.ChaChaGroupLemmas.{length-chacha_group, steps_of_groups, taken_chacha_groups}
 
 module _ (x : List ℕ) (matrix : IsMatrix x) where
@@ -97,6 +98,26 @@ position_moves R b n matrix below =
     ∙ ap (λ (m : ℕ). m - n) (length-append b.rest (blocks (chacha_group R) next_group b.inner q)
     ∙ ap (λ (m : ℕ). length b.rest + m) (length-blocks (chacha_group R) next_group 512 positive (length-chacha_group R) b.inner q)) in
     rw (counts, left) (omega (arith, div_ceil_times (n - length b.rest) 512 positive, below))
+
+-- a stream keeps its key and its nonce
+module _ (R : ℕ) (b : Buffered (List ℕ)) (n : ℕ) where
+  inner_moves : (buffered_after (chacha_group R) next_group 512 b n).inner ≡ chacha_after (blocks_needed (chacha_group R) next_group 512 b n * 8) b.inner
+  unfolding buffered_after
+  inner_moves =
+      let q : ℕ = blocks_needed (chacha_group R) next_group 512 b n in
+      steps_of_groups q b.inner ∙ chacha_steps (q * 8) b.inner
+
+  pub key-kept : key_of (buffered_after (chacha_group R) next_group 512 b n).inner ≡ key_of b.inner
+  key-kept = ap key_of inner_moves ∙ chacha_key (blocks_needed (chacha_group R) next_group 512 b n * 8) b.inner
+
+  pub nonce-kept : nonce_of (buffered_after (chacha_group R) next_group 512 b n).inner ≡ nonce_of b.inner
+  nonce-kept = ap nonce_of inner_moves ∙ chacha_nonce (blocks_needed (chacha_group R) next_group 512 b n * 8) b.inner
+
+-- in 2^70 bytes no state comes twice
+pub bytes-once : (R : ℕ) (b : Buffered (List ℕ)) → IsMatrix b.inner → length b.rest < 512
+    → NothingTwice (2 ^ 70) (λ n. buffered_after (chacha_group R) next_group 512 b n)
+bytes-once R b matrix below m n low high same =
+    omega (arith, low, high, sym (position_moves R b m matrix below) ∙ ap stream_position same ∙ position_moves R b n matrix below)
 
 -- the byte after a request of n bytes from byte 0 on is byte n
 pub position_after : (R : ℕ) (x : List ℕ) (n : ℕ) → 13 < length x → IsMatrix (with_counter x 0)

@@ -1,7 +1,7 @@
 use Rattle.std.proofs.Common.{rules, ◌*◌, ◌∙◌, ap₂, sym}
 use Rattle.nanorand.specs.generators.ChaCha.{chacha_after, chacha_requests}
 use Rattle.nanorand.specs.support.ChaChaDrawLemmas.{chacha_steps}
-use Rattle.nanorand.proofs.lemmas.generators.PartLemmas.{draws-leave}
+use Rattle.nanorand.specs.support.OnwardLemmas.{draws-leave}
 use Rattle.nanorand.proofs.lemmas.generators.StatePeriodLemmas.{chacha_again, chacha_once}
 use Rattle.nanorand.proofs.rand.chacha.ChaChaParts64.part.Goals as goal
 

@@ -4,7 +4,7 @@ use Rattle.nanorand_replay.specs.generators.Buffered.{buffer_of, buffered_after}
 use Rattle.nanorand_replay.specs.support.BufferedLemmas.{after_kept, after_past, same_buffer}
 use Rattle.nanorand.specs.generators.ChaChaGroups.{chacha_group, next_group}
 use Rattle.nanorand.specs.support.ChaChaGroupLemmas.{length-chacha_group}
-use Rattle.nanorand.proofs.lemmas.generators.PartLemmas.{stream_draws}
+use Rattle.nanorand.specs.support.OnwardLemmas.{stream_draws}
 use Rattle.nanorand.specs.generators.ChaChaRounds.{IsMatrix}
 use Rattle.nanorand.proofs.lemmas.generators.StatePeriodLemmas.{stream_again, stream_once}
 use Rattle.nanorand.proofs.rand.keystream.BufferedRngChaChaGroups512Parts512.part.Goals as goal
@@ -48,7 +48,9 @@ returns-else-bytes-kept-clause-once g c =
 pub returns-then-bytes-kept-clause-again : goal.returns-then-bytes-kept-clause-again
 returns-then-bytes-kept-clause-again g c =
     stream_again g.row.ROUNDS c.args.self.now (subst IsMatrix c.inner-groups.ensures c.stream_with.ensures.matrix)
+    (omega (arith, ap length c.rest-kept.ensures.value, c.rest-kept.ensures.below))
 
 pub returns-else-bytes-kept-clause-again : goal.returns-else-bytes-kept-clause-again
 returns-else-bytes-kept-clause-again g c =
     stream_again g.row.ROUNDS c.args.self.now (subst IsMatrix c.inner-groups.ensures c.stream_from.ensures.matrix)
+    (omega (arith, ap length c.rest-kept.ensures.value, c.rest-kept.ensures.below))

@@ -1,7 +1,7 @@
 use Rattle.std.proofs.Common.{◌*◌, ◌∙◌, ap₂, sym}
 use Rattle.nanorand.specs.generators.Pcg64.{pcg64_after, pcg64_requests}
 use Rattle.nanorand.specs.support.Pcg64DrawLemmas.{pcg64_steps}
-use Rattle.nanorand.proofs.lemmas.generators.PartLemmas.{draws-leave}
+use Rattle.nanorand.specs.support.OnwardLemmas.{draws-leave}
 use Rattle.nanorand.proofs.lemmas.generators.StatePeriodLemmas.{pcg64_again, pcg64_once}
 use Rattle.nanorand.proofs.rand.pcg64.Pcg64Parts8.part.Goals as goal
 

@@ -1,7 +1,7 @@
 use Rattle.std.proofs.Common.{arith, ◌*◌, ◌∙◌, ap₂, sym}
 use Rattle.nanorand.specs.generators.WyRand.{wyrand_after, wyrand_requests}
 use Rattle.nanorand.specs.support.WyRandDrawLemmas.{wyrand_steps}
-use Rattle.nanorand.proofs.lemmas.generators.PartLemmas.{draws-leave}
+use Rattle.nanorand.specs.support.OnwardLemmas.{draws-leave}
 use Rattle.nanorand.proofs.lemmas.generators.StatePeriodLemmas.{wyrand_again, wyrand_once}
 use Rattle.nanorand.proofs.rand.wyrand.WyRandParts8.part.Goals as goal
 
