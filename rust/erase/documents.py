@@ -19,9 +19,11 @@ LEFT_OUT = (
 SENTENCES = {
     " (`laws::parts_in_any_order`, `laws::parts_as_one_loop`)": "",
     "Every implementation proves that no state comes twice within the period, so that no state comes in two parts of"
-    " one stream and one length (`laws::all_parts_are_apart`), and that the states come again after the period.": (
-        "Of this crate's generators it is proved that no state comes in two parts of one stream and one length, and"
-        " that the states come again after the period. An implementation of your own has to see to both."
+    " one stream and one length (`laws::all_parts_are_apart`); that, from some draw on, the states come again after"
+    " the period; and that a request of any size goes on by draws, at most one for each eight bytes.": (
+        "It is proved of this crate's generators that no state comes in two parts of one stream and one length; that,"
+        " from some draw on, the states come again after the period; and that a request of any size goes on by draws,"
+        " at most one for each eight bytes. An implementation of your own has to see to all three."
     ),
     "`laws::wyrand_cycle` and `laws::pcg64_cycles` prove that the blocks of `WyRand` and `Pcg64` have no smaller"
     " period.": "It is proved that the blocks of `WyRand` and `Pcg64` have no smaller period.",

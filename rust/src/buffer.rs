@@ -125,8 +125,8 @@ impl<G: Rng<OUTPUT>, const OUTPUT: usize> BufferedRng<G, OUTPUT> {
     ///
     /// # Errors
     ///
-    /// It returns an error if the vector has too little room and the allocator refuses to grow it. The
-    /// items and the capacity of the vector and the buffer are then unchanged.
+    /// It returns an error only if the vector has too little room, when the allocator refuses to grow
+    /// it. The items and the capacity of the vector and the buffer are then unchanged.
     #[cfg(feature = "std")]
     pub fn read_to_end(
         &mut self,

@@ -5,7 +5,7 @@
 
 use crate::rand::Rng;
 
-/// The error of `part`: the part would end past the generator's period, where its draws come
+/// The error of `part`: the part would end past the generator's period, after which its draws come
 /// again.
 #[derive(Clone, Copy, Debug, PartialEq, Eq)]
 pub struct PastPeriod;
@@ -26,11 +26,12 @@ impl std::error::Error for PastPeriod {}
 /// first `draws` draws, part 1 the next, and so on. What a task draws depends on the index of its
 /// part alone, so tasks may run in any order, on any machine, and more than once.
 ///
-/// Of this crate's generators it is proved that no state comes in two parts of one stream and one
-/// length, and that the states come again after the period. An implementation of your own has to
-/// see to both. These are facts about states, and two different states may draw the same numbers.
-/// It is proved that the blocks of `WyRand` and `Pcg64` have no smaller period. For ChaCha's
-/// blocks no such proof is known.
+/// It is proved of this crate's generators that no state comes in two parts of one stream and one
+/// length; that, from some draw on, the states come again after the period; and that a request of
+/// any size goes on by draws, at most one for each eight bytes. An implementation of your own has
+/// to see to all three. These are facts about states, and two different states may draw the same
+/// numbers. It is proved that the blocks of `WyRand` and `Pcg64` have no smaller period. For
+/// ChaCha's blocks no such proof is known.
 ///
 /// # Examples
 ///

@@ -290,6 +290,10 @@ pub trait Rng<const OUTPUT: usize>: Sized {
 /// A generator that can be reseeded.
 pub trait SeedableRng<const SEED_SIZE: usize, const OUTPUT: usize>: Rng<OUTPUT> {
     /// Seeds the generator anew from the bytes of `seed`.
+    ///
+    /// Each generator defines the state that this leaves. It may keep some of the old state, as a
+    /// buffer keeps its bytes, so the trait does not promise that the seed alone decides what is
+    /// drawn.
     fn reseed(&mut self, seed: [u8; SEED_SIZE]);
 }
 

@@ -15,8 +15,8 @@ use core::ops::Bound;
 /// before it holds t already, it takes j.
 ///
 /// Each set of k numbers is the sample for equally many sequences of draws. The order of the slots
-/// is not uniform: the number `count - 1`, for one, can only be in the last slot. Shuffle the
-/// slots for a random order.
+/// is not uniform: by the algorithm, the number `count - 1` can only be in the last slot. Shuffle
+/// the slots for a random order.
 ///
 /// # Errors
 ///

@@ -30,9 +30,9 @@ pub use nanorand_core::laws::{
     weighted_choices_are_fair, whole_blocks,
 };
 pub use nanorand_fairness::laws::{
-    fairness_with_rejections, full_shuffles_prefer_orders, numbers_in_turn_are_fair,
-    sampled_sets_are_fair, samples_draw_in_turn, shuffles_are_fair, shuffles_draw_in_turn,
-    words_of_a_draw,
+    draws_by_words, fairness_with_rejections, full_shuffles_prefer_orders,
+    numbers_in_turn_are_fair, sampled_sets_are_fair, samples_draw_in_turn, shuffles_are_fair,
+    shuffles_draw_in_turn, words_of_a_draw,
 };
 use nanorand_replay::buffer::BufferedRng;
 pub use nanorand_replay::laws::{equal_buffers, fresh_delivery, replays_join, unbroken_delivery};

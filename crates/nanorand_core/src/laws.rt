@@ -36,8 +36,8 @@ pub fn fairness()
 /// The choices of `choices` prefer nothing, for words of N = 8, 16, 32 and 64 bits.
 ///
 /// `items`: of `count` items, at most 2^N, each is chosen by exactly floor(2^N / count) words.
-/// `ratios`: the event of a ratio is named by exactly `numerator` times as many words as one number
-/// below the denominator.
+/// `ratios`: for a numerator up to the denominator, the event of a ratio is named by exactly
+/// `numerator` times as many words as one number below the denominator.
 pub fn choices_are_fair()
     ensures items { IndicesAreFair }
     ensures ratios { RatiosAreFair }

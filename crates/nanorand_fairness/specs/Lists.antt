@@ -4,8 +4,9 @@ use Rattle.std.specs.Prelude.{take, sum, sum_by, count_by, slice_index, nat_lt, 
 use Rattle.std.specs.Prelude.{if◌then◌else◌}
 use Rattle.std.specs.List.{range_with_len}
 use Rattle.std.specs.Option.{option_map_or}
+use Rattle.nanorand_core.specs.generators.Blocks.{Requests}
 use Rattle.nanorand_core.specs.values.Runs.{IsWordWidth, rejected}
-use Rattle.nanorand_core.specs.values.Draws.{deciding_place, decided, word_limit}
+use Rattle.nanorand_core.specs.values.Draws.{after_word, deciding_place, decided, next_word, word_limit, words_from}
 use Rattle.nanorand_core.specs.values.Fairness.{passes}
 use Rattle.nanorand_core.specs.choices.Weighted.{item_at}
 
@@ -29,6 +30,10 @@ abbrev pub words_taken : ℕ → ℕ → List ℕ → ℕ
 words_taken bits size words =
     let first = take word_limit words in
     option_map_or (λ i. i + 1) (deciding_place bits size first) (length first)
+
+-- The next 128 words of a generator.
+abbrev pub next_words : {G : Type 0} → Requests G → ℕ → G → List ℕ
+next_words requests bits g = words_from (next_word requests bits) (after_word requests bits) word_limit g
 
 -- Of all lists of n words, for n up to 128, a draw takes no number from exactly t^n, where t words
 -- are rejected. Of more words it takes 128: so from t^128 for each list of the other words.

@@ -1,7 +1,9 @@
 //! Fairness over lists of words: of every list of n words it is said what is drawn from it, and the
 //! lists are counted. Rejected words are in the lists too. The functions do nothing; a proof calls
 //! one to use its law.
-ghost use Rattle.nanorand_fairness.specs.Lists.{UndecidedListsAreFew, DrawsEndAtTheLimit, DrawsTakeFewWords, EventsInListsAreFair, RatiosInListsAreFair, WeightsInListsAreFair};
+ghost use Rattle.std.specs.Prelude.{◌≡◌, ℕ};
+ghost use Rattle.nanorand_core.specs.values.Draws.{after_words, drawn_below};
+ghost use Rattle.nanorand_fairness.specs.Lists.{next_words, number_by_words, words_taken, UndecidedListsAreFew, DrawsEndAtTheLimit, DrawsTakeFewWords, EventsInListsAreFair, RatiosInListsAreFair, WeightsInListsAreFair};
 ghost use Rattle.nanorand_fairness.specs.InTurn.{NumbersInTurnAreFair, RejectionsPreferNothing, NoListOfNumbersIsPreferred};
 ghost use Rattle.nanorand_fairness.specs.Deals.{DealsAreFair, ShufflesAreFair, NoDealIsPreferred, PartsAreEqual, SharesAreEqual, ShufflesDrawInTurn};
 ghost use Rattle.nanorand_fairness.specs.FullShuffles.{OrdersCannotShare, OrdersAreUnequal, ThreeItemsPreferOrders, WordsPreferOrders};
@@ -28,12 +30,26 @@ pub fn words_of_a_draw()
     fairness();
 }
 
+/// A bounded draw of a generator is the draw from a list of words, its next 128, that the other laws
+/// here count.
+///
+/// `number`: it gives the number that the list gives, or none. `state`: it draws as many words as it
+/// takes of the list.
+pub fn draws_by_words<G: Rng<OUTPUT>, const OUTPUT: usize>()
+    ensures number { (bits size : ℕ) (g : G) →
+        (drawn_below G.requests bits size g).number
+        ≡ number_by_words bits size (next_words G.requests bits g) }
+    ensures state { (bits size : ℕ) (g : G) →
+        (drawn_below G.requests bits size g).state
+        ≡ after_words G.requests bits (words_taken bits size (next_words G.requests bits g)) g }
+{}
+
 /// One draw from all lists of n words, rejected words included, for words of 8, 16, 32 and 64 bits.
 /// It decides by the first 128 words.
 ///
 /// `events`: an event of m numbers is decided by m times as many lists as one number, and all
-/// numbers by equally many. `ratios`: so `choices::ratio` is true for `numerator` times as many lists
-/// as one number has. `weights`: and `choices::choose_weighted` returns an item for as many times as
+/// numbers by equally many. `ratios`: so, for a numerator up to the denominator, `choices::ratio` is
+/// true for `numerator` times as many lists as one number has. `weights`: and `choices::choose_weighted` returns an item for as many times as
 /// many lists as its weight is.
 pub fn fairness_with_rejections()
     ensures events { EventsInListsAreFair }
@@ -100,8 +116,8 @@ pub fn shuffles_draw_in_turn<G: Rng<OUTPUT>, T, const OUTPUT: usize>()
 /// `shared`: for n of 3 or more, the number n^n of lists of choices is no multiple of the number n!
 /// of orders. `unequal`: so not all orders are made by equally many lists of choices. `three`: of
 /// the 27 lists of choices of three items, five exchange the first two, and four leave all in place.
-/// `words`: of the lists of n words, each list of choices is drawn by equally many, the n-th power
-/// of floor(2^64 / n). So words prefer orders as choices do.
+/// `words`: of the lists of n words, each order is drawn by as many as it has lists of choices, times
+/// the n-th power of floor(2^64 / n). So words prefer orders as choices do.
 pub fn full_shuffles_prefer_orders()
     ensures shared { OrdersCannotShare }
     ensures unequal { OrdersAreUnequal }

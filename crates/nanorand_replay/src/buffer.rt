@@ -131,7 +131,7 @@ impl<G: Rng<OUTPUT>, const OUTPUT: usize> BufferedRng<G, OUTPUT> {
     /// appended.
     ///
     /// Nothing is drawn. If the buffer is empty, nothing is allocated, the vector keeps its capacity,
-    /// and the call returns 0. It returns an error if the vector has too little room and the
+    /// and the call returns 0. It returns an error only if the vector has too little room, when the
     /// allocator refuses to grow it. The items and the capacity of the vector and the buffer are then
     /// unchanged.
     pub fn read_to_end<A: Allocator>(&mut self, out: &mut Vec<u8, A>) -> Result<usize, AllocError>

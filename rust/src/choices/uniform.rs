@@ -91,10 +91,10 @@ pub fn choose_mut<'a, T, G: Rng<OUTPUT>, const OUTPUT: usize>(
     Ok(&mut items[index])
 }
 
-/// Returns true in `numerator` of `denominator` cases: for exactly `numerator` times as many words
-/// as one number below `denominator` has.
+/// Returns true in `numerator` of `denominator` cases: for a `numerator` up to `denominator`, for
+/// exactly `numerator` times as many words as one number below `denominator` has.
 ///
-/// If `numerator` is `denominator` or more, it is always true.
+/// If `numerator` is `denominator` or more, it never returns false.
 ///
 /// # Errors
 ///

@@ -11,7 +11,8 @@ use core::fmt;
 ///
 /// A draw returns 512 bytes, and adds 8 to the counter. It is a plain generator: each request
 /// starts a new group and drops the rest of its last one. With a buffer, as `ChaCha20Stream`, it
-/// drops nothing, and delivers what a buffered `ChaCha` delivers.
+/// drops nothing: from a state with nothing buffered, it delivers what a buffered `ChaCha`
+/// delivers.
 ///
 /// An odd `ROUNDS` does not compile.
 pub struct ChaChaGroups<const ROUNDS: u8> {

@@ -34,12 +34,16 @@ pub trait Keystream<const OUTPUT: usize>: Rng<OUTPUT> {
     /// `index * 64`. For ChaCha the number of rounds is even.
     fn at_block(key: [u8; 32], nonce: [u8; 8], index: u64) -> Self;
 
-    /// Goes to this byte, forward or back. Byte 2^70 is byte 0 again.
+    /// Goes to this byte, forward or back. Byte 2^70 is byte 0 again. Buffered bytes are dropped.
     ///
     /// The state is the one that a request for the bytes before this byte leaves, from byte 0 on.
     fn seek(&mut self, byte: u128);
 
-    /// The number of the next byte. A request for n bytes adds n to it, modulo 2^70.
+    /// The number of the next byte of a stream that `new_key`, `at_block` or `seek` made. A request
+    /// for n bytes adds n to it, modulo 2^70.
+    ///
+    /// A buffer that `BufferedRng::with_rest` made, or that was reseeded, may hold bytes of no stream,
+    /// or of another one. They come next and are counted all the same, until a `seek`.
     fn position(&self) -> u128;
 }
 

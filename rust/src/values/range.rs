@@ -13,7 +13,8 @@ use crate::values::word::draw_below;
 use crate::values::RandomGen;
 use core::ops::Bound;
 
-/// Why a ranged draw returned no number. `Rng::range` and `Rng::permute` panic in its place.
+/// Why a ranged draw returned no number. `Rng::range` and `Rng::permute` panic in its place. The
+/// meanings are those of the integer types; a type of your own defines when it returns each error.
 #[derive(Clone, Copy, Debug, PartialEq, Eq)]
 pub enum RangeError {
     /// The range has no number. Nothing was drawn.

@@ -1,10 +1,11 @@
 -- Known answers: parts of a stream, their numbers, and what tasks write that run on them.
-use Rattle.std.specs.Prelude.{◌≡◌, ℕ, refl, ◌+◌, ◌*◌, ◌%◌, ◌^◌, [], ◌∷◌}
-use Rattle.nanorand.specs.generators.Parts.{ComesAgain, NothingTwice, PartsAreApart, after_draws, left_in_turn, numbers_of_part, on_a_copy, part_at, results_after, results_in_turn}
+use Rattle.std.specs.Prelude.{◌≡◌, ◌==◌, ◌-◌, ℕ, false, if◌then◌else◌, nat_eq, refl, ◌+◌, ◌*◌, ◌%◌, ◌^◌, [], ◌∷◌}
+use Rattle.nanorand.specs.generators.Parts.{ComesAgain, GoesOnward, NothingTwice, PartsAreApart, after_draws, left_in_turn, numbers_of_part, on_a_copy, part_at, results_after, results_in_turn}
 use Rattle.nanorand.specs.generators.Pcg64.{initial_generator, pcg64_requests}
 use Rattle.nanorand.specs.generators.WyRand.{seed_after, wyrand_requests}
-use Rattle.nanorand_core.specs.generators.Blocks.{taken}
+use Rattle.nanorand_core.specs.generators.Blocks.{Requests, taken}
 use Rattle.std.proofs.Common.{arith}
+use Rattle.std.proofs.lemmas.Bool.{ne_eqb}
 
 -- the numbers of part 1, by two draws a part, from the seed 0
 wyrand_part : numbers_of_part wyrand_requests 2 0 1 ≡ 0x61fb51318f47d2a4 ∷ 0x78bd03c491909760 ∷ []
@@ -47,17 +48,17 @@ counting : NothingTwice {S = ℕ} (2 ^ 127) (λ n. n + 5)
 counting m n low high same = omega (arith, same)
 
 never_again : ComesAgain {S = ℕ} 7 (λ n. n + 5) → ⊥
-never_again again = absurd (omega (arith, again.2 again.1 (omega arith)))
+never_again again = absurd (omega (arith, again.2 again.0 (omega arith)))
 
 -- a count modulo 7 comes again after 7, from the first place on, and not after 6 or after none
 every_seven : ComesAgain {S = ℕ} 7 (λ n. (n + 5) % 7)
-every_seven = (omega arith, 0, λ n _. omega arith)
+every_seven = (0, omega arith, λ n _. omega arith)
 
 not_every_six : ComesAgain {S = ℕ} 6 (λ n. (n + 5) % 7) → ⊥
-not_every_six again = absurd (omega (arith, again.2 again.1 (omega arith)))
+not_every_six again = absurd (omega (arith, again.2 again.0 (omega arith)))
 
 not_after_none : ComesAgain {S = ℕ} 0 (λ n. n) → ⊥
-not_after_none again = absurd (omega (arith, again.0))
+not_after_none again = absurd (omega (arith, again.1))
 
 -- three tasks in turn over one count, each of which counts on by ten
 in_turn : results_in_turn {G = ℕ} {T = ℕ} (λ g. (2 * g, g + 10)) 3 5 ≡ 10 ∷ 30 ∷ 50 ∷ []
@@ -69,3 +70,19 @@ left = refl
 -- a task on a copy: the result of the seed itself, and the seed two draws later
 copied : on_a_copy wyrand_requests (λ seed. 2 * seed) 2 7 ≡ (14, part_at wyrand_requests 2 1 7)
 copied = refl
+
+-- a generator that counts down and then stays comes again after one draw, but not from soon on
+not_so_late : ComesAgain {S = ℕ} 1 (λ n. 2 - n) → ⊥
+not_so_late again = absurd (omega (arith, again.1, again.2 0 (omega (arith, again.1))))
+
+-- a request of four bytes that leaves the state does not go onward
+stuck : Requests ℕ
+stuck = record { bytes = λ _ _. []; after = λ g n. if n == 8 then g + 1 else g }
+
+not_onward : GoesOnward stuck 4 5 → ⊥
+unfolding after_draws stuck
+not_onward onward =
+    let one : onward.0 ≡ 1 = omega (arith, onward.2, onward.3 (omega arith)) in
+    let other : nat_eq onward.1 8 ≡ false = ne_eqb onward.1 8 (λ same. omega (arith, onward.4)) in
+    let left = rw (one, other) at onward.5 in
+    absurd (omega (arith, left))

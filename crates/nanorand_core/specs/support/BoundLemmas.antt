@@ -1,10 +1,10 @@
 -- Bounds that admit a number admit one of the type's ranks. Nobody has to believe this file: it is
 -- in specs/ only because laws of impls cite its lemmas.
-use Rattle.std.specs.Prelude.{◌≡◌, ℕ, ℤ, ◌+◌, ◌-◌, ◌*◌, ◌^◌, ◌<◌, ◌≤◌, ◌<ℤ◌, ◌-ℤ◌, true, nat_le, nat_lt, int_le, int_lt, pos, refl}
+use Rattle.std.specs.Prelude.{◌≡◌, ℕ, ℤ, ◌+◌, ◌-◌, ◌*◌, ◌^◌, ◌<◌, ◌≤◌, ◌<ℤ◌, ◌≤ℤ◌, ◌-ℤ◌, true, nat_le, nat_lt, int_le, int_lt, pos, refl}
 use Rattle.std.specs.declared.ops.Bound.{Bound}
 use Rattle.std.specs.declared.ops.Bound.TheVariants.{Included, Excluded, Unbounded}
 use Rattle.std.proofs.Common.{arith, sym}
-use Rattle.std.proofs.lemmas.Bool.{le-leb, lt-ltb}
+use Rattle.std.proofs.lemmas.Bool.{le-leb, leb-true, lt-ltb, ltb-true}
 use Rattle.std.proofs.lemmas.Int.{ints}
 use Rattle.nanorand_core.specs.values.Range.{is_above, is_below, unsigned_number, signed_number, Admits, IfBound}
 use Rattle.nanorand_core.specs.values.Range.{IsNumber, HasUnsigned, HasSigned, unsigned_first, unsigned_end}
@@ -32,6 +32,21 @@ pub unsigned_has_place : (bits : ℕ) (low high : Bound ℕ) → IfBound low (Is
 unsigned_has_place bits low high low_number high_number has =
     let fits = end_fits bits high high_number in
     (unsigned_first low, omega arith, (above_first low, below_end bits (unsigned_first low) high has))
+
+-- and a number that both bounds admit is one
+first_below : (low : Bound ℕ) (k : ℕ) → is_above nat_le nat_lt low k ≡ true → unsigned_first low ≤ k
+first_below (Included b) k above = leb-true b k above
+first_below (Excluded b) k above = omega (arith, ltb-true b k above)
+first_below Unbounded k above = omega arith
+
+before_end : (bits : ℕ) (high : Bound ℕ) (k : ℕ) → k < 2 ^ bits → is_below nat_le nat_lt high k ≡ true → k < unsigned_end bits high
+before_end bits (Included b) k fits below = omega (arith, leb-true k b below)
+before_end bits (Excluded b) k fits below = ltb-true k b below
+before_end bits Unbounded k fits below = fits
+
+pub unsigned_has_number : (bits : ℕ) (low high : Bound ℕ) (k : ℕ) → k < 2 ^ bits → Admits nat_le nat_lt low high (unsigned_number k)
+    → HasUnsigned bits low high
+unsigned_has_number bits low high k fits admits = omega (arith, first_below low k admits.0, before_end bits high k fits admits.1)
 
 signed_above : (bits : ℕ) (low : Bound ℤ) (x : ℤ) → signed_first bits low ≡ x → is_above int_le int_lt low x ≡ true
 signed_above bits (Included b) x first = grind (arith, ints)
@@ -67,3 +82,23 @@ signed_has_place bits half low high low_number high_number has =
     let below : signed_number bits first.0 <ℤ signed_end bits high = rw (← first.1) has in
     let under : first.0 < end.0 = shifted_lt_back (2 ^ (bits - 1)) first.0 end.0 (rw end.2 at below) in
     (first.0, omega (arith, end.1), (signed_above bits low (signed_number bits first.0) first.1, signed_below bits high (signed_number bits first.0) below))
+
+signed_first_below : (bits : ℕ) (low : Bound ℤ) (x : ℤ) → signed_first bits Unbounded ≤ℤ x → is_above int_le int_lt low x ≡ true
+    → signed_first bits low ≤ℤ x
+signed_first_below bits (Included b) x least above = grind (arith, ints)
+signed_first_below bits (Excluded b) x least above = grind (arith, ints)
+signed_first_below bits Unbounded x least above = least
+
+signed_before_end : (bits : ℕ) (high : Bound ℤ) (x : ℤ) → x <ℤ signed_end bits Unbounded → is_below int_le int_lt high x ≡ true
+    → x <ℤ signed_end bits high
+signed_before_end bits (Included b) x greatest below = grind (arith, ints)
+signed_before_end bits (Excluded b) x greatest below = grind (arith, ints)
+signed_before_end bits Unbounded x greatest below = greatest
+
+pub signed_has_number : (bits : ℕ) → 2 ^ bits ≡ 2 * 2 ^ (bits - 1) → (low high : Bound ℤ) (k : ℕ) → k < 2 ^ bits
+    → Admits int_le int_lt low high (signed_number bits k) → HasSigned bits low high
+signed_has_number bits half low high k fits admits =
+    let x : ℤ = signed_number bits k in
+    let first : signed_first bits low ≤ℤ x = signed_first_below bits low x (omega (arith, ints)) admits.0 in
+    let end : x <ℤ signed_end bits high = signed_before_end bits high x (omega (arith, ints, fits, half)) admits.1 in
+    omega (arith, ints, first, end)

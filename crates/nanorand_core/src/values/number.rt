@@ -9,7 +9,8 @@ mod unsigned;
 
 /// An integer type of `BITS` bits: 8, 16, 32 or 64.
 ///
-/// Each number has a rank, from 0 for the least to 2^BITS - 1 for the greatest.
+/// Each number has a rank, from 0 for the least to 2^BITS - 1 for the greatest. For a type of your
+/// own, the order of the ranks is your choice: nothing compares it with the type's `<`.
 pub trait Number: Copy + Drop {
     /// The width of the type, in bits.
     const BITS: u32;
@@ -43,8 +44,11 @@ pub trait Number: Copy + Drop {
 
     ghost lt_rises: { (j k : ℕ) → lt (number j) (number k) ≡ nat_lt j k };
 
-    // If they do, one of the type's numbers lies within both.
+    // If they do, one of the type's numbers lies within both, and the other way round.
     ghost has_place: { (low high : Bound Self)
         → IfBound low (IsNumber BITS number) → IfBound high (IsNumber BITS number)
         → has_number low high → (k : ℕ) × (k < 2 ^ BITS) × Admits le lt low high (number k) };
+
+    ghost knows_place: { (low high : Bound Self) (k : ℕ) → k < 2 ^ BITS
+        → Admits le lt low high (number k) → has_number low high };
 }

@@ -19,8 +19,8 @@ once s fits m n low high same =
 
 pub again : (s : ℕ) → s < 2 ^ 64 → ComesAgain split_mix_period (λ n. after_draws split_mix_requests n s)
 again s fits = (
-  omega arith,
   0,
+  omega arith,
   λ n _.
       let whole : (s + (n + split_mix_period) * increment) % 2 ^ 64 ≡ (s + n * increment) % 2 ^ 64 = omega arith in
       seed_after (n + split_mix_period) s fits ∙ whole ∙ sym (seed_after n s fits),

@@ -2,6 +2,7 @@
 //! Splittable Pseudorandom Number Generators" (2014), in Sebastiano Vigna's constants.
 ghost use Rattle.std.specs.Prelude.{◌≡◌, ◌↔◌, ◌+◌, ◌*◌, ◌^◌, ◌≤◌, ⊤, refl, IfOk, IsOk};
 ghost use Rattle.std.proofs.Common.{rules};
+ghost use Rattle.nanorand.specs.support.OnwardLemmas.{onward_8};
 ghost use Rattle.nanorand.specs.generators.Parts.{ComesAgain, NothingTwice, after_draws, part_at};
 ghost use Rattle.nanorand_users.specs.SplitMix.{mixed, next_seed, split_mix_block, split_mix_period, split_mix_requests};
 
@@ -100,6 +101,8 @@ impl Parts<8> for SplitMix64 {
             seed: self.seed.wrapping_add(before),
         })
     }
+
+    ghost onward = { onward_8 split_mix_block next_seed };
 }
 
 // The word of a new seed.

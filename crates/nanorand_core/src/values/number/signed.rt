@@ -1,7 +1,7 @@
 //! The signed types: rank 0 is the least number, -2^(BITS - 1).
 ghost use Rattle.std.specs.Prelude.{int_le, int_lt, refl};
 ghost use Rattle.nanorand_core.specs.values.Range.{signed_number, HasSigned};
-ghost use Rattle.nanorand_core.specs.support.BoundLemmas.{signed_has_place};
+ghost use Rattle.nanorand_core.specs.support.BoundLemmas.{signed_has_number, signed_has_place};
 ghost use Rattle.nanorand_core.specs.support.NumberOrderLemmas.{width_8, width_16, width_32, width_64, int_le-signed, int_lt-signed};
 
 use super::Number;
@@ -26,6 +26,8 @@ impl Number for i8 {
     ghost lt_rises = { int_lt-signed 8 };
 
     ghost has_place = { signed_has_place 8 refl };
+
+    ghost knows_place = { signed_has_number 8 refl };
 
     #[inline]
     fn place(self) -> u64 {
@@ -59,6 +61,8 @@ impl Number for i16 {
 
     ghost has_place = { signed_has_place 16 refl };
 
+    ghost knows_place = { signed_has_number 16 refl };
+
     #[inline]
     fn place(self) -> u64 {
         (i128::from(self) - i128::from(i16::MIN)) as u64
@@ -90,6 +94,8 @@ impl Number for i32 {
     ghost lt_rises = { int_lt-signed 32 };
 
     ghost has_place = { signed_has_place 32 refl };
+
+    ghost knows_place = { signed_has_number 32 refl };
 
     #[inline]
     fn place(self) -> u64 {
@@ -123,6 +129,8 @@ impl Number for i64 {
 
     ghost has_place = { signed_has_place 64 refl };
 
+    ghost knows_place = { signed_has_number 64 refl };
+
     #[inline]
     fn place(self) -> u64 {
         (i128::from(self) - i128::from(i64::MIN)) as u64
@@ -154,6 +162,8 @@ impl Number for isize {
     ghost lt_rises = { int_lt-signed 64 };
 
     ghost has_place = { signed_has_place 64 refl };
+
+    ghost knows_place = { signed_has_number 64 refl };
 
     #[inline]
     fn place(self) -> u64 {

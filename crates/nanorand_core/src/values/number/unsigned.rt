@@ -1,7 +1,7 @@
 //! The unsigned types: the rank of a number is the number itself.
 ghost use Rattle.std.specs.Prelude.{nat_le, nat_lt, refl};
 ghost use Rattle.nanorand_core.specs.values.Range.{unsigned_number, HasUnsigned};
-ghost use Rattle.nanorand_core.specs.support.BoundLemmas.{unsigned_has_place};
+ghost use Rattle.nanorand_core.specs.support.BoundLemmas.{unsigned_has_number, unsigned_has_place};
 ghost use Rattle.nanorand_core.specs.support.NumberOrderLemmas.{width_8, width_16, width_32, width_64};
 
 use super::Number;
@@ -26,6 +26,8 @@ impl Number for u8 {
     ghost lt_rises = { λ j k. refl };
 
     ghost has_place = { unsigned_has_place 8 };
+
+    ghost knows_place = { unsigned_has_number 8 };
 
     #[inline]
     fn place(self) -> u64 {
@@ -59,6 +61,8 @@ impl Number for u16 {
 
     ghost has_place = { unsigned_has_place 16 };
 
+    ghost knows_place = { unsigned_has_number 16 };
+
     #[inline]
     fn place(self) -> u64 {
         u64::from(self)
@@ -90,6 +94,8 @@ impl Number for u32 {
     ghost lt_rises = { λ j k. refl };
 
     ghost has_place = { unsigned_has_place 32 };
+
+    ghost knows_place = { unsigned_has_number 32 };
 
     #[inline]
     fn place(self) -> u64 {
@@ -123,6 +129,8 @@ impl Number for u64 {
 
     ghost has_place = { unsigned_has_place 64 };
 
+    ghost knows_place = { unsigned_has_number 64 };
+
     #[inline]
     fn place(self) -> u64 {
         self
@@ -154,6 +162,8 @@ impl Number for usize {
     ghost lt_rises = { λ j k. refl };
 
     ghost has_place = { unsigned_has_place 64 };
+
+    ghost knows_place = { unsigned_has_number 64 };
 
     #[inline]
     fn place(self) -> u64 {
