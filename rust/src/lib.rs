@@ -205,9 +205,9 @@ struct Readme;
 pub use buffer::BufferedRng;
 pub use layer::{AnyRng, GenerateIter, Lent};
 pub use parts::{Parts, PastPeriod};
-pub use rand::{ChaCha, ChaCha12, ChaCha20, ChaCha8, Pcg64, Rng, SeedableRng, WyRand};
 pub use rand::{
     chacha_stream, chacha_stream_at, ChaCha12Stream, ChaCha20Stream, ChaCha8Stream, ChaChaGroups,
     ChaChaStream, Keystream,
 };
+pub use rand::{ChaCha, ChaCha12, ChaCha20, ChaCha8, Pcg64, Rng, SeedableRng, WyRand};
 pub use values::{RandomGen, RandomRange, RangeError};
