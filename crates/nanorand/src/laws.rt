@@ -26,7 +26,7 @@ use crate::parts::Parts;
 use crate::rand::{Blocks, ChaCha, ChaChaGroups, Pcg64, Rng, WyRand};
 pub use nanorand_core::laws::{
     choices_and_arrangements, choices_are_fair, fairness, partial_shuffles,
-    permutations_by_counting, range_limits, samples_are_fair, values_join,
+    permutations_by_counting, range_limits, ranges_are_fair, samples_are_fair, values_join,
     weighted_choices_are_fair, whole_blocks,
 };
 pub use nanorand_fairness::laws::{

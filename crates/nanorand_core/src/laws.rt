@@ -11,6 +11,7 @@ ghost use Rattle.nanorand_core.specs.values.RangeLimits.{KeepsLimits};
 ghost use Rattle.nanorand_core.specs.values.Draws.{after_word, unsigned_outcome, signed_outcome};
 ghost use Rattle.nanorand_core.specs.values.Values.{number_of, values_from};
 ghost use Rattle.nanorand_core.specs.values.Fairness.{RunsAreFair, NoNumberIsPreferred, EventsAreFair, DivisorsRejectNothing};
+ghost use Rattle.nanorand_core.specs.values.Fairness.{UnsignedRangesAreFair, SignedRangesAreFair, EventsOfListsAreFair};
 ghost use Rattle.nanorand_core.specs.choices.Weighted.{ChoicesAreFair};
 ghost use Rattle.nanorand_core.specs.shuffles.Shuffles.{from_itself, partly_shuffled, shuffled};
 
@@ -31,6 +32,19 @@ pub fn fairness()
     ensures swaps { NoNumberIsPreferred }
     ensures events { EventsAreFair }
     ensures divisors { DivisorsRejectNothing }
+{}
+
+/// A draw from a range prefers no number of it, for words of N = 8, 16, 32 and 64 bits.
+///
+/// A range is given by two bounds of the integer type of N bits, and a word gives the number of the
+/// range whose index the word names. `unsigned`: in a range of s numbers, each number that both
+/// bounds admit is given by exactly floor(2^N / s) of the 2^N words. `signed`: the same for the
+/// signed type. `events`: in every list of s items, s from 1 to 2^N, of which m pass a test, items
+/// that pass it are given by exactly m * floor(2^N / s) words.
+pub fn ranges_are_fair<T>()
+    ensures unsigned { UnsignedRangesAreFair }
+    ensures signed { SignedRangesAreFair }
+    ensures events { EventsOfListsAreFair T }
 {}
 
 /// The choices of `choices` prefer nothing, for words of N = 8, 16, 32 and 64 bits.

@@ -1,11 +1,13 @@
 -- Known answers: ranges by their bounds, the nine pairs of kinds of bounds and both ends of the types, and
 -- draws from them.
-use Rattle.std.specs.Prelude.{◌≡◌, ◌+◌, [], ◌∷◌, Some, None, Ok, Err, replicate, pos, negsuc, ◌++◌, map, refl}
+use Rattle.std.specs.Prelude.{◌≡◌, ◌+◌, ◌==◌, [], ◌∷◌, Some, None, Ok, Err, replicate, pos, negsuc, ◌++◌, map, nat_lt, refl}
+use Rattle.std.specs.Ordering.{int_eq}
 use Rattle.std.specs.declared.ops.Bound.TheVariants.{Included, Excluded, Unbounded}
 use Rattle.nanorand_core.specs.generators.Blocks.{taken, plain}
-use Rattle.nanorand_core.specs.values.Runs.{named}
+use Rattle.nanorand_core.specs.values.Runs.{named, words_that}
 use Rattle.nanorand_core.specs.values.Range.{unsigned_range, signed_range, range_within, signed_number}
 use Rattle.nanorand_core.specs.values.Draws.{unsigned_outcome, signed_outcome, deciding_place, value_drawn, left_by, left_after, words_from}
+use Rattle.nanorand_core.specs.values.Fairness.{words_giving}
 use Rattle.nanorand_core.specs.declared.values.range.RangeError.TheVariants.{Empty, Exhausted}
 use Rattle.known_answers.proofs.nanorand_core.SmallGenerators.{script, steps}
 use Rattle.std.specs.List.{range_with_len}
@@ -185,3 +187,17 @@ i16_from_the_least = refl
 i16_to_the_greatest : signed_range 16 (Excluded (pos 32765)) Unbounded ≡ pos 32766 ∷ pos 32767 ∷ []
 unfolding range_within
 i16_to_the_greatest = refl
+
+-- of the words of 8 bits, 42 give a 3 of the range 1..=6, and 84 give a number above 4
+words_for_three : words_giving 8 (unsigned_range 8 (Included 1) (Included 6)) (λ y. y == 3) ≡ 42
+unfolding words_that named range_within
+words_for_three = refl
+
+words_for_five_or_six : words_giving 8 (unsigned_range 8 (Included 1) (Included 6)) (λ y. nat_lt 4 y) ≡ 84
+unfolding words_that named range_within
+words_for_five_or_six = refl
+
+-- and 42 give a -1 of the range -3..=2
+words_for_minus_one : words_giving 8 (signed_range 8 (Included (negsuc 2)) (Included (pos 2))) (λ y. int_eq y (negsuc 0)) ≡ 42
+unfolding words_that named range_within
+words_for_minus_one = refl

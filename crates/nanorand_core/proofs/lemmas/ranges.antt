@@ -7,3 +7,4 @@ pub mod CountLemmas
 pub mod FairnessLemmas
 pub mod SwapLemmas
 pub mod EventLemmas
+pub mod RangeFairnessLemmas

@@ -1,8 +1,13 @@
 -- Exact fairness: every number has equally many words, and no list of words prefers a number.
-use Rattle.std.specs.Prelude.{◌≡◌, ℕ, ◌+◌, ◌-◌, ◌*◌, ◌^◌, ◌<◌, ◌≤◌, ◌==◌, Bool, false, List, Option, Some, None}
-use Rattle.std.specs.Prelude.{is_some, true, ◌↔◌, map, count_by, option_map, if◌then◌else◌}
+use Rattle.std.specs.Prelude.{◌≡◌, ℕ, ℤ, ◌+◌, ◌-◌, ◌*◌, ◌^◌, ◌<◌, ◌≤◌, ◌==◌, Bool, false, List, Option, Some, None}
+use Rattle.std.specs.Prelude.{is_some, true, ◌↔◌, length, map, count_by, slice_get, option_map, option_and_then}
+use Rattle.std.specs.Prelude.{if◌then◌else◌, nat_le, nat_lt, int_le, int_lt}
+use Rattle.std.specs.Ordering.{int_eq}
 use Rattle.std.specs.List.{All, range_with_len}
+use Rattle.std.specs.Option.{option_map_or}
+use Rattle.std.specs.declared.ops.Bound.{Bound}
 use Rattle.nanorand_core.specs.values.Runs.{IsWordWidth, Names, named, is_in_run, quota, rejected, first_word, words_that}
+use Rattle.nanorand_core.specs.values.Range.{Admits, IsNumber, signed_number, unsigned_range, signed_range}
 use Rattle.nanorand_core.specs.values.Draws.{deciding_place, decided}
 
 -- The runs of the numbers below the size lie within the 2^bits words, do not overlap, and have
@@ -73,3 +78,40 @@ abbrev pub DivisorsRejectNothing : Type 0
 DivisorsRejectNothing =
     (bits size word : ℕ) → IsWordWidth bits → 1 ≤ size → rejected bits size ≡ 0 → word < 2 ^ bits
     → is_some (named bits size word) ≡ true
+
+-- The number of the list that a word of `bits` bits gives: the word names an index below the length
+-- of the list, counted from 0, and the number stands there. A rejected word gives none.
+abbrev pub number_given : {T : Type 0} → ℕ → List T → ℕ → Option T
+number_given bits numbers word =
+    option_and_then (slice_get numbers) (named bits (length numbers) word)
+
+-- How many of the 2^bits words give a number that passes the test.
+abbrev pub words_giving : {T : Type 0} → ℕ → List T → (T → Bool) → ℕ
+words_giving bits numbers test =
+    words_that bits (λ word. option_map_or test (number_given bits numbers word) false)
+
+-- Ranges are fair, part one of three, for every word width and every two bounds of the unsigned
+-- type of so many bits: each number that both bounds admit is given by `quota` words. The length of
+-- the range is the count of its numbers.
+abbrev pub UnsignedRangesAreFair : Type 0
+UnsignedRangesAreFair =
+    (bits : ℕ) (low high : Bound ℕ) (x : ℕ) → IsWordWidth bits → x < 2 ^ bits
+    → Admits nat_le nat_lt low high x →
+    let numbers = unsigned_range bits low high in
+    words_giving bits numbers (λ y. y == x) ≡ quota bits (length numbers)
+
+-- Part two: the same for the signed type.
+abbrev pub SignedRangesAreFair : Type 0
+SignedRangesAreFair =
+    (bits : ℕ) (low high : Bound ℤ) (x : ℤ) → IsWordWidth bits
+    → IsNumber bits (signed_number bits) x → Admits int_le int_lt low high x →
+    let numbers = signed_range bits low high in
+    words_giving bits numbers (λ y. int_eq y x) ≡ quota bits (length numbers)
+
+-- Part three: in every list of 1 to 2^bits items, numbers or others, an event, given by a test, has
+-- `quota` words for each place of the list whose item passes.
+abbrev pub EventsOfListsAreFair : Type 0 → Type 0
+EventsOfListsAreFair T =
+    (bits : ℕ) (numbers : List T) (test : T → Bool) → IsWordWidth bits
+    → 1 ≤ length numbers → length numbers ≤ 2 ^ bits
+    → words_giving bits numbers test ≡ count_by test numbers * quota bits (length numbers)
