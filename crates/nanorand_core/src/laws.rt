@@ -2,11 +2,13 @@
 //! nothing; a proof calls one to use its law.
 ghost use Rattle.std.specs.Prelude.{◌≡◌, ◌<◌, ◌≤◌, ◌+◌, ◌++◌, length, sum, ℕ, ℤ, nat_le, nat_lt, int_le, int_lt, ◌^◌, ◌↔◌, List, [], ◌∷◌, take, IsPermutation, All, AllPairs, ◌≢◌};
 ghost use Rattle.std.specs.Fn.{iterate};
+ghost use Rattle.std.specs.List.{range_with_len};
 ghost use Rattle.std.specs.declared.ops.Bound.{Bound};
+ghost use Rattle.std.specs.declared.ops.Bound.TheVariants.{Included, Excluded};
 ghost use Rattle.nanorand_core.specs.choices.Uniform.{IndicesAreFair, RatiosAreFair};
 ghost use Rattle.nanorand_core.specs.shuffles.Arrangements.{CorrespondsOneToOne, HoldEquallyOften, HoldsEachOnce, IsArrangement};
 ghost use Rattle.nanorand_core.specs.samples.Samples.{NumbersAreFair, SetsAreFair};
-ghost use Rattle.nanorand_core.specs.values.Range.{unsigned_number, signed_number};
+ghost use Rattle.nanorand_core.specs.values.Range.{unsigned_number, unsigned_range, signed_number};
 ghost use Rattle.nanorand_core.specs.values.RangeLimits.{KeepsLimits};
 ghost use Rattle.nanorand_core.specs.values.Draws.{after_word, unsigned_outcome, signed_outcome};
 ghost use Rattle.nanorand_core.specs.values.Values.{number_of, values_from};
@@ -39,11 +41,14 @@ pub fn fairness()
 /// A range is given by two bounds of the integer type of N bits, and a word gives the number of the
 /// range whose index the word names. `unsigned`: in a range of s numbers, each number that both
 /// bounds admit is given by exactly floor(2^N / s) of the 2^N words. `signed`: the same for the
-/// signed type. `events`: in every list of s items, s from 1 to 2^N, of which m pass a test, items
+/// signed type. `indices`: the range from 0 to n, without n, is 0, 1, .., n - 1, so a draw from it is
+/// the draw of an index that `fairness` speaks of. `events`: in every list of s items, s from 1 to 2^N, of which m pass a test, items
 /// that pass it are given by exactly m * floor(2^N / s) words.
 pub fn ranges_are_fair<T>()
     ensures unsigned { UnsignedRangesAreFair }
     ensures signed { SignedRangesAreFair }
+    ensures indices { (bits n : ℕ) → n ≤ 2 ^ bits
+        → unsigned_range bits (Included 0) (Excluded n) ≡ range_with_len 0 n }
     ensures events { EventsOfListsAreFair T }
 {}
 
