@@ -209,18 +209,20 @@ typedef struct nanorand_v1_keystream {
  * the exchanges before that stay.
  *
  * nanorand_.._shuffle_full: Shuffles the items as the crate nanorand 0.7.0 did: each is exchanged
- * with one drawn from all, and the orders are not equally frequent. The status is that of
- * `shuffle`.
+ * with one drawn from all, and of three items or more the orders are not equally frequent. The
+ * status is that of `shuffle`.
  *
  * nanorand_.._sample: Samples different numbers below `count`, one for each place, by Floyd's
- * algorithm; each set of them has equally many words, their order is not uniform. It returns 0, or
- * 1 if there are more places than numbers (nothing is drawn or written), or 2 if 128 words in a row
- * were rejected for one place; the places before it are then written, and the draws stay.
+ * algorithm; each set of them is the sample for equally many lists of words, their order is not
+ * uniform. It returns 0, or 1 if there are more places than numbers (nothing is drawn or written),
+ * or 2 if 128 words in a row were rejected for one place; the places before it are then written,
+ * and the draws stay.
  *
  * nanorand_.._part: Moves to the beginning of part `index`, counted from 0, of parts of so many
  * draws: `index * draws` draws further on, where a draw is what a `uint64_t` takes. Parts of one
- * length do not overlap. It returns 0, or 3 if the part ends past the period: 2^64 draws of WyRand
- * and ChaCha, 2^126 of Pcg64, 2^67 of the keystream. Nothing moves then.
+ * length that are cut from copies of one state do not overlap, if no task draws more than `draws`
+ * draws. It returns 0, or 3 if the part ends past the period: 2^64 draws of WyRand and ChaCha,
+ * 2^126 of Pcg64, 2^67 of the keystream. Nothing moves then.
  */
 
 /* ---- WyRand: 64 bits of state, the fastest. Not cryptographically secure. ---- */

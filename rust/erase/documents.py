@@ -20,14 +20,21 @@ SENTENCES = {
     " (`laws::parts_in_any_order`, `laws::parts_as_one_loop`)": "",
     "Every implementation proves that no state comes twice within the period, so that no state comes in two parts of"
     " one stream and one length (`laws::all_parts_are_apart`); that, from some draw on, the states come again after"
-    " the period; and that a request of any size goes on by draws, at most one for each eight bytes.": (
-        "It is proved of this crate's generators that no state comes in two parts of one stream and one length; that,"
-        " from some draw on, the states come again after the period; and that a request of any size goes on by draws,"
-        " at most one for each eight bytes. An implementation of your own has to see to all three."
+    " the period; and that a request of any size, or a further one of fewer than eight bytes, ends at a draw, at least"
+    " one draw on and at most one for each eight bytes begun.": (
+        "Of the source of this crate's generators it is proved that no state comes in two parts of one stream and one"
+        " length; that, from some draw on, the states come again after the period; and that a request of any size, or"
+        " a further one of fewer than eight bytes, ends at a draw, at least one draw on and at most one for each eight"
+        " bytes begun. An implementation of your own has to see to all three."
+    ),
+    "Every implementation proves that requests join without a break: two in a row take the bytes that one of their"
+    " total size takes.": (
+        "Requests join without a break: two in a row take the bytes that one of their total size takes. An"
+        " implementation of your own has to see to that."
     ),
     "`laws::wyrand_cycle` and `laws::pcg64_cycles` prove that the blocks of `WyRand` and `Pcg64` have no smaller"
-    " period.": "It is proved that the blocks of `WyRand` and `Pcg64` have no smaller period.",
-    " (for ChaCha, `laws::streams_deliver_chacha`)": "",
+    " period.": "The blocks of `WyRand` and `Pcg64` have no smaller period, which is proved too.",
+    " (for ChaCha, `chacha_stream: state` and `laws::streams_deliver_chacha`)": "",
     " (`laws::samples_are_fair`)": "",
     "Why a ranged draw returned no number.": (
         "Why a ranged draw returned no number. `Rng::range` and `Rng::permute` panic in its place."

@@ -23,15 +23,18 @@ impl std::error::Error for PastPeriod {}
 ///
 /// The stream is what the generator draws from now on, and a draw is what a `u64` takes: a word of
 /// `WyRand` and `Pcg64`, a block of `ChaCha`, and eight bytes of a stream of ChaCha. Part 0 is the
-/// first `draws` draws, part 1 the next, and so on. What a task draws depends on the index of its
-/// part alone, so tasks may run in any order, on any machine, and more than once.
+/// first `draws` draws, part 1 the next, and so on. What a task draws depends only on the stream,
+/// the length and the index of its part, so tasks may run in any order, on any machine, and more
+/// than once.
 ///
-/// It is proved of this crate's generators that no state comes in two parts of one stream and one
-/// length; that, from some draw on, the states come again after the period; and that a request of
-/// any size goes on by draws, at most one for each eight bytes. An implementation of your own has
-/// to see to all three. These are facts about states, and two different states may draw the same
-/// numbers. It is proved that the blocks of `WyRand` and `Pcg64` have no smaller period. For
-/// ChaCha's blocks no such proof is known.
+/// Of the source of this crate's generators it is proved that no state comes in two parts of one
+/// stream and one length; that, from some draw on, the states come again after the period; and
+/// that a request of any size, or a further one of fewer than eight bytes, ends at a draw, at
+/// least one draw on and at most one for each eight bytes begun. An implementation of your own has
+/// to see to all three. The states are those that whole draws leave; which state lies within a
+/// draw is not promised. Two different states may draw the same numbers. The blocks of `WyRand`
+/// and `Pcg64` have no smaller period, which is proved too. For ChaCha's blocks no such proof is
+/// known.
 ///
 /// # Examples
 ///

@@ -217,8 +217,8 @@ pub fn parts_are_the_stream<G: Rng<OUTPUT>, const OUTPUT: usize>()
 /// Parts that together stay within the period do not overlap: no state comes in two of them, and in
 /// none twice.
 ///
-/// For `Pcg64`, no seed comes twice, and the seed alone decides the blocks. A stream of ChaCha has
-/// buffered less than a group. `bytes`: in 2^70 bytes it is in no state twice, whatever the sizes of
+/// For `Pcg64`, no seed comes twice, and the seed alone decides the blocks. For a stream of
+/// ChaCha, fewer than 512 bytes are buffered. `bytes`: in 2^70 bytes it is in no state twice, whatever the sizes of
 /// its requests are.
 pub fn parts_are_apart<const ROUNDS: u8>()
     ensures wyrand { (seed : ℕ) → seed < 2 ^ 64
@@ -237,9 +237,10 @@ pub fn parts_are_apart<const ROUNDS: u8>()
 /// comes again after its period.
 ///
 /// `apart`: parts of one length that together stay within the period do not overlap: no state comes
-/// in two of them, and in none twice. `again`: from some draw on, the 64-bit numbers that are drawn
-/// are those of `period` draws before. That equal numbers come no sooner is not claimed, since two
-/// states may have equal blocks: `wyrand_cycle` and `pcg64_cycles` say it of their generators.
+/// in two of them, and in none twice, where states are those that whole draws leave. `again`: from
+/// some draw on, the 64-bit numbers that are drawn are those of `period` draws before. That the
+/// numbers have no smaller period is not claimed, since two states may have equal blocks.
+/// `wyrand_cycle` and `pcg64_cycles` prove it of the blocks of their generators.
 pub fn all_parts_are_apart<G: Parts<OUTPUT> + Drop, const OUTPUT: usize>(stream: &G)
     ensures apart { PartsAreApart G.period (λ n. after_draws G.requests n stream.now) }
     ensures again { ComesAgain G.period
@@ -248,56 +249,59 @@ pub fn all_parts_are_apart<G: Parts<OUTPUT> + Drop, const OUTPUT: usize>(stream:
     let _ = stream.part(0, 0);
 }
 
-/// Tasks of which each draws from the part of its index alone leave the same results, in whatever
-/// order they run and however often: for each index, what its task gives on its part.
+/// If each task draws only from the part of its own index, the results are the same in whatever order
+/// the tasks run, each at least once: for each index, what its task gives on its part.
 ///
-/// A task is a function of the generator that it is given, and writes its own result whole. A
-/// schedule is the list of the indices in the order in which their tasks end, and has each index
-/// below `count` at least once. What stood in the results before does not matter, nor do runs that
-/// were cut off before they wrote. That these are the results of one loop over one generator is
-/// `parts_as_one_loop`.
+/// A task is a function of its index and of the generator that it is given, and writes its own
+/// result whole. A schedule is the list of the indices in the order in which their tasks end, and
+/// has each index below `count` at least once. What stood in the results before does not matter, nor
+/// do runs that were cut off before they wrote. That these are the results of one loop over one
+/// generator is `parts_as_one_loop`.
 pub fn parts_in_any_order<G: Rng<OUTPUT>, const OUTPUT: usize, T>()
-    ensures { (task : G → T) (draws count : ℕ) (g : G) (schedule : List ℕ) (results : List T)
+    ensures { (task : ℕ → G → T) (draws count : ℕ) (g : G) (schedule : List ℕ) (results : List T)
         → length results ≡ count → ((i : ℕ) → i < count → Contains schedule i) →
-        let own = λ (i : ℕ). task (part_at G.requests draws i g) in
+        let own = λ (i : ℕ). task i (part_at G.requests draws i g) in
         results_after own schedule results ≡ map own (range_with_len 0 count) }
 {}
 
 /// Tasks that each use up one part of a stream do what one loop does that runs them one after another
 /// over one generator.
 ///
-/// A task is a function of the generator's state: it gives a result and the state that it leaves.
-/// The premise of the first three clauses: on each part, the task leaves the state `draws` draws
-/// further on. It draws exactly `draws` times, or fewer and then jumps to the end of its part.
-/// `parts`: the loop's results are those of the tasks, each alone on the part of its index. `left`:
-/// the loop leaves the stream at the part after the last one. `schedules`: tasks that run by a
-/// schedule, in whatever order and however often, leave the loop's results.
+/// A task is a function of its index and of the generator's state: it gives a result and the state
+/// that it leaves. The premise of the first three clauses: on each part, the task leaves the state
+/// `draws` draws further on. So it does if it draws exactly `draws` times, or fewer times and then
+/// jumps to the end of its part. `parts`: the loop's results are those of the tasks, each alone on
+/// the part of its index. `left`: the loop leaves the stream at the part after the last one.
+/// `schedules`: tasks that run by a schedule, in whatever order and however often, leave the loop's
+/// results.
 ///
 /// `jumps` has no premise: a loop that runs each task on an equal generator, and then jumps its own
 /// `draws` draws ahead, has the results of the tasks on their parts. `jumping_schedules`: tasks that
 /// run by a schedule leave this loop's results.
 pub fn parts_as_one_loop<G: Rng<OUTPUT>, const OUTPUT: usize, T>()
-    ensures parts { (task : G → T × G) (draws count : ℕ) (g : G) →
+    ensures parts { (task : ℕ → G → T × G) (draws count : ℕ) (g : G) →
         let start = λ (i : ℕ). part_at G.requests draws i g in
-        ((i : ℕ) → i < count → (task (start i)).1 ≡ after_draws G.requests draws (start i))
-        → results_in_turn task count g ≡ map (λ i. (task (start i)).0) (range_with_len 0 count) }
-    ensures left { (task : G → T × G) (draws count : ℕ) (g : G) →
+        ((i : ℕ) → i < count → (task i (start i)).1 ≡ after_draws G.requests draws (start i))
+        → results_in_turn task count g
+        ≡ map (λ i. (task i (start i)).0) (range_with_len 0 count) }
+    ensures left { (task : ℕ → G → T × G) (draws count : ℕ) (g : G) →
         let start = λ (i : ℕ). part_at G.requests draws i g in
-        ((i : ℕ) → i < count → (task (start i)).1 ≡ after_draws G.requests draws (start i))
+        ((i : ℕ) → i < count → (task i (start i)).1 ≡ after_draws G.requests draws (start i))
         → left_in_turn task count g ≡ start count }
-    ensures schedules { (task : G → T × G) (draws count : ℕ) (g : G) (schedule : List ℕ)
+    ensures schedules { (task : ℕ → G → T × G) (draws count : ℕ) (g : G) (schedule : List ℕ)
         (results : List T) →
         let start = λ (i : ℕ). part_at G.requests draws i g in
-        ((i : ℕ) → i < count → (task (start i)).1 ≡ after_draws G.requests draws (start i))
+        ((i : ℕ) → i < count → (task i (start i)).1 ≡ after_draws G.requests draws (start i))
         → length results ≡ count → ((i : ℕ) → i < count → Contains schedule i)
-        → results_after (λ i. (task (start i)).0) schedule results ≡ results_in_turn task count g }
-    ensures jumps { (task : G → T) (draws count : ℕ) (g : G)
+        → results_after (λ i. (task i (start i)).0) schedule results
+        ≡ results_in_turn task count g }
+    ensures jumps { (task : ℕ → G → T) (draws count : ℕ) (g : G)
         → results_in_turn (on_a_copy G.requests task draws) count g
-        ≡ map (λ i. task (part_at G.requests draws i g)) (range_with_len 0 count) }
-    ensures jumping_schedules { (task : G → T) (draws count : ℕ) (g : G) (schedule : List ℕ)
+        ≡ map (λ i. task i (part_at G.requests draws i g)) (range_with_len 0 count) }
+    ensures jumping_schedules { (task : ℕ → G → T) (draws count : ℕ) (g : G) (schedule : List ℕ)
         (results : List T)
         → length results ≡ count → ((i : ℕ) → i < count → Contains schedule i)
-        → results_after (λ i. task (part_at G.requests draws i g)) schedule results
+        → results_after (λ i. task i (part_at G.requests draws i g)) schedule results
         ≡ results_in_turn (on_a_copy G.requests task draws) count g }
 {}
 

@@ -1,4 +1,4 @@
-//! The key stream of ChaCha with 20 rounds without a gap: a generator that buffers the bytes that a
+//! The keystream of ChaCha with 20 rounds without a gap: a generator that buffers the bytes that a
 //! request leaves over.
 ghost use Rattle.std.specs.Prelude.{◌≡◌, ◌≢◌, ◌<◌, ◌≤◌, ◌≤ℤ◌, All, IsPermutation, length, ℕ, ◌*◌};
 ghost use Rattle.std.specs.List.{AllPairs};
@@ -209,7 +209,7 @@ pub extern "C" fn nanorand_v1_stream_shuffle(stream: &mut Stream, items: &mut [u
 }
 
 /// Shuffles the items as the crate nanorand 0.7.0 did: each is exchanged with one drawn from all,
-/// and the orders are not equally frequent. The status is that of `shuffle`.
+/// and of three items or more the orders are not equally frequent. The status is that of `shuffle`.
 #[unsafe(no_mangle)]
 pub extern "C" fn nanorand_v1_stream_shuffle_full(stream: &mut Stream, items: &mut [usize]) -> u8
     ensures status { let start = stream_at stream.old in
@@ -234,7 +234,7 @@ pub extern "C" fn nanorand_v1_stream_shuffle_full(stream: &mut Stream, items: &m
 }
 
 /// Samples different numbers below `count`, one for each place, by Floyd's algorithm; each set of
-/// them has equally many words, their order is not uniform. It returns 0, or 1 if there are more
+/// them is the sample for equally many lists of words, their order is not uniform. It returns 0, or 1 if there are more
 /// places than numbers (nothing is drawn or written), or 2 if 128 words in a row were rejected for
 /// one place; the places before it are then written, and the draws stay.
 #[unsafe(no_mangle)]

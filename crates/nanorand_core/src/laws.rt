@@ -36,14 +36,14 @@ pub fn fairness()
     ensures divisors { DivisorsRejectNothing }
 {}
 
-/// A draw from a range prefers no number of it, for words of N = 8, 16, 32 and 64 bits.
+/// A word of a draw from a range prefers no number of it, for words of N = 8, 16, 32 and 64 bits.
 ///
 /// A range is given by two bounds of the integer type of N bits, and a word gives the number of the
 /// range whose index the word names. `unsigned`: in a range of s numbers, each number that both
 /// bounds admit is given by exactly floor(2^N / s) of the 2^N words. `signed`: the same for the
-/// signed type. `indices`: the range from 0 to n, without n, is 0, 1, .., n - 1, so a draw from it is
-/// the draw of an index that `fairness` speaks of. `events`: in every list of s items, s from 1 to 2^N, of which m pass a test, items
-/// that pass it are given by exactly m * floor(2^N / s) words.
+/// signed type. `indices`: the range from 0 to n, without n, is 0, 1, .., n - 1, so a draw from it
+/// is the draw of an index that `fairness` speaks of. `events`: in every list of s items, s from 1
+/// to 2^N, of which m pass a test, items that pass it are given by exactly m * floor(2^N / s) words.
 pub fn ranges_are_fair<T>()
     ensures unsigned { UnsignedRangesAreFair }
     ensures signed { SignedRangesAreFair }

@@ -30,8 +30,8 @@ pub fn words_of_a_draw()
     fairness();
 }
 
-/// A bounded draw of a generator is the draw from a list of words, its next 128, that the other laws
-/// here count.
+/// A generator's bounded draw is the draw that the other laws here count, from the list of its next
+/// 128 words.
 ///
 /// `number`: it gives the number that the list gives, or none. `state`: it draws as many words as it
 /// takes of the list.
@@ -49,8 +49,9 @@ pub fn draws_by_words<G: Rng<OUTPUT>, const OUTPUT: usize>()
 ///
 /// `events`: an event of m numbers is decided by m times as many lists as one number, and all
 /// numbers by equally many. `ratios`: so, for a numerator up to the denominator, `choices::ratio` is
-/// true for `numerator` times as many lists as one number has. `weights`: and `choices::choose_weighted` returns an item for as many times as
-/// many lists as its weight is.
+/// true for `numerator` times as many lists as one number has. `weights`: and
+/// `choices::choose_weighted` returns an item of weight w for w times as many lists as one number
+/// has.
 pub fn fairness_with_rejections()
     ensures events { EventsInListsAreFair }
     ensures ratios { RatiosInListsAreFair }

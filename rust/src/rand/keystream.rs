@@ -1,7 +1,7 @@
 // Written by `python3 rust/erase` from:
 // crates/nanorand/src/rand/keystream.rt
 
-//! Streams of ChaCha, which can be sought.
+//! Seekable streams of ChaCha.
 
 use crate::buffer::BufferedRng;
 use crate::parts::{draws_before, Parts, PastPeriod};
@@ -24,8 +24,8 @@ pub type ChaCha20Stream = ChaChaStream<20>;
 /// from 0, and after the last one the first one comes again.
 ///
 /// Requests join without a break: two in a row take the bytes that one of their total size takes.
-/// The trait says where a stream goes on. Which bytes a key and a nonce give is up to the
-/// implementation.
+/// An implementation of your own has to see to that. The trait fixes how a stream continues, not
+/// which bytes a key and a nonce give it.
 pub trait Keystream<const OUTPUT: usize>: Rng<OUTPUT> {
     /// The stream of this key and nonce, at its byte 0. For ChaCha the number of rounds is even.
     fn new_key(key: [u8; 32], nonce: [u8; 8]) -> Self;

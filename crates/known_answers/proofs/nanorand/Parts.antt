@@ -61,14 +61,14 @@ not_after_none : ComesAgain {S = ℕ} 0 (λ n. n) → ⊥
 not_after_none again = absurd (omega (arith, again.1))
 
 -- three tasks in turn over one count, each of which counts on by ten
-in_turn : results_in_turn {G = ℕ} {T = ℕ} (λ g. (2 * g, g + 10)) 3 5 ≡ 10 ∷ 30 ∷ 50 ∷ []
+in_turn : results_in_turn {G = ℕ} {T = ℕ} (λ i g. (2 * g + i, g + 10)) 3 5 ≡ 10 ∷ 31 ∷ 52 ∷ []
 in_turn = refl
 
-left : left_in_turn {G = ℕ} {T = ℕ} (λ g. (2 * g, g + 10)) 3 5 ≡ 35
+left : left_in_turn {G = ℕ} {T = ℕ} (λ i g. (2 * g + i, g + 10)) 3 5 ≡ 35
 left = refl
 
 -- a task on a copy: the result of the seed itself, and the seed two draws later
-copied : on_a_copy wyrand_requests (λ seed. 2 * seed) 2 7 ≡ (14, part_at wyrand_requests 2 1 7)
+copied : on_a_copy wyrand_requests (λ i seed. 2 * seed + i) 2 3 7 ≡ (17, part_at wyrand_requests 2 1 7)
 copied = refl
 
 -- a generator that counts down and then stays comes again after one draw, but not from soon on
@@ -84,5 +84,5 @@ unfolding after_draws stuck
 not_onward onward =
     let one : onward.0 ≡ 1 = omega (arith, onward.2, onward.3 (omega arith)) in
     let other : nat_eq onward.1 8 ≡ false = ne_eqb onward.1 8 (λ same. omega (arith, onward.4)) in
-    let left = rw (one, other) at onward.5 in
+    let left = rw (one, other) at onward.6 in
     absurd (omega (arith, left))

@@ -1,6 +1,6 @@
 -- Parts of a stream: its draws are numbered from 0 and cut into parts of equal length. A draw is
 -- what a number of 64 bits takes.
-use Rattle.std.specs.Prelude.{◌≡◌, ℕ, ◌+◌, ◌*◌, ◌<◌, ◌≤◌, List, [], ◌∷◌, slice_set}
+use Rattle.std.specs.Prelude.{◌≡◌, ℕ, ◌+◌, ◌*◌, ◌<◌, ◌≤◌, ◌⊎◌, List, [], ◌∷◌, slice_set}
 use Rattle.std.specs.Fn.{iterate}
 use Rattle.std.specs.Int.{div_ceil}
 use Rattle.nanorand_core.specs.generators.Blocks.{Requests}
@@ -25,17 +25,19 @@ module _ {G : Type 0} (requests : Requests G) where
   abbrev pub numbers_of_part : ℕ → G → ℕ → List ℕ
   numbers_of_part draws g i = numbers draws (part_at draws i g)
 
-  -- A request of n bytes goes on by draws, by at most as many as n bytes begin, and by at least one
-  -- if n is not 0. Less than eight bytes of the last draw may be left, which a request for them takes.
+  -- A request of n bytes ends at a draw, or a further request of fewer than eight bytes does, which
+  -- takes the rest of that draw. It is at most as many draws on as n bytes begin, and at least one if
+  -- n is not 0.
   abbrev pub GoesOnward : ℕ → G → Type 0
   GoesOnward n g =
       (m : ℕ) × (rest : ℕ) × (m ≤ div_ceil n 8) × (0 < n → 0 < m) × (rest < 8)
+      × ((rest ≡ 0) ⊎ (n + rest ≡ m * 8))
       × (requests.after (requests.after g n) rest ≡ after_draws m g)
 
-  -- A task runs on a generator in this state, and the loop's generator then jumps so many draws
+  -- Task i runs on a generator in this state, and the loop's generator then jumps so many draws
   -- ahead.
-  abbrev pub on_a_copy : {T : Type 0} → (G → T) → ℕ → G → T × G
-  on_a_copy task draws g = (task g, after_draws draws g)
+  abbrev pub on_a_copy : {T : Type 0} → (ℕ → G → T) → ℕ → ℕ → G → T × G
+  on_a_copy task draws i g = (task i g, after_draws draws g)
 
 -- Below the period nothing comes twice: where `seen` gives the same, it is the same place.
 abbrev pub NothingTwice : {S : Type 0} → ℕ → (ℕ → S) → Type 0
@@ -62,11 +64,15 @@ abbrev pub results_after : {T : Type 0} → (ℕ → T) → List ℕ → List T 
 results_after own [] results = results
 results_after own (i ∷ schedule) results = results_after own schedule (slice_set results i (own i))
 
--- The results of a task that runs n times, one after another, over one generator. The task gives a
--- result and the state that it leaves.
-abbrev pub results_in_turn : {G T : Type 0} → (G → T × G) → ℕ → G → List T
-results_in_turn task n g = values_from (λ h. (task h).0) (λ h. (task h).1) n g
+-- Tasks that run one after another over one generator. Task i gives a result, and the state that it
+-- leaves to the next task. A turn is the index of a task and the state that it begins from.
+abbrev pub next_turn : {G T : Type 0} → (ℕ → G → T × G) → ℕ × G → ℕ × G
+next_turn task turn = (turn.0 + 1, (task turn.0 turn.1).1)
 
--- The state that these n runs leave.
-abbrev pub left_in_turn : {G T : Type 0} → (G → T × G) → ℕ → G → G
-left_in_turn task n g = iterate (λ h. (task h).1) n g
+-- The results of the first n tasks.
+abbrev pub results_in_turn : {G T : Type 0} → (ℕ → G → T × G) → ℕ → G → List T
+results_in_turn task n g = values_from (λ turn. (task turn.0 turn.1).0) (next_turn task) n (0, g)
+
+-- The state that these n tasks leave.
+abbrev pub left_in_turn : {G T : Type 0} → (ℕ → G → T × G) → ℕ → G → G
+left_in_turn task n g = (iterate (next_turn task) n (0, g)).1

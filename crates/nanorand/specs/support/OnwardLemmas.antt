@@ -1,6 +1,6 @@
 -- Requests go onward by draws. Nobody has to believe this file: it is in specs/ only because laws of
 -- impls cite its lemmas. An implementation of `Parts` of your own may cite `onward_8`.
-use Rattle.std.proofs.Common.{◌≡◌, ℕ, zero, suc, ◌+◌, ◌-◌, ◌*◌, List, refl, sym, ◌∙◌, ap, arith}
+use Rattle.std.proofs.Common.{◌≡◌, ℕ, zero, suc, ◌+◌, ◌-◌, ◌*◌, List, inl, inr, refl, sym, ◌∙◌, ap, arith}
 use Rattle.std.proofs.Math.Nat.{suc-mul}
 use Rattle.std.specs.Fn.{iterate}
 use Rattle.std.specs.Int.{div_ceil}
@@ -25,7 +25,7 @@ module _ {G : Type 0} (block : G → List ℕ) (step : G → G) where
   pub onward_8 : (g : G) (n : ℕ) → GoesOnward (plain block step 8) n g
   onward_8 g n =
       let m : ℕ = div_ceil n 8 in
-      (m, 0, omega arith, (λ some. omega arith), omega arith, sym (draws-leave (plain block step 8) m g ∙ steps_of_8 m g))
+      (m, 0, omega arith, (λ some. omega arith), omega arith, inl refl, sym (draws-leave (plain block step 8) m g ∙ steps_of_8 m g))
 
   steps_of_64 : (n : ℕ) (g : G) → iterate (after_word (plain block step 64) 64) n g ≡ iterate step n g
   steps_of_64 zero g = refl
@@ -34,7 +34,7 @@ module _ {G : Type 0} (block : G → List ℕ) (step : G → G) where
   pub onward_64 : (g : G) (n : ℕ) → GoesOnward (plain block step 64) n g
   onward_64 g n =
       let m : ℕ = div_ceil n 64 in
-      (m, 0, omega arith, (λ some. omega arith), omega arith, sym (draws-leave (plain block step 64) m g ∙ steps_of_64 m g))
+      (m, 0, omega arith, (λ some. omega arith), omega arith, inl refl, sym (draws-leave (plain block step 64) m g ∙ steps_of_64 m g))
 
 -- of a generator that delivers its requests without a break, whose draw is eight bytes
 module _ {G : Type 0} (requests : Requests G) (nothing : (g : G) → requests.after g 0 ≡ g)
@@ -55,6 +55,7 @@ module _ {G : Type 0} (requests : Requests G) (nothing : (g : G) → requests.af
         omega arith,
         (λ some. omega arith),
         omega arith,
+        inr (omega arith),
         adds g n rest ∙ ap (requests.after g) (omega arith) ∙ sym (bytes-of-draws m g),
       )
 

@@ -1,4 +1,4 @@
-//! Streams of ChaCha, which can be sought.
+//! Seekable streams of ChaCha.
 ghost use Rattle.std.specs.Prelude.{◌≡◌, ◌↔◌, ℕ, List, ◌+◌, ◌*◌, ◌%◌, ◌^◌, ◌<◌, ◌≤◌, [], ◌++◌, length, IfOk, IsOk};
 ghost use Rattle.nanorand_replay.specs.generators.Buffered.{buffer_of};
 ghost use Rattle.nanorand.specs.generators.ChaCha.{initial_state, state_at};
@@ -28,9 +28,9 @@ pub type ChaCha20Stream = ChaChaStream<20>;
 /// The keystream of a key and a nonce: 2^70 bytes, in blocks of 64 bytes. The bytes are numbered from
 /// 0, and after the last one the first one comes again.
 ///
-/// Requests join without a break: two in a row take the bytes that one of their total size takes.
-/// The trait says where a stream goes on. Which bytes a key and a nonce give is up to the
-/// implementation (for ChaCha, `laws::streams_deliver_chacha`).
+/// Every implementation proves that requests join without a break: two in a row take the bytes that
+/// one of their total size takes. The trait fixes how a stream continues, not which bytes a key and a
+/// nonce give it (for ChaCha, `chacha_stream: state` and `laws::streams_deliver_chacha`).
 pub trait Keystream<const OUTPUT: usize>: Rng<OUTPUT> {
     // What a new stream needs: for ChaCha an even number of rounds.
     ghost can_start: { Type 0 };
@@ -85,7 +85,7 @@ pub trait Keystream<const OUTPUT: usize>: Rng<OUTPUT> {
     ghost bytes_join: { (g : Self) (m n : ℕ) → let bytes = Self.requests.bytes in
         bytes g m ++ bytes (Self.requests.after g m) n ≡ bytes g (m + n) };
 
-    // A request stays in the stream, and so do its byte 0 and a beginning at any block.
+    // A request, a return to byte 0 and a start at any block stay in one stream.
     ghost stays: { (g : Self) (n : ℕ) → restarted (Self.requests.after g n) ≡ restarted g };
 
     ghost restarts: { (g : Self) → restarted (restarted g) ≡ restarted g };
