@@ -35,6 +35,7 @@ SENTENCES = {
     "`laws::wyrand_cycle` and `laws::pcg64_cycles` prove that the blocks of `WyRand` and `Pcg64` have no smaller"
     " period.": "The blocks of `WyRand` and `Pcg64` have no smaller period, which is proved too.",
     " (for ChaCha, `chacha_stream: state` and `laws::streams_deliver_chacha`)": "",
+    "For ChaCha's blocks no such proof is known.": "For ChaCha's blocks that is not known.",
     " (`laws::samples_are_fair`)": "",
     "Why a ranged draw returned no number.": (
         "Why a ranged draw returned no number. `Rng::range` and `Rng::permute` panic in its place."
@@ -60,6 +61,8 @@ SENTENCES = {
     "This is promised for every reader whose bytes a contract can name (a slice, not a file).": (
         "This is proved for readers such as a slice."
     ),
+    "That `Fault` has such a cause is only tested, and so is the cause of `Short` where no contract can name the reader's"
+    " bytes.": "",
     "Only `backup` returns this.": (
         "`backup` returns this, and an `io::Error` of kind `Unsupported` becomes it."
     ),

@@ -621,8 +621,8 @@ class Whole(unittest.TestCase):
 
     # Functions that check a precondition first, and then do what the proved body does.
     CHECKED = {
-        "apply_choices", "at", "chacha_block", "chacha_rounds", "chacha_unrounds", "choices_of",
-        "draw_below", "fill_by_blocks", "new", "new_key", "pick_word", "replay", "replay_seeded", "sample",
+        "apply_choices", "at", "chacha_block", "chacha_rounds", "chacha_stream", "chacha_stream_at", "chacha_unrounds",
+        "choices_of", "draw_below", "fill_by_blocks", "new", "new_key", "pick_word", "replay", "replay_seeded", "sample",
         "shuffle_and_record",
     }
 

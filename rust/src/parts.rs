@@ -33,8 +33,7 @@ impl std::error::Error for PastPeriod {}
 /// least one draw on and at most one for each eight bytes begun. An implementation of your own has
 /// to see to all three. The states are those that whole draws leave; which state lies within a
 /// draw is not promised. Two different states may draw the same numbers. The blocks of `WyRand`
-/// and `Pcg64` have no smaller period, which is proved too. For ChaCha's blocks no such proof is
-/// known.
+/// and `Pcg64` have no smaller period, which is proved too. For ChaCha's blocks that is not known.
 ///
 /// # Examples
 ///
