@@ -1,4 +1,3 @@
-pub mod EqualityLemmas
 pub mod WordLemmas
 pub mod ReplayLemmas
 pub mod UnbrokenLemmas

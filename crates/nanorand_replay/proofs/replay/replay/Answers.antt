@@ -1,5 +1,5 @@
 use Rattle.std.proofs.Common.{◌<◌, ◌++◌, length, take, arith, append_assoc, length-set, sym, ◌∙◌}
-use Rattle.std.proofs.lemmas.List.{at_drop_all, at_drop_more, take_all, take_more_set, append-nil}
+use Rattle.std.proofs.lemmas.List.{at_drop_all, at_drop_more, take_more_set}
 use Rattle.nanorand_replay.specs.declared.replay.Call.TheVariants.{Gen}
 use Rattle.nanorand_replay.specs.declared.replay.Kind.TheVariants.{I8}
 use Rattle.nanorand_replay.specs.replay.Replay.{replayed}
@@ -25,20 +25,6 @@ loop-place-preserved g c =
           (sym (at_drop_more (λ calls. (left calls).state) calls loop.place (Gen I8) c.loop-place-test.true)
           ∙ loop.invariant.state);
     }
-
-pub returns-clause-answers : goal.returns-clause-answers
-returns-clause-answers g c =
-    let loop = c.loop-place in
-    let calls = c.args.calls.now in
-    let left = replayed g.G.Rng.requests loop.rng loop.items in
-    sym (append-nil _ ∙ take_all loop.place loop.answers (omega arith))
-    ∙ sym (at_drop_all (λ calls. take loop.place loop.answers ++ (left calls).answers) calls loop.place c.loop-place-test.false) ∙ loop.invariant.answers
-
-pub returns-clause-items : goal.returns-clause-items
-returns-clause-items g c =
-    let loop = c.loop-place in
-    sym (at_drop_all (λ calls. (replayed g.G.Rng.requests loop.rng loop.items calls).items) c.args.calls.now loop.place c.loop-place-test.false)
-    ∙ loop.invariant.items
 
 pub returns-clause-state : goal.returns-clause-state
 returns-clause-state g c =

@@ -1,4 +1,4 @@
-use Rattle.std.proofs.Common.{◌≡◌, ◌≢◌, ◌+◌, ◌-◌, ◌<◌, ◌≤◌, ◌++◌, ℕ, List, [], length, take, drop, length-drop, ap, refl, arith, ◌∙◌}
+use Rattle.std.proofs.Common.{◌≡◌, ◌≢◌, ◌+◌, ◌-◌, ◌<◌, ◌≤◌, ℕ, List, [], length, take, drop, length-drop, ap, refl, arith, ◌∙◌}
 use Rattle.std.proofs.lemmas.List.{take_rest, drop_all}
 use Rattle.std.proofs.lemmas.Result.{err_from_is_err_and}
 use Rattle.nanorand_replay.specs.generators.Buffered.{Buffered, buffer_of}
@@ -12,9 +12,6 @@ rest_length block rest cursor output is told = rw (← is, length-drop, told) re
 some_rest : (block rest : List ℕ) (cursor output : ℕ) → drop cursor block ≡ rest → length block ≡ output → output - cursor ≢ 0 → rest ≢ []
 some_rest block rest cursor output is told some none = some (rest_length block rest cursor output is told ∙ ap length none)
 
-appended : (items before out bytes rest : List ℕ) → items ≡ before ++ bytes → before ≡ out → bytes ≡ rest → items ≡ out ++ rest
-appended items before out bytes rest all old new = all ∙ (λ i. old i ++ new i)
-
 -- Where there is room for them, it is not too small for them.
 no_room : (block : List ℕ) (cursor output len capacity : ℕ) → length block ≡ output
     → len + (output - cursor) ≤ capacity → capacity < len + length (take (length block - cursor) (drop cursor block))
@@ -26,36 +23,15 @@ returns-clause-count g c =
     rest_length c.self.inside.block c.args.self.now.rest c.self.inside.cursor g.row.OUTPUT
     (ap (λ (b : Buffered g.row.G.Denot). b.rest) c.self.view_is) c.self.told
 
-pub returns-clause-appended : goal.returns-clause-appended
-returns-clause-appended g c =
-    appended _ _ _ _ _ c.in_ok-extend_from_slice.ensures.items c.reserve.ensures.items
-    (take_rest c.self.inside.block c.self.inside.cursor
-    ∙ ap (λ (b : Buffered g.row.G.Denot). b.rest) c.self.view_is)
-
 pub returns-clause-rest : goal.returns-clause-rest
 returns-clause-rest g c =
     let none = drop_all g.row.OUTPUT c.self.inside.block (omega (arith, c.self.told)) in
     λ i. buffer_of (none i) (c.self.view_is i).inner
 
-pub returns-clause-empty : goal.returns-clause-empty
-returns-clause-empty g c = λ none. refl
-
 pub returns-clause-untouched : goal.returns-clause-untouched
 returns-clause-untouched g c = λ none.
     absurd (some_rest c.self.inside.block c.args.self.now.rest c.self.inside.cursor g.row.OUTPUT
     (ap (λ (b : Buffered g.row.G.Denot). b.rest) c.self.view_is) c.self.told (omega arith) none)
-
-pub returns-clause-vector_stays : goal.returns-clause-vector_stays
-returns-clause-vector_stays g c = tt
-
-pub returns-clause-capacity_stays : goal.returns-clause-capacity_stays
-returns-clause-capacity_stays g c = tt
-
-pub returns-clause-buffer_stays : goal.returns-clause-buffer_stays
-returns-clause-buffer_stays g c = tt
-
-pub returns-clause-full : goal.returns-clause-full
-returns-clause-full g c = tt
 
 pub returns-in_err-reserve : goal.returns-in_err-reserve
 returns-in_err-reserve g c =
