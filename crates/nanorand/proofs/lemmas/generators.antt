@@ -1,7 +1,6 @@
 pub mod HexadecimalLemmas
 pub mod SeedLemmas
 pub mod WordLemmas
-pub mod EqualityLemmas
 pub mod StreamLemmas
 pub mod StatePeriodLemmas
 pub mod PartLemmas

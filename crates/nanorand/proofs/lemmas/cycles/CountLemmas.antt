@@ -2,75 +2,8 @@
 use Rattle.std.proofs.Common.{◌≡◌, ◌≢◌, ℕ, zero, suc, ◌+◌, ◌-◌, ◌*◌, ◌<◌, ◌≤◌, Bool, true, false, cond, nat_eq, refl, sym, ◌∙◌, ap, inl, inr, arith}
 use Rattle.std.specs.List.{sum_by, count_by, range_with_len}
 use Rattle.std.proofs.lemmas.Bool.{cases_eq, eq-eqb, ne_eqb, eqb-true, false≢true}
-use Rattle.std.proofs.lemmas.List.Sums.{sum_by-cons}
-
--- equal terms have equal sums
-pub sum-same : (f g : ℕ → ℕ) (first n : ℕ) → ((k : ℕ) → first ≤ k → k < first + n → f k ≡ g k)
-    → sum_by f (range_with_len first n) ≡ sum_by g (range_with_len first n)
-sum-same f g first zero same = refl
-sum-same f g first (suc n) same =
-    let one = sum_by-cons f first (range_with_len (first + 1) n) in
-    let other = sum_by-cons g first (range_with_len (first + 1) n) in
-    let here = same first (omega arith) (omega arith) in
-    let rest = sum-same f g (first + 1) n (λ k from to. same k (omega arith) (omega arith)) in
-    omega (arith, one, other, here, rest)
-
-sum-plus : (f g : ℕ → ℕ) (first n : ℕ)
-    → sum_by (λ k. f k + g k) (range_with_len first n) ≡ sum_by f (range_with_len first n) + sum_by g (range_with_len first n)
-sum-plus f g first zero = refl
-sum-plus f g first (suc n) =
-    let both = sum_by-cons (λ k. f k + g k) first (range_with_len (first + 1) n) in
-    let one = sum_by-cons f first (range_with_len (first + 1) n) in
-    let other = sum_by-cons g first (range_with_len (first + 1) n) in
-    let rest = sum-plus f g (first + 1) n in
-    omega (arith, both, one, other, rest)
-
--- one factor of all terms
-sum-times : (f : ℕ → ℕ) (c first n : ℕ)
-    → sum_by (λ k. f k * c) (range_with_len first n) ≡ sum_by f (range_with_len first n) * c
-sum-times f c first zero = omega arith
-sum-times f c first (suc n) =
-    let one = sum_by-cons (λ k. f k * c) first (range_with_len (first + 1) n) in
-    let other = ap (λ (s : ℕ). s * c) (sum_by-cons f first (range_with_len (first + 1) n)) in
-    let rest = sum-times f c (first + 1) n in
-    omega (arith, one, other, rest)
-
--- all terms are one number
-sum-constant : (c first n : ℕ) → sum_by (λ k. c) (range_with_len first n) ≡ n * c
-sum-constant c first zero = omega arith
-sum-constant c first (suc n) =
-    let one = sum_by-cons (λ k. c) first (range_with_len (first + 1) n) in
-    let rest = sum-constant c (first + 1) n in
-    omega (arith, one, rest)
-
--- only the term at j is not zero
-sum-only : (v : ℕ → ℕ) (j first n : ℕ) → first ≤ j → j < first + n
-    → sum_by (λ k. cond (nat_eq j k) (v k) 0) (range_with_len first n) ≡ v j
-sum-only v j first zero from to = absurd (omega arith)
-sum-only v j first (suc n) from to =
-    let one = sum_by-cons (λ k. cond (nat_eq j k) (v k) 0) first (range_with_len (first + 1) n) in
-    elim (cases_eq j first) [
-      | inl here ↦
-          let nothing = sum-same (λ k. cond (nat_eq j k) (v k) 0) (λ k. 0) (first + 1) n
-          (λ k after to'. rw (ne_eqb j k (λ same. absurd (omega arith))) refl) in
-          let none = sum-constant 0 (first + 1) n in
-          let head : ◌≡◌ {A = ℕ} (cond (nat_eq j first) (v first) 0) (v j) = rw (eq-eqb j first here, here) refl in
-          omega (arith, one, nothing, none, head)
-      | inr later ↦
-          let head : ◌≡◌ {A = ℕ} (cond (nat_eq j first) (v first) 0) 0 = rw (ne_eqb j first later) refl in
-          let rest = sum-only v j (first + 1) n (omega arith) (omega arith) in
-          omega (arith, one, head, rest)
-    ]
-
-sum-le : (f g : ℕ → ℕ) (first n : ℕ) → ((k : ℕ) → first ≤ k → k < first + n → f k ≤ g k)
-    → sum_by f (range_with_len first n) ≤ sum_by g (range_with_len first n)
-sum-le f g first zero less = omega arith
-sum-le f g first (suc n) less =
-    let one = sum_by-cons f first (range_with_len (first + 1) n) in
-    let other = sum_by-cons g first (range_with_len (first + 1) n) in
-    let here = less first (omega arith) (omega arith) in
-    let rest = sum-le f g (first + 1) n (λ k from to. less k (omega arith) (omega arith)) in
-    omega (arith, one, other, here, rest)
+use Rattle.std.proofs.lemmas.List.Sums.{sum_by-cons, sum_by-le-sum_by}
+use Rattle.nanorand_fairness.proofs.lemmas.Sums.{sum-same, sum-plus, sum-times, sum-constant, sum-only}
 
 -- of n terms with a sum below n, one is zero
 sum-missing : (c : ℕ → ℕ) (first n : ℕ) → sum_by c (range_with_len first n) < n → (k : ℕ) × (k < first + n) × (c k ≡ 0)
@@ -225,7 +158,7 @@ module _ (f : ℕ → ℕ) (n : ℕ) (fits : (s : ℕ) → s < n → f s < n) (j
 
   pub comes_twice : 2 ≤ times (f j)
   comes_twice =
-      let less = sum-le (λ s. cond (nat_eq j s) 1 0 + cond (nat_eq k s) 1 0) (λ s. cond (nat_eq (f s) (f j)) 1 0) 0 n (λ s _ _. both_pass s) in
+      let less = sum_by-le-sum_by (λ s. cond (nat_eq j s) 1 0 + cond (nat_eq k s) 1 0) (λ s. cond (nat_eq (f s) (f j)) 1 0) (range_with_len 0 n) both_pass in
       let parts = sum-plus (λ s. cond (nat_eq j s) 1 0) (λ s. cond (nat_eq k s) 1 0) 0 n in
       let one = sum-only (λ s. 1) j 0 n (omega arith) (omega arith) in
       let other = sum-only (λ s. 1) k 0 n (omega arith) (omega arith) in

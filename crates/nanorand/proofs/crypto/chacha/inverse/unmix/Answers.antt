@@ -1,4 +1,4 @@
-use Rattle.std.proofs.Common.{◌≡◌, ◌/◌, arith, ap, ◌∙◌, add-one, rules}
+use Rattle.std.proofs.Common.{◌≡◌, ◌/◌, arith, ap, ◌∙◌, add-one}
 use Rattle.nanorand.specs.generators.ChaChaRounds.{quarter_round, on_diagonals, pair_of_rounds, rounds}
 use Rattle.nanorand.proofs.crypto.chacha.inverse.unmix.Goals as goal
 
@@ -13,6 +13,3 @@ unfolding rounds
 returns g c =
     let all : c.pairs._pair ≡ g.row.ROUNDS / 2 = omega arith in
     rw (← all) c.pairs.invariant
-
-pub pairs-init : goal.pairs-init
-pairs-init g c = search rules
