@@ -1,4 +1,3 @@
-use Rattle.std.proofs.Common.{rules}
 use Rattle.nanorand_core.specs.samples.Samples.{number_up_to}
 use Rattle.nanorand_core.proofs.samples.draw_up_to.Goals as goal
 
@@ -9,6 +8,3 @@ returns-clause-value g c = c.random_range.ensures.value
 pub returns-clause-state : goal.returns-clause-state
 unfolding number_up_to
 returns-clause-state g c = c.random_range.ensures.state
-
-pub returns-clause-refusal : goal.returns-clause-refusal
-returns-clause-refusal g c = search rules

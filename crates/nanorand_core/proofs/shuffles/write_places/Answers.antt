@@ -1,4 +1,4 @@
-use Rattle.std.proofs.Common.{length, ◌∙◌, arith, rules}
+use Rattle.std.proofs.Common.{length, ◌∙◌, arith}
 use Rattle.std.proofs.lemmas.List.{map-id}
 use Rattle.std.proofs.lemmas.List.FromFn.{fill_by_all}
 use Rattle.nanorand_core.specs.shuffles.Arrangements.{rising}
@@ -9,6 +9,3 @@ returns c =
     let count = length c.args.slots.now in
     fill_by_all (λ k. k) c.loop-place.slots count 0 (omega arith)
     (λ k low. c.loop-place.invariant k (omega arith)) ∙ map-id (rising count)
-
-pub loop-place-preserved : goal.loop-place-preserved
-loop-place-preserved c = search rules
