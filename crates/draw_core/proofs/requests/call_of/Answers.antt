@@ -12,15 +12,3 @@ returns-in_ok-span_of-in-Some-clause-found c =
     ∙ ap name_of (sym found.0) in
     let parts = (split_parts 58 c.args.text.now (Some (c.in-Some.name, c.in-Some.range)) c.in-Some.ensures.cases (lit< tt)).0 in
     (range, parts ∙ ap (λ name. name ++ 58 ∷ range) named ∙ sym (append_assoc _ (58 ∷ []) range), found.1)
-
-pub returns-in_ok-kind_of-in-None-2-clause-found : goal.returns-in_ok-kind_of-in-None-2-clause-found
-returns-in_ok-kind_of-in-None-2-clause-found c = c.in_ok-kind_of-in-None-2.ensures.found
-
-pub returns-in_err-kind_of-in-Some-clause-found : goal.returns-in_err-kind_of-in-Some-clause-found
-returns-in_err-kind_of-in-Some-clause-found c = rw c.from_residual.ensures tt
-
-pub returns-in_err-span_of-in-Some-clause-found : goal.returns-in_err-span_of-in-Some-clause-found
-returns-in_err-span_of-in-Some-clause-found c = rw c.from_residual-in_err-span_of-in-Some.ensures tt
-
-pub returns-in_err-kind_of-in-None-2-clause-found : goal.returns-in_err-kind_of-in-None-2-clause-found
-returns-in_err-kind_of-in-None-2-clause-found c = rw c.from_residual-in_err-kind_of-in-None-2.ensures tt
