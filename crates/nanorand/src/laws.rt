@@ -53,7 +53,8 @@ pub fn generators_as_defined<const ROUNDS: u8>()
     ensures group_blocks { ⟦<ChaChaGroups<ROUNDS> as Blocks<512>>⟧.block ≡ chacha_group ROUNDS }
     ensures group_steps { ⟦<ChaChaGroups<ROUNDS> as Blocks<512>>⟧.step ≡ next_group }
     ensures group_requests { ⟦<ChaChaGroups<ROUNDS> as Rng<512>>⟧.requests ≡ group_requests ROUNDS }
-    ensures stream_requests { ⟦<BufferedRng<ChaChaGroups<ROUNDS>, 512> as Rng<512>>⟧.requests ≡ stream_requests ROUNDS }
+    ensures stream_requests { let stream = ⟦<BufferedRng<ChaChaGroups<ROUNDS>, 512> as Rng<512>>⟧ in
+        stream.requests ≡ stream_requests ROUNDS }
 {}
 
 /// `==` of two generators is true exactly if their states are equal.
