@@ -28,10 +28,10 @@ pub enum EntropyError {
 /// pieces of any size. For an empty slice it returns `Ok` and reads nothing.
 ///
 /// It returns `Short` if the reader gave no byte before the slice was full, and `Fault` if the
-/// reader returned an error, an interruption included. That `Fault` has such a cause is only tested,
-/// and so is the cause of `Short` where no contract can name the reader's bytes. After an error, the
-/// contents of the slice and the position of the reader are unspecified; a reader such as a slice of
-/// bytes has given fewer bytes than were asked for.
+/// reader returned an error, an interruption included. That `Fault` has such a cause is only
+/// tested, and so is the cause of `Short` where no contract can name the reader's bytes. After an
+/// error, the contents of the slice and the position of the reader are unspecified; a reader such
+/// as a slice of bytes has given fewer bytes than were asked for.
 pub fn system<R: Read>(source: &mut R, out: &mut [u8]) -> Result<(), EntropyError>
     ensures next { let old = R.remaining source.old in
         OnOk result (Consumes old (R.remaining source.new) out.new) }

@@ -218,9 +218,9 @@ pub fn parts_are_the_stream<G: Rng<OUTPUT>, const OUTPUT: usize>()
 /// Parts that together stay within the period do not overlap: no state comes in two of them, and in
 /// none twice.
 ///
-/// For `Pcg64`, no seed comes twice, and the seed alone decides the blocks. For a stream of
-/// ChaCha, fewer than 512 bytes are buffered. `bytes`: in 2^70 bytes it is in no state twice, whatever the sizes of
-/// its requests are.
+/// For `Pcg64`, no seed comes twice, and the seed alone decides the blocks. For a stream of ChaCha,
+/// fewer than 512 bytes are buffered. `bytes`: in 2^70 bytes it is in no state twice, whatever the
+/// sizes of its requests are.
 pub fn parts_are_apart<const ROUNDS: u8>()
     ensures wyrand { (seed : ℕ) → seed < 2 ^ 64
         → PartsAreApart (2 ^ 64) (λ n. after_draws wyrand_requests n seed) }
@@ -250,13 +250,13 @@ pub fn all_parts_are_apart<G: Parts<OUTPUT> + Drop, const OUTPUT: usize>(stream:
     let _ = stream.part(0, 0);
 }
 
-/// If each task draws only from the part of its own index, the results are the same in whatever order
-/// the tasks run, each at least once: for each index, what its task gives on its part.
+/// If each task draws only from the part of its own index, the results are the same in whatever
+/// order the tasks run, each at least once: for each index, what its task gives on its part.
 ///
 /// A task is a function of its index and of the generator that it is given, and writes its own
 /// result whole. A schedule is the list of the indices in the order in which their tasks end, and
-/// has each index below `count` at least once. What stood in the results before does not matter, nor
-/// do runs that were cut off before they wrote. That these are the results of one loop over one
+/// has each index below `count` at least once. What stood in the results before does not matter,
+/// nor do runs that were cut off before they wrote. That these are the results of one loop over one
 /// generator is `parts_as_one_loop`.
 pub fn parts_in_any_order<G: Rng<OUTPUT>, const OUTPUT: usize, T>()
     ensures { (task : ℕ → G → T) (draws count : ℕ) (g : G) (schedule : List ℕ) (results : List T)
@@ -265,8 +265,8 @@ pub fn parts_in_any_order<G: Rng<OUTPUT>, const OUTPUT: usize, T>()
         results_after own schedule results ≡ map own (range_with_len 0 count) }
 {}
 
-/// Tasks that each use up one part of a stream do what one loop does that runs them one after another
-/// over one generator.
+/// Tasks that each use up one part of a stream do what one loop does that runs them one after
+/// another over one generator.
 ///
 /// A task is a function of its index and of the generator's state: it gives a result and the state
 /// that it leaves. The premise of the first three clauses: on each part, the task leaves the state
@@ -277,8 +277,8 @@ pub fn parts_in_any_order<G: Rng<OUTPUT>, const OUTPUT: usize, T>()
 /// results.
 ///
 /// `jumps` has no premise: a loop that runs each task on an equal generator, and then jumps its own
-/// `draws` draws ahead, has the results of the tasks on their parts. `jumping_schedules`: tasks that
-/// run by a schedule leave this loop's results.
+/// `draws` draws ahead, has the results of the tasks on their parts. `jumping_schedules`: tasks
+/// that run by a schedule leave this loop's results.
 pub fn parts_as_one_loop<G: Rng<OUTPUT>, const OUTPUT: usize, T>()
     ensures parts { (task : ℕ → G → T × G) (draws count : ℕ) (g : G) →
         let start = λ (i : ℕ). part_at G.requests draws i g in

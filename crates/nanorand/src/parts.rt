@@ -15,15 +15,15 @@ pub struct PastPeriod;
 ///
 /// The stream is what the generator draws from now on, and a draw is what a `u64` takes: a word of
 /// `WyRand` and `Pcg64`, a block of `ChaCha`, and eight bytes of a stream of ChaCha. Part 0 is the
-/// first `draws` draws, part 1 the next, and so on. What a task draws depends only on the stream, the
-/// length and the index of its part, so tasks may run in any order, on any machine, and more than once
-/// (`laws::parts_in_any_order`, `laws::parts_as_one_loop`).
+/// first `draws` draws, part 1 the next, and so on. What a task draws depends only on the stream,
+/// the length and the index of its part, so tasks may run in any order, on any machine, and more
+/// than once (`laws::parts_in_any_order`, `laws::parts_as_one_loop`).
 ///
 /// Every implementation proves that no state comes twice within the period, so that no state comes
 /// in two parts of one stream and one length (`laws::all_parts_are_apart`); that, from some draw
 /// on, the states come again after the period; and that a request of any size, or a further one of
-/// fewer than eight bytes, ends at a draw, at least one draw on and at most one for each eight bytes
-/// begun. The states are those that whole draws leave; which state lies within a draw is not
+/// fewer than eight bytes, ends at a draw, at least one draw on and at most one for each eight
+/// bytes begun. The states are those that whole draws leave; which state lies within a draw is not
 /// promised. Two different states may draw the same numbers. `laws::wyrand_cycle` and
 /// `laws::pcg64_cycles` prove that the blocks of `WyRand` and `Pcg64` have no smaller period. For
 /// ChaCha's blocks no such proof is known.

@@ -286,9 +286,9 @@ pub extern "C" fn nanorand_v1_keystream_shuffle_full(
 }
 
 /// Samples different numbers below `count`, one for each place, by Floyd's algorithm; each set of
-/// them is the sample for equally many lists of words, their order is not uniform. It returns 0, or 1 if there are more
-/// places than numbers (nothing is drawn or written), or 2 if 128 words in a row were rejected for
-/// one place; the places before it are then written, and the draws stay.
+/// them is the sample for equally many lists of words, their order is not uniform. It returns 0, or
+/// 1 if there are more places than numbers (nothing is drawn or written), or 2 if 128 words in a
+/// row were rejected for one place; the places before it are then written, and the draws stay.
 #[unsafe(no_mangle)]
 pub extern "C" fn nanorand_v1_keystream_sample(
     stream: &mut GroupStream,
@@ -317,9 +317,10 @@ pub extern "C" fn nanorand_v1_keystream_sample(
 }
 
 /// Moves to the beginning of part `index`, counted from 0, of parts of so many draws: `index *
-/// draws` draws further on, where a draw is what a `u64` takes. Parts of one length that are cut from
-/// copies of one state do not overlap, if no task draws more than `draws` draws. It returns 0, or 3 if the part ends past the period: 2^64 draws of WyRand and ChaCha, 2^126 of
-/// Pcg64, 2^67 of the keystream. Nothing moves then.
+/// draws` draws further on, where a draw is what a `u64` takes. Parts of one length that are cut
+/// from copies of one state do not overlap, if no task draws more than `draws` draws. It returns 0,
+/// or 3 if the part ends past the period: 2^64 draws of WyRand and ChaCha, 2^126 of Pcg64, 2^67 of
+/// the keystream. Nothing moves then.
 #[unsafe(no_mangle)]
 pub extern "C" fn nanorand_v1_keystream_part(stream: &mut GroupStream, index: u64, draws: u64) -> u8
     ensures status { let start = groups_at stream.old in

@@ -234,9 +234,9 @@ pub extern "C" fn nanorand_v1_stream_shuffle_full(stream: &mut Stream, items: &m
 }
 
 /// Samples different numbers below `count`, one for each place, by Floyd's algorithm; each set of
-/// them is the sample for equally many lists of words, their order is not uniform. It returns 0, or 1 if there are more
-/// places than numbers (nothing is drawn or written), or 2 if 128 words in a row were rejected for
-/// one place; the places before it are then written, and the draws stay.
+/// them is the sample for equally many lists of words, their order is not uniform. It returns 0, or
+/// 1 if there are more places than numbers (nothing is drawn or written), or 2 if 128 words in a
+/// row were rejected for one place; the places before it are then written, and the draws stay.
 #[unsafe(no_mangle)]
 pub extern "C" fn nanorand_v1_stream_sample(
     stream: &mut Stream,

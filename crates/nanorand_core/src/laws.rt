@@ -43,7 +43,8 @@ pub fn fairness()
 /// bounds admit is given by exactly floor(2^N / s) of the 2^N words. `signed`: the same for the
 /// signed type. `indices`: the range from 0 to n, without n, is 0, 1, .., n - 1, so a draw from it
 /// is the draw of an index that `fairness` speaks of. `events`: in every list of s items, s from 1
-/// to 2^N, of which m pass a test, items that pass it are given by exactly m * floor(2^N / s) words.
+/// to 2^N, of which m pass a test, items that pass it are given by exactly m * floor(2^N / s)
+/// words.
 pub fn ranges_are_fair<T>()
     ensures unsigned { UnsignedRangesAreFair }
     ensures signed { SignedRangesAreFair }

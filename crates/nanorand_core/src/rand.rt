@@ -44,8 +44,8 @@ pub trait Blocks<const OUTPUT: usize> {
 ///
 /// To implement it, implement `Clone` and `Blocks`, write `fill_bytes`, define `requests` (the
 /// bytes that a request of n bytes takes, and the state that it leaves), and prove the three laws
-/// at the end of the trait. They decide what a request takes, and the state that it leaves if n is 0
-/// or `OUTPUT`. For every other n that state is the generator's own choice: it may skip bytes or
+/// at the end of the trait. They decide what a request takes, and the state that it leaves if n is
+/// 0 or `OUTPUT`. For every other n that state is the generator's own choice: it may skip bytes or
 /// deliver some again. The other functions follow from these, and each may be replaced by one with
 /// the same contract.
 pub trait Rng<const OUTPUT: usize>: Clone + Blocks<OUTPUT> {
@@ -77,17 +77,17 @@ pub trait Rng<const OUTPUT: usize>: Clone + Blocks<OUTPUT> {
         }
     }
 
-    /// Draws a value for the bounds `low` and `high`, as `RandomRange` defines it for the type. Rust's
-    /// `generate_range(1..=6)` is `generate_range(Bound::Included(1), Bound::Included(6))`.
+    /// Draws a value for the bounds `low` and `high`, as `RandomRange` defines it for the type.
+    /// Rust's `generate_range(1..=6)` is `generate_range(Bound::Included(1), Bound::Included(6))`.
     ///
-    /// For the ten integer types of 8 to 64 bits, a number that is returned lies within both bounds,
-    /// and bounds that admit a number never give `Empty`: a caller's proof has both, and cites nothing.
-    /// Words are mapped to numbers after Daniel Lemire ("Fast Random Integer Generation in an
-    /// Interval", 2019).
+    /// For the ten integer types of 8 to 64 bits, a number that is returned lies within both
+    /// bounds, and bounds that admit a number never give `Empty`: a caller's proof has both, and
+    /// cites nothing. Words are mapped to numbers after Daniel Lemire ("Fast Random Integer
+    /// Generation in an Interval", 2019).
     ///
     /// For these types it returns `Empty` if the range has no number, and draws nothing then. It
-    /// returns `Exhausted` if 128 words in a row were rejected; these stay drawn. A user's type defines
-    /// when it returns each of the two.
+    /// returns `Exhausted` if 128 words in a row were rejected; these stay drawn. A user's type
+    /// defines when it returns each of the two.
     #[inline]
     fn generate_range<T: RandomRange<Self, OUTPUT>>(
         &mut self,

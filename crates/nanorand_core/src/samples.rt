@@ -18,8 +18,8 @@ use std::ops::Bound;
 ///
 /// Precondition: there are at most `count` slots. Each set of k numbers is the sample for equally
 /// many sequences of draws (`laws::samples_are_fair`). The order of the slots is not uniform: by
-/// the algorithm, the number `count - 1` can only be in the last slot. Shuffle the slots for a random
-/// order.
+/// the algorithm, the number `count - 1` can only be in the last slot. Shuffle the slots for a
+/// random order.
 ///
 /// The only error is `Exhausted`: 128 words in a row were rejected for one slot. The slots before
 /// it then hold the numbers drawn so far, all other slots are as before, and all draws stay. A

@@ -33,8 +33,8 @@ pub fn words_of_a_draw()
 /// A generator's bounded draw is the draw that the other laws here count, from the list of its next
 /// 128 words.
 ///
-/// `number`: it gives the number that the list gives, or none. `state`: it draws as many words as it
-/// takes of the list.
+/// `number`: it gives the number that the list gives, or none. `state`: it draws as many words as
+/// it takes of the list.
 pub fn draws_by_words<G: Rng<OUTPUT>, const OUTPUT: usize>()
     ensures number { (bits size : ℕ) (g : G) →
         (drawn_below G.requests bits size g).number
@@ -48,8 +48,8 @@ pub fn draws_by_words<G: Rng<OUTPUT>, const OUTPUT: usize>()
 /// It decides by the first 128 words.
 ///
 /// `events`: an event of m numbers is decided by m times as many lists as one number, and all
-/// numbers by equally many. `ratios`: so, for a numerator up to the denominator, `choices::ratio` is
-/// true for `numerator` times as many lists as one number has. `weights`: and
+/// numbers by equally many. `ratios`: so, for a numerator up to the denominator, `choices::ratio`
+/// is true for `numerator` times as many lists as one number has. `weights`: and
 /// `choices::choose_weighted` returns an item of weight w for w times as many lists as one number
 /// has.
 pub fn fairness_with_rejections()
@@ -116,9 +116,9 @@ pub fn shuffles_draw_in_turn<G: Rng<OUTPUT>, T, const OUTPUT: usize>()
 ///
 /// `shared`: for n of 3 or more, the number n^n of lists of choices is no multiple of the number n!
 /// of orders. `unequal`: so not all orders are made by equally many lists of choices. `three`: of
-/// the 27 lists of choices of three items, five exchange the first two, and four leave all in place.
-/// `words`: of the lists of n words, each order is drawn by as many as it has lists of choices, times
-/// the n-th power of floor(2^64 / n). So words prefer orders as choices do.
+/// the 27 lists of choices of three items, five exchange the first two, and four leave all in
+/// place. `words`: of the lists of n words, each order is drawn by as many as it has lists of
+/// choices, times the n-th power of floor(2^64 / n). So words prefer orders as choices do.
 pub fn full_shuffles_prefer_orders()
     ensures shared { OrdersCannotShare }
     ensures unequal { OrdersAreUnequal }

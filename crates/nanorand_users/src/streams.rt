@@ -1,6 +1,6 @@
 //! Parallel streams: workers draw from one stream, each its own part. `nanorand::laws` has the laws
-//! of parts: `parts_are_the_stream`, `parts_are_apart`, `all_parts_are_apart`, `parts_as_one_loop` and
-//! `parts_in_any_order`.
+//! of parts: `parts_are_the_stream`, `parts_are_apart`, `all_parts_are_apart`, `parts_as_one_loop`
+//! and `parts_in_any_order`.
 ghost use Rattle.std.specs.Prelude.{◌≡◌, ◌↔◌, ◌+◌, ◌*◌, ◌^◌, ◌<◌, ◌≤◌, ℕ, length, slice_index, OnErr, OnOk, IsOk};
 ghost use Rattle.nanorand_core.specs.values.Draws.{next_word};
 ghost use Rattle.nanorand_core.specs.values.Runs.{is_in_run, quota};

@@ -26,8 +26,8 @@ module _ {G : Type 0} (requests : Requests G) where
   numbers_of_part draws g i = numbers draws (part_at draws i g)
 
   -- A request of n bytes ends at a draw, or a further request of fewer than eight bytes does, which
-  -- takes the rest of that draw. It is at most as many draws on as n bytes begin, and at least one if
-  -- n is not 0.
+  -- takes the rest of that draw. It is at most as many draws on as n bytes begin, and at least one
+  -- if n is not 0.
   abbrev pub GoesOnward : ℕ → G → Type 0
   GoesOnward n g =
       (m : ℕ) × (rest : ℕ) × (m ≤ div_ceil n 8) × (0 < n → 0 < m) × (rest < 8)

@@ -1,6 +1,6 @@
--- Requests go onward by draws. Nobody has to believe this file: it is in specs/ only because laws of
--- impls cite its lemmas. An implementation of `Parts` of your own may cite `onward_8`.
-use Rattle.std.proofs.Common.{◌≡◌, ℕ, zero, suc, ◌+◌, ◌-◌, ◌*◌, List, inl, inr, refl, sym, ◌∙◌, ap, arith}
+-- Requests go onward by draws. Nobody has to believe this file: it is in specs/ only because laws
+-- of impls cite its lemmas. An implementation of `Parts` of your own may cite `onward_8`.
+use Rattle.std.proofs.Common.{◌≡◌, ℕ, zero, suc, ◌+◌, ◌-◌, ◌*◌, ◌<◌, ◌≤◌, List, inl, inr, refl, sym, ◌∙◌, ap, arith}
 use Rattle.std.proofs.Math.Nat.{suc-mul}
 use Rattle.std.specs.Fn.{iterate}
 use Rattle.std.specs.Int.{div_ceil}
@@ -16,25 +16,26 @@ pub draws-leave : {G : Type 0} (requests : Requests G) (n : ℕ) (g : G) → aft
 unfolding after_draws
 draws-leave requests n g = refl
 
--- of a plain generator, whose draw is a block
+-- of a plain generator with blocks of eight bytes or more, whose draw is a block
+module _ {G : Type 0} (block : G → List ℕ) (step : G → G) (output : ℕ) (none : div_ceil 0 output ≡ 0) (one : div_ceil 8 output ≡ 1)
+    (fewer : (n : ℕ) → div_ceil n output ≤ div_ceil n 8) (some : (n : ℕ) → 0 < n → 0 < div_ceil n output) where
+  steps : (n : ℕ) (g : G) → iterate (after_word (plain block step output) 64) n g ≡ iterate step n g
+  steps zero g = refl
+  steps (suc n) g =
+      ap (λ (m : ℕ). iterate (after_word (plain block step output) 64) n (iterate step m g)) one ∙ steps n (step g)
+
+  onward-plain : (g : G) (n : ℕ) → GoesOnward (plain block step output) n g
+  onward-plain g n =
+      let m : ℕ = div_ceil n output in
+      let still = ap (λ (k : ℕ). iterate step k (iterate step m g)) none in
+      (m, 0, fewer n, some n, omega arith, inl refl, still ∙ sym (draws-leave (plain block step output) m g ∙ steps m g))
+
 module _ {G : Type 0} (block : G → List ℕ) (step : G → G) where
-  steps_of_8 : (n : ℕ) (g : G) → iterate (after_word (plain block step 8) 64) n g ≡ iterate step n g
-  steps_of_8 zero g = refl
-  steps_of_8 (suc n) g = steps_of_8 n (step g)
-
   pub onward_8 : (g : G) (n : ℕ) → GoesOnward (plain block step 8) n g
-  onward_8 g n =
-      let m : ℕ = div_ceil n 8 in
-      (m, 0, omega arith, (λ some. omega arith), omega arith, inl refl, sym (draws-leave (plain block step 8) m g ∙ steps_of_8 m g))
-
-  steps_of_64 : (n : ℕ) (g : G) → iterate (after_word (plain block step 64) 64) n g ≡ iterate step n g
-  steps_of_64 zero g = refl
-  steps_of_64 (suc n) g = steps_of_64 n (step g)
+  onward_8 = onward-plain block step 8 refl refl (λ n. omega arith) (λ n positive. omega arith)
 
   pub onward_64 : (g : G) (n : ℕ) → GoesOnward (plain block step 64) n g
-  onward_64 g n =
-      let m : ℕ = div_ceil n 64 in
-      (m, 0, omega arith, (λ some. omega arith), omega arith, inl refl, sym (draws-leave (plain block step 64) m g ∙ steps_of_64 m g))
+  onward_64 = onward-plain block step 64 refl refl (λ n. omega arith) (λ n positive. omega arith)
 
 -- of a generator that delivers its requests without a break, whose draw is eight bytes
 module _ {G : Type 0} (requests : Requests G) (nothing : (g : G) → requests.after g 0 ≡ g)

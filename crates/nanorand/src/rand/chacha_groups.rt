@@ -20,7 +20,8 @@ use std::marker::Model;
 ///
 /// A draw returns 512 bytes, and adds 8 to the counter. It is a plain generator: each request
 /// starts a new group and drops the rest of its last one. With a buffer, as `ChaCha20Stream`, it
-/// drops nothing: from a state with nothing buffered, it delivers what a buffered `ChaCha` delivers.
+/// drops nothing: from a state with nothing buffered, it delivers what a buffered `ChaCha`
+/// delivers.
 ///
 /// `ROUNDS` is even, as an invariant of the type.
 #[derive(Drop)]

@@ -25,12 +25,12 @@ pub type ChaCha12Stream = ChaChaStream<12>;
 /// The stream of ChaCha with the standard's 20 rounds.
 pub type ChaCha20Stream = ChaChaStream<20>;
 
-/// The keystream of a key and a nonce: 2^70 bytes, in blocks of 64 bytes. The bytes are numbered from
-/// 0, and after the last one the first one comes again.
+/// The keystream of a key and a nonce: 2^70 bytes, in blocks of 64 bytes. The bytes are numbered
+/// from 0, and after the last one the first one comes again.
 ///
 /// Every implementation proves that requests join without a break: two in a row take the bytes that
-/// one of their total size takes. The trait fixes how a stream continues, not which bytes a key and a
-/// nonce give it (for ChaCha, `chacha_stream: state` and `laws::streams_deliver_chacha`).
+/// one of their total size takes. The trait fixes how a stream continues, not which bytes a key and
+/// a nonce give it (for ChaCha, `chacha_stream: state` and `laws::streams_deliver_chacha`).
 pub trait Keystream<const OUTPUT: usize>: Rng<OUTPUT> {
     // What a new stream needs: for ChaCha an even number of rounds.
     ghost can_start: { Type 0 };
@@ -50,8 +50,8 @@ pub trait Keystream<const OUTPUT: usize>: Rng<OUTPUT> {
         ensures state { result ≡ at key nonce 0 }
         ensures position { position result ≡ 0 };
 
-    /// The stream of this key and nonce, at the first byte of the block at this index, which is byte
-    /// `index * 64`. For ChaCha the number of rounds is even.
+    /// The stream of this key and nonce, at the first byte of the block at this index, which is
+    /// byte `index * 64`. For ChaCha the number of rounds is even.
     fn at_block(key: [u8; 32], nonce: [u8; 8], index: u64) -> Self
         requires { can_start }
         ensures state { result ≡ at key nonce index }
@@ -94,8 +94,8 @@ pub trait Keystream<const OUTPUT: usize>: Rng<OUTPUT> {
         → restarted (at key nonce index) ≡ at key nonce 0 };
 }
 
-/// The stream of this key and nonce, at its byte 0, as `Keystream::new_key` makes it. A call needs no
-/// import of that trait. Precondition: `ROUNDS` is even.
+/// The stream of this key and nonce, at its byte 0, as `Keystream::new_key` makes it. A call needs
+/// no import of that trait. Precondition: `ROUNDS` is even.
 pub fn chacha_stream<const ROUNDS: u8>(key: [u8; 32], nonce: [u8; 8]) -> ChaChaStream<ROUNDS>
     requires { ROUNDS % 2 ≡ 0 }
     ensures state { result ≡ buffer_of [] (initial_state key nonce) }

@@ -87,9 +87,9 @@ pub fn choose_mut<'a, T, G: Rng<OUTPUT>, const OUTPUT: usize>(
 /// Returns true in `numerator` of `denominator` cases: for a `numerator` up to `denominator`, for
 /// exactly `numerator` times as many words as one number below `denominator` has.
 ///
-/// If `numerator` is `denominator` or more, it never returns false. It returns `Empty` if `denominator`
-/// is 0, and draws nothing then. It returns `Exhausted` if 128 words in a row were rejected; they
-/// stay drawn.
+/// If `numerator` is `denominator` or more, it never returns false. It returns `Empty` if
+/// `denominator` is 0, and draws nothing then. It returns `Exhausted` if 128 words in a row were
+/// rejected; they stay drawn.
 #[inline]
 pub fn ratio<G: Rng<OUTPUT>, const OUTPUT: usize>(
     rng: &mut G,

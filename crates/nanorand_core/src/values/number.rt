@@ -44,8 +44,8 @@ pub trait Number: Copy + Drop {
 
     ghost lt_rises: { (j k : ℕ) → lt (number j) (number k) ≡ nat_lt j k };
 
-    // If two bounds that are numbers of the type admit a number, one of rank below 2^BITS lies within
-    // both, and the other way round.
+    // If two bounds that are numbers of the type admit a number, one of rank below 2^BITS lies
+    // within both, and the other way round.
     ghost has_place: { (low high : Bound Self)
         → IfBound low (IsNumber BITS number) → IfBound high (IsNumber BITS number)
         → has_number low high → (k : ℕ) × (k < 2 ^ BITS) × Admits le lt low high (number k) };

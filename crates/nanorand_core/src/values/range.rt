@@ -17,8 +17,8 @@ use crate::values::word::draw_below;
 use std::ops::Bound;
 use thiserror::Error;
 
-/// Why a ranged draw returned no number. The meanings are those of the integer types; a type of your
-/// own defines when it returns each error.
+/// Why a ranged draw returned no number. The meanings are those of the integer types; a type of
+/// your own defines when it returns each error.
 #[derive(Clone, Copy, Debug, PartialEq, Eq, Error)]
 pub enum RangeError {
     /// The range has no number. Nothing was drawn.
@@ -40,7 +40,8 @@ pub trait RandomRange<G: Rng<OUTPUT>, const OUTPUT: usize>: RandomGen<G, OUTPUT>
     // The result of a draw between two bounds, and the state after it.
     ghost outcome: { G → Bound Self → Bound Self → Result Self RangeError × G };
 
-    // What the outcome of every call keeps to. A user's own type promises nothing here, unless it defines it.
+    // What the outcome of every call keeps to. A user's own type promises nothing here, unless it
+    // defines it.
     ghost limits: { G → Bound Self → Bound Self
         → Result Self RangeError × G → Type 0 } = { λ _ _ _ _. Unit {0} };
 
