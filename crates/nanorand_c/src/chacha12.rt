@@ -6,17 +6,14 @@ ghost use Rattle.nanorand_core.specs.shuffles.Shuffles.{from_all, from_itself, s
 ghost use Rattle.nanorand_core.specs.values.Values.{number_of};
 ghost use Rattle.std.specs.Int.{div_ceil};
 ghost use Rattle.nanorand.specs.generators.ChaCha.{chacha_block, chacha_requests, next_state};
-ghost use Rattle.nanorand_c.specs.Between.{between, between_signed};
-ghost use Rattle.nanorand_c.specs.ChaChaStates.{chacha_at};
-ghost use Rattle.nanorand_c.specs.Parts.{parting};
-ghost use Rattle.nanorand_c.specs.Sampling.{sampling};
-ghost use Rattle.nanorand_c.specs.Status.{drawn_or, status};
-ghost use Rattle.nanorand_c.specs.Words.{IsAfterAtMost};
+ghost use Rattle.nanorand_calls.specs.Between.{between, between_signed};
+ghost use Rattle.nanorand_calls.specs.ChaChaStates.{chacha_at};
+ghost use Rattle.nanorand_calls.specs.Parts.{parting};
+ghost use Rattle.nanorand_calls.specs.Sampling.{sampling};
+ghost use Rattle.nanorand_calls.specs.Status.{drawn_or, status};
+ghost use Rattle.nanorand_calls.specs.Words.{IsAfterAtMost};
 
-use crate::calls::{
-    part, range_i64, range_u32, range_u64, range_usize, sample, shuffle, shuffle_full,
-};
-use crate::chacha::{ChaChaState, block, fill_bytes, loaded, number, store};
+use nanorand_calls::chacha::{self, ChaChaState};
 
 /// Writes the block at the counter, and adds 1 to the counter.
 #[unsafe(no_mangle)]
@@ -27,7 +24,7 @@ pub extern "C" fn nanorand_v1_chacha12_block(state: &mut ChaChaState, out: &mut 
     ensures nonce { state.new.nonce ≡ state.old.nonce }
     ensures state { chacha_at state.new ≡ next_state (chacha_at state.old) }
 {
-    block::<12>(state, out);
+    chacha::block::<12>(state, out);
 }
 
 /// Draws a number of 64 bits: the next 8 bytes, least byte first.
@@ -38,7 +35,7 @@ pub extern "C" fn nanorand_v1_chacha12_u64(state: &mut ChaChaState) -> u64
     ensures nonce { state.new.nonce ≡ state.old.nonce }
     ensures state { chacha_at state.new ≡ (chacha_requests 12).after (chacha_at state.old) 8 }
 {
-    number::<12>(state)
+    chacha::number::<12>(state)
 }
 
 /// Fills the slice with the blocks from the counter on, by one request. The counter advances by the
@@ -54,7 +51,7 @@ pub extern "C" fn nanorand_v1_chacha12_fill_bytes(state: &mut ChaChaState, buffe
     ensures state { let left = (chacha_requests 12).after (chacha_at state.old) in
         chacha_at state.new ≡ left (length buffer.old) }
 {
-    fill_bytes::<12>(state, buffer);
+    chacha::fill_bytes::<12>(state, buffer);
 }
 
 /// Draws a number from `first..=last`, by words of 32 bits, and returns a status: 0 if `number` was
@@ -78,10 +75,7 @@ pub extern "C" fn nanorand_v1_chacha12_range_u32(
         let after = λ (n : ℕ). after_words (chacha_requests 12) 32 n start in
         IsAfterAtMost 128 after (chacha_at state.new) }
 {
-    let mut rng = loaded::<12>(state);
-    let status = range_u32(&mut rng, first, last, number);
-    store(state, &rng);
-    status
+    chacha::range_u32::<12>(state, first, last, number)
 }
 
 /// Draws a number from `first..=last`, by words of 64 bits. The status is that of a range of `u32`.
@@ -103,10 +97,7 @@ pub extern "C" fn nanorand_v1_chacha12_range_u64(
         let after = λ (n : ℕ). after_words (chacha_requests 12) 64 n start in
         IsAfterAtMost 128 after (chacha_at state.new) }
 {
-    let mut rng = loaded::<12>(state);
-    let status = range_u64(&mut rng, first, last, number);
-    store(state, &rng);
-    status
+    chacha::range_u64::<12>(state, first, last, number)
 }
 
 /// Draws a signed number from `first..=last`, by words of 64 bits. The status is that of a range of
@@ -132,10 +123,7 @@ pub extern "C" fn nanorand_v1_chacha12_range_i64(
         let after = λ (n : ℕ). after_words (chacha_requests 12) 64 n start in
         IsAfterAtMost 128 after (chacha_at state.new) }
 {
-    let mut rng = loaded::<12>(state);
-    let status = range_i64(&mut rng, first, last, number);
-    store(state, &rng);
-    status
+    chacha::range_i64::<12>(state, first, last, number)
 }
 
 /// Draws an index or a length from `first..=last`, by words of 64 bits. The status is that of a
@@ -158,10 +146,7 @@ pub extern "C" fn nanorand_v1_chacha12_range_usize(
         let after = λ (n : ℕ). after_words (chacha_requests 12) 64 n start in
         IsAfterAtMost 128 after (chacha_at state.new) }
 {
-    let mut rng = loaded::<12>(state);
-    let status = range_usize(&mut rng, first, last, number);
-    store(state, &rng);
-    status
+    chacha::range_usize::<12>(state, first, last, number)
 }
 
 /// Shuffles the items: each, from the first on, is exchanged with one drawn from it and those after
@@ -183,10 +168,7 @@ pub extern "C" fn nanorand_v1_chacha12_shuffle(state: &mut ChaChaState, items: &
         IsAfterAtMost (128 * length items.old) after (chacha_at state.new) }
     ensures arrangement { IsPermutation items.old items.new }
 {
-    let mut rng = loaded::<12>(state);
-    let status = shuffle(&mut rng, items);
-    store(state, &rng);
-    status
+    chacha::shuffle::<12>(state, items)
 }
 
 /// Shuffles the items as the crate nanorand 0.7.0 did: each is exchanged with one drawn from all,
@@ -210,10 +192,7 @@ pub extern "C" fn nanorand_v1_chacha12_shuffle_full(
         IsAfterAtMost (128 * length items.old) after (chacha_at state.new) }
     ensures arrangement { IsPermutation items.old items.new }
 {
-    let mut rng = loaded::<12>(state);
-    let status = shuffle_full(&mut rng, items);
-    store(state, &rng);
-    status
+    chacha::shuffle_full::<12>(state, items)
 }
 
 /// Samples different numbers below `count`, one for each place, by Floyd's algorithm; each set of
@@ -241,10 +220,7 @@ pub extern "C" fn nanorand_v1_chacha12_sample(
     ensures below { result ≡ 0 → All (λ number. number < count) places.new }
     ensures apart { result ≡ 0 → AllPairs (λ number other. number ≢ other) places.new }
 {
-    let mut rng = loaded::<12>(state);
-    let status = sample(&mut rng, count, places);
-    store(state, &rng);
-    status
+    chacha::sample::<12>(state, count, places)
 }
 
 /// Moves to the beginning of part `index`, counted from 0, of parts of so many draws: `index *
@@ -259,8 +235,5 @@ pub extern "C" fn nanorand_v1_chacha12_part(state: &mut ChaChaState, index: u64,
     ensures state { let start = chacha_at state.old in
         chacha_at state.new ≡ (parting (chacha_requests 12) (2 ^ 64) draws index start).1 }
 {
-    let mut rng = loaded::<12>(state);
-    let status = part(&mut rng, index, draws);
-    store(state, &rng);
-    status
+    chacha::part::<12>(state, index, draws)
 }

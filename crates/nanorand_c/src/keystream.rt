@@ -3,99 +3,18 @@
 //! From equal states with nothing buffered it delivers what `Stream` delivers, by the law
 //! `nanorand::laws::streams_deliver_chacha`.
 ghost use Rattle.std.specs.Prelude.{◌≡◌, ◌≢◌, ◌<◌, ◌≤◌, ◌≤ℤ◌, All, IsPermutation, length, ◌^◌, ℕ, ◌*◌};
-ghost use Rattle.std.specs.Bool.{OnFalse, OnTrue};
 ghost use Rattle.std.specs.List.{AllPairs};
 ghost use Rattle.nanorand_core.specs.values.Draws.{after_words};
 ghost use Rattle.nanorand_core.specs.shuffles.Shuffles.{from_all, from_itself, shuffled};
 ghost use Rattle.nanorand_core.specs.values.Values.{number_of};
-ghost use Rattle.nanorand_c.specs.Between.{between, between_signed};
-ghost use Rattle.nanorand_c.specs.ChaChaStates.{groups_at, by_groups};
-ghost use Rattle.nanorand_c.specs.Parts.{parting};
-ghost use Rattle.nanorand_c.specs.Sampling.{sampling};
-ghost use Rattle.nanorand_c.specs.Status.{drawn_or, status};
-ghost use Rattle.nanorand_c.specs.Words.{IsAfterAtMost};
+ghost use Rattle.nanorand_calls.specs.Between.{between, between_signed};
+ghost use Rattle.nanorand_calls.specs.ChaChaStates.{groups_at, by_groups};
+ghost use Rattle.nanorand_calls.specs.Parts.{parting};
+ghost use Rattle.nanorand_calls.specs.Sampling.{sampling};
+ghost use Rattle.nanorand_calls.specs.Status.{drawn_or, status};
+ghost use Rattle.nanorand_calls.specs.Words.{IsAfterAtMost};
 
-use crate::calls::{
-    part, range_i64, range_u32, range_u64, range_usize, sample, shuffle, shuffle_full,
-};
-use crate::chacha::ChaChaState;
-use nanorand::{BufferedRng, ChaCha20Stream, ChaChaGroups, Rng};
-
-/// A stream that computes eight blocks at once: its generator, and a group of blocks whose last
-/// `buffered` bytes are delivered first; the bytes before them mean nothing. At most 511 bytes are
-/// buffered; a greater number counts as 511, and no call leaves one. With 0, the stream begins at
-/// the generator's next block.
-#[derive(Clone, Copy)]
-#[repr(C)]
-pub struct GroupStream {
-    pub chacha: ChaChaState,
-    pub group: [u8; 512],
-    pub buffered: u64,
-}
-
-fn loaded(stream: &GroupStream) -> ChaCha20Stream
-    ensures { result ≡ groups_at stream.now }
-{
-    let chacha = &stream.chacha;
-    let rng = ChaChaGroups::at(chacha.key, chacha.nonce, chacha.counter);
-    let buffered = 511.min(stream.buffered) as usize;
-    let group = &stream.group[..];
-    BufferedRng::with_rest(rng, &group[512 - buffered..]).unwrap()
-}
-
-fn store(stream: &mut GroupStream, rng: &ChaCha20Stream)
-    ensures state { groups_at stream.new ≡ rng.now }
-    ensures buffered { stream.new.buffered < 512 }
-{
-    let rest = rng.rest();
-    let group = &mut stream.group[..];
-    group[512 - rest.len()..].copy_from_slice(rest);
-    stream.buffered = rest.len() as u64;
-    let rng = rng.inner();
-    stream.chacha = ChaChaState {
-        key: rng.key(),
-        nonce: rng.nonce(),
-        counter: rng.counter(),
-    };
-}
-
-/// Fills the slice from the buffered bytes, and answers whether they suffice. If not, nothing
-/// changes.
-#[inline]
-fn served(stream: &mut GroupStream, buffer: &mut [u8]) -> bool
-    ensures bytes { OnTrue result
-        (buffer.new ≡ by_groups.bytes (groups_at stream.old) (length buffer.old)) }
-    ensures state { OnTrue result
-        (groups_at stream.new ≡ by_groups.after (groups_at stream.old) (length buffer.old)) }
-    ensures buffered { OnTrue result (stream.new.buffered < 512) }
-    ensures refused { OnFalse result ((stream.new ≡ stream.old) × (buffer.new ≡ buffer.old)) }
-{
-    let buffered = 511.min(stream.buffered) as usize;
-    let length = buffer.len();
-    if buffered < length {
-        return false;
-    }
-    let group = &stream.group[..];
-    let start = 512 - buffered;
-    buffer.copy_from_slice(&group[start..start + length]);
-    stream.buffered = (buffered - length) as u64;
-    true
-}
-
-// A request that the buffered bytes serve makes no generator, so it copies no group.
-fn fill(stream: &mut GroupStream, buffer: &mut [u8])
-    ensures bytes { buffer.new ≡ by_groups.bytes (groups_at stream.old) (length buffer.old) }
-    ensures state { let left = by_groups.after (groups_at stream.old) in
-        groups_at stream.new ≡ left (length buffer.old) }
-    ensures buffered { stream.new.buffered < 512 }
-{
-    if served(stream, buffer) {
-        return;
-    }
-    let mut rng = loaded(stream);
-    rng.fill_bytes(buffer);
-    store(stream, &rng);
-}
+use nanorand_calls::keystream::{self, GroupStream};
 
 /// Draws a number of 64 bits: the next 8 bytes, least byte first.
 #[unsafe(no_mangle)]
@@ -104,9 +23,7 @@ pub extern "C" fn nanorand_v1_keystream_u64(stream: &mut GroupStream) -> u64
     ensures state { groups_at stream.new ≡ by_groups.after (groups_at stream.old) 8 }
     ensures buffered { stream.new.buffered < 512 }
 {
-    let mut bytes = [0; 8];
-    fill(stream, &mut bytes[..]);
-    u64::from_le_bytes(bytes)
+    keystream::number(stream)
 }
 
 /// Fills the slice with the next bytes, by one request.
@@ -117,7 +34,7 @@ pub extern "C" fn nanorand_v1_keystream_fill_bytes(stream: &mut GroupStream, buf
         groups_at stream.new ≡ by_groups.after start (length buffer.old) }
     ensures buffered { stream.new.buffered < 512 }
 {
-    fill(stream, buffer);
+    keystream::fill_bytes(stream, buffer);
 }
 
 /// Draws a number from `first..=last`, by words of 32 bits, and returns a status: 0 if `number` was
@@ -142,10 +59,7 @@ pub extern "C" fn nanorand_v1_keystream_range_u32(
         IsAfterAtMost 128 after (groups_at stream.new) }
     ensures buffered { stream.new.buffered < 512 }
 {
-    let mut rng = loaded(stream);
-    let status = range_u32(&mut rng, first, last, number);
-    store(stream, &rng);
-    status
+    keystream::range_u32(stream, first, last, number)
 }
 
 /// Draws a number from `first..=last`, by words of 64 bits. The status is that of a range of `u32`.
@@ -168,10 +82,7 @@ pub extern "C" fn nanorand_v1_keystream_range_u64(
         IsAfterAtMost 128 after (groups_at stream.new) }
     ensures buffered { stream.new.buffered < 512 }
 {
-    let mut rng = loaded(stream);
-    let status = range_u64(&mut rng, first, last, number);
-    store(stream, &rng);
-    status
+    keystream::range_u64(stream, first, last, number)
 }
 
 /// Draws a signed number from `first..=last`, by words of 64 bits. The status is that of a range of
@@ -198,10 +109,7 @@ pub extern "C" fn nanorand_v1_keystream_range_i64(
         IsAfterAtMost 128 after (groups_at stream.new) }
     ensures buffered { stream.new.buffered < 512 }
 {
-    let mut rng = loaded(stream);
-    let status = range_i64(&mut rng, first, last, number);
-    store(stream, &rng);
-    status
+    keystream::range_i64(stream, first, last, number)
 }
 
 /// Draws an index or a length from `first..=last`, by words of 64 bits. The status is that of a
@@ -225,10 +133,7 @@ pub extern "C" fn nanorand_v1_keystream_range_usize(
         IsAfterAtMost 128 after (groups_at stream.new) }
     ensures buffered { stream.new.buffered < 512 }
 {
-    let mut rng = loaded(stream);
-    let status = range_usize(&mut rng, first, last, number);
-    store(stream, &rng);
-    status
+    keystream::range_usize(stream, first, last, number)
 }
 
 /// Shuffles the items: each, from the first on, is exchanged with one drawn from it and those after
@@ -251,10 +156,7 @@ pub extern "C" fn nanorand_v1_keystream_shuffle(stream: &mut GroupStream, items:
     ensures arrangement { IsPermutation items.old items.new }
     ensures buffered { stream.new.buffered < 512 }
 {
-    let mut rng = loaded(stream);
-    let status = shuffle(&mut rng, items);
-    store(stream, &rng);
-    status
+    keystream::shuffle(stream, items)
 }
 
 /// Shuffles the items as the crate nanorand 0.7.0 did: each is exchanged with one drawn from all,
@@ -279,10 +181,7 @@ pub extern "C" fn nanorand_v1_keystream_shuffle_full(
     ensures arrangement { IsPermutation items.old items.new }
     ensures buffered { stream.new.buffered < 512 }
 {
-    let mut rng = loaded(stream);
-    let status = shuffle_full(&mut rng, items);
-    store(stream, &rng);
-    status
+    keystream::shuffle_full(stream, items)
 }
 
 /// Samples different numbers below `count`, one for each place, by Floyd's algorithm; each set of
@@ -310,10 +209,7 @@ pub extern "C" fn nanorand_v1_keystream_sample(
     ensures apart { result ≡ 0 → AllPairs (λ number other. number ≢ other) places.new }
     ensures buffered { stream.new.buffered < 512 }
 {
-    let mut rng = loaded(stream);
-    let status = sample(&mut rng, count, places);
-    store(stream, &rng);
-    status
+    keystream::sample(stream, count, places)
 }
 
 /// Moves to the beginning of part `index`, counted from 0, of parts of so many draws: `index *
@@ -329,8 +225,5 @@ pub extern "C" fn nanorand_v1_keystream_part(stream: &mut GroupStream, index: u6
         groups_at stream.new ≡ (parting by_groups (2 ^ 67) draws index start).1 }
     ensures buffered { stream.new.buffered < 512 }
 {
-    let mut rng = loaded(stream);
-    let status = part(&mut rng, index, draws);
-    store(stream, &rng);
-    status
+    keystream::part(stream, index, draws)
 }

@@ -6,16 +6,12 @@
 //! versions can be linked into one program.
 #![tactic(auto)]
 
-mod calls;
-pub mod chacha;
 pub mod chacha12;
 pub mod chacha20;
 pub mod chacha8;
 pub mod keystream;
 pub mod lots;
 pub mod pcg64;
-mod status;
 pub mod stream;
 pub mod version;
-pub mod wide;
 pub mod wyrand;

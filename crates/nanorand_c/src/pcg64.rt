@@ -5,19 +5,15 @@ ghost use Rattle.nanorand_core.specs.values.Draws.{after_words};
 ghost use Rattle.nanorand_core.specs.shuffles.Shuffles.{from_all, from_itself, shuffled};
 ghost use Rattle.nanorand_core.specs.values.Values.{number_of};
 ghost use Rattle.nanorand.specs.generators.Pcg64.{pcg64_requests, seed_after};
-ghost use Rattle.nanorand_c.specs.Between.{between, between_signed};
-ghost use Rattle.nanorand_c.specs.Parts.{parting};
-ghost use Rattle.nanorand_c.specs.Sampling.{sampling};
-ghost use Rattle.nanorand_c.specs.Status.{drawn_or, status};
-ghost use Rattle.nanorand_c.specs.Words.{IsAfterAtMost};
-ghost use Rattle.nanorand_c.specs.WideNumber.{at_seed, wide_number};
+ghost use Rattle.nanorand_calls.specs.Between.{between, between_signed};
+ghost use Rattle.nanorand_calls.specs.Parts.{parting};
+ghost use Rattle.nanorand_calls.specs.Sampling.{sampling};
+ghost use Rattle.nanorand_calls.specs.Status.{drawn_or, status};
+ghost use Rattle.nanorand_calls.specs.Words.{IsAfterAtMost};
+ghost use Rattle.nanorand_calls.specs.WideNumber.{at_seed, wide_number};
 
-use crate::calls::{
-    part, range_i64, range_u32, range_u64, range_usize, sample, shuffle, shuffle_full,
-};
-use crate::wide::{Wide, joined, split};
-use nanorand::laws::pcg64_cycles;
-use nanorand::{Pcg64, Rng};
+use nanorand_calls::pcg64;
+use nanorand_calls::wide::Wide;
 
 /// Draws a number of 64 bits: the next 8 bytes, least byte first.
 #[unsafe(no_mangle)]
@@ -25,10 +21,7 @@ pub extern "C" fn nanorand_v1_pcg64_u64(seed: &mut Wide) -> u64
     ensures value { result ≡ number_of (pcg64_requests.bytes (at_seed seed.old) 8) }
     ensures seed { wide_number seed.new ≡ (pcg64_requests.after (at_seed seed.old) 8).seed }
 {
-    let mut rng = Pcg64::new_seed(joined(seed));
-    let value = rng.generate();
-    *seed = split(rng.seed());
-    value
+    pcg64::number(seed)
 }
 
 /// Fills the slice with the next bytes, by one request.
@@ -38,9 +31,7 @@ pub extern "C" fn nanorand_v1_pcg64_fill_bytes(seed: &mut Wide, buffer: &mut [u8
     ensures seed { let left = pcg64_requests.after (at_seed seed.old) (length buffer.old) in
         wide_number seed.new ≡ left.seed }
 {
-    let mut rng = Pcg64::new_seed(joined(seed));
-    rng.fill_bytes(buffer);
-    *seed = split(rng.seed());
+    pcg64::fill_bytes(seed, buffer);
 }
 
 /// Draws a number from `first..=last`, by words of 32 bits, and returns a status: 0 if `number` was
@@ -64,10 +55,7 @@ pub extern "C" fn nanorand_v1_pcg64_range_u32(
         let after = λ (n : ℕ). (after_words pcg64_requests 32 n start).seed in
         IsAfterAtMost 128 after (wide_number seed.new) }
 {
-    let mut rng = Pcg64::new_seed(joined(seed));
-    let status = range_u32(&mut rng, first, last, number);
-    *seed = split(rng.seed());
-    status
+    pcg64::range_u32(seed, first, last, number)
 }
 
 /// Draws a number from `first..=last`, by words of 64 bits. The status is that of a range of `u32`.
@@ -89,10 +77,7 @@ pub extern "C" fn nanorand_v1_pcg64_range_u64(
         let after = λ (n : ℕ). (after_words pcg64_requests 64 n start).seed in
         IsAfterAtMost 128 after (wide_number seed.new) }
 {
-    let mut rng = Pcg64::new_seed(joined(seed));
-    let status = range_u64(&mut rng, first, last, number);
-    *seed = split(rng.seed());
-    status
+    pcg64::range_u64(seed, first, last, number)
 }
 
 /// Draws a signed number from `first..=last`, by words of 64 bits. The status is that of a range of
@@ -115,10 +100,7 @@ pub extern "C" fn nanorand_v1_pcg64_range_i64(
         let after = λ (n : ℕ). (after_words pcg64_requests 64 n start).seed in
         IsAfterAtMost 128 after (wide_number seed.new) }
 {
-    let mut rng = Pcg64::new_seed(joined(seed));
-    let status = range_i64(&mut rng, first, last, number);
-    *seed = split(rng.seed());
-    status
+    pcg64::range_i64(seed, first, last, number)
 }
 
 /// Draws an index or a length from `first..=last`, by words of 64 bits. The status is that of a
@@ -141,10 +123,7 @@ pub extern "C" fn nanorand_v1_pcg64_range_usize(
         let after = λ (n : ℕ). (after_words pcg64_requests 64 n start).seed in
         IsAfterAtMost 128 after (wide_number seed.new) }
 {
-    let mut rng = Pcg64::new_seed(joined(seed));
-    let status = range_usize(&mut rng, first, last, number);
-    *seed = split(rng.seed());
-    status
+    pcg64::range_usize(seed, first, last, number)
 }
 
 /// Shuffles the items: each, from the first on, is exchanged with one drawn from it and those after
@@ -165,10 +144,7 @@ pub extern "C" fn nanorand_v1_pcg64_shuffle(seed: &mut Wide, items: &mut [usize]
         IsAfterAtMost (128 * length items.old) after (wide_number seed.new) }
     ensures arrangement { IsPermutation items.old items.new }
 {
-    let mut rng = Pcg64::new_seed(joined(seed));
-    let status = shuffle(&mut rng, items);
-    *seed = split(rng.seed());
-    status
+    pcg64::shuffle(seed, items)
 }
 
 /// Shuffles the items as the crate nanorand 0.7.0 did: each is exchanged with one drawn from all,
@@ -186,10 +162,7 @@ pub extern "C" fn nanorand_v1_pcg64_shuffle_full(seed: &mut Wide, items: &mut [u
         IsAfterAtMost (128 * length items.old) after (wide_number seed.new) }
     ensures arrangement { IsPermutation items.old items.new }
 {
-    let mut rng = Pcg64::new_seed(joined(seed));
-    let status = shuffle_full(&mut rng, items);
-    *seed = split(rng.seed());
-    status
+    pcg64::shuffle_full(seed, items)
 }
 
 /// Samples different numbers below `count`, one for each place, by Floyd's algorithm; each set of
@@ -214,10 +187,7 @@ pub extern "C" fn nanorand_v1_pcg64_sample(
     ensures below { result ≡ 0 → All (λ number. number < count) places.new }
     ensures apart { result ≡ 0 → AllPairs (λ number other. number ≢ other) places.new }
 {
-    let mut rng = Pcg64::new_seed(joined(seed));
-    let status = sample(&mut rng, count, places);
-    *seed = split(rng.seed());
-    status
+    pcg64::sample(seed, count, places)
 }
 
 /// Advances by so many draws, in at most 128 steps and one draw.
@@ -225,10 +195,7 @@ pub extern "C" fn nanorand_v1_pcg64_sample(
 pub extern "C" fn nanorand_v1_pcg64_jump(seed: &mut Wide, draws: &Wide)
     ensures { wide_number seed.new ≡ seed_after (wide_number draws.now) (wide_number seed.old) }
 {
-    pcg64_cycles();
-    let mut rng = Pcg64::new_seed(joined(seed));
-    rng.jump(joined(draws));
-    *seed = split(rng.seed());
+    pcg64::jump(seed, draws);
 }
 
 /// Moves to the beginning of part `index`, counted from 0, of parts of so many draws: `index *
@@ -243,8 +210,5 @@ pub extern "C" fn nanorand_v1_pcg64_part(seed: &mut Wide, index: u64, draws: u64
     ensures seed { let start = at_seed seed.old in
         wide_number seed.new ≡ (parting pcg64_requests (2 ^ 126) draws index start).1.seed }
 {
-    let mut rng = Pcg64::new_seed(joined(seed));
-    let status = part(&mut rng, index, draws);
-    *seed = split(rng.seed());
-    status
+    pcg64::part(seed, index, draws)
 }

@@ -5,45 +5,13 @@ ghost use Rattle.std.specs.List.{AllPairs};
 ghost use Rattle.nanorand_core.specs.values.Draws.{after_words};
 ghost use Rattle.nanorand_core.specs.shuffles.Shuffles.{from_all, from_itself, shuffled};
 ghost use Rattle.nanorand_core.specs.values.Values.{number_of};
-ghost use Rattle.nanorand_c.specs.Between.{between, between_signed};
-ghost use Rattle.nanorand_c.specs.ChaChaStates.{stream_at, stream_requests};
-ghost use Rattle.nanorand_c.specs.Sampling.{sampling};
-ghost use Rattle.nanorand_c.specs.Status.{drawn_or, status};
-ghost use Rattle.nanorand_c.specs.Words.{IsAfterAtMost};
+ghost use Rattle.nanorand_calls.specs.Between.{between, between_signed};
+ghost use Rattle.nanorand_calls.specs.ChaChaStates.{stream_at, stream_requests};
+ghost use Rattle.nanorand_calls.specs.Sampling.{sampling};
+ghost use Rattle.nanorand_calls.specs.Status.{drawn_or, status};
+ghost use Rattle.nanorand_calls.specs.Words.{IsAfterAtMost};
 
-use crate::calls::{range_i64, range_u32, range_u64, range_usize, sample, shuffle, shuffle_full};
-use crate::chacha::{self, ChaChaState};
-use nanorand::{BufferedRng, ChaCha20, Rng};
-
-/// A stream: its generator, and a block whose last `buffered` bytes are delivered first; the bytes
-/// before them mean nothing. At most 63 bytes are buffered; a greater number counts as 63, and no
-/// call leaves one. With 0, the stream begins at the generator's next block.
-#[derive(Clone, Copy)]
-#[repr(C)]
-pub struct Stream {
-    pub chacha: ChaChaState,
-    pub block: [u8; 64],
-    pub buffered: u64,
-}
-
-fn loaded(stream: &Stream) -> BufferedRng<ChaCha20, 64>
-    ensures { result ≡ stream_at stream.now }
-{
-    let buffered = 63.min(stream.buffered) as usize;
-    let block = &stream.block[..];
-    BufferedRng::with_rest(chacha::loaded(&stream.chacha), &block[64 - buffered..]).unwrap()
-}
-
-fn store(stream: &mut Stream, rng: &BufferedRng<ChaCha20, 64>)
-    ensures state { stream_at stream.new ≡ rng.now }
-    ensures buffered { stream.new.buffered < 64 }
-{
-    let rest = rng.rest();
-    let block = &mut stream.block[..];
-    block[64 - rest.len()..].copy_from_slice(rest);
-    stream.buffered = rest.len() as u64;
-    chacha::store(&mut stream.chacha, rng.inner());
-}
+use nanorand_calls::stream::{self, Stream};
 
 /// Draws a number of 64 bits: the next 8 bytes, least byte first.
 #[unsafe(no_mangle)]
@@ -52,10 +20,7 @@ pub extern "C" fn nanorand_v1_stream_u64(stream: &mut Stream) -> u64
     ensures state { stream_at stream.new ≡ stream_requests.after (stream_at stream.old) 8 }
     ensures buffered { stream.new.buffered < 64 }
 {
-    let mut rng = loaded(stream);
-    let value = rng.generate();
-    store(stream, &rng);
-    value
+    stream::number(stream)
 }
 
 /// Fills the slice with the next bytes, by one request.
@@ -66,9 +31,7 @@ pub extern "C" fn nanorand_v1_stream_fill_bytes(stream: &mut Stream, buffer: &mu
         stream_at stream.new ≡ stream_requests.after start (length buffer.old) }
     ensures buffered { stream.new.buffered < 64 }
 {
-    let mut rng = loaded(stream);
-    rng.fill_bytes(buffer);
-    store(stream, &rng);
+    stream::fill_bytes(stream, buffer);
 }
 
 /// Draws a number from `first..=last`, by words of 32 bits, and returns a status: 0 if `number` was
@@ -93,10 +56,7 @@ pub extern "C" fn nanorand_v1_stream_range_u32(
         IsAfterAtMost 128 after (stream_at stream.new) }
     ensures buffered { stream.new.buffered < 64 }
 {
-    let mut rng = loaded(stream);
-    let status = range_u32(&mut rng, first, last, number);
-    store(stream, &rng);
-    status
+    stream::range_u32(stream, first, last, number)
 }
 
 /// Draws a number from `first..=last`, by words of 64 bits. The status is that of a range of `u32`.
@@ -119,10 +79,7 @@ pub extern "C" fn nanorand_v1_stream_range_u64(
         IsAfterAtMost 128 after (stream_at stream.new) }
     ensures buffered { stream.new.buffered < 64 }
 {
-    let mut rng = loaded(stream);
-    let status = range_u64(&mut rng, first, last, number);
-    store(stream, &rng);
-    status
+    stream::range_u64(stream, first, last, number)
 }
 
 /// Draws a signed number from `first..=last`, by words of 64 bits. The status is that of a range of
@@ -149,10 +106,7 @@ pub extern "C" fn nanorand_v1_stream_range_i64(
         IsAfterAtMost 128 after (stream_at stream.new) }
     ensures buffered { stream.new.buffered < 64 }
 {
-    let mut rng = loaded(stream);
-    let status = range_i64(&mut rng, first, last, number);
-    store(stream, &rng);
-    status
+    stream::range_i64(stream, first, last, number)
 }
 
 /// Draws an index or a length from `first..=last`, by words of 64 bits. The status is that of a
@@ -176,10 +130,7 @@ pub extern "C" fn nanorand_v1_stream_range_usize(
         IsAfterAtMost 128 after (stream_at stream.new) }
     ensures buffered { stream.new.buffered < 64 }
 {
-    let mut rng = loaded(stream);
-    let status = range_usize(&mut rng, first, last, number);
-    store(stream, &rng);
-    status
+    stream::range_usize(stream, first, last, number)
 }
 
 /// Shuffles the items: each, from the first on, is exchanged with one drawn from it and those after
@@ -202,10 +153,7 @@ pub extern "C" fn nanorand_v1_stream_shuffle(stream: &mut Stream, items: &mut [u
     ensures arrangement { IsPermutation items.old items.new }
     ensures buffered { stream.new.buffered < 64 }
 {
-    let mut rng = loaded(stream);
-    let status = shuffle(&mut rng, items);
-    store(stream, &rng);
-    status
+    stream::shuffle(stream, items)
 }
 
 /// Shuffles the items as the crate nanorand 0.7.0 did: each is exchanged with one drawn from all,
@@ -227,10 +175,7 @@ pub extern "C" fn nanorand_v1_stream_shuffle_full(stream: &mut Stream, items: &m
     ensures arrangement { IsPermutation items.old items.new }
     ensures buffered { stream.new.buffered < 64 }
 {
-    let mut rng = loaded(stream);
-    let status = shuffle_full(&mut rng, items);
-    store(stream, &rng);
-    status
+    stream::shuffle_full(stream, items)
 }
 
 /// Samples different numbers below `count`, one for each place, by Floyd's algorithm; each set of
@@ -258,8 +203,5 @@ pub extern "C" fn nanorand_v1_stream_sample(
     ensures apart { result ≡ 0 → AllPairs (λ number other. number ≢ other) places.new }
     ensures buffered { stream.new.buffered < 64 }
 {
-    let mut rng = loaded(stream);
-    let status = sample(&mut rng, count, places);
-    store(stream, &rng);
-    status
+    stream::sample(stream, count, places)
 }

@@ -5,16 +5,16 @@ ghost use Rattle.nanorand_core.specs.values.Draws.{after_words};
 ghost use Rattle.nanorand_core.specs.shuffles.Shuffles.{from_all, from_itself, shuffled};
 ghost use Rattle.nanorand_core.specs.values.Values.{number_of};
 ghost use Rattle.nanorand.specs.generators.WyRand.{seed_after, wyrand_requests};
-ghost use Rattle.nanorand_c.specs.Between.{between, between_signed};
-ghost use Rattle.nanorand_c.specs.Parts.{parting};
-ghost use Rattle.nanorand_c.specs.Sampling.{sampling};
-ghost use Rattle.nanorand_c.specs.Status.{drawn_or, status};
-ghost use Rattle.nanorand_c.specs.Words.{IsAfterAtMost};
+ghost use Rattle.nanorand_calls.specs.Between.{between, between_signed};
+ghost use Rattle.nanorand_calls.specs.Parts.{parting};
+ghost use Rattle.nanorand_calls.specs.Sampling.{sampling};
+ghost use Rattle.nanorand_calls.specs.Status.{drawn_or, status};
+ghost use Rattle.nanorand_calls.specs.Words.{IsAfterAtMost};
 
-use crate::calls::{
+use nanorand::{Rng, WyRand};
+use nanorand_calls::calls::{
     part, range_i64, range_u32, range_u64, range_usize, sample, shuffle, shuffle_full,
 };
-use nanorand::{Rng, WyRand};
 
 /// The generator with this seed.
 #[unsafe(no_mangle)]

@@ -1,0 +1,23 @@
+-- A sample of the numbers below a count, one number a place.
+use Rattle.std.specs.Prelude.{ℕ, ◌++◌, List, length, drop, ltb, if◌then◌else◌}
+use Rattle.nanorand_core.specs.generators.Blocks.{Requests}
+use Rattle.nanorand_core.specs.samples.Samples.{sampled}
+use Rattle.nanorand_calls.specs.Status.{status}
+
+-- The status that is returned, the places, and the state that is left.
+pub record Sampling (G : Type 0) : Type 0 where
+  pub status : ℕ
+  pub places : List ℕ
+  pub state : G
+
+-- More places than numbers are refused with the status 1; nothing is drawn then.
+abbrev pub sampling : {G : Type 0} → Requests G → ℕ → G → List ℕ → Sampling G
+sampling requests count g places =
+    if ltb count (length places) then record { status = 1; places = places; state = g }
+    else
+    let sample = sampled requests (length places) count g in
+    record {
+      status = status sample.answer;
+      places = sample.numbers ++ drop (length sample.numbers) places;
+      state = sample.state;
+    }

@@ -1,0 +1,204 @@
+//! The calls of `Pcg64`, whose seed is the caller's memory. Not cryptographically secure.
+ghost use Rattle.std.specs.Prelude.{◌≡◌, ◌≢◌, ◌<◌, ◌≤◌, ◌≤ℤ◌, All, IsPermutation, length, ◌^◌, ℕ, ◌*◌};
+ghost use Rattle.std.specs.List.{AllPairs};
+ghost use Rattle.nanorand_core.specs.values.Draws.{after_words};
+ghost use Rattle.nanorand_core.specs.shuffles.Shuffles.{from_all, from_itself, shuffled};
+ghost use Rattle.nanorand_core.specs.values.Values.{number_of};
+ghost use Rattle.nanorand.specs.generators.Pcg64.{pcg64_requests, seed_after};
+ghost use Rattle.nanorand_calls.specs.Between.{between, between_signed};
+ghost use Rattle.nanorand_calls.specs.Parts.{parting};
+ghost use Rattle.nanorand_calls.specs.Sampling.{sampling};
+ghost use Rattle.nanorand_calls.specs.Status.{drawn_or, status};
+ghost use Rattle.nanorand_calls.specs.Words.{IsAfterAtMost};
+ghost use Rattle.nanorand_calls.specs.WideNumber.{at_seed, wide_number};
+
+use crate::calls;
+use crate::wide::{Wide, joined, split};
+use nanorand::laws::pcg64_cycles;
+use nanorand::{Pcg64, Rng};
+
+/// Draws a number of 64 bits: the next 8 bytes, little-endian.
+pub fn number(seed: &mut Wide) -> u64
+    ensures value { result ≡ number_of (pcg64_requests.bytes (at_seed seed.old) 8) }
+    ensures seed { wide_number seed.new ≡ (pcg64_requests.after (at_seed seed.old) 8).seed }
+{
+    let mut rng = Pcg64::new_seed(joined(seed));
+    let value = rng.generate();
+    *seed = split(rng.seed());
+    value
+}
+
+/// Fills the slice with the next bytes, by one request.
+pub fn fill_bytes(seed: &mut Wide, buffer: &mut [u8])
+    ensures bytes { buffer.new ≡ pcg64_requests.bytes (at_seed seed.old) (length buffer.old) }
+    ensures seed { let left = pcg64_requests.after (at_seed seed.old) (length buffer.old) in
+        wide_number seed.new ≡ left.seed }
+{
+    let mut rng = Pcg64::new_seed(joined(seed));
+    rng.fill_bytes(buffer);
+    *seed = split(rng.seed());
+}
+
+/// Draws a number from `first..=last`, by words of 32 bits. Returns the status 0, 1 or 2, and
+/// writes `number` only if it is 0.
+pub fn range_u32(seed: &mut Wide, first: u32, last: u32, number: &mut u32) -> u8
+    ensures status { let draw = between pcg64_requests 32 first last (at_seed seed.old) in
+        result ≡ status draw.0 }
+    ensures number { let draw = between pcg64_requests 32 first last (at_seed seed.old) in
+        number.new ≡ drawn_or number.old draw.0 }
+    ensures within { result ≡ 0 → (first ≤ number.new) × (number.new ≤ last) }
+    ensures seed { let draw = between pcg64_requests 32 first last (at_seed seed.old) in
+        wide_number seed.new ≡ draw.1.seed }
+    ensures words { let start = at_seed seed.old in
+        let after = λ (n : ℕ). (after_words pcg64_requests 32 n start).seed in
+        IsAfterAtMost 128 after (wide_number seed.new) }
+{
+    let mut rng = Pcg64::new_seed(joined(seed));
+    let status = calls::range_u32(&mut rng, first, last, number);
+    *seed = split(rng.seed());
+    status
+}
+
+/// Draws a number from `first..=last`, by words of 64 bits, as `range_u32` does.
+pub fn range_u64(seed: &mut Wide, first: u64, last: u64, number: &mut u64) -> u8
+    ensures status { let draw = between pcg64_requests 64 first last (at_seed seed.old) in
+        result ≡ status draw.0 }
+    ensures number { let draw = between pcg64_requests 64 first last (at_seed seed.old) in
+        number.new ≡ drawn_or number.old draw.0 }
+    ensures within { result ≡ 0 → (first ≤ number.new) × (number.new ≤ last) }
+    ensures seed { let draw = between pcg64_requests 64 first last (at_seed seed.old) in
+        wide_number seed.new ≡ draw.1.seed }
+    ensures words { let start = at_seed seed.old in
+        let after = λ (n : ℕ). (after_words pcg64_requests 64 n start).seed in
+        IsAfterAtMost 128 after (wide_number seed.new) }
+{
+    let mut rng = Pcg64::new_seed(joined(seed));
+    let status = calls::range_u64(&mut rng, first, last, number);
+    *seed = split(rng.seed());
+    status
+}
+
+/// Draws a signed number from `first..=last`, by words of 64 bits, as `range_u32` does.
+pub fn range_i64(seed: &mut Wide, first: i64, last: i64, number: &mut i64) -> u8
+    ensures status { let draw = between_signed pcg64_requests 64 first last (at_seed seed.old) in
+        result ≡ status draw.0 }
+    ensures number { let draw = between_signed pcg64_requests 64 first last (at_seed seed.old) in
+        number.new ≡ drawn_or number.old draw.0 }
+    ensures within { result ≡ 0 → (first ≤ℤ number.new) × (number.new ≤ℤ last) }
+    ensures seed { let draw = between_signed pcg64_requests 64 first last (at_seed seed.old) in
+        wide_number seed.new ≡ draw.1.seed }
+    ensures words { let start = at_seed seed.old in
+        let after = λ (n : ℕ). (after_words pcg64_requests 64 n start).seed in
+        IsAfterAtMost 128 after (wide_number seed.new) }
+{
+    let mut rng = Pcg64::new_seed(joined(seed));
+    let status = calls::range_i64(&mut rng, first, last, number);
+    *seed = split(rng.seed());
+    status
+}
+
+/// Draws an index or a length from `first..=last`, by words of 64 bits, as `range_u32` does.
+pub fn range_usize(seed: &mut Wide, first: usize, last: usize, number: &mut usize) -> u8
+    ensures status { let draw = between pcg64_requests 64 first last (at_seed seed.old) in
+        result ≡ status draw.0 }
+    ensures number { let draw = between pcg64_requests 64 first last (at_seed seed.old) in
+        number.new ≡ drawn_or number.old draw.0 }
+    ensures within { result ≡ 0 → (first ≤ number.new) × (number.new ≤ last) }
+    ensures seed { let draw = between pcg64_requests 64 first last (at_seed seed.old) in
+        wide_number seed.new ≡ draw.1.seed }
+    ensures words { let start = at_seed seed.old in
+        let after = λ (n : ℕ). (after_words pcg64_requests 64 n start).seed in
+        IsAfterAtMost 128 after (wide_number seed.new) }
+{
+    let mut rng = Pcg64::new_seed(joined(seed));
+    let status = calls::range_usize(&mut rng, first, last, number);
+    *seed = split(rng.seed());
+    status
+}
+
+/// Shuffles the items, as `Rng::shuffle` does. Returns the status 0 or 2; after 2, the exchanges
+/// that were made stay.
+pub fn shuffle(seed: &mut Wide, items: &mut [usize]) -> u8
+    ensures status { let start = at_seed seed.old in
+        let shuffle = shuffled pcg64_requests from_itself start items.old in
+        result ≡ status shuffle.answer }
+    ensures items { let start = at_seed seed.old in
+        let shuffle = shuffled pcg64_requests from_itself start items.old in
+        items.new ≡ shuffle.items }
+    ensures seed { let shuffle = shuffled pcg64_requests from_itself (at_seed seed.old) items.old in
+        wide_number seed.new ≡ shuffle.state.seed }
+    ensures words { let start = at_seed seed.old in
+        let after = λ (n : ℕ). (after_words pcg64_requests 64 n start).seed in
+        IsAfterAtMost (128 * length items.old) after (wide_number seed.new) }
+    ensures arrangement { IsPermutation items.old items.new }
+{
+    let mut rng = Pcg64::new_seed(joined(seed));
+    let status = calls::shuffle(&mut rng, items);
+    *seed = split(rng.seed());
+    status
+}
+
+/// Shuffles the items as the crate nanorand 0.7.0 did: see `shuffles::shuffle_full`. Returns the
+/// status 0 or 2, as `shuffle` does.
+pub fn shuffle_full(seed: &mut Wide, items: &mut [usize]) -> u8
+    ensures status { let shuffle = shuffled pcg64_requests from_all (at_seed seed.old) items.old in
+        result ≡ status shuffle.answer }
+    ensures items { let shuffle = shuffled pcg64_requests from_all (at_seed seed.old) items.old in
+        items.new ≡ shuffle.items }
+    ensures seed { let shuffle = shuffled pcg64_requests from_all (at_seed seed.old) items.old in
+        wide_number seed.new ≡ shuffle.state.seed }
+    ensures words { let start = at_seed seed.old in
+        let after = λ (n : ℕ). (after_words pcg64_requests 64 n start).seed in
+        IsAfterAtMost (128 * length items.old) after (wide_number seed.new) }
+    ensures arrangement { IsPermutation items.old items.new }
+{
+    let mut rng = Pcg64::new_seed(joined(seed));
+    let status = calls::shuffle_full(&mut rng, items);
+    *seed = split(rng.seed());
+    status
+}
+
+/// Samples different numbers below `count`, one for each place, as `samples::sample` does. Returns
+/// the status 0, 1 or 2: 1, with nothing drawn, if there are more places than numbers.
+pub fn sample(seed: &mut Wide, count: usize, places: &mut [usize]) -> u8
+    ensures status { let sampling = sampling pcg64_requests count (at_seed seed.old) places.old in
+        result ≡ sampling.status }
+    ensures places { let sampling = sampling pcg64_requests count (at_seed seed.old) places.old in
+        places.new ≡ sampling.places }
+    ensures seed { let sample = sampling pcg64_requests count (at_seed seed.old) places.old in
+        wide_number seed.new ≡ sample.state.seed }
+    ensures words { let start = at_seed seed.old in
+        let after = λ (n : ℕ). (after_words pcg64_requests 64 n start).seed in
+        IsAfterAtMost (128 * length places.old) after (wide_number seed.new) }
+    ensures below { result ≡ 0 → All (λ number. number < count) places.new }
+    ensures apart { result ≡ 0 → AllPairs (λ number other. number ≢ other) places.new }
+{
+    let mut rng = Pcg64::new_seed(joined(seed));
+    let status = calls::sample(&mut rng, count, places);
+    *seed = split(rng.seed());
+    status
+}
+
+/// Advances by so many draws, in at most 128 steps and one draw.
+pub fn jump(seed: &mut Wide, draws: &Wide)
+    ensures { wide_number seed.new ≡ seed_after (wide_number draws.now) (wide_number seed.old) }
+{
+    pcg64_cycles();
+    let mut rng = Pcg64::new_seed(joined(seed));
+    rng.jump(joined(draws));
+    *seed = split(rng.seed());
+}
+
+/// Moves to the beginning of part `index` of parts of `draws` draws each. Returns the status 0, or
+/// 3 if the part ends past the period; nothing moves then.
+pub fn part(seed: &mut Wide, index: u64, draws: u64) -> u8
+    ensures status { let start = at_seed seed.old in
+        result ≡ (parting pcg64_requests (2 ^ 126) draws index start).0 }
+    ensures seed { let start = at_seed seed.old in
+        wide_number seed.new ≡ (parting pcg64_requests (2 ^ 126) draws index start).1.seed }
+{
+    let mut rng = Pcg64::new_seed(joined(seed));
+    let status = calls::part(&mut rng, index, draws);
+    *seed = split(rng.seed());
+    status
+}

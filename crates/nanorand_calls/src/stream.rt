@@ -1,0 +1,226 @@
+//! The keystream of ChaCha with 20 rounds without a gap: a generator that buffers the bytes that a
+//! request leaves over.
+ghost use Rattle.std.specs.Prelude.{◌≡◌, ◌≢◌, ◌<◌, ◌≤◌, ◌≤ℤ◌, All, IsPermutation, length, ℕ, ◌*◌};
+ghost use Rattle.std.specs.List.{AllPairs};
+ghost use Rattle.nanorand_core.specs.values.Draws.{after_words};
+ghost use Rattle.nanorand_core.specs.shuffles.Shuffles.{from_all, from_itself, shuffled};
+ghost use Rattle.nanorand_core.specs.values.Values.{number_of};
+ghost use Rattle.nanorand_calls.specs.Between.{between, between_signed};
+ghost use Rattle.nanorand_calls.specs.ChaChaStates.{stream_at, stream_requests};
+ghost use Rattle.nanorand_calls.specs.Sampling.{sampling};
+ghost use Rattle.nanorand_calls.specs.Status.{drawn_or, status};
+ghost use Rattle.nanorand_calls.specs.Words.{IsAfterAtMost};
+
+use crate::calls;
+use crate::chacha::{self, ChaChaState};
+use nanorand::{BufferedRng, ChaCha20, Rng};
+
+/// A stream: its generator, and a block whose last `buffered` bytes are delivered first; the bytes
+/// before them mean nothing. At most 63 bytes are buffered; a greater number counts as 63, and no
+/// call leaves one. With 0, the stream begins at the generator's next block.
+#[derive(Clone, Copy)]
+#[repr(C)]
+pub struct Stream {
+    pub chacha: ChaChaState,
+    pub block: [u8; 64],
+    pub buffered: u64,
+}
+
+fn loaded(stream: &Stream) -> BufferedRng<ChaCha20, 64>
+    ensures { result ≡ stream_at stream.now }
+{
+    let buffered = 63.min(stream.buffered) as usize;
+    let block = &stream.block[..];
+    BufferedRng::with_rest(chacha::loaded(&stream.chacha), &block[64 - buffered..]).unwrap()
+}
+
+fn store(stream: &mut Stream, rng: &BufferedRng<ChaCha20, 64>)
+    ensures state { stream_at stream.new ≡ rng.now }
+    ensures buffered { stream.new.buffered < 64 }
+{
+    let rest = rng.rest();
+    let block = &mut stream.block[..];
+    block[64 - rest.len()..].copy_from_slice(rest);
+    stream.buffered = rest.len() as u64;
+    chacha::store(&mut stream.chacha, rng.inner());
+}
+
+/// Draws a number of 64 bits: the next 8 bytes, little-endian.
+pub fn number(stream: &mut Stream) -> u64
+    ensures value { result ≡ number_of (stream_requests.bytes (stream_at stream.old) 8) }
+    ensures state { stream_at stream.new ≡ stream_requests.after (stream_at stream.old) 8 }
+    ensures buffered { stream.new.buffered < 64 }
+{
+    let mut rng = loaded(stream);
+    let value = rng.generate();
+    store(stream, &rng);
+    value
+}
+
+/// Fills the slice with the next bytes, by one request.
+pub fn fill_bytes(stream: &mut Stream, buffer: &mut [u8])
+    ensures bytes { buffer.new ≡ stream_requests.bytes (stream_at stream.old) (length buffer.old) }
+    ensures state { let start = stream_at stream.old in
+        stream_at stream.new ≡ stream_requests.after start (length buffer.old) }
+    ensures buffered { stream.new.buffered < 64 }
+{
+    let mut rng = loaded(stream);
+    rng.fill_bytes(buffer);
+    store(stream, &rng);
+}
+
+/// Draws a number from `first..=last`, by words of 32 bits. Returns the status 0, 1 or 2, and
+/// writes `number` only if it is 0.
+pub fn range_u32(stream: &mut Stream, first: u32, last: u32, number: &mut u32) -> u8
+    ensures status { let draw = between stream_requests 32 first last (stream_at stream.old) in
+        result ≡ status draw.0 }
+    ensures number { let draw = between stream_requests 32 first last (stream_at stream.old) in
+        number.new ≡ drawn_or number.old draw.0 }
+    ensures within { result ≡ 0 → (first ≤ number.new) × (number.new ≤ last) }
+    ensures state { let draw = between stream_requests 32 first last (stream_at stream.old) in
+        stream_at stream.new ≡ draw.1 }
+    ensures words { let start = stream_at stream.old in
+        let after = λ (n : ℕ). after_words stream_requests 32 n start in
+        IsAfterAtMost 128 after (stream_at stream.new) }
+    ensures buffered { stream.new.buffered < 64 }
+{
+    let mut rng = loaded(stream);
+    let status = calls::range_u32(&mut rng, first, last, number);
+    store(stream, &rng);
+    status
+}
+
+/// Draws a number from `first..=last`, by words of 64 bits, as `range_u32` does.
+pub fn range_u64(stream: &mut Stream, first: u64, last: u64, number: &mut u64) -> u8
+    ensures status { let draw = between stream_requests 64 first last (stream_at stream.old) in
+        result ≡ status draw.0 }
+    ensures number { let draw = between stream_requests 64 first last (stream_at stream.old) in
+        number.new ≡ drawn_or number.old draw.0 }
+    ensures within { result ≡ 0 → (first ≤ number.new) × (number.new ≤ last) }
+    ensures state { let draw = between stream_requests 64 first last (stream_at stream.old) in
+        stream_at stream.new ≡ draw.1 }
+    ensures words { let start = stream_at stream.old in
+        let after = λ (n : ℕ). after_words stream_requests 64 n start in
+        IsAfterAtMost 128 after (stream_at stream.new) }
+    ensures buffered { stream.new.buffered < 64 }
+{
+    let mut rng = loaded(stream);
+    let status = calls::range_u64(&mut rng, first, last, number);
+    store(stream, &rng);
+    status
+}
+
+/// Draws a signed number from `first..=last`, by words of 64 bits, as `range_u32` does.
+pub fn range_i64(stream: &mut Stream, first: i64, last: i64, number: &mut i64) -> u8
+    ensures status { let start = stream_at stream.old in
+        let draw = between_signed stream_requests 64 first last start in
+        result ≡ status draw.0 }
+    ensures number { let start = stream_at stream.old in
+        let draw = between_signed stream_requests 64 first last start in
+        number.new ≡ drawn_or number.old draw.0 }
+    ensures within { result ≡ 0 → (first ≤ℤ number.new) × (number.new ≤ℤ last) }
+    ensures state { let start = stream_at stream.old in
+        let draw = between_signed stream_requests 64 first last start in
+        stream_at stream.new ≡ draw.1 }
+    ensures words { let start = stream_at stream.old in
+        let after = λ (n : ℕ). after_words stream_requests 64 n start in
+        IsAfterAtMost 128 after (stream_at stream.new) }
+    ensures buffered { stream.new.buffered < 64 }
+{
+    let mut rng = loaded(stream);
+    let status = calls::range_i64(&mut rng, first, last, number);
+    store(stream, &rng);
+    status
+}
+
+/// Draws an index or a length from `first..=last`, by words of 64 bits, as `range_u32` does.
+pub fn range_usize(stream: &mut Stream, first: usize, last: usize, number: &mut usize) -> u8
+    ensures status { let draw = between stream_requests 64 first last (stream_at stream.old) in
+        result ≡ status draw.0 }
+    ensures number { let draw = between stream_requests 64 first last (stream_at stream.old) in
+        number.new ≡ drawn_or number.old draw.0 }
+    ensures within { result ≡ 0 → (first ≤ number.new) × (number.new ≤ last) }
+    ensures state { let draw = between stream_requests 64 first last (stream_at stream.old) in
+        stream_at stream.new ≡ draw.1 }
+    ensures words { let start = stream_at stream.old in
+        let after = λ (n : ℕ). after_words stream_requests 64 n start in
+        IsAfterAtMost 128 after (stream_at stream.new) }
+    ensures buffered { stream.new.buffered < 64 }
+{
+    let mut rng = loaded(stream);
+    let status = calls::range_usize(&mut rng, first, last, number);
+    store(stream, &rng);
+    status
+}
+
+/// Shuffles the items, as `Rng::shuffle` does. Returns the status 0 or 2; after 2, the exchanges
+/// that were made stay.
+pub fn shuffle(stream: &mut Stream, items: &mut [usize]) -> u8
+    ensures status { let start = stream_at stream.old in
+        let shuffle = shuffled stream_requests from_itself start items.old in
+        result ≡ status shuffle.answer }
+    ensures items { let start = stream_at stream.old in
+        let shuffle = shuffled stream_requests from_itself start items.old in
+        items.new ≡ shuffle.items }
+    ensures state { let start = stream_at stream.old in
+        let shuffle = shuffled stream_requests from_itself start items.old in
+        stream_at stream.new ≡ shuffle.state }
+    ensures words { let start = stream_at stream.old in
+        let after = λ (n : ℕ). after_words stream_requests 64 n start in
+        IsAfterAtMost (128 * length items.old) after (stream_at stream.new) }
+    ensures arrangement { IsPermutation items.old items.new }
+    ensures buffered { stream.new.buffered < 64 }
+{
+    let mut rng = loaded(stream);
+    let status = calls::shuffle(&mut rng, items);
+    store(stream, &rng);
+    status
+}
+
+/// Shuffles the items as the crate nanorand 0.7.0 did: see `shuffles::shuffle_full`. Returns the
+/// status 0 or 2, as `shuffle` does.
+pub fn shuffle_full(stream: &mut Stream, items: &mut [usize]) -> u8
+    ensures status { let start = stream_at stream.old in
+        let shuffle = shuffled stream_requests from_all start items.old in
+        result ≡ status shuffle.answer }
+    ensures items { let start = stream_at stream.old in
+        let shuffle = shuffled stream_requests from_all start items.old in
+        items.new ≡ shuffle.items }
+    ensures state { let start = stream_at stream.old in
+        let shuffle = shuffled stream_requests from_all start items.old in
+        stream_at stream.new ≡ shuffle.state }
+    ensures words { let start = stream_at stream.old in
+        let after = λ (n : ℕ). after_words stream_requests 64 n start in
+        IsAfterAtMost (128 * length items.old) after (stream_at stream.new) }
+    ensures arrangement { IsPermutation items.old items.new }
+    ensures buffered { stream.new.buffered < 64 }
+{
+    let mut rng = loaded(stream);
+    let status = calls::shuffle_full(&mut rng, items);
+    store(stream, &rng);
+    status
+}
+
+/// Samples different numbers below `count`, one for each place, as `samples::sample` does. Returns
+/// the status 0, 1 or 2: 1, with nothing drawn, if there are more places than numbers.
+pub fn sample(stream: &mut Stream, count: usize, places: &mut [usize]) -> u8
+    ensures status { let start = stream_at stream.old in
+        let sampling = sampling stream_requests count start places.old in
+        result ≡ sampling.status }
+    ensures places { let start = stream_at stream.old in
+        let sampling = sampling stream_requests count start places.old in
+        places.new ≡ sampling.places }
+    ensures state { let sample = sampling stream_requests count (stream_at stream.old) places.old in
+        stream_at stream.new ≡ sample.state }
+    ensures words { let start = stream_at stream.old in
+        let after = λ (n : ℕ). after_words stream_requests 64 n start in
+        IsAfterAtMost (128 * length places.old) after (stream_at stream.new) }
+    ensures below { result ≡ 0 → All (λ number. number < count) places.new }
+    ensures apart { result ≡ 0 → AllPairs (λ number other. number ≢ other) places.new }
+    ensures buffered { stream.new.buffered < 64 }
+{
+    let mut rng = loaded(stream);
+    let status = calls::sample(&mut rng, count, places);
+    store(stream, &rng);
+    status
+}
