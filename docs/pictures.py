@@ -104,7 +104,7 @@ def layers():
     parts += module(MARGIN, programs, 170, 54, "draw, draw_core", "a command line to a text")
     parts += module(206, programs, 194, 54, "nanorand_users", "one program per kind of user")
     parts += module(416, programs, 174, 54, "lots, lots_core", "a public draw by lot")
-    parts += module(626, programs, 190, 54, "nanorand_c", "exports nanorand_calls to C")
+    parts += module(626, programs, 190, 54, "nanorand_c", "exports: C, Python, a page")
     parts += module(832, programs, 188, 54, "rust/", "the same, without contracts")
     parts.append(arrow(f"M626 {programs + 27} H598", (591, programs + 27), "left"))
 
