@@ -165,11 +165,13 @@ WIDE = {
     "self.next_eight(lanes)": "lanes.next(self)",
 }
 
-# What Rattle says of usize and isize, which have 64 bits there, as Rust says it where they may have 32. Words have
-# 64 bits on every machine, so that equal seeds give equal indices.
+# What Rattle says of usize and isize, which have 64 bits there, as Rust says it where they may have 32, and of casts to
+# signed types. Words have 64 bits on every machine, so that equal seeds give equal indices.
 WIDTHS = {
     "usize::from_le_bytes(next_bytes(rng))": "u64::from_le_bytes(next_bytes(rng)) as usize",
-    "isize::from_le_bytes(next_bytes(rng))": "i64::from_le_bytes(next_bytes(rng)) as isize",
+    # Rust 1.63 has no `cast_signed`.
+    **{f"u{bits}::random(rng).cast_signed()": f"u{bits}::random(rng) as i{bits}" for bits in (8, 16, 32, 64, 128)},
+    "usize::random(rng).cast_signed()": "u64::random(rng) as isize",
     # A range without a high bound ends with the type's greatest number.
     "Bound::Unbounded => 1 << T::BITS,": (
         "Bound::Unbounded => u128::from(T::at_place(u64::MAX >> (64 - T::BITS)).place()) + 1,"

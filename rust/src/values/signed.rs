@@ -3,47 +3,47 @@
 
 //! The signed types: one request of their bytes, read least byte first, in two's complement.
 
-use super::{next_bytes, RandomGen};
+use super::RandomGen;
 use crate::rand::Rng;
 
 impl<G: Rng<OUTPUT>, const OUTPUT: usize> RandomGen<G, OUTPUT> for i8 {
     #[inline]
     fn random(rng: &mut G) -> i8 {
-        i8::from_le_bytes(next_bytes(rng))
+        u8::random(rng) as i8
     }
 }
 
 impl<G: Rng<OUTPUT>, const OUTPUT: usize> RandomGen<G, OUTPUT> for i16 {
     #[inline]
     fn random(rng: &mut G) -> i16 {
-        i16::from_le_bytes(next_bytes(rng))
+        u16::random(rng) as i16
     }
 }
 
 impl<G: Rng<OUTPUT>, const OUTPUT: usize> RandomGen<G, OUTPUT> for i32 {
     #[inline]
     fn random(rng: &mut G) -> i32 {
-        i32::from_le_bytes(next_bytes(rng))
+        u32::random(rng) as i32
     }
 }
 
 impl<G: Rng<OUTPUT>, const OUTPUT: usize> RandomGen<G, OUTPUT> for i64 {
     #[inline]
     fn random(rng: &mut G) -> i64 {
-        i64::from_le_bytes(next_bytes(rng))
+        u64::random(rng) as i64
     }
 }
 
 impl<G: Rng<OUTPUT>, const OUTPUT: usize> RandomGen<G, OUTPUT> for i128 {
     #[inline]
     fn random(rng: &mut G) -> i128 {
-        i128::from_le_bytes(next_bytes(rng))
+        u128::random(rng) as i128
     }
 }
 
 impl<G: Rng<OUTPUT>, const OUTPUT: usize> RandomGen<G, OUTPUT> for isize {
     #[inline]
     fn random(rng: &mut G) -> isize {
-        i64::from_le_bytes(next_bytes(rng)) as isize
+        u64::random(rng) as isize
     }
 }

@@ -2,7 +2,7 @@
 ghost use Rattle.std.specs.Int.{w8, w16, w32, w64, w128};
 ghost use Rattle.nanorand_core.specs.values.Values.{signed_number_of};
 
-use super::{RandomGen, next_bytes};
+use super::RandomGen;
 use crate::rand::Rng;
 
 impl<G: Rng<OUTPUT>, const OUTPUT: usize> RandomGen<G, OUTPUT> for i8 {
@@ -12,7 +12,7 @@ impl<G: Rng<OUTPUT>, const OUTPUT: usize> RandomGen<G, OUTPUT> for i8 {
 
     #[inline]
     fn random(rng: &mut G) -> i8 {
-        i8::from_le_bytes(next_bytes(rng))
+        u8::random(rng).cast_signed()
     }
 }
 
@@ -23,7 +23,7 @@ impl<G: Rng<OUTPUT>, const OUTPUT: usize> RandomGen<G, OUTPUT> for i16 {
 
     #[inline]
     fn random(rng: &mut G) -> i16 {
-        i16::from_le_bytes(next_bytes(rng))
+        u16::random(rng).cast_signed()
     }
 }
 
@@ -34,7 +34,7 @@ impl<G: Rng<OUTPUT>, const OUTPUT: usize> RandomGen<G, OUTPUT> for i32 {
 
     #[inline]
     fn random(rng: &mut G) -> i32 {
-        i32::from_le_bytes(next_bytes(rng))
+        u32::random(rng).cast_signed()
     }
 }
 
@@ -45,7 +45,7 @@ impl<G: Rng<OUTPUT>, const OUTPUT: usize> RandomGen<G, OUTPUT> for i64 {
 
     #[inline]
     fn random(rng: &mut G) -> i64 {
-        i64::from_le_bytes(next_bytes(rng))
+        u64::random(rng).cast_signed()
     }
 }
 
@@ -56,7 +56,7 @@ impl<G: Rng<OUTPUT>, const OUTPUT: usize> RandomGen<G, OUTPUT> for i128 {
 
     #[inline]
     fn random(rng: &mut G) -> i128 {
-        i128::from_le_bytes(next_bytes(rng))
+        u128::random(rng).cast_signed()
     }
 }
 
@@ -67,6 +67,6 @@ impl<G: Rng<OUTPUT>, const OUTPUT: usize> RandomGen<G, OUTPUT> for isize {
 
     #[inline]
     fn random(rng: &mut G) -> isize {
-        isize::from_le_bytes(next_bytes(rng))
+        usize::random(rng).cast_signed()
     }
 }

@@ -1,4 +1,5 @@
-use Rattle.std.proofs.Common.{◌≡◌, ◌++◌, ◌∷◌, [], Some, sym, ap, ◌∙◌, append_assoc, lit<}
+use Rattle.std.proofs.Common.{◌≡◌, ◌++◌, ◌∷◌, [], Some, sym, ap, ◌∙◌, append_assoc, lit<, arith}
+use Rattle.std.proofs.lemmas.Grind.{common_steps}
 use Rattle.std.proofs.lemmas.Str.Pattern.{split_parts}
 use Rattle.draw_core.specs.Requests.{name_of, kind_of_span}
 use Rattle.draw_core.proofs.requests.call_of.Goals as goal
@@ -12,3 +13,22 @@ returns-in_ok-span_of-in-Some-clause-found c =
     ∙ ap name_of (sym found.0) in
     let parts = (split_parts 58 c.args.text.now (Some (c.in-Some.name, c.in-Some.range)) c.in-Some.ensures.cases (lit< tt)).0 in
     (range, parts ∙ ap (λ name. name ++ 58 ∷ range) named ∙ sym (append_assoc _ (58 ∷ []) range), found.1)
+
+-- Below, `search` gives up before Rattle tries `grind`.
+pub returns-in_err-kind_of-in-Some-clause-only : goal.returns-in_err-kind_of-in-Some-clause-only
+returns-in_err-kind_of-in-Some-clause-only c = grind (arith, common_steps)
+
+pub returns-in_err-span_of-in-Some-clause-only : goal.returns-in_err-span_of-in-Some-clause-only
+returns-in_err-span_of-in-Some-clause-only c = grind (arith, common_steps)
+
+pub returns-in_err-kind_of-in-None-2-clause-only : goal.returns-in_err-kind_of-in-None-2-clause-only
+returns-in_err-kind_of-in-None-2-clause-only c = grind (arith, common_steps)
+
+pub returns-in_ok-span_of-in-Some-clause-only : goal.returns-in_ok-span_of-in-Some-clause-only
+returns-in_ok-span_of-in-Some-clause-only c = grind (arith, common_steps)
+
+pub returns-in-None-clause-only : goal.returns-in-None-clause-only
+returns-in-None-clause-only c = grind (arith, common_steps)
+
+pub returns-in_ok-kind_of-in-None-2-clause-only : goal.returns-in_ok-kind_of-in-None-2-clause-only
+returns-in_ok-kind_of-in-None-2-clause-only c = grind (arith, common_steps)
