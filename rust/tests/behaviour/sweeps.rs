@@ -223,8 +223,8 @@ fn one_item_is_lent() {
         for _ in 0..8 {
             for rejected in [0, number(&mut rng, 129), 128] {
                 writes_one(rejected, rng.generate(), rng.generate(), items, expected);
+                assert!(items == expected, "{size}");
             }
         }
-        assert!(items == expected, "{size}");
     }
 }
