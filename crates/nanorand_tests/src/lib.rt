@@ -7,6 +7,4 @@ mod comparing;
 #[cfg(test)]
 mod draw_helpers;
 #[cfg(test)]
-mod spread;
-#[cfg(test)]
 mod tests;

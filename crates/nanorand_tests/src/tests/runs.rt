@@ -1,4 +1,6 @@
-//! The runs of every size that a byte can draw, handed out by counting: nothing is divided.
+//! The runs of every size that a byte can draw, handed out by counting: nothing is divided. And the old body of
+//! `pick_word`, which divides for each word.
+ghost use Rattle.std.specs.Prelude.{◌≤◌};
 
 use crate::comparing::equal_at;
 use nanorand::RandomRange;
@@ -9,14 +11,18 @@ use std::process::Abort;
 use test_support::Script;
 
 // How often the size fits in 256: the length of a run.
-fn length_of_run(size: u32) -> u32 {
-    let mut length = 0u32;
-    for count in 1..=256u32 {
-        if count.wrapping_mul(size) <= 256 {
-            length = count;
-        }
-    }
-    length
+fn length_of_run(size: u32) -> usize {
+    (1..=256u32)
+        .take_while(|count| count.wrapping_mul(size) <= 256)
+        .count()
+}
+
+fn pick_by_remainder(size: u128, byte: u8) -> Option<u64>
+    requires { 1 ≤ size }
+{
+    let product = u128::from(byte).wrapping_mul(size);
+    let is_accepted = product % 256 >= 256 % size;
+    is_accepted.then_some((product / 256) as u64)
 }
 
 // The number that each byte names, if the greatest number is `last`. Each byte brings as many parts as there
@@ -26,7 +32,7 @@ fn handed_out(last: u8) -> [Option<u8>; 256] {
     let size = u32::from(last) + 1;
     let length = length_of_run(size);
     let mut named = [None; 256];
-    let (mut number, mut parts, mut given) = (last, 256u32, 0u32);
+    let (mut number, mut parts, mut given) = (last, 256u32, 0usize);
     for byte in named.iter_mut().rev() {
         if parts < size {
             number = number.wrapping_sub(1);
@@ -49,7 +55,9 @@ fn check_runs(rt: &impl Abort, last: u8) {
     for byte in 0..=255u8 {
         let number = named[usize::from(byte)];
         let word = u64::from(byte);
-        equal_at(rt, pick_word(size, 8, word), number.map(u64::from), last);
+        let picked = pick_word(size, 8, word);
+        equal_at(rt, picked, number.map(u64::from), last);
+        equal_at(rt, picked, pick_by_remainder(size, byte), last);
         let drawn = u8::random_range(&mut Script::new(&[word]), Included(0), Included(last));
         equal_at(rt, drawn, number.ok_or(Exhausted), last);
     }
