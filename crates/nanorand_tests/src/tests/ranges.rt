@@ -6,96 +6,40 @@ use nanorand::{RandomRange, RangeError};
 use std::ops::Bound::{Excluded, Included, Unbounded};
 use test_support::{Script, Steps};
 
-// Ranges at the least two numbers of a type and at the greatest two, with the answers by the word 0 and by the
-// greatest word. The word 0 is rejected if the range has all numbers but one.
-macro_rules! ends {
-    ($type:ident, $answer:ident, $least:literal, $second:literal, $before:literal, $last:literal) => {
+// Ranges at the least two numbers of a type and at the greatest two.
+macro_rules! ranges {
+    ($type:ident, $least:literal, $second:literal, $before:literal, $last:literal) => {
         [
-            (
-                Span::$type(Unbounded, Unbounded),
-                Answer::$answer($least),
-                Answer::$answer($last),
-            ),
-            (
-                Span::$type(Included($least), Excluded($second)),
-                Answer::$answer($least),
-                Answer::$answer($least),
-            ),
-            (
-                Span::$type(Excluded($least), Unbounded),
-                Answer::Exhausted,
-                Answer::$answer($last),
-            ),
-            (
-                Span::$type(Excluded($least), Excluded($second)),
-                Answer::Empty,
-                Answer::Empty,
-            ),
-            (
-                Span::$type(Unbounded, Excluded($least)),
-                Answer::Empty,
-                Answer::Empty,
-            ),
-            (
-                Span::$type(Excluded($before), Included($last)),
-                Answer::$answer($last),
-                Answer::$answer($last),
-            ),
-            (
-                Span::$type(Unbounded, Excluded($last)),
-                Answer::Exhausted,
-                Answer::$answer($before),
-            ),
-            (
-                Span::$type(Excluded($last), Unbounded),
-                Answer::Empty,
-                Answer::Empty,
-            ),
+            Call::Range(Span::$type(Unbounded, Unbounded)),
+            Call::Range(Span::$type(Included($least), Excluded($second))),
+            Call::Range(Span::$type(Excluded($least), Unbounded)),
+            Call::Range(Span::$type(Excluded($least), Excluded($second))),
+            Call::Range(Span::$type(Unbounded, Excluded($least))),
+            Call::Range(Span::$type(Excluded($before), Included($last))),
+            Call::Range(Span::$type(Unbounded, Excluded($last))),
+            Call::Range(Span::$type(Excluded($last), Unbounded)),
         ]
     };
 }
 
-const ENDS: [[(Span, Answer, Answer); 8]; 10] = [
-    ends!(U8, Unsigned, 0, 1, 254, 255),
-    ends!(U16, Unsigned, 0, 1, 65534, 65535),
-    ends!(U32, Unsigned, 0, 1, 0xffff_fffe, 0xffff_ffff),
-    ends!(
-        U64,
-        Unsigned,
-        0,
-        1,
-        0xffff_ffff_ffff_fffe,
-        0xffff_ffff_ffff_ffff
-    ),
-    ends!(
-        Usize,
-        Unsigned,
-        0,
-        1,
-        0xffff_ffff_ffff_fffe,
-        0xffff_ffff_ffff_ffff
-    ),
-    ends!(I8, Signed, -128, -127, 126, 127),
-    ends!(I16, Signed, -32768, -32767, 32766, 32767),
-    ends!(
-        I32,
-        Signed,
-        -0x8000_0000,
-        -0x7fff_ffff,
-        0x7fff_fffe,
-        0x7fff_ffff
-    ),
-    ends!(
+const RANGES: [[Call; 8]; 10] = [
+    ranges!(U8, 0, 1, 254, 255),
+    ranges!(U16, 0, 1, 65534, 65535),
+    ranges!(U32, 0, 1, 0xffff_fffe, 0xffff_ffff),
+    ranges!(U64, 0, 1, 0xffff_ffff_ffff_fffe, 0xffff_ffff_ffff_ffff),
+    ranges!(Usize, 0, 1, 0xffff_ffff_ffff_fffe, 0xffff_ffff_ffff_ffff),
+    ranges!(I8, -128, -127, 126, 127),
+    ranges!(I16, -32768, -32767, 32766, 32767),
+    ranges!(I32, -0x8000_0000, -0x7fff_ffff, 0x7fff_fffe, 0x7fff_ffff),
+    ranges!(
         I64,
-        Signed,
         -0x8000_0000_0000_0000,
         -0x7fff_ffff_ffff_ffff,
         0x7fff_ffff_ffff_fffe,
         0x7fff_ffff_ffff_ffff
     ),
-    ends!(
+    ranges!(
         Isize,
-        Signed,
         -0x8000_0000_0000_0000,
         -0x7fff_ffff_ffff_ffff,
         0x7fff_ffff_ffff_fffe,
@@ -103,21 +47,76 @@ const ENDS: [[(Span, Answer, Answer); 8]; 10] = [
     ),
 ];
 
-// The answer by the first of these words that is not rejected.
-fn answer_by(words: &[u64], calls: &[Call; 1]) -> Answer {
-    let mut answers = [Answer::Shuffled];
+// The least and the greatest number of each type, and the number before that.
+const ENDS: [[Answer; 3]; 10] = [
+    [
+        Answer::Unsigned(0),
+        Answer::Unsigned(255),
+        Answer::Unsigned(254),
+    ],
+    [
+        Answer::Unsigned(0),
+        Answer::Unsigned(65535),
+        Answer::Unsigned(65534),
+    ],
+    [
+        Answer::Unsigned(0),
+        Answer::Unsigned(0xffff_ffff),
+        Answer::Unsigned(0xffff_fffe),
+    ],
+    [
+        Answer::Unsigned(0),
+        Answer::Unsigned(0xffff_ffff_ffff_ffff),
+        Answer::Unsigned(0xffff_ffff_ffff_fffe),
+    ],
+    [
+        Answer::Unsigned(0),
+        Answer::Unsigned(0xffff_ffff_ffff_ffff),
+        Answer::Unsigned(0xffff_ffff_ffff_fffe),
+    ],
+    [
+        Answer::Signed(-128),
+        Answer::Signed(127),
+        Answer::Signed(126),
+    ],
+    [
+        Answer::Signed(-32768),
+        Answer::Signed(32767),
+        Answer::Signed(32766),
+    ],
+    [
+        Answer::Signed(-0x8000_0000),
+        Answer::Signed(0x7fff_ffff),
+        Answer::Signed(0x7fff_fffe),
+    ],
+    [
+        Answer::Signed(-0x8000_0000_0000_0000),
+        Answer::Signed(0x7fff_ffff_ffff_ffff),
+        Answer::Signed(0x7fff_ffff_ffff_fffe),
+    ],
+    [
+        Answer::Signed(-0x8000_0000_0000_0000),
+        Answer::Signed(0x7fff_ffff_ffff_ffff),
+        Answer::Signed(0x7fff_ffff_ffff_fffe),
+    ],
+];
+
+// The answers by words of 0, or by these.
+fn answers_by(words: &[u64], calls: &[Call; 8]) -> [Answer; 8] {
+    let mut answers = [Answer::Shuffled; 8];
     replay(&mut Script::new(words), calls, &mut [], &mut answers);
-    answers[0]
+    answers
 }
 
+// The word 0 is rejected if the range has all numbers but one.
 #[test]
 fn bounds_at_both_ends(rt: HostRuntime) {
-    for ends in ENDS {
-        for (case, (span, by_least, by_greatest)) in ends.into_iter().enumerate() {
-            let calls = [Call::Range(span)];
-            equal_at(&rt, answer_by(&[], &calls), by_least, case);
-            equal_at(&rt, answer_by(&[u64::MAX], &calls), by_greatest, case);
-        }
+    let (none, rejected) = (Answer::Empty, Answer::Exhausted);
+    for (calls, [least, last, before]) in RANGES.iter().zip(ENDS) {
+        let by_least = [least, least, rejected, none, none, last, rejected, none];
+        equal(&rt, answers_by(&[], calls), by_least);
+        let by_greatest = [last, least, last, none, none, last, before, none];
+        equal(&rt, answers_by(&[u64::MAX; 8], calls), by_greatest);
     }
 }
 
