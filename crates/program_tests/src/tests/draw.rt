@@ -3,12 +3,11 @@
 use super::programs::{
     Program, check_end, check_flush, check_memory, check_writes, refused, strings, writes,
 };
-use super::writers::Pieces;
 use crate::comparing::{equal, holds};
 use draw_core::DrawError;
 use draw_core::run::{report, run};
 use std::alloc::{AllocError, Allocator, Global};
-use std::io::{ErrorKind, Write};
+use std::io::Write;
 use std::test::Fail;
 
 // The program with its arguments.
@@ -151,8 +150,7 @@ Err(Memory) 3 "draw: no memory\n"
 Err(Write) 4 "draw: write failed\n"
 "#;
 
-// The status is the same if the writer takes nothing of the line, or fails at once or after four bytes. An
-// outcome equals itself and no other.
+// An outcome equals itself and no other.
 #[test]
 fn reports(rt: HostRuntime) -> Result<(), Fail> {
     let mut shown = String::new(rt.alloc());
@@ -161,11 +159,6 @@ fn reports(rt: HostRuntime) -> Result<(), Fail> {
         let status = report(*outcome, &mut line);
         let line = str::from_utf8(line.as_slice()).unwrap_or_default();
         writeln!(shown, "{outcome:?} {status} {line:?}")?;
-        for (piece, failing) in [(0, 1), (1, 0), (1, 4)] {
-            let mut stuck = Pieces::failing(rt.alloc(), piece, failing, ErrorKind::BrokenPipe);
-            let again = report(*outcome, &mut stuck);
-            equal(&rt, again, status);
-        }
         for (other_place, other) in OUTCOMES.iter().enumerate() {
             equal(&rt, outcome == other, place == other_place);
         }
