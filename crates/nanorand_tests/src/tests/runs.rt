@@ -11,18 +11,22 @@ use std::process::Abort;
 use test_support::Script;
 
 // How often the size fits in 256: the length of a run.
-fn length_of_run(size: u32) -> usize {
-    (1..=256u32)
-        .take_while(|count| count.wrapping_mul(size) <= 256)
-        .count()
+fn length_of_run(size: u32) -> u32 {
+    let mut length = 0u32;
+    for count in 1..=256u32 {
+        if count.wrapping_mul(size) <= 256 {
+            length = count;
+        }
+    }
+    length
 }
 
-fn pick_by_remainder(size: u128, byte: u8) -> Option<u64>
+fn pick_by_remainder(size: u32, byte: u8) -> Option<u64>
     requires { 1 ≤ size }
 {
-    let product = u128::from(byte).wrapping_mul(size);
-    let is_accepted = product % 256 >= 256 % size;
-    is_accepted.then_some((product / 256) as u64)
+    let product = u32::from(byte).wrapping_mul(size);
+    let number = u64::from(product / 256);
+    (product % 256 >= 256 % size).then_some(number)
 }
 
 // The number that each byte names, if the greatest number is `last`. Each byte brings as many parts as there
@@ -32,7 +36,7 @@ fn handed_out(last: u8) -> [Option<u8>; 256] {
     let size = u32::from(last) + 1;
     let length = length_of_run(size);
     let mut named = [None; 256];
-    let (mut number, mut parts, mut given) = (last, 256u32, 0usize);
+    let (mut number, mut parts, mut given) = (last, 256u32, 0u32);
     for byte in named.iter_mut().rev() {
         if parts < size {
             number = number.wrapping_sub(1);
@@ -51,11 +55,11 @@ fn handed_out(last: u8) -> [Option<u8>; 256] {
 // A byte that names none is rejected, and so are the bytes of 0 that follow it.
 fn check_runs(rt: &impl Abort, last: u8) {
     let named = handed_out(last);
-    let size = u128::from(last) + 1;
+    let size = u32::from(last) + 1;
     for byte in 0..=255u8 {
         let number = named[usize::from(byte)];
         let word = u64::from(byte);
-        let picked = pick_word(size, 8, word);
+        let picked = pick_word(u128::from(size), 8, word);
         equal_at(rt, picked, number.map(u64::from), last);
         equal_at(rt, picked, pick_by_remainder(size, byte), last);
         let drawn = u8::random_range(&mut Script::new(&[word]), Included(0), Included(last));
