@@ -1,8 +1,8 @@
 //! Streams of ChaCha deliver what buffered generators deliver, and can be sought.
 
 use nanorand_proved::{
-    chacha_stream, chacha_stream_at, BufferedRng, ChaCha, ChaCha12Stream, ChaCha20Stream,
-    ChaCha8Stream, ChaChaStream, Keystream, Rng,
+    chacha_stream, chacha_stream_at, BufferedRng, ChaCha, ChaCha12Stream, ChaCha20, ChaCha20Stream,
+    ChaCha8Stream, ChaChaGroups, ChaChaStream, Keystream, Rng, SeedableRng,
 };
 
 const KEY: [u8; 32] = [1; 32];
@@ -55,6 +55,72 @@ fn streams_deliver_what_buffers_deliver() {
         deliver_alike::<12>(index);
         deliver_alike::<20>(index);
     }
+}
+
+/// Ends of blocks and of groups, a carry of the counter, and the end of the stream.
+const PLACES: [u128; 16] = [
+    0,
+    1,
+    63,
+    64,
+    511,
+    512,
+    513,
+    100_000,
+    (1 << 38) - 513,
+    (1 << 38) - 1,
+    1 << 38,
+    (1 << 70) - 513,
+    (1 << 70) - 1,
+    1 << 70,
+    (1 << 70) + 77,
+    u128::MAX,
+];
+
+/// From each place on come the bytes of the blocks.
+fn is_sought<const ROUNDS: u8>() {
+    let mut stream: ChaChaStream<ROUNDS> = chacha_stream_at(KEY, NONCE, 3);
+    assert_eq!(stream.position(), 192);
+    for byte in PLACES {
+        let place = byte % (1 << 70);
+        stream.seek(byte);
+        assert_eq!(stream.position(), place);
+        let mut blocks = [0; 700];
+        let index = u64::try_from(place / 64).expect("an index");
+        ChaCha::<ROUNDS>::at(KEY, NONCE, index).fill_bytes(&mut blocks);
+        let start = usize::try_from(byte % 64).expect("a place in a block");
+        let mut bytes = [0; 600];
+        stream.fill_bytes(&mut bytes);
+        assert_eq!(bytes, blocks[start..start + 600], "{byte}");
+        assert_eq!(stream.position(), (place + 600) % (1 << 70));
+    }
+}
+
+#[test]
+fn streams_are_sought() {
+    is_sought::<8>();
+    is_sought::<12>();
+    is_sought::<20>();
+}
+
+#[test]
+fn groups_are_of_eight_blocks() {
+    let mut groups = ChaChaGroups::<20>::at(KEY, NONCE, 5);
+    let parts = (groups.key(), groups.nonce(), groups.counter());
+    assert_eq!(parts, (KEY, NONCE, 5));
+    assert_eq!(groups.to_string(), "ChaCha (20 rounds, by groups)");
+    let text = "ChaChaGroups { rounds: 20, counter: 5 }";
+    assert_eq!(format!("{groups:?}"), text);
+    assert_eq!(format!("{groups:*^+#0200.3?}"), text);
+    let (mut blocks, mut bytes) = ([0; 600], [1; 600]);
+    ChaCha20::at(KEY, NONCE, 5).fill_bytes(&mut blocks);
+    groups.clone().fill_bytes(&mut bytes);
+    assert_eq!(bytes, blocks);
+    groups.jump_blocks(8);
+    assert_eq!(groups, ChaChaGroups::at(KEY, NONCE, 13));
+    assert_eq!(groups, ChaChaGroups::at(KEY, NONCE, 5).at_index(13));
+    groups.reseed([0; 40]);
+    assert_eq!(groups, ChaChaGroups::new_key([0; 32], [0; 8]));
 }
 
 #[test]

@@ -1,12 +1,7 @@
 //! Draws by the provided methods of `Rng`, as functions of any generator: a provided method is then proved
 //! here once, and not again at the type of each generator, where a call takes many times as long.
 
-use nanorand::{BufferedRng, RandomGen, Rng};
-
-/// The next value.
-pub fn value<T: RandomGen<G, OUTPUT>, G: Rng<OUTPUT>, const OUTPUT: usize>(rng: &mut G) -> T {
-    rng.generate()
-}
+use nanorand::{BufferedRng, Rng};
 
 /// The next byte.
 pub fn byte<G: Rng<OUTPUT>, const OUTPUT: usize>(rng: &mut G) -> u8 {

@@ -1,12 +1,10 @@
 //! The tests, one module for each subject.
 
 mod buffers;
-mod byte_requests;
 mod chacha;
 mod choices;
 mod derives;
 mod distances;
-mod draws;
 mod entropy;
 mod forks;
 mod generators;
@@ -16,5 +14,4 @@ mod replays;
 mod runs;
 mod shuffles;
 mod streams;
-mod sweeps;
 mod texts;

@@ -4,7 +4,7 @@ use crate::common::{zeros, ByteScript, Script, Steps};
 use nanorand_proved::choices::{below, choose, choose_mut, ratio};
 use nanorand_proved::samples::sample;
 use nanorand_proved::values::pick_word;
-use nanorand_proved::RangeError;
+use nanorand_proved::{RangeError, WyRand};
 
 const WORDS: [u64; 8] = [
     0,
@@ -104,6 +104,8 @@ fn nothing_to_choose_from() {
     assert_eq!(rng.drawn(), 128);
     assert_eq!(ratio(&mut rng, 1, 3), Err(RangeError::Exhausted));
     assert_eq!(rng.drawn(), 256);
+    assert_eq!(below(&mut rng, 3_u8), Err(RangeError::Exhausted));
+    assert_eq!(rng.drawn(), 384);
 }
 
 #[test]
@@ -139,5 +141,18 @@ fn a_sample_refused_at_each_draw() {
         assert_eq!(sample(&mut script, 7, &mut places), answer);
         assert_eq!(places, left);
         assert_eq!(script.drawn(), drawn);
+    }
+}
+
+/// Different numbers below the count.
+#[test]
+fn a_sample_holds_no_number_twice() {
+    for seed in 0..20 {
+        let mut places = [usize::MAX; 20];
+        let mut rng = WyRand::new_seed(seed);
+        assert_eq!(sample(&mut rng, 25, &mut places), Ok(()));
+        places.sort_unstable();
+        assert!(places.windows(2).all(|pair| pair[0] < pair[1]), "{seed}");
+        assert!(places.iter().all(|place| *place < 25), "{seed}");
     }
 }

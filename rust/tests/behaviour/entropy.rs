@@ -51,7 +51,7 @@ fn bytes_taken() {
     }
 }
 
-/// A reader that ends after any number of bytes that is too small.
+/// A reader that ends after any number of bytes that is too small. Nothing is read after its end.
 #[test]
 fn short_readers() {
     let bytes = counted();
@@ -61,22 +61,29 @@ fn short_readers() {
                 let made = make(&mut Pieces::of(&bytes[..length], piece));
                 assert_eq!(made, Err(EntropyError::Short), "{length} of {size}");
             }
+            let mut source = Pieces::of(&bytes[..length], 1);
+            assert_eq!(make(&mut source), Err(EntropyError::Short));
+            assert_eq!(source.reads(), length + 1, "{length} of {size}");
         }
     }
 }
 
-/// A reader that fails at one of its reads. A failure after the last read that is needed is never
-/// met.
+/// A reader that fails at one of its reads. Nothing is read after a failure, nor after the last byte
+/// that is needed, not even no bytes.
 #[test]
 fn failing_readers() {
     let bytes = counted();
     for (make, size) in MAKERS {
         for kind in FAULTS {
             for read in 0..size {
-                let made = make(&mut Pieces::failing(&bytes, 1, read, kind));
+                let mut source = Pieces::failing(&bytes, 1, read, kind);
+                let made = make(&mut source);
                 assert_eq!(made, Err(EntropyError::Fault), "{read} of {size}");
+                assert_eq!(source.reads(), read + 1, "{read} of {size}");
             }
-            assert_eq!(make(&mut Pieces::failing(&bytes, 1, size, kind)), Ok(()));
+            let mut source = Pieces::failing(&bytes, 1, size, kind);
+            assert_eq!(make(&mut source), Ok(()));
+            assert_eq!(source.reads(), size);
         }
     }
 }

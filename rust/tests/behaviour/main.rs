@@ -28,6 +28,8 @@ mod requests;
 mod shuffles;
 mod stored;
 #[cfg(feature = "std")]
+mod sweeps;
+#[cfg(feature = "std")]
 mod texts;
 mod values;
 mod weights;

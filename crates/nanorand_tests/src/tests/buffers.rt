@@ -1,14 +1,14 @@
-//! Buffered generators: each method once, buffers that are restored, and a buffer in a buffer.
+//! Buffered generators: each method once, and a buffer in a buffer.
 
 use crate::comparing::equal;
 use crate::draw_helpers::{buffered_byte, buffered_bytes, each_byte};
-use nanorand::buffer::{RestTooLong, TextRefused};
-use nanorand::{Blocks, BufferedRng, ChaCha8, Rng, SeedableRng, WyRand};
+use nanorand::buffer::TextRefused;
+use nanorand::{Blocks, BufferedRng, Rng, SeedableRng, WyRand};
 use std::alloc::AllocError;
 use std::io::Read;
 use std::process::Abort;
 use std::test::Fail;
-use test_support::{Steps, Waste};
+use test_support::Steps;
 
 // Text is refused, and the string is left as it was.
 fn gives_no_text<G: Rng<OUTPUT>, const OUTPUT: usize>(
@@ -88,45 +88,4 @@ fn a_buffer_in_a_buffer(rt: HostRuntime) {
     let mut once = BufferedRng::new(Steps::new());
     equal(&rt, buffered_byte(&mut once), 0);
     goes_on_from_the_second_byte(&rt, BufferedRng::new(once));
-}
-
-// The buffer made anew from its parts.
-fn restored<G: Rng<OUTPUT> + Drop, const OUTPUT: usize>(
-    rng: &BufferedRng<G, OUTPUT>,
-) -> Result<BufferedRng<G, OUTPUT>, Fail> {
-    let inner = rng.inner().clone()?;
-    Ok(BufferedRng::with_rest(inner, rng.rest()).or(Err("too long"))?)
-}
-
-// Two buffers give the same bytes, and keep the same.
-fn go_on_alike<G: Rng<OUTPUT> + Drop, const OUTPUT: usize>(
-    rt: &impl Abort,
-    mut one: BufferedRng<G, OUTPUT>,
-    mut other: BufferedRng<G, OUTPUT>,
-) {
-    let given: [u8; 150] = buffered_bytes(&mut one);
-    equal(rt, buffered_bytes(&mut other), given);
-    equal(rt, one.rest(), other.rest());
-}
-
-// With each number of buffered bytes, a clone and a buffer restored from its parts go on alike.
-fn is_restored<G: Rng<OUTPUT> + Drop, const OUTPUT: usize>(
-    rt: &impl Abort,
-    mut rng: BufferedRng<G, OUTPUT>,
-) -> Result<(), Fail> {
-    for _ in 0..=OUTPUT {
-        go_on_alike(rt, rng.clone()?, restored(&rng)?);
-        let _ = buffered_byte(&mut rng);
-    }
-    Ok(())
-}
-
-#[test]
-fn buffers_are_restored(rt: HostRuntime) -> Result<(), Fail> {
-    is_restored(&rt, BufferedRng::new(Waste::new()))?;
-    is_restored(&rt, BufferedRng::new(WyRand::new_seed(42)))?;
-    is_restored(&rt, BufferedRng::new(ChaCha8::new_key([7; 32], [1; 8])))?;
-    let whole = BufferedRng::with_rest(Steps::new(), &[7; 8]);
-    equal(&rt, whole.err(), Some(RestTooLong));
-    Ok(())
 }

@@ -1,8 +1,7 @@
 //! The derived `Clone`, `Copy`, `PartialEq` and `Debug` of the small types, and the texts of errors.
 
-use crate::comparing::{debug_is, display_is, equal, equal_at};
-use crate::tests::sweeps::has_texts;
-use nanorand::WyRand;
+use crate::comparing::{debug_is, equal, equal_at};
+use crate::tests::texts::has_texts;
 use nanorand::buffer::{RestTooLong, TextRefused};
 use nanorand::choices::weighted::WeightError;
 use nanorand::entropy::EntropyError;
@@ -141,12 +140,8 @@ fn check_errors<T: Copy + Eq + Debug + Display + Drop>(
     rt: &(impl Abort + AllocGlobal),
     cases: &[(T, &str, &str)],
 ) -> Result<(), AllocError> {
-    let mut rng = WyRand::new_seed(6);
     for (index, (value, debug, display)) in cases.iter().enumerate() {
-        display_is(rt, value, *display)?;
-        for _ in 0..400 {
-            has_texts(rt, &mut rng, value, *debug, *display)?;
-        }
+        has_texts(rt, value, *debug, *display)?;
         for (other_index, (other, _, _)) in cases.iter().enumerate() {
             check(rt, *value, *debug, *other, index == other_index)?;
         }

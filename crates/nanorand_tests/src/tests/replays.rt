@@ -1,4 +1,4 @@
-//! Replays of each call, and of many.
+//! Replays of each call.
 
 use crate::comparing::equal;
 use nanorand::replay::Kind::{
@@ -6,7 +6,6 @@ use nanorand::replay::Kind::{
 };
 use nanorand::replay::{Answer, Call, Span, replay};
 use std::ops::Bound::{Excluded, Included, Unbounded};
-use std::test::Fail;
 use test_support::{Script, Steps};
 
 // Each call. An empty range draws nothing, and does not end the replay.
@@ -86,20 +85,4 @@ fn a_refusal_does_not_end_a_replay(rt: HostRuntime) {
     replay(&mut zeros, &calls, &mut items, &mut answers);
     equal(&rt, answers, [Answer::Exhausted, Answer::Truth(true)]);
     equal(&rt, (items, zeros.drawn()), ([7, 8, 9], 129));
-}
-
-#[test]
-fn many_calls(rt: HostRuntime) -> Result<(), Fail> {
-    let mut calls = Vec::new(rt.alloc());
-    for _ in 0..20_000u32 {
-        calls.push(Call::Gen(U8))?;
-    }
-    let mut answers = vec![in rt.alloc(); Answer::Empty; calls.len()]?;
-    assert_eq!(rt; calls.len(), answers.len());
-    replay(&mut Steps::new(), &calls, &mut [], &mut answers);
-    for (index, answer) in answers.iter().enumerate() {
-        let first = index as u128 % 32 * 8;
-        equal(&rt, *answer, Answer::Unsigned(first));
-    }
-    Ok(())
 }

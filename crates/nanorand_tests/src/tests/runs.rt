@@ -1,4 +1,6 @@
-//! The runs of every size that a byte can draw, handed out by counting: nothing is divided.
+//! The runs of every size that a byte can draw, handed out by counting: nothing is divided. And the old body of
+//! `pick_word`, which divides for each word.
+ghost use Rattle.std.specs.Prelude.{◌≤◌};
 
 use crate::comparing::equal_at;
 use nanorand::RandomRange;
@@ -17,6 +19,14 @@ fn length_of_run(size: u32) -> u32 {
         }
     }
     length
+}
+
+fn pick_by_remainder(size: u32, byte: u8) -> Option<u64>
+    requires { 1 ≤ size }
+{
+    let product = u32::from(byte).wrapping_mul(size);
+    let number = u64::from(product / 256);
+    (product % 256 >= 256 % size).then_some(number)
 }
 
 // The number that each byte names, if the greatest number is `last`. Each byte brings as many parts as there
@@ -45,11 +55,13 @@ fn handed_out(last: u8) -> [Option<u8>; 256] {
 // A byte that names none is rejected, and so are the bytes of 0 that follow it.
 fn check_runs(rt: &impl Abort, last: u8) {
     let named = handed_out(last);
-    let size = u128::from(last) + 1;
+    let size = u32::from(last) + 1;
     for byte in 0..=255u8 {
         let number = named[usize::from(byte)];
         let word = u64::from(byte);
-        equal_at(rt, pick_word(size, 8, word), number.map(u64::from), last);
+        let picked = pick_word(u128::from(size), 8, word);
+        equal_at(rt, picked, number.map(u64::from), last);
+        equal_at(rt, picked, pick_by_remainder(size, byte), last);
         let drawn = u8::random_range(&mut Script::new(&[word]), Included(0), Included(last));
         equal_at(rt, drawn, number.ok_or(Exhausted), last);
     }

@@ -2,23 +2,21 @@
 //! changes them is tested.
 
 use crate::comparing::display_is;
-use nanorand::{Blocks, ChaCha, ChaCha8, ChaCha12, ChaCha20, Pcg64, WyRand};
+use nanorand::{Blocks, ChaCha, ChaCha8, ChaCha12, ChaCha20, ChaChaGroups, Pcg64, WyRand};
 use std::alloc::AllocError;
 use std::fmt::{Debug, Display};
 use std::process::Abort;
 use std::test::Fail;
 
-// The value has this text, also in alternate form, with a sign, zeros in front, a width, an alignment, a fill
-// or a precision, and with all of them.
+// The value has this text, also in alternate form, with zeros in front and a precision, and with a fill, an
+// alignment, a sign and all of these.
 fn has_debug_text<T: Debug>(
     rt: &(impl Abort + AllocGlobal),
     value: &T,
     text: &str,
 ) -> Result<(), AllocError> {
-    let texts = format_args!(
-        "{value:?}{value:#?}{value:+?}{value:0200?}{value:>200?}{value:.3?}{value:*^+#0200.3?}"
-    );
-    display_is(rt, &texts, text.repeat(rt.alloc(), 7)?.as_str())
+    let texts = format_args!("{value:?}{value:#?}{value:0200.3?}{value:*^+#0200.3?}");
+    display_is(rt, &texts, text.repeat(rt.alloc(), 4)?.as_str())
 }
 
 fn has_display_text<T: Display>(
@@ -26,13 +24,12 @@ fn has_display_text<T: Display>(
     value: &T,
     text: &str,
 ) -> Result<(), AllocError> {
-    let texts = format_args!(
-        "{value}{value:#}{value:+}{value:0200}{value:>20}{value:.3}{value:*^+#0200.3}"
-    );
-    display_is(rt, &texts, text.repeat(rt.alloc(), 7)?.as_str())
+    let texts = format_args!("{value}{value:#}{value:0200.3}{value:*^+#0200.3}");
+    display_is(rt, &texts, text.repeat(rt.alloc(), 4)?.as_str())
 }
 
-fn has_texts<T: Debug + Display>(
+/// The value has these texts, whatever the format options are.
+pub fn has_texts<T: Debug + Display>(
     rt: &(impl Abort + AllocGlobal),
     value: &T,
     debug: &str,
@@ -76,5 +73,11 @@ fn of_chacha(rt: HostRuntime) -> Result<(), Fail> {
     chacha_has_texts(&rt, &mut ChaCha8::new_key(key, nonce), 0)?;
     chacha_has_texts(&rt, &mut ChaCha12::new_key(key, nonce), 1 << 32)?;
     chacha_has_texts(&rt, &mut ChaCha20::new_key(key, nonce), u64::MAX)?;
+    has_texts(
+        &rt,
+        &ChaChaGroups::<20>::at(key, nonce, 5),
+        "ChaChaGroups { rounds: 20, counter: 5 }",
+        "ChaCha (20 rounds, by groups)",
+    )?;
     Ok(())
 }

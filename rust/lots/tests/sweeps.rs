@@ -1,0 +1,116 @@
+//! Lists and arguments of every size: no run fails where nothing is wrong. No clause of the proved source says so.
+
+#[path = "../../program/tests/common/sizes.rs"]
+mod sizes;
+#[path = "../../program/tests/common/writer.rs"]
+mod writer;
+
+use lots::run::{report, run};
+use lots::{draw_places, LotsError};
+use nanorand_proved::{Rng, WyRand};
+use sizes::sizes;
+use std::io::ErrorKind;
+use writer::{Does, Writer};
+
+/// A line for each entrant.
+fn lines_of(entrants: &[String]) -> String {
+    let mut lines = entrants.join("\n");
+    if !entrants.is_empty() {
+        lines.push('\n');
+    }
+    lines
+}
+
+/// The text of the first entrants drawn, at the places that the library draws.
+fn text_drawn(entrants: &[String], count: usize) -> String {
+    let mut places = vec![0; entrants.len()];
+    assert_eq!(draw_places("seed", &mut places, count), Ok(()));
+    let drawn = places.iter().take(count);
+    lines_of(
+        &drawn
+            .map(|place| entrants[*place].clone())
+            .collect::<Vec<_>>(),
+    )
+}
+
+/// A run draws this text, writes it at once and then flushes. A flush that fails is an error.
+fn draws(seed: &str, count: &str, list: &str, text: &str) {
+    let arguments = [seed, count].map(String::from);
+    let fails = Does::Fails(ErrorKind::BrokenPipe);
+    for (flush, outcome) in [(Does::Takes(0), Ok(())), (fails, Err(LotsError::Write))] {
+        let mut out = Writer::new(Does::Takes(usize::MAX), flush);
+        let ended = run(&arguments, &mut list.as_bytes(), &mut out);
+        assert_eq!(ended, outcome, "{count}");
+        assert!(out.taken == text.as_bytes(), "{count}");
+        let calls = [Some(text.len()), None];
+        assert_eq!(out.calls, calls[usize::from(text.is_empty())..]);
+    }
+}
+
+/// A run fails so, and writes nothing.
+fn is_refused(count: &str, list: &str, error: LotsError) {
+    let arguments = ["seed", count].map(String::from);
+    let mut out = Writer::willing();
+    let ended = run(&arguments, &mut list.as_bytes(), &mut out);
+    assert_eq!((ended, out.calls), (Err(error), vec![]));
+}
+
+/// Lists of every number of entrants, each of one to twenty digits, are drawn: all, by `all` and by their number; of
+/// many, the first. One more than there are is refused, and so is an empty line, by its number.
+#[test]
+fn all_numbers_of_entrants() {
+    let mut rng = WyRand::new_seed(1);
+    for size in sizes(65_537) {
+        let number = |_| (rng.next_u64() >> rng.range(0..64_u32)).to_string();
+        let mut entrants: Vec<String> = (0..size).map(number).collect();
+        let list = lines_of(&entrants);
+        let count = size.min(1025);
+        let text = text_drawn(&entrants, count);
+        draws("seed", &count.to_string(), &list, &text);
+        if count == size {
+            draws("seed", "all", &list, &text);
+        }
+        let too_few = LotsError::TooFew {
+            entrants: size,
+            count: size + 1,
+        };
+        is_refused(&(size + 1).to_string(), &list, too_few);
+        let empty = rng.range(0..=size);
+        entrants.insert(empty, String::new());
+        is_refused("all", &lines_of(&entrants), LotsError::EmptyLine(empty + 1));
+    }
+}
+
+/// A seed, a count and an entrant of every length.
+#[test]
+fn all_lengths() {
+    for length in sizes(65_537) {
+        let one = format!("{}1", "0".repeat(length));
+        let line = format!("{one}\n");
+        draws(&one, &one, &one, &line);
+        draws(&one, &one, &line, &line);
+    }
+}
+
+/// The line that is written of an error, and the status.
+fn reports(error: LotsError, status: u8, text: &str) {
+    let mut line = Vec::new();
+    assert_eq!(report(Err(error), &mut line), status);
+    assert_eq!(line, text.as_bytes());
+}
+
+/// An empty line of every number, and every number of entrants and of what is asked for, are reported.
+#[test]
+fn all_numbers_are_reported() {
+    for count in sizes(usize::MAX) {
+        let text = format!("lots: line {count} is empty\n");
+        reports(LotsError::EmptyLine(count), 4, &text);
+        let entrants = count / 2;
+        let text = format!("lots: {entrants} entrants, {count} asked for\n");
+        reports(LotsError::TooFew { entrants, count }, 3, &text);
+        if count > 1 {
+            let error = LotsError::TooFew { entrants: 1, count };
+            is_refused(&count.to_string(), "Ada", error);
+        }
+    }
+}

@@ -1,0 +1,230 @@
+//! No call fails where nothing is wrong, and none changes what it should not: at sizes, seeds, rounds and format options
+//! that are spread over all that there are. No clause of the proved source says so.
+
+use crate::common::{ByteScript, Pieces};
+use nanorand_proved::choices::choose_mut;
+use nanorand_proved::entropy::{system, EntropyError};
+use nanorand_proved::{BufferedRng, ChaCha, ChaCha20, Pcg64, Rng, WyRand};
+use std::fmt::{Debug, Display};
+use std::io::ErrorKind;
+use std::iter::successors;
+
+const MOST: usize = 1_000_000;
+
+/// A word of any length in bits: led by zeros or by ones, followed by zeros, a power of two or beside one, with
+/// few bits or with many. A bug between two bounds is met wherever these are.
+fn word(rng: &mut WyRand) -> u64 {
+    let (drawn, shape): (u64, u64) = (rng.generate(), rng.generate());
+    let (length, power) = (shape % 64, 1_u64 << (shape % 64));
+    match shape >> 61 {
+        0 => drawn >> length,
+        1 => !(drawn >> length),
+        2 => drawn << length,
+        3 => power.wrapping_sub(1),
+        4 => power,
+        5 => power.wrapping_add(1),
+        6 => drawn & rng.next_u64() & rng.next_u64(),
+        _ => drawn | rng.next_u64() | rng.next_u64(),
+    }
+}
+
+/// A number up to `most`, of any length in bits.
+fn number(rng: &mut WyRand, most: usize) -> usize {
+    let numbers = u64::try_from(most).expect("a size") + 1;
+    usize::try_from(word(rng) % numbers).expect("a size")
+}
+
+/// A width or a precision: std takes 16 bits at most.
+fn option(rng: &mut WyRand) -> usize {
+    number(rng, usize::from(u16::MAX))
+}
+
+/// Sizes up to `MOST`: the powers of two with their neighbours, and sizes of which each is above the last one by a
+/// sixteenth or less.
+fn sizes() -> Vec<usize> {
+    let mut rng = WyRand::new_seed(0x5eed);
+    let powers = (0..20).map(|bit| 1 << bit);
+    let near_powers = powers.flat_map(|power| [power - 1, power, power + 1]);
+    let steps = successors(Some(1), |size| Some(size + rng.range(1..=size / 16 + 1)));
+    let steps = steps.take_while(|size| *size <= MOST);
+    near_powers.chain(steps).chain([MOST]).collect()
+}
+
+/// The outcome of `system`, and after how many reads.
+fn filled(mut source: Pieces, out: &mut [u8]) -> (Result<(), EntropyError>, usize) {
+    (system(&mut source, out), source.reads())
+}
+
+/// A reader of as many bytes as are needed, one of fewer, and one that fails. Each gives up to `piece` at a read.
+#[test]
+fn slices_are_filled() {
+    let mut rng = WyRand::new_seed(1);
+    let (bytes, mut out) = (vec![7; MOST], vec![0; MOST]);
+    for size in sizes() {
+        let out = &mut out[..size];
+        let (piece, left) = (number(&mut rng, size) + 1, number(&mut rng, size));
+        let reads_of = |bytes: usize| (bytes + piece - 1) / piece;
+        let whole = filled(Pieces::of(&bytes, piece), out);
+        assert_eq!(whole, (Ok(()), reads_of(size)), "{size} {piece}");
+        if left < size {
+            let short = filled(Pieces::of(&bytes[..left], piece), out);
+            let expected = (Err(EntropyError::Short), reads_of(left) + 1);
+            assert_eq!(short, expected, "{size} {piece} {left}");
+            let read = left / piece;
+            let kind = ErrorKind::WouldBlock;
+            let failed = filled(Pieces::failing(&bytes, piece, read, kind), out);
+            let expected = (Err(EntropyError::Fault), read + 1);
+            assert_eq!(failed, expected, "{size} {piece} {left}");
+        }
+    }
+}
+
+/// The bytes of drawn words.
+fn bytes_of_words(count: usize) -> Vec<u8> {
+    let mut rng = WyRand::new_seed(2);
+    (0..count)
+        .flat_map(|_| word(&mut rng).to_le_bytes())
+        .collect()
+}
+
+#[test]
+fn generators_are_made_of_any_bytes() {
+    let bytes = bytes_of_words(80_000);
+    for piece in [1, 50] {
+        let mut source = Pieces::of(&bytes, piece);
+        for case in 0..10_000 {
+            assert!(WyRand::new(&mut source).is_ok(), "{case}");
+            assert!(Pcg64::new(&mut source).is_ok(), "{case}");
+            assert!(ChaCha20::new(&mut source).is_ok(), "{case}");
+        }
+    }
+}
+
+fn is_made<const ROUNDS: u8>(source: &mut Pieces) -> bool {
+    ChaCha::<ROUNDS>::new(source).is_ok()
+}
+
+/// The makers of generators with these rounds.
+macro_rules! makers {
+    ($($rounds:literal)*) => { [$((|source| is_made::<$rounds>(source), $rounds)),*] };
+}
+
+type Maker = fn(&mut Pieces) -> bool;
+
+const MAKERS: [(Maker, u8); 128] = makers!(
+    0 2 4 6 8 10 12 14 16 18 20 22 24 26 28 30 32 34 36 38 40 42 44 46 48 50 52 54 56 58 60 62 64 66 68 70 72 74
+    76 78 80 82 84 86 88 90 92 94 96 98 100 102 104 106 108 110 112 114 116 118 120 122 124 126 128 130 132 134 136
+    138 140 142 144 146 148 150 152 154 156 158 160 162 164 166 168 170 172 174 176 178 180 182 184 186 188 190 192
+    194 196 198 200 202 204 206 208 210 212 214 216 218 220 222 224 226 228 230 232 234 236 238 240 242 244 246 248
+    250 252 254
+);
+
+#[test]
+fn chachas_of_any_rounds_are_made() {
+    let bytes = bytes_of_words(10_000);
+    let mut source = Pieces::of(&bytes, 50);
+    for _ in 0..10 {
+        for (make, rounds) in MAKERS {
+            assert!(make(&mut source), "{rounds}");
+        }
+    }
+}
+
+/// The value has these texts, whatever the width, the precision and the other options.
+fn has_texts<T: Debug + Display>(rng: &mut WyRand, value: &T, debug: &str, display: &str) {
+    let (width, precision) = (option(rng), option(rng));
+    assert_eq!(format!("{value:?}"), debug);
+    assert_eq!(format!("{value:width$?}"), debug);
+    assert_eq!(format!("{value:#.precision$?}"), debug);
+    assert_eq!(format!("{value:+0width$.precision$?}"), debug);
+    assert_eq!(format!("{value:width$.precision$}"), display);
+}
+
+fn wyrand_has_texts(rng: &mut WyRand) {
+    let seed = word(rng);
+    let text = format!("WyRand {{ seed: {seed:#x} }}");
+    has_texts(rng, &WyRand::new_seed(seed), &text, "WyRand");
+}
+
+/// After a draw, which sets all three numbers.
+fn pcg64_has_texts(rng: &mut WyRand) {
+    let old = u128::from(word(rng)) << 64 | u128::from(word(rng));
+    let mut generator = Pcg64::new_seed(old);
+    let _ = generator.rand();
+    let (seed, inc) = (generator.seed(), old.wrapping_mul(2).wrapping_add(1));
+    let text = format!("Pcg64 {{ seed: {seed:#x}, state: {seed:#x}, inc: {inc:#x} }}");
+    has_texts(rng, &generator, &text, "Pcg64");
+}
+
+fn chacha_has_texts(rng: &mut WyRand, source: &mut Pieces) {
+    let counter = word(rng);
+    let text = format!("ChaCha20 {{ rounds: 20, counter: {counter} }}");
+    let mut generator = ChaCha20::new(source).expect("enough bytes");
+    generator.jump(counter);
+    has_texts(rng, &generator, &text, "ChaCha (20 rounds)");
+}
+
+#[test]
+fn generators_have_texts() {
+    let mut rng = WyRand::new_seed(3);
+    let bytes = bytes_of_words(20_000);
+    let mut source = Pieces::of(&bytes, 50);
+    for _ in 0..4000 {
+        wyrand_has_texts(&mut rng);
+        pcg64_has_texts(&mut rng);
+        chacha_has_texts(&mut rng, &mut source);
+    }
+}
+
+/// From 1 to 63 buffered bytes are appended to a vector that has this many items, and too little room for the bytes.
+fn is_appended(rng: &mut WyRand, buffer: &mut BufferedRng<ChaCha20, 64>, size: usize) {
+    let taken = number(rng, 62) + 1;
+    buffer.fill_bytes(&mut vec![0; taken]);
+    let buffered = buffer.buffered();
+    let room = size + number(rng, buffered.saturating_sub(1));
+    let mut out = Vec::with_capacity(room);
+    out.resize(size, 7);
+    let expected = [&out, buffer.rest()].concat();
+    assert_eq!(buffer.read_to_end(&mut out), Ok(buffered), "{size}");
+    assert!(out == expected, "{size}");
+}
+
+#[test]
+fn buffered_bytes_are_appended() {
+    let mut rng = WyRand::new_seed(4);
+    let mut buffer = BufferedRng::new(ChaCha20::new_key([1; 32], [2; 8]));
+    for size in sizes() {
+        for _ in 0..2 {
+            is_appended(&mut rng, &mut buffer, size);
+        }
+    }
+}
+
+/// Of these items the chosen one alone is written, and none if the choice fails. Words of 0 before the word are
+/// rejected.
+fn writes_one(rejected: usize, word: u64, mark: u32, items: &mut [u32], expected: &mut [u32]) {
+    let mut rng = ByteScript::after_zeros(8 * rejected, &word.to_le_bytes());
+    let mut same = rng.clone();
+    if let Ok(item) = choose_mut(&mut rng, items) {
+        *item = mark;
+    }
+    if let Ok(index) = same.generate_range(..expected.len()) {
+        expected[index] = mark;
+    }
+}
+
+#[test]
+fn one_item_is_lent() {
+    let mut rng = WyRand::new_seed(5);
+    let mut items: Vec<u32> = (0..1_000_000).collect();
+    let mut expected = items.clone();
+    for size in sizes() {
+        let (items, expected) = (&mut items[..size], &mut expected[..size]);
+        for _ in 0..8 {
+            for rejected in [0, number(&mut rng, 129), 128] {
+                writes_one(rejected, rng.generate(), rng.generate(), items, expected);
+                assert!(items == expected, "{size}");
+            }
+        }
+    }
+}
