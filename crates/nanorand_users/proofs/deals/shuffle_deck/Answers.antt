@@ -1,7 +1,6 @@
 use Rattle.std.proofs.Common.{◌≡◌, length, subst, OnOk, arith}
 use Rattle.nanorand_core.specs.shuffles.Arrangements.{IsValid}
 use Rattle.nanorand_core.specs.shuffles.Shuffles.{from_itself, shuffle_choices}
-use Rattle.nanorand_users.proofs.lemmas.DeckLemmas.{none-twice}
 use Rattle.nanorand_users.proofs.deals.shuffle_deck.Goals as goal
 
 pub returns-clause-each_once : goal.returns-clause-each_once
@@ -10,10 +9,6 @@ returns-clause-each_once g c =
     let size : length deck ≡ length c.args.deck.now = omega arith in
     let order = rw c.write_deck.ensures at c.shuffle.ensures.arrangement in
     rw (← size) ((c.permutations_by_counting.ensures.arrangements deck).0 (rw size order))
-
-pub returns-clause-none_twice : goal.returns-clause-none_twice
-returns-clause-none_twice g c =
-    none-twice (length c.args.deck.now) c.shuffle.new.target (rw c.write_deck.ensures at c.shuffle.ensures.arrangement)
 
 pub returns-clause-valid : goal.returns-clause-valid
 returns-clause-valid g c =

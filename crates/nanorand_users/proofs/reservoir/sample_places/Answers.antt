@@ -1,4 +1,4 @@
-use Rattle.std.proofs.Common.{◌-◌, length, refl, ap, arith, rules}
+use Rattle.std.proofs.Common.{◌-◌, length, refl, ap, arith}
 use Rattle.std.proofs.lemmas.List.FromFn.{length-range_with_len}
 use Rattle.std.proofs.lemmas.Result.{err_from_is_err_and}
 use Rattle.nanorand_core.specs.values.Draws.{after_word}
@@ -25,11 +25,6 @@ returns-in_err-drawn-clause-places g c =
     ap (λ (s : Sample _). s.chosen) (pass_ends g.G.Rng.requests c.loop-place.place c.args.count c.loop-place.rng _ c.loop-place.chosen _
     c.loop-place-test.true c.loop-place.invariant.pass c.in_err-drawn.ensures.state _ c.in_err-drawn.ensures.value)
 
-pub returns-in_err-drawn-clause-state : goal.returns-in_err-drawn-clause-state
-returns-in_err-drawn-clause-state g c =
-    ap (λ (s : Sample _). s.state) (pass_ends g.G.Rng.requests c.loop-place.place c.args.count c.loop-place.rng _ c.loop-place.chosen _
-    c.loop-place-test.true c.loop-place.invariant.pass c.in_err-drawn.ensures.state _ c.in_err-drawn.ensures.value)
-
 pub returns-in_err-drawn-clause-words : goal.returns-in_err-drawn-clause-words
 returns-in_err-drawn-clause-words g c =
     let size = length c.args.chosen.now in
@@ -50,15 +45,3 @@ loop-place-preserved g c =
       apart = placed_apart c.loop-place.chosen place drawn c.loop-place.invariant.below c.loop-place.invariant.apart;
       words = (more.0, omega (arith, more.1), more.2);
     })
-
-pub returns-clause-answer : goal.returns-clause-answer
-returns-clause-answer g c = search rules
-
-pub returns-clause-places : goal.returns-clause-places
-returns-clause-places g c = search rules
-
-pub returns-clause-state : goal.returns-clause-state
-returns-clause-state g c = search rules
-
-pub returns-clause-below : goal.returns-clause-below
-returns-clause-below g c = search rules
