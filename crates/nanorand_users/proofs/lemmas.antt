@@ -1,4 +1,3 @@
-pub mod DeckLemmas
 pub mod WordCountLemmas
 pub mod HandLemmas
 pub mod PlaceLemmas
