@@ -6,8 +6,8 @@ use Rattle.draw_core.specs.declared.error.DrawError.{DrawError}
 use Rattle.draw_core.specs.declared.error.DrawError.TheVariants.{BadWord, Write}
 use Rattle.draw_core.specs.Arguments.{IsReadable, IsFirstUnreadable, IsSeed, IsCount, AreRequests, FirstBadRequest}
 use Rattle.draw_core.specs.Arguments.{generator_of, name_of_generator, asked_by, texts}
-use Rattle.draw_core.proofs.lemmas.ReadArguments.{texts_from, same_asked, first_of_all, one_first, first_is_bad}
-use Rattle.draw_core.proofs.lemmas.ReadArguments.{second_is_bad, third_is_bad, fourth_is_bad, none_is_bad}
+use Rattle.draw_core.proofs.lemmas.ReadArguments.{texts_from, same_asked, first_of_all, one_first}
+use Rattle.draw_core.proofs.lemmas.ReadArguments.{second_is_bad, third_is_bad, none_is_bad}
 use Rattle.draw_core.proofs.command.read.Goals as goal
 
 -- An `ok_or` that refuses had no value, and hands on its error.
@@ -50,22 +50,6 @@ one_word result k n one other = cc
 no_error : {R : Type 0} (x : R) (error : DrawError) → Ok x ≡ Err error → ⊥
 no_error x error same = cc
 
-pub returns-in_err-generator : goal.returns-in_err-generator
-returns-in_err-generator g c =
-    let arguments = texts c.args.arguments.now in
-    let refusal = refused c.generator_named.result (BadWord 1) c.in_err-generator.field-0.0 c.from_residual.result
-    c.in_err-generator.ensures.value c.from_residual.ensures.1 in
-    let bad : IsReadable arguments 0 → ⊥ = λ said. no_value c.generator_named.result said.0 refusal.0
-    (c.generator_named.ensures.only said.0 (c.argument.ensures ∙ said.1)) in
-    let first = first_is_bad arguments bad in
-    record {
-      said = rw refusal.1 tt;
-      only = rw refusal.1 tt;
-      not_write = not_write _ _ refusal.1;
-      bad = λ k same. subst (IsFirstUnreadable arguments) (one_word _ _ _ refusal.1 same) first;
-      early = λ k small other. rw (← one_first arguments 1 k first other) refusal.1;
-    }
-
 pub returns-in_err-seeded : goal.returns-in_err-seeded
 returns-in_err-seeded g c =
     let arguments = texts c.args.arguments.now in
@@ -105,30 +89,6 @@ returns-in_err-mode g c =
       not_write = not_write _ _ refusal.1;
       bad = λ k same. subst (IsFirstUnreadable arguments) (one_word _ _ _ refusal.1 same) first;
       early = λ k small other. rw (← one_first arguments 3 k first other) refusal.1;
-    }
-
-pub returns-in_err-count : goal.returns-in_err-count
-returns-in_err-count g c =
-    let arguments = texts c.args.arguments.now in
-    let named = sym c.argument.ensures ∙ rw c.in_ok-generator.ensures.ok_part at c.generator_named.ensures.found in
-    let seeded = rw c.in_ok-seeded.ensures.ok_part at c.seeded_generator.ensures.found in
-    let mode = sym c.argument-3.ensures ∙ rw c.in_ok-mode.ensures.ok_part at c.mode_of.ensures.found in
-    let refusal = told c.from_residual-in_err-count.result c.in_err-count.field-0.0 (BadWord 4)
-    c.from_residual-in_err-count.ensures.1 c.in_err-count.ensures.refusal in
-    let bad : IsReadable arguments 3 → ⊥ = λ said. no_error said.0 _
-    (sym (c.in_err-count.ensures.only said.0
-    (subst (λ t. IsCount t said.0) (sym c.argument-4.ensures) said.1))) in
-    let first = fourth_is_bad arguments (c.in_ok-generator.generator, named) (
-      c.in_ok-seeded.seeded,
-      named ∙ ap name_of_generator (sym seeded.0),
-      subst (λ t. IsSeed t c.in_ok-seeded.seeded) c.argument-2.ensures seeded.1,
-    ) (c.in_ok-mode.mode, mode) bad in
-    record {
-      said = rw refusal tt;
-      only = rw refusal tt;
-      not_write = not_write _ _ refusal;
-      bad = λ k same. subst (IsFirstUnreadable arguments) (one_word _ _ _ refusal same) first;
-      early = λ k small other. rw (← one_first arguments 4 k first other) refusal;
     }
 
 pub returns-in_err-calls : goal.returns-in_err-calls

@@ -1,4 +1,4 @@
-use Rattle.std.proofs.Common.{rules, ℕ, ◌+◌, [], ◌∷◌, ◌++◌, ap, arith, sym, ◌∙◌}
+use Rattle.std.proofs.Common.{ℕ, ◌+◌, [], ◌∷◌, ◌++◌, ap, arith, sym, ◌∙◌}
 use Rattle.std.specs.List.{range_with_len}
 use Rattle.std.proofs.lemmas.List.{map-id}
 use Rattle.std.proofs.lemmas.List.FromFn.{map-range_with_len_more}
@@ -11,9 +11,3 @@ items-preserved g c =
     ∙ map-range_with_len_more (λ (x : ℕ). x) 0 item item (omega arith)
     ∙ ap (λ xs. xs ++ item ∷ []) (map-id (range_with_len 0 item)) in
     c.in_ok-push.ensures.items ∙ ap (λ xs. xs ++ item ∷ []) c.items.invariant ∙ sym more
-
-pub items-init : goal.items-init
-items-init g c = search rules
-
-pub returns : goal.returns
-returns g c = search rules
