@@ -109,26 +109,12 @@ readable_two arguments one two zero within = one
 readable_two arguments one two (suc zero) within = two
 readable_two arguments one two (suc (suc index)) within = absurd (omega arith)
 
-readable_three : (arguments : List (List ℕ)) → IsReadable arguments 0 → IsReadable arguments 1
-    → IsReadable arguments 2 → (index : ℕ) → index < 3 → IsReadable arguments index
-readable_three arguments one two three zero within = one
-readable_three arguments one two three (suc zero) within = two
-readable_three arguments one two three (suc (suc zero)) within = three
-readable_three arguments one two three (suc (suc (suc index))) within = absurd (omega arith)
-
-pub first_is_bad : (arguments : List (List ℕ)) → (IsReadable arguments 0 → ⊥) → IsFirstUnreadable arguments 1
-first_is_bad arguments bad = is_first arguments 0 (omega arith) bad (λ index within. absurd (omega (arith, within)))
-
 pub second_is_bad : (arguments : List (List ℕ)) → IsReadable arguments 0 → (IsReadable arguments 1 → ⊥) → IsFirstUnreadable arguments 2
 second_is_bad arguments one bad = is_first arguments 1 (omega arith) bad
     (λ index within. subst (IsReadable arguments) (let same : 0 ≡ index = omega (arith, within) in same) one)
 
 pub third_is_bad : (arguments : List (List ℕ)) → IsReadable arguments 0 → IsReadable arguments 1 → (IsReadable arguments 2 → ⊥) → IsFirstUnreadable arguments 3
 third_is_bad arguments one two bad = is_first arguments 2 (omega arith) bad (readable_two arguments one two)
-
-pub fourth_is_bad : (arguments : List (List ℕ)) → IsReadable arguments 0 → IsReadable arguments 1
-    → IsReadable arguments 2 → (IsReadable arguments 3 → ⊥) → IsFirstUnreadable arguments 4
-fourth_is_bad arguments one two three bad = is_first arguments 3 (omega arith) bad (readable_three arguments one two three)
 
 -- If the first four can be read, none of them is bad.
 pub none_is_bad : (arguments : List (List ℕ)) → IsReadable arguments 0 → IsReadable arguments 1
