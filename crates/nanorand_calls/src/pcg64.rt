@@ -179,7 +179,7 @@ pub fn sample(seed: &mut Wide, count: usize, places: &mut [usize]) -> u8
     status
 }
 
-/// Advances by so many draws, in at most 128 steps and one draw.
+/// Advances by this many draws, in at most 128 steps and one draw.
 pub fn jump(seed: &mut Wide, draws: &Wide)
     ensures { wide_number seed.new ≡ seed_after (wide_number draws.now) (wide_number seed.old) }
 {
