@@ -28,46 +28,16 @@ fn span_of(kind: Kind, range: &str) -> Option<Span>
         result ≡ Some span }
 {
     match kind {
-        Kind::I8 => {
-            let (low, high) = bounds(range)?;
-            Some(Span::I8(low, high))
-        }
-        Kind::I16 => {
-            let (low, high) = bounds(range)?;
-            Some(Span::I16(low, high))
-        }
-        Kind::I32 => {
-            let (low, high) = bounds(range)?;
-            Some(Span::I32(low, high))
-        }
-        Kind::I64 => {
-            let (low, high) = bounds(range)?;
-            Some(Span::I64(low, high))
-        }
-        Kind::Isize => {
-            let (low, high) = bounds(range)?;
-            Some(Span::Isize(low, high))
-        }
-        Kind::U8 => {
-            let (low, high) = bounds(range)?;
-            Some(Span::U8(low, high))
-        }
-        Kind::U16 => {
-            let (low, high) = bounds(range)?;
-            Some(Span::U16(low, high))
-        }
-        Kind::U32 => {
-            let (low, high) = bounds(range)?;
-            Some(Span::U32(low, high))
-        }
-        Kind::U64 => {
-            let (low, high) = bounds(range)?;
-            Some(Span::U64(low, high))
-        }
-        Kind::Usize => {
-            let (low, high) = bounds(range)?;
-            Some(Span::Usize(low, high))
-        }
+        Kind::I8 => bounds(range).map(|(low, high)| Span::I8(low, high)),
+        Kind::I16 => bounds(range).map(|(low, high)| Span::I16(low, high)),
+        Kind::I32 => bounds(range).map(|(low, high)| Span::I32(low, high)),
+        Kind::I64 => bounds(range).map(|(low, high)| Span::I64(low, high)),
+        Kind::Isize => bounds(range).map(|(low, high)| Span::Isize(low, high)),
+        Kind::U8 => bounds(range).map(|(low, high)| Span::U8(low, high)),
+        Kind::U16 => bounds(range).map(|(low, high)| Span::U16(low, high)),
+        Kind::U32 => bounds(range).map(|(low, high)| Span::U32(low, high)),
+        Kind::U64 => bounds(range).map(|(low, high)| Span::U64(low, high)),
+        Kind::Usize => bounds(range).map(|(low, high)| Span::Usize(low, high)),
         Kind::I128 | Kind::U128 | Kind::Bool => None,
     }
 }
