@@ -1,0 +1,51 @@
+"""What a crate's functions rest on: the definitions and lemmas that their texts name, and all that those name in turn.
+
+A name counts wherever it stands, whatever it means there, and what breaks one lemma of a file counts as breaking all of
+them. So more is found than is so, and nothing is missed."""
+
+import re
+
+from items import items_of
+
+DECLARED = re.compile(r"^( *)(?:(?:abbrev|unfoldable|pub) )*(?:(?:record|data) (\S+)|([^\s(){}:;,.]+) :(?= |$))", re.M)
+NAME = re.compile(r"[^\s(){}\[\]:;,.`\"]+")
+
+
+def names_in(text):
+    return set(NAME.findall(re.sub(r"^ *(ghost )?use .*$|(--|//).*$", "", text, flags=re.M)))
+
+
+def declarations_of(text):
+    """The declarations of a file of definitions or lemmas: the name of each, and where it begins and ends."""
+    found = list(DECLARED.finditer(text))
+    for i, one in enumerate(found):
+        ends = [other.start() for other in found[i + 1 :] if len(other[1]) <= len(one[1])]
+        yield one[2] or one[3], one.start(), ends[0] if ends else len(text)
+
+
+class Definitions:
+    """For each name that a crate declares, the names in all declarations of it."""
+
+    def __init__(self, crate):
+        self.named = {}
+        for path in [*crate.glob("specs/**/*.antt"), *crate.glob("proofs/**/*.antt")]:
+            text = path.read_text(encoding="utf-8")
+            of_lemmas = "proofs" in path.parts or "support" in path.parts
+            for name, start, end in declarations_of(text):
+                self.add(name, text if of_lemmas else text[start:end])
+        for path in crate.glob("src/**/*.rt"):
+            text = path.read_text(encoding="utf-8")
+            for item in items_of(text, 0, len(text)):
+                for one in [item, *(item.members() if item.kind in ("impl", "trait") else [])]:
+                    self.add(one.name, text[one.start : one.end])
+
+    def add(self, name, text):
+        self.named.setdefault(name, set()).update(names_in(text))
+
+    def behind(self, text):
+        """All names of the crate that a text rests on."""
+        found, new = set(), names_in(text)
+        while new:
+            found |= new & self.named.keys()
+            new = set().union(*(self.named[name] for name in new if name in self.named)) - found
+        return found
