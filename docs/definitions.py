@@ -7,7 +7,11 @@ import re
 
 from items import items_of
 
-DECLARED = re.compile(r"^( *)(?:(?:abbrev|unfoldable|pub) )*(?:(?:record|data) (\S+)|([^\s(){}:;,.]+) :(?= |$))", re.M)
+DECLARED = re.compile(
+    r"^( *)(?:(?:abbrev|unfoldable|pub) )*(?:(?:record|data|module) (\S+)|([^\s(){}:;,.]+) :(?= |$))", re.M
+)
+# What a module is given, on which all that is declared in it can rest.
+GIVEN = re.compile(r"^ *module _ .*?where$", re.M | re.S)
 NAME = re.compile(r"[^\s(){}\[\]:;,.`\"]+")
 
 
@@ -20,7 +24,8 @@ def declarations_of(text):
     found = list(DECLARED.finditer(text))
     for i, one in enumerate(found):
         ends = [other.start() for other in found[i + 1 :] if len(other[1]) <= len(one[1])]
-        yield one[2] or one[3], one.start(), ends[0] if ends else len(text)
+        if one[2] != "_":
+            yield one[2] or one[3], one.start(), ends[0] if ends else len(text)
 
 
 class Definitions:
@@ -31,8 +36,9 @@ class Definitions:
         for path in [*crate.glob("specs/**/*.antt"), *crate.glob("proofs/**/*.antt")]:
             text = path.read_text(encoding="utf-8")
             of_lemmas = "proofs" in path.parts or "support" in path.parts
+            given = "\n".join(GIVEN.findall(text))
             for name, start, end in declarations_of(text):
-                self.add(name, text if of_lemmas else text[start:end])
+                self.add(name, text if of_lemmas else f"{given}\n{text[start:end]}")
         for path in crate.glob("src/**/*.rt"):
             text = path.read_text(encoding="utf-8")
             for item in items_of(text, 0, len(text)):
