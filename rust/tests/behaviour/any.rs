@@ -2,7 +2,9 @@
 
 use crate::common::{Rising, Waste};
 use nanorand_proved::rand::ChaChaGroups;
-use nanorand_proved::{AnyRng, BufferedRng, ChaCha12, ChaCha8, Pcg64, RangeError, Rng, WyRand};
+use nanorand_proved::{
+    chacha_stream, AnyRng, BufferedRng, ChaCha12, ChaCha8, Pcg64, RangeError, Rng, WyRand,
+};
 use std::fmt::Debug;
 
 type Drawn = (u8, char, [u16; 3], [u8; 9], i64);
@@ -83,7 +85,9 @@ fn all_draw_what_they_draw_as_generators() {
     check(&ChaCha8::new_key(key, nonce));
     check(&ChaChaGroups::<12>::new_key(key, nonce));
     check(&BufferedRng::new(ChaCha12::new_key(key, nonce)));
+    check(&BufferedRng::new(Rising::<1>::new()));
     check(&BufferedRng::new(Rising::<3>::new()));
+    check(&chacha_stream::<20>(key, nonce));
 }
 
 /// A call is one request, of 4, 8 or all bytes.

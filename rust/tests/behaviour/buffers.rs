@@ -2,16 +2,43 @@
 
 use crate::common::{Forking, Rising, Steps, Waste};
 use nanorand_proved::buffer::{RestTooLong, TextRefused};
-use nanorand_proved::{BufferedRng, ChaCha12, ChaCha20, ChaCha8, Pcg64, Rng, SeedableRng, WyRand};
+use nanorand_proved::{
+    chacha_stream, BufferedRng, ChaCha12, ChaCha20, ChaCha8, Pcg64, Rng, SeedableRng, WyRand,
+};
 use std::cell::Cell;
 use std::fmt::Debug;
 use std::io::Read;
 use std::panic::{catch_unwind, AssertUnwindSafe};
 
-/// A buffer around `Steps` that has given five bytes.
-fn after_five() -> BufferedRng<Steps, 8> {
-    let mut rng = BufferedRng::new(Steps::new());
-    rng.fill(&mut [0_u8; 5]);
+/// Runs a check for blocks of one byte and of eight, 64 and 512, as the generators have them.
+macro_rules! for_each_size {
+    ($check:ident) => {{
+        $check::<1>();
+        $check::<8>();
+        $check::<64>();
+        $check::<512>();
+    }};
+}
+
+/// The byte of this number of `Rising`.
+fn byte(number: usize) -> u8 {
+    number.to_le_bytes()[0]
+}
+
+/// The bytes of `Rising` from one number to before another.
+fn bytes(from: usize, to: usize) -> Vec<u8> {
+    (from..to).map(byte).collect()
+}
+
+/// How many bytes are left of a block once so many bytes were drawn.
+fn left_after(drawn: usize, size: usize) -> usize {
+    (size - drawn % size) % size
+}
+
+/// A buffer that has given so many bytes.
+fn after<const SIZE: usize>(taken: usize) -> BufferedRng<Rising<SIZE>, SIZE> {
+    let mut rng = BufferedRng::new(Rising::new());
+    rng.fill_bytes(&mut vec![0; taken]);
     rng
 }
 
@@ -30,34 +57,39 @@ fn requests_go_on() {
     }
 }
 
-#[test]
-fn read_to_its_end() {
-    let mut rng = after_five();
-    let mut out = Vec::new();
-    assert_eq!(rng.read_to_end(&mut out), Ok(3));
-    assert_eq!(out, [5, 6, 7]);
-    assert_eq!(rng.read_to_end(&mut out), Ok(0));
-    assert_eq!(out, [5, 6, 7]);
-    assert_eq!(rng.buffered(), 0);
-    assert_eq!(rng.inner().drawn(), 1);
+/// Text is refused; the text and the buffer stay as they were.
+fn refuses_text<const SIZE: usize>() {
+    for taken in 0..=SIZE {
+        let mut rng = after::<SIZE>(taken);
+        let before = rng.clone();
+        let mut text = String::from("as it was");
+        assert_eq!(rng.read_to_string(&mut text), Err(TextRefused));
+        assert_eq!(text, "as it was");
+        assert_eq!(rng, before);
+    }
 }
 
 #[test]
 fn no_text() {
-    let mut rng = after_five();
-    let mut text = String::from("as it was");
-    assert_eq!(rng.read_to_string(&mut text), Err(TextRefused));
-    assert_eq!(text, "as it was");
-    assert_eq!(rng.buffered(), 3);
+    for_each_size!(refuses_text);
+}
+
+/// `read` fills a slice of any length with the next bytes.
+fn reads<const SIZE: usize>() {
+    for taken in 0..=SIZE {
+        for length in [0, 1, 4, SIZE, 3 * SIZE - 1] {
+            let mut rng = after::<SIZE>(taken);
+            let mut out = vec![9; length];
+            assert_eq!(rng.read(&mut out).expect("no error"), length);
+            assert_eq!(out, bytes(taken, taken + length));
+            assert_eq!(rng.buffered(), left_after(taken + length, SIZE));
+        }
+    }
 }
 
 #[test]
 fn read_fills_the_slice() {
-    let mut rng = after_five();
-    let mut out = [9; 4];
-    assert_eq!(rng.read(&mut out).expect("no error"), 4);
-    assert_eq!(out, [5, 6, 7, 8]);
-    assert_eq!(rng.buffered(), 7);
+    for_each_size!(reads);
 }
 
 /// After some bytes, `read_to_end` appends the rest of the block to a vector, with and without spare
@@ -73,13 +105,15 @@ where
                 let mut rng = BufferedRng::new(fresh.clone());
                 rng.fill_bytes(&mut vec![0; taken]);
                 let drawn = rng.inner().clone();
-                let mut out = Vec::with_capacity(held + room);
-                out.resize(held, 7);
+                let mut out = vec![7; held];
+                out.reserve_exact(room);
                 assert_eq!(rng.read_to_end(&mut out), Ok(OUTPUT - taken));
-                assert!(out[..held].iter().all(|byte| *byte == 7));
+                assert_eq!(out[..held], vec![7; held]);
                 assert_eq!(out[held..], block[taken..]);
                 assert_eq!(rng.buffered(), 0);
                 assert_eq!(rng.inner(), &drawn);
+                assert_eq!(rng.read_to_end(&mut out), Ok(0));
+                assert_eq!(out.len(), held + OUTPUT - taken);
             }
         }
     }
@@ -88,24 +122,47 @@ where
 #[test]
 fn buffered_bytes_are_appended_to_a_vector() {
     appends_its_rest(&Rising::<1>::new());
+    appends_its_rest(&Rising::<8>::new());
     appends_its_rest(&Rising::<64>::new());
+    appends_its_rest(&Rising::<512>::new());
+    appends_its_rest(chacha_stream::<20>([3; 32], [4; 8]).inner());
     appends_its_rest(&WyRand::new_seed(42));
     appends_its_rest(&Pcg64::new_seed(0));
     appends_its_rest(&ChaCha8::new_key([1; 32], [2; 8]));
     appends_its_rest(&ChaCha20::new_key([255; 32], [255; 8]));
 }
 
-#[test]
-fn an_empty_buffer_allocates_nothing() {
+/// An empty buffer has nothing to append.
+fn appends_nothing<const SIZE: usize>() {
     let mut out = Vec::new();
-    let mut rng = BufferedRng::new(Steps::new());
+    let mut rng = after::<SIZE>(0);
     assert_eq!(rng.read_to_end(&mut out), Ok(0));
     assert_eq!(out.capacity(), 0);
     assert_eq!(rng.inner().drawn(), 0);
 }
 
 #[test]
+fn an_empty_buffer_allocates_nothing() {
+    for_each_size!(appends_nothing);
+}
+
+/// A new seed leaves the buffered bytes, and gives those behind them.
+fn keeps_its_rest<const SIZE: usize>() {
+    for taken in 0..=SIZE {
+        let mut rng = after::<SIZE>(taken);
+        rng.reseed([9]);
+        let left = left_after(taken, SIZE);
+        assert_eq!(rng.rest(), bytes(taken, taken + left));
+        let mut out = vec![0; left + SIZE + 1];
+        rng.fill_bytes(&mut out);
+        assert_eq!(out[..left], bytes(taken, taken + left));
+        assert_eq!(out[left..], bytes(9 * SIZE, 10 * SIZE + 1));
+    }
+}
+
+#[test]
 fn reseeded_behind_the_buffer() {
+    for_each_size!(keeps_its_rest);
     let mut rng = BufferedRng::new(WyRand::new_seed(0x5f89_e29b_8742_9bd2));
     let mut five = [0_u8; 5];
     rng.fill(&mut five);
@@ -116,57 +173,71 @@ fn reseeded_behind_the_buffer() {
     assert_eq!(four, [126, 3, 231, 179]);
 }
 
-/// As many blocks of `Steps` as are left, and then a panic.
-struct Ending<'a> {
-    steps: Steps,
+/// As many blocks of `Rising` as are left, and then a panic.
+struct Ending<'a, const SIZE: usize> {
+    rising: Rising<SIZE>,
     left: &'a Cell<usize>,
 }
 
-impl Rng<8> for Ending<'_> {
-    fn rand(&mut self) -> [u8; 8] {
+impl<const SIZE: usize> Rng<SIZE> for Ending<'_, SIZE> {
+    fn rand(&mut self) -> [u8; SIZE] {
         let left = self.left.get().checked_sub(1);
         self.left.set(left.expect("no block is left"));
-        self.steps.rand()
+        self.rising.rand()
     }
 }
 
 /// After a request for which so many blocks were left, the stream goes on behind what was drawn for it.
-fn goes_on_behind(taken: usize, length: usize, blocks: usize) {
-    let (steps, left) = (Steps::new(), Cell::new(usize::MAX));
-    let mut rng = BufferedRng::new(Ending { steps, left: &left });
+fn goes_on_behind<const SIZE: usize>(taken: usize, length: usize, blocks: usize) {
+    let (rising, left) = (Rising::<SIZE>::new(), Cell::new(usize::MAX));
+    let mut rng = BufferedRng::new(Ending {
+        rising,
+        left: &left,
+    });
     rng.fill_bytes(&mut vec![0; taken]);
     left.set(blocks);
     let request = || rng.fill_bytes(&mut vec![0; length]);
     let ended = catch_unwind(AssertUnwindSafe(request)).is_err();
     left.set(usize::MAX);
-    let drawn = 8 * ((taken + 7) / 8 + blocks);
+    let drawn = SIZE * ((taken + SIZE - 1) / SIZE + blocks);
     let next = if ended { drawn } else { taken + length };
-    assert_eq!(usize::from(rng.generate::<u8>()), next, "{taken} {length}");
+    assert_eq!(rng.generate::<u8>(), byte(next), "{taken} {length}");
 }
 
-#[test]
-fn a_panic_makes_no_byte_come_again() {
-    for taken in 0..20 {
-        for length in 0..40 {
+/// The same from places of two blocks and a half, for lengths up to five blocks: all of them where a block
+/// has eight bytes.
+fn no_byte_comes_again<const SIZE: usize>() {
+    let step = (SIZE / 8).max(2) - 1;
+    for taken in (0..(5 * SIZE + 1) / 2).step_by(step) {
+        for length in (0..5 * SIZE).step_by(step) {
             for blocks in 0..6 {
-                goes_on_behind(taken, length, blocks);
+                goes_on_behind::<SIZE>(taken, length, blocks);
             }
         }
     }
 }
 
 #[test]
-fn a_buffer_in_a_buffer() {
-    let mut once = BufferedRng::new(Steps::new());
-    assert_eq!(once.generate::<u8>(), 0);
-    assert_eq!(once.buffered(), 7);
+fn a_panic_makes_no_byte_come_again() {
+    for_each_size!(no_byte_comes_again);
+}
+
+/// The outer buffer asks the inner one for blocks, whose rest stays.
+fn buffers_a_buffer<const SIZE: usize>() {
+    let once = after::<SIZE>(1);
+    assert_eq!(once.buffered(), SIZE - 1);
     let mut twice = BufferedRng::new(once);
     assert_eq!(twice.generate::<u8>(), 1);
-    assert_eq!(twice.buffered(), 7);
-    let mut out = [0; 20];
-    assert_eq!(twice.read(&mut out).expect("no error"), 20);
-    assert!(out.into_iter().eq(2..22));
-    assert_eq!(twice.into_inner().buffered(), 7);
+    assert_eq!(twice.buffered(), SIZE - 1);
+    let mut out = vec![0; 2 * SIZE + 4];
+    assert_eq!(twice.read(&mut out).expect("no error"), out.len());
+    assert_eq!(out, bytes(2, 2 * SIZE + 6));
+    assert_eq!(twice.into_inner().buffered(), SIZE - 1);
+}
+
+#[test]
+fn a_buffer_in_a_buffer() {
+    for_each_size!(buffers_a_buffer);
 }
 
 /// Any two requests give what one request of both lengths gives, and the same buffer.
@@ -188,10 +259,11 @@ fn goes_on<G: Rng<OUTPUT> + Clone + PartialEq + Debug, const OUTPUT: usize>(fres
 
 #[test]
 fn requests_join() {
-    goes_on(&Steps::new());
     goes_on(&Rising::<1>::new());
     goes_on(&Rising::<3>::new());
+    goes_on(&Rising::<8>::new());
     goes_on(&Rising::<64>::new());
+    goes_on(&Rising::<512>::new());
     goes_on(&WyRand::new_seed(7));
     goes_on(&Pcg64::new_seed(7));
     goes_on(&ChaCha12::new_key([7; 32], [9; 8]));
@@ -205,22 +277,30 @@ fn requests_join() {
 
 /// A clone of a buffer has the buffered bytes of the original, and the inner generator that the
 /// inner clone returns, whatever that is.
+fn clones_its_rest<const SIZE: usize>() {
+    let block = |stream, drawn| Forking::<SIZE> { stream, drawn }.rand();
+    for taken in 1..=SIZE {
+        let left = SIZE - taken;
+        let mut original = BufferedRng::new(Forking::<SIZE> {
+            stream: 7,
+            drawn: 0,
+        });
+        original.fill_bytes(&mut vec![0; taken]);
+        let mut copy = original.clone();
+        assert_eq!([original.buffered(), copy.buffered()], [left; 2]);
+        for (rng, stream) in [(&mut original, 7), (&mut copy, 8)] {
+            let mut out = vec![9; left + SIZE];
+            rng.fill_bytes(&mut out);
+            assert_eq!(out[..left], block(7, 0)[taken..]);
+            assert_eq!(out[left..], block(stream, 1));
+            assert_eq!(rng.inner(), &Forking { stream, drawn: 2 });
+        }
+    }
+}
+
 #[test]
 fn a_buffer_keeps_the_bytes_of_its_original() {
-    let mut original = BufferedRng::new(Forking::new(7));
-    original.fill(&mut [0_u8; 5]);
-    let mut copy = original.clone();
-    assert_eq!(original.buffered(), 3);
-    assert_eq!(copy.buffered(), 3);
-    let (mut own, mut other) = ([9; 6], [9; 6]);
-    original.fill_bytes(&mut own);
-    copy.fill_bytes(&mut other);
-    assert_eq!(own, [0, 7, 0, 7, 1, 7]);
-    assert_eq!(other, [0, 7, 0, 8, 1, 8]);
-    assert_eq!(original.into_inner().stream, 7);
-    let inner = copy.into_inner();
-    assert_eq!(inner.stream, 8);
-    assert_eq!(inner.drawn, 2);
+    for_each_size!(clones_its_rest);
 }
 
 /// A buffer that is restored from its buffered bytes and its generator gives the same bytes.
@@ -251,9 +331,10 @@ fn each_is_restored<G: Rng<OUTPUT> + Clone, const OUTPUT: usize>(fresh: G) {
 #[test]
 fn buffers_are_restored() {
     each_is_restored(Rising::<1>::new());
-    each_is_restored(Steps::new());
+    each_is_restored(Rising::<8>::new());
     each_is_restored(Waste::new());
     each_is_restored(Rising::<64>::new());
+    each_is_restored(Rising::<512>::new());
     each_is_restored(WyRand::new_seed(42));
     each_is_restored(Pcg64::new_seed(42));
     each_is_restored(ChaCha8::new_key([1; 32], [2; 8]));
@@ -262,20 +343,25 @@ fn buffers_are_restored() {
 }
 
 /// The first bytes are those that were given, the next one first, and then the generator's.
-#[test]
-fn given_bytes_come_first() {
-    let given = [101, 102, 103, 104, 105, 106, 107];
-    for count in 0..8 {
-        let mut rng = BufferedRng::with_rest(Steps::new(), &given[..count]).expect("a short rest");
+fn begins_with_what_is_given<const SIZE: usize>() {
+    let given = vec![101, 102, 103].repeat(SIZE);
+    for count in 0..SIZE {
+        let generator = Rising::<SIZE>::new();
+        let mut rng = BufferedRng::with_rest(generator, &given[..count]).expect("a short rest");
         assert_eq!(rng.buffered(), count);
         assert_eq!(rng.inner().drawn(), 0);
         for byte in &given[..count] {
             assert_eq!(rng.generate::<u8>(), *byte);
         }
+        assert_eq!(rng.inner().drawn(), 0);
         assert_eq!(rng.generate::<u32>(), 0x0302_0100);
-        assert_eq!(rng.rest(), [4, 5, 6, 7]);
-        assert_eq!(rng.inner().drawn(), 1);
+        assert_eq!(rng.buffered(), left_after(4, SIZE));
     }
+}
+
+#[test]
+fn given_bytes_come_first() {
+    for_each_size!(begins_with_what_is_given);
 }
 
 #[test]
@@ -283,7 +369,7 @@ fn a_block_or_more_is_refused() {
     fn outcome<const SIZE: usize>(rest: &[u8]) -> Result<usize, RestTooLong> {
         BufferedRng::with_rest(Rising::<SIZE>::new(), rest).map(|rng| rng.buffered())
     }
-    for count in 0..70 {
+    for count in (0..70).chain(500..600) {
         let rest = vec![7; count];
         let expected = |size| {
             if count < size {
@@ -295,5 +381,6 @@ fn a_block_or_more_is_refused() {
         assert_eq!(outcome::<1>(&rest), expected(1));
         assert_eq!(outcome::<8>(&rest), expected(8));
         assert_eq!(outcome::<64>(&rest), expected(64));
+        assert_eq!(outcome::<512>(&rest), expected(512));
     }
 }

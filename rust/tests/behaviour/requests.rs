@@ -2,7 +2,9 @@
 
 use crate::common::{zeros, Rising, Script, Steps, Waste};
 use nanorand_proved::values::fill_with;
-use nanorand_proved::{BufferedRng, ChaCha12, ChaCha20, ChaCha8, Pcg64, RandomGen, Rng, WyRand};
+use nanorand_proved::{
+    chacha_stream, BufferedRng, ChaCha12, ChaCha20, ChaCha8, Pcg64, RandomGen, Rng, WyRand,
+};
 use std::fmt::Debug;
 use std::io::Read;
 
@@ -177,6 +179,8 @@ fn requests_give_the_blocks() {
     check_lengths(&Rising::<1>::new());
     check_lengths(&Rising::<3>::new());
     check_lengths(&Rising::<64>::new());
+    check_lengths(&Rising::<512>::new());
+    check_lengths(chacha_stream::<12>([5; 32], [6; 8]).inner());
     for seed in [0, 42, u64::MAX] {
         check_lengths(&WyRand::new_seed(seed));
         check_lengths(&Pcg64::new_seed(u128::from(seed) << 64 | 7));
@@ -232,6 +236,7 @@ fn values_are_read_from_requests() {
     check_values(&Steps::new());
     check_values(&Rising::<1>::new());
     check_values(&Rising::<64>::new());
+    check_values(&Rising::<512>::new());
     check_values(&Waste::new());
     check_values(&zeros());
     let mut buffered = BufferedRng::new(WyRand::new_seed(3));

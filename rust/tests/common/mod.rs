@@ -2,7 +2,7 @@
 #![allow(dead_code)] // each file of tests uses some of them
 
 use nanorand_proved::rand::fill_by_blocks;
-use nanorand_proved::Rng;
+use nanorand_proved::{Rng, SeedableRng};
 use std::io::{self, ErrorKind, Read};
 
 /// The bytes 0, 1, 2, .. modulo 256, in blocks of `SIZE` bytes.
@@ -36,6 +36,13 @@ impl<const SIZE: usize> Rng<SIZE> for Rising<SIZE> {
             next = next.wrapping_add(1);
             byte
         })
+    }
+}
+
+/// A seed is the number of the next block.
+impl<const SIZE: usize> SeedableRng<1, SIZE> for Rising<SIZE> {
+    fn reseed(&mut self, seed: [u8; 1]) {
+        self.drawn = seed[0].into();
     }
 }
 
@@ -171,18 +178,12 @@ impl Rng<8> for Waste {
 /// Blocks that alternate the number of the stream and the number of the block. A clone is not equal
 /// to its original: it is the next stream, at the same block.
 #[derive(Debug, PartialEq, Eq)]
-pub struct Forking {
+pub struct Forking<const SIZE: usize> {
     pub stream: u8,
     pub drawn: u8,
 }
 
-impl Forking {
-    pub fn new(stream: u8) -> Self {
-        Forking { stream, drawn: 0 }
-    }
-}
-
-impl Clone for Forking {
+impl<const SIZE: usize> Clone for Forking<SIZE> {
     fn clone(&self) -> Self {
         Forking {
             stream: self.stream.wrapping_add(1),
@@ -191,11 +192,11 @@ impl Clone for Forking {
     }
 }
 
-impl Rng<8> for Forking {
-    fn rand(&mut self) -> [u8; 8] {
-        let (stream, count) = (self.stream, self.drawn);
-        self.drawn = count.wrapping_add(1);
-        [stream, count, stream, count, stream, count, stream, count]
+impl<const SIZE: usize> Rng<SIZE> for Forking<SIZE> {
+    fn rand(&mut self) -> [u8; SIZE] {
+        let pair = [self.stream, self.drawn];
+        self.drawn = self.drawn.wrapping_add(1);
+        std::array::from_fn(|place| pair[place % 2])
     }
 }
 
