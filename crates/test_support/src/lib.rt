@@ -11,4 +11,4 @@ pub use generators::forking::Forking;
 pub use generators::script::Script;
 pub use generators::steps::Steps;
 pub use generators::waste::Waste;
-pub use readers::Pieces;
+pub use readers::{ERROR_KINDS, Pieces};

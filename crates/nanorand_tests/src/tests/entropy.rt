@@ -6,16 +6,9 @@ use nanorand::entropy::{EntropyError, backup, rdseed, system};
 use std::io::ErrorKind;
 use std::process::Abort;
 use std::test::Fail;
-use test_support::Pieces;
+use test_support::{ERROR_KINDS, Pieces};
 
 const BYTES: [u8; 9] = [0x2a, 0, 0, 0, 0, 0, 0, 0, 99];
-
-// The kinds of errors with which the readers fail. `Interrupted` is one of them.
-const FAULTS: [ErrorKind; 3] = [
-    ErrorKind::Interrupted,
-    ErrorKind::WouldBlock,
-    ErrorKind::BrokenPipe,
-];
 
 // Exactly the bytes that are needed are taken, in pieces of any size.
 #[test]
@@ -36,14 +29,15 @@ fn ends(rt: &impl Abort, mut source: Pieces<'_>, outcome: Result<(), EntropyErro
     equal_at(rt, source.reads(), reads, reads);
 }
 
-// A reader that ends after any number of bytes that is too small, and one that fails at one of its reads.
-// Nothing is read after the end or a failure, nor after the last byte that is needed, not even no bytes.
+// A reader that ends after any number of bytes that is too small, and one that fails at one of its reads, with any
+// kind of error, an interruption too. Nothing is read after the end or a failure, nor after the last byte that is
+// needed, not even no bytes.
 #[test]
 fn too_few_bytes(rt: HostRuntime) {
     for length in 0..8u64 {
         let short = Pieces::of(&BYTES[..length as usize], 1);
         ends(&rt, short, Err(EntropyError::Short), length.wrapping_add(1));
-        for kind in FAULTS {
+        for kind in ERROR_KINDS {
             let failing = Pieces::failing(&BYTES, 1, length, kind);
             ends(
                 &rt,

@@ -12,6 +12,7 @@ use std::alloc::{AllocError, Allocator, Global};
 use std::io::{ErrorKind, Write};
 use std::process::Abort;
 use std::test::Fail;
+use test_support::ERROR_KINDS;
 
 // The program with its arguments, and a list to read.
 #[derive(Drop)]
@@ -154,15 +155,19 @@ fn interrupted_reads(rt: HostRuntime) -> Result<(), Fail> {
     Ok(())
 }
 
-// Each read fails in turn, that which would find the end too. Nothing is read after it. A reader can be
-// out of memory.
+// Each read fails in turn, that which would find the end too, with each kind of error but an interruption, after
+// which it is read again. Nothing is read after it. A reader can be out of memory.
 #[test]
 fn failed_reads(rt: HostRuntime) -> Result<(), Fail> {
-    for (kind, error) in [
-        (ErrorKind::Other, LotsError::Read),
-        (ErrorKind::UnexpectedEof, LotsError::Read),
-        (ErrorKind::OutOfMemory, LotsError::Memory),
-    ] {
+    for kind in ERROR_KINDS {
+        if kind == ErrorKind::Interrupted {
+            continue;
+        }
+        let error = if kind == ErrorKind::OutOfMemory {
+            LotsError::Memory
+        } else {
+            LotsError::Read
+        };
         for failing in 0..=NAMES.len() as u64 {
             let mut input = Feed::failing(NAMES.as_bytes(), 1, failing, kind);
             check_read(&rt, rt.alloc(), &mut input, Err(error))?;

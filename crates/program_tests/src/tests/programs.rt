@@ -8,7 +8,7 @@ use std::alloc::{AllocError, Allocator, Global};
 use std::io::{ErrorKind, Write};
 use std::process::Abort;
 use std::test::Fail;
-use test_support::Refusing;
+use test_support::{ERROR_KINDS, Refusing};
 
 /// A program with its arguments and its input.
 pub trait Program {
@@ -75,8 +75,8 @@ pub fn check_end(rt: &impl Abort, alloc: Global, program: &impl Program, end: En
     }
 }
 
-/// Each write of the text fails in turn: after it, the program neither writes nor flushes, and ends
-/// with the status `failed`. A write that is interrupted is tried again.
+/// Each write of the text fails in turn, with each kind of error: after it, the program neither writes nor
+/// flushes, and ends with the status `failed`. A write that is interrupted is tried again.
 pub fn check_writes(
     rt: &impl Abort,
     alloc: Global,
@@ -86,10 +86,12 @@ pub fn check_writes(
 ) {
     let length = text.len() as u64;
     for number in 0..length {
-        for (error, status, kept, flushes) in [
-            (ErrorKind::BrokenPipe, failed, number, 0),
-            (ErrorKind::Interrupted, 0, length, 1),
-        ] {
+        for error in ERROR_KINDS {
+            let (status, kept, flushes) = if error == ErrorKind::Interrupted {
+                (0, length, 1)
+            } else {
+                (failed, number, 0)
+            };
             let mut out = Pieces::failing(alloc, 1, number, error);
             let ended = program.run(alloc, &mut out, &mut Vec::new(alloc));
             equal_at(rt, ended, status, &number);
@@ -104,10 +106,11 @@ pub fn check_writes(
     }
 }
 
-/// If only the flush fails, the whole text was written before it. A writer that takes no bytes is
-/// asked once. An error of memory is the writer's own, and counts as a failed write.
+/// If only the flush fails, with any kind of error, the whole text was written before it. A writer that takes
+/// no bytes is asked once. An error of memory is the writer's own, and counts as a failed write, and a flush that
+/// is interrupted as any other.
 pub fn check_flush(rt: &impl Abort, alloc: Global, program: &impl Program, text: &str, failed: u8) {
-    for error in [ErrorKind::BrokenPipe, ErrorKind::OutOfMemory] {
+    for error in ERROR_KINDS {
         for (piece, kept, flushes) in [
             (0, "", 0),
             (1, text, 1),
