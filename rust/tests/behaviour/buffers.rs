@@ -344,7 +344,7 @@ fn buffers_are_restored() {
 
 /// The first bytes are those that were given, the next one first, and then the generator's.
 fn begins_with_what_is_given<const SIZE: usize>() {
-    let given = vec![101, 102, 103].repeat(SIZE);
+    let given = [101, 102, 103].repeat(SIZE);
     for count in 0..SIZE {
         let generator = Rising::<SIZE>::new();
         let mut rng = BufferedRng::with_rest(generator, &given[..count]).expect("a short rest");
