@@ -1,12 +1,14 @@
-use Rattle.std.proofs.Common.{ℕ, List, Option, ◌≡◌, ◌-◌, ◌<◌, length, sym, ap, ◌∙◌, arith}
-use Rattle.nanorand_core.specs.values.Draws.{word_limit, after_word}
+use Rattle.std.proofs.Common.{ℕ, List, Option, Err, ◌≡◌, ◌-◌, ◌<◌, length, sym, ap, ◌∙◌, refl, arith}
+use Rattle.nanorand_core.specs.values.Draws.{after_word}
 use Rattle.nanorand_core.specs.values.Draws.{next_word as word_of}
 use Rattle.nanorand_core.specs.values.Values.{number_of}
 use Rattle.nanorand_core.specs.shuffles.Shuffles.{from_itself}
+use Rattle.nanorand_core.specs.declared.values.range.RangeError.TheVariants.{Exhausted}
 use Rattle.nanorand_core.proofs.lemmas.ranges.DrawLemmas.{Ended, first_word, first_decides, next_word, last_word}
 use Rattle.nanorand_core.proofs.lemmas.shuffles.PartnerLemmas.{partner-number, partner-exhausted, partner-state}
-use Rattle.nanorand_core.proofs.lemmas.shuffles.ShuffleLemmas.{Shuffling, shuffling-start, shuffling-step, refused, done, count-done, choices-valid, partial-words}
+use Rattle.nanorand_core.proofs.lemmas.shuffles.ShuffleLemmas.{Shuffling, Shuffled, shuffling-start, shuffling-step, refused, done, count-done, choices-valid, partial-words}
 use Rattle.nanorand_core.proofs.lemmas.ValueLemmas.{number_of_8}
+use Rattle.nanorand_core.proofs.rand.Rng.shuffle.Invariants.{limit}
 use Rattle.nanorand_core.proofs.rand.Rng.shuffle.Given as Given
 use Rattle.nanorand_core.proofs.rand.Rng.shuffle.Goals as goal
 use Rattle.nanorand_core.proofs.rand.Rng.shuffle.Goals.{then-is_none+else-others-test, else-is_none}
@@ -16,7 +18,7 @@ abbrev Over : (g : Given.Over) → List g.row.T.Denot → g.row.Self.Denot → �
 Over g all from place target ahead now = record {
   start : g.row.Self.Denot;
   so_far : Shuffling g.Self.Rng.requests from_itself (length all) all from place start target;
-  draw : Ended (word_of g.Self.Rng.requests 64) (after_word g.Self.Rng.requests 64) word_limit 64 (length all - place) start ahead now;
+  draw : Ended (word_of g.Self.Rng.requests 64) (after_word g.Self.Rng.requests 64) limit 64 (length all - place) start ahead now;
 }
 
 pub loop-place-init : goal.loop-place-init
@@ -30,7 +32,7 @@ others-init g c =
     record {
       start = c.loop-place.self;
       so_far = c.loop-place.invariant;
-      draw = rw c.fill_bytes.ensures.state (first_word _ _ word_limit _ _ _ _ _ (omega arith) word (sym c.pick_below-ahead.ensures));
+      draw = rw c.fill_bytes.ensures.state (first_word _ _ limit _ _ _ _ _ (omega arith) word (sym c.pick_below-ahead.ensures));
     }
 
 pub others-preserved : goal.others-preserved
@@ -46,9 +48,10 @@ others-preserved g c =
           word (sym c.pick_counted-ahead.ensures));
     }
 
-pub returns-in-None : goal.returns-in-None
-returns-in-None g c =
-    let over : Over g c.args.target.now c.args.self.now c.loop-place.place c.loop-place.target c.if-is_none.ahead c.if-is_none.self =
+-- The draw after which no number was found.
+none_over : (g : Given.Over) (c : goal.In-None g)
+    → Over g c.args.target.now c.args.self.now c.loop-place.place c.loop-place.target c.if-is_none.ahead c.if-is_none.self
+none_over g c =
     elim c.if-is_none.branch [
       | then-is_none+else-others-test w ↦
           let before = w.others.invariant in
@@ -63,26 +66,48 @@ returns-in-None g c =
           rw (w.ahead-is, w.self-is, c.fill_bytes.ensures.state) (record {
             start = c.loop-place.self;
             so_far = c.loop-place.invariant;
-            draw = first_decides _ _ word_limit _ _ _ c.pick_below-ahead.result _ _ (omega arith) word
+            draw = first_decides _ _ limit _ _ _ c.pick_below-ahead.result _ _ (omega arith) word
                 (sym c.pick_below-ahead.ensures) c.is_none.ensures w.if-is_none.false;
           })
-    ] in
+    ]
+
+-- The shuffle ends there.
+ends : (g : Given.Over) (c : goal.In-None g)
+    → Shuffled g.Self.Rng.requests from_itself (length c.args.target.now) c.args.target.now c.args.self.now (Err Exhausted)
+    c.if-is_none.self c.loop-place.target
+ends g c =
+    let over = none_over g c in
     let partner = partner-exhausted g.Self.Rng.requests (length c.args.target.now) c.loop-place.place over.start
     c.loop-place-test.true (omega arith) (sym c.in-None.is ∙ over.draw.number) in
     let state = partner-state g.Self.Rng.requests (length c.args.target.now) c.loop-place.place over.start
     c.loop-place-test.true (omega arith) c.if-is_none.self over.draw.state in
-    let ended = refused over.so_far c.loop-place-test.true partner (omega arith) (omega arith) in
+    rw state (refused over.so_far c.loop-place-test.true partner (omega arith) (omega arith))
+
+pub returns-in-None-clause-answer : goal.returns-in-None-clause-answer
+returns-in-None-clause-answer g c = (ends g c).answered
+
+pub returns-in-None-clause-state : goal.returns-in-None-clause-state
+returns-in-None-clause-state g c = (ends g c).left
+
+pub returns-in-None-clause-words : goal.returns-in-None-clause-words
+returns-in-None-clause-words g c =
     let words = partial-words g.Self.Rng.requests from_itself (length c.args.target.now) (length c.args.target.now) c.args.self.now in
-    rw state (record {
-      answer = ended.answered;
-      refusal = ended.reason;
-      items = ended.made;
-      state = ended.left;
-      arrangement = over.so_far.shuffled;
-      whole = tt;
-      valid = tt;
-      words = (words.0, words.1, ended.left ∙ words.2);
-    })
+    (words.0, words.1, (ends g c).left ∙ words.2)
+
+pub returns-in-None-clause-items : goal.returns-in-None-clause-items
+returns-in-None-clause-items g c = (ends g c).made
+
+pub returns-in-None-clause-arrangement : goal.returns-in-None-clause-arrangement
+returns-in-None-clause-arrangement g c = (none_over g c).so_far.shuffled
+
+pub returns-in-None-clause-refusal : goal.returns-in-None-clause-refusal
+returns-in-None-clause-refusal g c = refl
+
+pub returns-in-None-clause-whole : goal.returns-in-None-clause-whole
+returns-in-None-clause-whole g c = tt
+
+pub returns-in-None-clause-valid : goal.returns-in-None-clause-valid
+returns-in-None-clause-valid g c = tt
 
 some_over : (g : Given.Over) (c : goal.After-swap-arg-1 g)
     → Over g c.args.target.now c.args.self.now c.loop-place.place c.loop-place.target c.if-is_none.ahead c.if-is_none.self
@@ -101,7 +126,7 @@ some_over g c =
           rw (w.ahead-is, w.self-is, c.fill_bytes.ensures.state) (record {
             start = c.loop-place.self;
             so_far = c.loop-place.invariant;
-            draw = first_decides _ _ word_limit _ _ _ c.pick_below-ahead.result _ _ (omega arith) word
+            draw = first_decides _ _ limit _ _ _ c.pick_below-ahead.result _ _ (omega arith) word
                 (sym c.pick_below-ahead.ensures) c.is_none.ensures w.if-is_none.false;
           })
     ]
@@ -133,7 +158,7 @@ loop-place-preserved g c =
           rw (w.ahead-is, w.self-is, c.fill_bytes.ensures.state) (record {
             start = c.loop-place.self;
             so_far = c.loop-place.invariant;
-            draw = first_decides _ _ word_limit _ _ _ c.pick_below-ahead.result _ _ (omega arith) word
+            draw = first_decides _ _ limit _ _ _ c.pick_below-ahead.result _ _ (omega arith) word
                 (sym c.pick_below-ahead.ensures) c.is_none.ensures w.if-is_none.false;
           })
     ] in

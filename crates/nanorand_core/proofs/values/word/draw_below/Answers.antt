@@ -1,10 +1,11 @@
-use Rattle.std.proofs.Common.{ℕ, ◌≡◌, ◌%◌, ◌^◌, ◌<◌, Some, false, nat_lt, sym, ◌∙◌, arith}
+use Rattle.std.proofs.Common.{ℕ, ◌≡◌, ◌%◌, ◌^◌, ◌<◌, Some, false, nat_lt, refl, sym, ◌∙◌, arith}
 use Rattle.std.proofs.lemmas.Nat.{one_shl}
 use Rattle.nanorand_core.specs.values.Runs.{named}
 use Rattle.nanorand_core.specs.values.Draws.{word_limit, after_word}
 use Rattle.nanorand_core.specs.values.Draws.{next_word as word_of}
 use Rattle.nanorand_core.proofs.lemmas.ranges.RunLemmas.{names-itself, judged, named-judged, judged-low, judged-high, judged-is_some}
 use Rattle.nanorand_core.proofs.lemmas.ranges.DrawLemmas.{Ended, first_word, next_word, last_word, counted_words}
+use Rattle.nanorand_core.proofs.values.word.draw_below.Invariants.{limit}
 use Rattle.nanorand_core.proofs.values.word.draw_below.Given as Given
 use Rattle.nanorand_core.proofs.values.word.draw_below.Goals as goal
 
@@ -49,7 +50,7 @@ pub others-init : goal.others-init
 others-init g c =
     let is : named c.args.bits c.args.size c.draw_word-first.result ≡ judged c.args.bits c.args.size c.product_of-product.result =
     rw c.product_of-product.ensures.value (named-judged _ _ _ (omega arith) c.draw_word-first.ensures.fits) in
-    rw c.draw_word-first.ensures.state (first_word _ _ word_limit _ _ _ _ _ (omega arith) c.draw_word-first.ensures.value is)
+    rw c.draw_word-first.ensures.state (first_word _ _ limit _ _ _ _ _ (omega arith) c.draw_word-first.ensures.value is)
 
 pub others-preserved : goal.others-preserved
 others-preserved g c =
@@ -85,3 +86,12 @@ returns-then-low_is_below-clause-state g c = (refused g c).state
 
 pub returns-clause-words : goal.returns-clause-words
 returns-clause-words g c = counted_words _ _ _ _ _ _ _ (found g c).state
+
+pub returns-clause-number : goal.returns-clause-number
+returns-clause-number g c =
+    let high = rw c.rejected-rejects.ensures at (sym c.low_is_below-2.ensures ∙ c.if-low_is_below.false) in
+    let is : judged c.args.bits c.args.size c.others.product ≡ Some c.high_of-2.result = rw (c.high_of-2.ensures, high) refl in
+    sym is ∙ (found g c).number
+
+pub returns-clause-state : goal.returns-clause-state
+returns-clause-state g c = (found g c).state
