@@ -8,11 +8,6 @@ pub fn byte<G: Rng<OUTPUT>, const OUTPUT: usize>(rng: &mut G) -> u8 {
     rng.generate()
 }
 
-/// The next bytes, by one request.
-pub fn bytes<const N: usize, G: Rng<OUTPUT>, const OUTPUT: usize>(rng: &mut G) -> [u8; N] {
-    rng.generate()
-}
-
 /// Bytes, each by a request of its own.
 pub fn each_byte<const N: usize, G: Rng<OUTPUT>, const OUTPUT: usize>(rng: &mut G) -> [u8; N] {
     let mut bytes = [0; N];

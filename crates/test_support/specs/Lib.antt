@@ -2,3 +2,4 @@ pub mod Steps
 pub mod Script
 pub mod Waste
 pub mod Forking
+pub mod Die

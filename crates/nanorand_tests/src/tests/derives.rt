@@ -2,6 +2,7 @@
 
 use crate::comparing::{debug_is, equal, equal_at};
 use crate::tests::texts::has_texts;
+use nanorand::PastPeriod;
 use nanorand::buffer::{RestTooLong, TextRefused};
 use nanorand::choices::weighted::WeightError;
 use nanorand::entropy::EntropyError;
@@ -106,6 +107,12 @@ const NOT_ARRANGEMENT: [(NotArrangement, &str, &str); 1] = [(
     "the list is no arrangement",
 )];
 
+const PAST_PERIOD: [(PastPeriod, &str, &str); 1] = [(
+    PastPeriod,
+    "PastPeriod",
+    "the part ends past the period of the generator",
+)];
+
 // A copy and a clone equal the value, its `Debug` text is this, and it equals the value of another case
 // only where `same` says so.
 fn check<T: Copy + Eq + Debug + Drop>(
@@ -164,5 +171,6 @@ fn of_errors(rt: HostRuntime) -> Result<(), Fail> {
     check_errors(&rt, &TEXT_REFUSED)?;
     check_errors(&rt, &REST_TOO_LONG)?;
     check_errors(&rt, &NOT_ARRANGEMENT)?;
+    check_errors(&rt, &PAST_PERIOD)?;
     Ok(())
 }

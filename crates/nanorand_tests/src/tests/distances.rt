@@ -41,6 +41,26 @@ fn of_pcg64(rt: HostRuntime) {
     }
 }
 
+// Draws lead from a seed to those that are equal modulo 8, by an even number, and to those that make 7 with it, by an
+// odd number, and to no other.
+#[test]
+fn of_small_seeds(rt: HostRuntime) {
+    for start in 0..8u64 {
+        for end in 0..16u64 {
+            let mut pcg64 = Pcg64::new_seed(u128::from(start));
+            let distance = pcg64.distance(&Pcg64::new_seed(u128::from(end)));
+            let is_equal = start == end % 8;
+            let is_near = is_equal || start.wrapping_add(end) % 8 == 7;
+            equal_at(&rt, distance.is_some(), is_near, end);
+            if let Some(draws) = distance {
+                equal_at(&rt, draws % 2 == 0, is_equal, draws);
+                pcg64.jump(draws);
+                equal_at(&rt, pcg64.seed(), u128::from(end), draws);
+            }
+        }
+    }
+}
+
 #[test]
 fn a_jump_is_its_draws(rt: HostRuntime) {
     let (mut wyrand, mut pcg64) = (WyRand::new_seed(42), Pcg64::new_seed(42));

@@ -1,31 +1,81 @@
 //! The entropy readers, and a generator made from one, by a reader whose bytes no contract names.
 
 use crate::comparing::{debug_is, equal, equal_at};
-use nanorand::WyRand;
 use nanorand::entropy::{EntropyError, backup, rdseed, system};
+use nanorand::{ChaCha20, Pcg64, WyRand};
 use std::io::ErrorKind;
 use std::process::Abort;
 use std::test::Fail;
 use test_support::{ERROR_KINDS, Pieces};
 
-const BYTES: [u8; 9] = [0x2a, 0, 0, 0, 0, 0, 0, 0, 99];
+const KEY: [u8; 32] = [
+    0x2a, 0, 0, 0, 0, 0, 0, 0, 0, 0, 0, 0, 0, 0, 0, 0, 16, 17, 18, 19, 20, 21, 22, 23, 24, 25, 26,
+    27, 28, 29, 30, 31,
+];
 
-// Exactly the bytes that are needed are taken, in pieces of any size.
+const NONCE: [u8; 8] = [32, 33, 34, 35, 36, 37, 38, 39];
+
+// The key, the nonce and a byte more.
+const BYTES: [u8; 41] = [
+    0x2a, 0, 0, 0, 0, 0, 0, 0, 0, 0, 0, 0, 0, 0, 0, 0, 16, 17, 18, 19, 20, 21, 22, 23, 24, 25, 26,
+    27, 28, 29, 30, 31, 32, 33, 34, 35, 36, 37, 38, 39, 99,
+];
+
+// What is made of a reader's bytes.
+#[derive(Clone, Copy)]
+enum Made {
+    Slice,
+    WyRand,
+    Pcg64,
+    ChaCha,
+}
+
+// Each, with the number of bytes that it takes.
+const MADE: [(Made, u64); 4] = [
+    (Made::Slice, 11),
+    (Made::WyRand, 8),
+    (Made::Pcg64, 16),
+    (Made::ChaCha, 40),
+];
+
+fn make(made: Made, source: &mut Pieces<'_>) -> Result<(), EntropyError> {
+    match made {
+        Made::Slice => system(source, &mut [0; 11]),
+        Made::WyRand => WyRand::new(source).map(|_| ()),
+        Made::Pcg64 => Pcg64::new(source).map(|_| ()),
+        Made::ChaCha => ChaCha20::new(source).map(|_| ()),
+    }
+}
+
+// Exactly the bytes that are needed are taken, in pieces of any size: of ChaCha first the key and then the nonce.
 #[test]
 fn the_next_bytes(rt: HostRuntime) -> Result<(), Fail> {
     for piece in [1, 7, 50] {
         let mut source = Pieces::of(&BYTES, piece);
         let wyrand = WyRand::new(&mut source).or(Err("no generator"))?;
         debug_is(&rt, &wyrand, "WyRand { seed: 0x2a }")?;
+        equal_at(&rt, source.left(), 33, piece);
+        let mut source = Pieces::of(&BYTES, piece);
+        let pcg64 = Pcg64::new(&mut source).or(Err("no generator"))?;
+        debug_is(&rt, &pcg64, "Pcg64 { seed: 0x2a, state: 0x0, inc: 0x0 }")?;
+        equal_at(&rt, source.left(), 25, piece);
+        let mut source = Pieces::of(&BYTES, piece);
+        let chacha = ChaCha20::new(&mut source).or(Err("no generator"))?;
+        equal_at(&rt, chacha == ChaCha20::new_key(KEY, NONCE), true, piece);
         equal_at(&rt, source.left(), 1, piece);
     }
     Ok(())
 }
 
 // The call has this outcome, after this many reads.
-fn ends(rt: &impl Abort, mut source: Pieces<'_>, outcome: Result<(), EntropyError>, reads: u64) {
-    let made = WyRand::new(&mut source).map(|_| ());
-    equal_at(rt, made, outcome, reads);
+fn ends(
+    rt: &impl Abort,
+    made: Made,
+    mut source: Pieces<'_>,
+    outcome: Result<(), EntropyError>,
+    reads: u64,
+) {
+    equal_at(rt, make(made, &mut source), outcome, reads);
     equal_at(rt, source.reads(), reads, reads);
 }
 
@@ -34,25 +84,19 @@ fn ends(rt: &impl Abort, mut source: Pieces<'_>, outcome: Result<(), EntropyErro
 // needed, not even no bytes.
 #[test]
 fn too_few_bytes(rt: HostRuntime) {
-    for length in 0..8u64 {
-        let short = Pieces::of(&BYTES[..length as usize], 1);
-        ends(&rt, short, Err(EntropyError::Short), length.wrapping_add(1));
-        for kind in ERROR_KINDS {
-            let failing = Pieces::failing(&BYTES, 1, length, kind);
-            ends(
-                &rt,
-                failing,
-                Err(EntropyError::Fault),
-                length.wrapping_add(1),
-            );
+    for (made, size) in MADE {
+        for length in 0..size {
+            let reads = length.wrapping_add(1);
+            let short = Pieces::of(&BYTES[..length.min(40) as usize], 1);
+            ends(&rt, made, short, Err(EntropyError::Short), reads);
+            for kind in ERROR_KINDS {
+                let failing = Pieces::failing(&BYTES, 1, length, kind);
+                ends(&rt, made, failing, Err(EntropyError::Fault), reads);
+            }
         }
+        let failing = Pieces::failing(&BYTES, 1, size, ErrorKind::Other);
+        ends(&rt, made, failing, Ok(()), size);
     }
-    ends(
-        &rt,
-        Pieces::failing(&BYTES, 1, 8, ErrorKind::Other),
-        Ok(()),
-        8,
-    );
 }
 
 // An empty slice asks no reader.
@@ -62,6 +106,7 @@ fn no_source_and_no_bytes(rt: HostRuntime) {
     equal(&rt, rdseed(&mut out), None);
     equal(&rt, backup(&mut out), Err(EntropyError::Unavailable));
     equal(&rt, out, [9, 9]);
+    equal(&rt, backup(&mut []), Err(EntropyError::Unavailable));
     let mut source = Pieces::failing(&[1], 1, 0, ErrorKind::BrokenPipe);
     equal(&rt, system(&mut source, &mut []), Ok(()));
     equal(&rt, source.reads(), 0);

@@ -1,12 +1,12 @@
-//! Bounds at both ends of the ten types, and the words that a draw takes.
+//! Bounds of each pair of kinds at both ends of the ten types, and the numbers that words name.
 
 use crate::comparing::{equal, equal_at};
 use nanorand::replay::{Answer, Call, Span, replay};
-use nanorand::{RandomRange, RangeError};
+use nanorand::values::pick_word;
 use std::ops::Bound::{Excluded, Included, Unbounded};
-use test_support::{Script, Steps};
+use test_support::Script;
 
-// Ranges at the least two numbers of a type and at the greatest two.
+// Ranges at the least two numbers of a type and at the greatest two: the nine pairs of kinds of bounds.
 macro_rules! ranges {
     ($type:ident, $least:literal, $second:literal, $before:literal, $last:literal) => {
         [
@@ -18,11 +18,14 @@ macro_rules! ranges {
             Call::Range(Span::$type(Excluded($before), Included($last))),
             Call::Range(Span::$type(Unbounded, Excluded($last))),
             Call::Range(Span::$type(Excluded($last), Unbounded)),
+            Call::Range(Span::$type(Included($before), Included($last))),
+            Call::Range(Span::$type(Included($before), Unbounded)),
+            Call::Range(Span::$type(Unbounded, Included($least))),
         ]
     };
 }
 
-const RANGES: [[Call; 8]; 10] = [
+const RANGES: [[Call; 11]; 10] = [
     ranges!(U8, 0, 1, 254, 255),
     ranges!(U16, 0, 1, 65534, 65535),
     ranges!(U32, 0, 1, 0xffff_fffe, 0xffff_ffff),
@@ -102,8 +105,8 @@ const ENDS: [[Answer; 3]; 10] = [
 ];
 
 // The answers by words of 0, or by these.
-fn answers_by(words: &[u64], calls: &[Call; 8]) -> [Answer; 8] {
-    let mut answers = [Answer::Shuffled; 8];
+fn answers_by(words: &[u64], calls: &[Call; 11]) -> [Answer; 11] {
+    let mut answers = [Answer::Shuffled; 11];
     replay(&mut Script::new(words), calls, &mut [], &mut answers);
     answers
 }
@@ -113,29 +116,32 @@ fn answers_by(words: &[u64], calls: &[Call; 8]) -> [Answer; 8] {
 fn bounds_at_both_ends(rt: HostRuntime) {
     let (none, rejected) = (Answer::Empty, Answer::Exhausted);
     for (calls, [least, last, before]) in RANGES.iter().zip(ENDS) {
-        let by_least = [least, least, rejected, none, none, last, rejected, none];
+        let by_least = [
+            least, least, rejected, none, none, last, rejected, none, before, before, least,
+        ];
         equal(&rt, answers_by(&[], calls), by_least);
-        let by_greatest = [last, least, last, none, none, last, before, none];
-        equal(&rt, answers_by(&[u64::MAX; 8], calls), by_greatest);
+        let by_greatest = [
+            last, least, last, none, none, last, before, none, last, last, least,
+        ];
+        equal(&rt, answers_by(&[u64::MAX; 11], calls), by_greatest);
     }
 }
 
-// The last of 128 words may decide. An empty range draws none.
+// Sizes of ranges of 64 bits, words, and the number that each names. Those of 8 bits are in `runs`.
+const NAMED: [(u128, u64, Option<u64>); 6] = [
+    ((1 << 63) + 1, 0, None),
+    ((1 << 63) + 1, 1, Some(0)),
+    ((1 << 63) + 1, 2, None),
+    ((1 << 63) + 1, 3, Some(1)),
+    ((1 << 63) + 1, u64::MAX, Some(1 << 63)),
+    (1 << 64, u64::MAX, Some(u64::MAX)),
+];
+
 #[test]
-fn words_drawn(rt: HostRuntime) {
-    for (zeros, number, drawn) in [
-        (0, Ok(10), 1),
-        (127, Ok(10), 128),
-        (128, Err(RangeError::Exhausted), 128),
-    ] {
-        let start = 0u64.wrapping_sub(zeros);
-        let mut script = Script::from_block(&[1], start);
-        let answer = u8::random_range(&mut script, Included(10), Included(12));
-        equal_at(&rt, answer, number, zeros);
-        equal_at(&rt, script.drawn().wrapping_sub(start), drawn, zeros);
+fn words_of_64_bits(rt: HostRuntime) {
+    for (size, word, number) in NAMED {
+        if 1 <= size && size <= 1 << 64 {
+            equal_at(&rt, pick_word(size, 64, word), number, word);
+        }
     }
-    let mut steps = Steps::new();
-    let empty = i32::random_range(&mut steps, Included(10), Included(5));
-    equal(&rt, empty, Err(RangeError::Empty));
-    equal(&rt, steps.drawn(), 0);
 }
