@@ -224,7 +224,6 @@ mod tests {
     use std::vec::Vec;
 
     const EINTR: i32 = 4;
-    const EIO: i32 = 5;
 
     // The size that is asked for, and the count or the error of the system that comes back.
     type Request = (usize, Result<usize, i32>);
@@ -271,16 +270,19 @@ mod tests {
         }
     }
 
+    // Any error but an interruption ends a fill at any of its requests, and is returned.
     #[test]
     fn failures() {
-        let rows: [&[Request]; 3] = [
-            &[(8, Err(EIO))],
-            &[(8, Ok(3)), (5, Err(EIO))],
-            &[(8, Err(EINTR)), (8, Err(EIO))],
-        ];
-        for requests in rows {
-            let error = filled_by(requests, 8).1.expect_err("a failure");
-            assert_eq!(error.raw_os_error(), Some(EIO), "{requests:?}");
+        for number in (1..134).filter(|number| *number != EINTR) {
+            let rows: [&[Request]; 3] = [
+                &[(8, Err(number))],
+                &[(8, Ok(3)), (5, Err(number))],
+                &[(8, Err(EINTR)), (8, Err(number))],
+            ];
+            for requests in rows {
+                let error = filled_by(requests, 8).1.expect_err("a failure");
+                assert_eq!(error.raw_os_error(), Some(number), "{requests:?}");
+            }
         }
         for requests in [&[(8, Ok(0))][..], &[(8, Ok(7)), (1, Ok(0))]] {
             let error = filled_by(requests, 8).1.expect_err("no byte");
@@ -292,6 +294,7 @@ mod tests {
     #[cfg(all(target_os = "linux", not(miri)))]
     #[test]
     fn the_systems_own_error() {
+        const EIO: i32 = 5;
         const EINVAL: i32 = 22;
         let refused = super::call::request_with(&mut [0; 8], !0).expect_err("unknown flags");
         assert_eq!(refused.raw_os_error(), Some(EINVAL));

@@ -1,10 +1,13 @@
 //! A whole run: what arguments ask for, which are refused, and writers that fail.
 
+#[path = "../../tests/common/kinds.rs"]
+mod kinds;
 #[path = "../../program/tests/common/writer.rs"]
 mod writer;
 
 use draw::run::{report, run};
 use draw::DrawError;
+use kinds::kinds;
 use std::io::ErrorKind;
 use writer::{Does, Writer};
 
@@ -295,6 +298,44 @@ fn a_failed_write_is_an_error() {
         let mut out = Writer::new(write, flush);
         assert_eq!(run(&arguments, &mut out), outcome);
         assert_eq!(out.taken, text.as_bytes()[..taken]);
+    }
+}
+
+/// A writer that takes a byte a call fails at any of them, the last of which is the flush, by an error of any kind.
+/// Only a write that was interrupted is made again.
+#[test]
+fn a_write_or_flush_that_fails_by_any_kind_of_error() {
+    let arguments = ["wyrand", SEED, "plain", "2", "u8"].map(String::from);
+    let text = b"218\nitems: 0 1\n";
+    for kind in kinds() {
+        for call in 0..=text.len() {
+            let mut out = Writer::failing(call, kind);
+            let outcome = run(&arguments, &mut out);
+            let taken = if kind == ErrorKind::Interrupted && call < text.len() {
+                assert_eq!((outcome, out.calls.len()), (Ok(()), text.len() + 2));
+                text.len()
+            } else {
+                let ended = (outcome, out.calls.len());
+                assert_eq!(ended, (Err(DrawError::Write), call + 1), "{kind:?}");
+                call
+            };
+            assert_eq!(out.taken, text[..taken], "{kind:?} at {call}");
+        }
+    }
+}
+
+/// The status is the same where the line of an error cannot be written, whatever the reason.
+#[test]
+fn a_report_that_fails_by_any_kind_of_error() {
+    let line = b"draw: bad word 12\n";
+    for kind in kinds() {
+        for call in 0..line.len() {
+            let mut err = Writer::failing(call, kind);
+            assert_eq!(report(Err(DrawError::BadWord(12)), &mut err), 2, "{kind:?}");
+            let whole = kind == ErrorKind::Interrupted;
+            let taken = if whole { line.len() } else { call };
+            assert_eq!(err.taken, line[..taken], "{kind:?} at {call}");
+        }
     }
 }
 

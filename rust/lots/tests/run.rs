@@ -1,9 +1,12 @@
 //! A whole run over readers and writers whose bytes and failures are known.
 
+#[path = "../../tests/common/kinds.rs"]
+mod kinds;
 #[path = "../../program/tests/common/writer.rs"]
 mod writer;
 
-use lots::run::run;
+use kinds::kinds;
+use lots::run::{report, run};
 use lots::LotsError;
 use std::collections::VecDeque;
 use std::io::{ErrorKind, Read, Result};
@@ -91,18 +94,63 @@ fn lists_of_every_size_around_that_of_a_piece() {
     }
 }
 
+/// A reader that gives a byte a read fails at any of them, also where it would end, by an error of any kind. Only a
+/// read that was interrupted is made again.
 #[test]
-fn a_failed_read_writes_nothing() {
-    for (kind, error) in [
-        (ErrorKind::Other, LotsError::Read),
-        (ErrorKind::WouldBlock, LotsError::Read),
-        (ErrorKind::UnexpectedEof, LotsError::Read),
-        (ErrorKind::NotConnected, LotsError::Read),
-        (ErrorKind::OutOfMemory, LotsError::Memory),
-    ] {
-        for pieces in [[Err(kind), Ok(LIST)], [Ok(LIST), Err(kind)]] {
+fn a_read_that_fails_by_any_kind_of_error() {
+    for kind in kinds() {
+        let error = match kind {
+            ErrorKind::Interrupted => None,
+            ErrorKind::OutOfMemory => Some(LotsError::Memory),
+            _ => Some(LotsError::Read),
+        };
+        for read in 0..=LIST.len() {
+            let mut pieces: Vec<_> = LIST.chunks(1).map(Ok).collect();
+            pieces.insert(read, Err(kind));
             let (outcome, out) = run_of(&pieces, Writer::willing());
-            assert_eq!((outcome, out.calls.len()), (Err(error), 0), "{kind:?}");
+            assert_eq!(outcome.err(), error, "{kind:?} at {read}");
+            let taken = if error.is_none() { DRAWN } else { b"" };
+            assert_eq!(out.taken, taken, "{kind:?} at {read}");
+            assert_eq!(out.calls.is_empty(), error.is_some());
+        }
+    }
+}
+
+/// A writer that takes a byte a call fails at any of them, the last of which is the flush, by an error of any kind.
+/// Only a write that was interrupted is made again.
+#[test]
+fn a_write_or_flush_that_fails_by_any_kind_of_error() {
+    for kind in kinds() {
+        for call in 0..=DRAWN.len() {
+            let (outcome, out) = run_of(&[Ok(LIST)], Writer::failing(call, kind));
+            let ended = (outcome, out.calls.len());
+            let taken = if kind == ErrorKind::Interrupted && call < DRAWN.len() {
+                assert_eq!(ended, (Ok(()), DRAWN.len() + 2), "at {call}");
+                DRAWN.len()
+            } else {
+                assert_eq!(ended, (Err(LotsError::Write), call + 1), "{kind:?}");
+                call
+            };
+            assert_eq!(out.taken, DRAWN[..taken], "{kind:?} at {call}");
+        }
+    }
+}
+
+/// The status is the same where the line of an error cannot be written, whatever the reason.
+#[test]
+fn a_report_that_fails_by_any_kind_of_error() {
+    let line = b"lots: line 12 is empty\n";
+    for kind in kinds() {
+        for call in 0..line.len() {
+            let mut err = Writer::failing(call, kind);
+            assert_eq!(
+                report(Err(LotsError::EmptyLine(12)), &mut err),
+                4,
+                "{kind:?}"
+            );
+            let whole = kind == ErrorKind::Interrupted;
+            let taken = if whole { line.len() } else { call };
+            assert_eq!(err.taken, line[..taken], "{kind:?} at {call}");
         }
     }
 }

@@ -1,6 +1,8 @@
 //! Generators whose bytes are known, and a reader that ends early or fails.
 #![allow(dead_code)] // each file of tests uses some of them
 
+pub mod kinds;
+
 use nanorand_proved::rand::fill_by_blocks;
 use nanorand_proved::Rng;
 use std::io::{self, ErrorKind, Read};
