@@ -180,7 +180,7 @@ fn is_refused(arguments: &[String], number: usize) {
 #[test]
 fn all_numbers_of_requests() {
     let mut rng = WyRand::new_seed(1);
-    for size in sizes(32_769) {
+    for size in sizes(32_769).into_iter().chain([131_073]) {
         let drawn = (0..size).map(|_| REQUESTS[rng.range(0..24_usize)]);
         let (words, calls): (Vec<&str>, Vec<Call>) = drawn.unzip();
         let count = rng.range(0..=(2000 / size.max(1)).min(1000));

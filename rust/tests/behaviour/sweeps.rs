@@ -9,7 +9,7 @@ use std::fmt::{Debug, Display};
 use std::io::ErrorKind;
 use std::iter::successors;
 
-const MOST: usize = 1_000_000;
+const MOST: usize = 2_100_000;
 
 /// A word of any length in bits: led by zeros or by ones, followed by zeros, a power of two or beside one, with
 /// few bits or with many. A bug between two bounds is met wherever these are.
@@ -39,14 +39,14 @@ fn option(rng: &mut WyRand) -> usize {
     number(rng, usize::from(u16::MAX))
 }
 
-/// Sizes up to `MOST`: the powers of two with their neighbours, and sizes of which each is above the last one by a
-/// sixteenth or less.
+/// Sizes up to `MOST`: the powers of two with their neighbours, and up to half of `MOST` sizes of which each is above
+/// the last one by a sixteenth or less.
 fn sizes() -> Vec<usize> {
     let mut rng = WyRand::new_seed(0x5eed);
-    let powers = (0..20).map(|bit| 1 << bit);
+    let powers = (0..22).map(|bit| 1 << bit);
     let near_powers = powers.flat_map(|power| [power - 1, power, power + 1]);
     let steps = successors(Some(1), |size| Some(size + rng.range(1..=size / 16 + 1)));
-    let steps = steps.take_while(|size| *size <= MOST);
+    let steps = steps.take_while(|size| *size <= MOST / 2);
     near_powers.chain(steps).chain([MOST]).collect()
 }
 
@@ -216,7 +216,7 @@ fn writes_one(rejected: usize, word: u64, mark: u32, items: &mut [u32], expected
 #[test]
 fn one_item_is_lent() {
     let mut rng = WyRand::new_seed(5);
-    let mut items: Vec<u32> = (0..1_000_000).collect();
+    let mut items: Vec<u32> = (0..2_100_000).collect();
     let mut expected = items.clone();
     for size in sizes() {
         let (items, expected) = (&mut items[..size], &mut expected[..size]);
