@@ -1,5 +1,7 @@
 //! A whole run: what arguments ask for, which are refused, and writers that fail.
 
+#[path = "../../tests/common/formats.rs"]
+mod formats;
 #[path = "../../tests/common/kinds.rs"]
 mod kinds;
 #[path = "../../program/tests/common/writer.rs"]
@@ -7,6 +9,7 @@ mod writer;
 
 use draw::run::{report, run};
 use draw::DrawError;
+use formats::is_displayed;
 use kinds::kinds;
 use std::io::ErrorKind;
 use writer::{Does, Writer};
@@ -350,6 +353,7 @@ fn errors_are_reported_in_one_line() {
         (DrawError::Memory, 3, "no memory"),
         (DrawError::Write, 4, "write failed"),
     ] {
+        is_displayed(&error, text, [20, 3]);
         let mut line = Vec::new();
         assert_eq!(report(Err(error), &mut line), status);
         assert_eq!(line, format!("draw: {text}\n").as_bytes());
