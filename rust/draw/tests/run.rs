@@ -116,6 +116,52 @@ fn the_first_argument_that_cannot_be_read_is_named() {
     }
 }
 
+/// What may stand beside an argument: ends of lines, a NUL, marks and letters past ASCII, and nothing.
+const STRANGE: [&str; 13] = [
+    "",
+    " ",
+    "\t",
+    "\r",
+    "\n",
+    "\0",
+    "\u{7f}",
+    "\u{e9}",
+    "\u{301}",
+    "\u{2212}",
+    "\u{feff}",
+    "\u{ff15}",
+    "\u{10ffff}",
+];
+
+/// In the place of each argument, something strange alone, before it or after it, and again in the last place, by each
+/// generator in each mode.
+#[test]
+fn strange_arguments_are_refused() {
+    let seeds = [8, 16, 40, 40, 40].map(|bytes| "5a".repeat(bytes));
+    let names = ["wyrand", "pcg64", "chacha8", "chacha12", "chacha20"];
+    for (name, seed) in names.into_iter().zip(&seeds) {
+        for mode in ["plain", "buffered"] {
+            let good = [name, seed, mode, "2", "u8", "i16:-3..5", "shuffle"];
+            assert!(text_of(&good).is_ok());
+            for (place, word) in good.iter().enumerate() {
+                for strange in STRANGE {
+                    let before = format!("{strange}{word}");
+                    let after = format!("{word}{strange}");
+                    for bad in [strange, &*before, &*after] {
+                        let mut words = good;
+                        words[6] = bad;
+                        words[place] = bad;
+                        let wanted = DrawError::BadWord(place + 1);
+                        if bad != *word {
+                            assert_eq!(text_of(&words), Err(wanted), "{words:?}");
+                        }
+                    }
+                }
+            }
+        }
+    }
+}
+
 #[test]
 fn seeds_have_two_digits_a_byte() {
     for (generator, bytes) in [

@@ -8,7 +8,7 @@ mod writer;
 use kinds::kinds;
 use lots::run::{report, run};
 use lots::LotsError;
-use std::collections::VecDeque;
+use std::collections::{HashSet, VecDeque};
 use std::io::{ErrorKind, Read, Result};
 use writer::{Does, Writer};
 
@@ -189,6 +189,88 @@ fn other_arguments_are_refused_before_anything_is_read() {
         let mut out = Writer::willing();
         assert_eq!(run(&words, &mut Unread, &mut out), Err(LotsError::Usage));
         assert!(out.calls.is_empty(), "{words:?}");
+    }
+}
+
+/// What may stand beside a word: ends of lines, a NUL, marks and letters past ASCII.
+const STRANGE: [&str; 12] = [
+    " ",
+    "\t",
+    "\r",
+    "\n",
+    "\0",
+    "\u{7f}",
+    "\u{e9}",
+    "\u{301}",
+    "\u{2212}",
+    "\u{feff}",
+    "\u{ff15}",
+    "\u{10ffff}",
+];
+
+/// Something strange alone, before a word and after it.
+fn strange_words(word: &str) -> Vec<String> {
+    let beside = |strange: &&str| [format!("{strange}{word}"), format!("{word}{strange}")];
+    let alone = STRANGE.iter().map(|strange| (*strange).to_string());
+    STRANGE.iter().flat_map(beside).chain(alone).collect()
+}
+
+/// They are refused as a count, whatever the seed, and nothing is read. As a seed, each draws another order, and has the
+/// errors of any seed.
+#[test]
+fn strange_seeds_and_counts() {
+    let list: Vec<u8> = (b'a'..=b'z').flat_map(|letter| [letter, b'\n']).collect();
+    let mut orders = HashSet::new();
+    for seed in strange_words("seed").into_iter().chain(["seed".into()]) {
+        let outcome = |count: &str, mut list: &[u8]| {
+            let mut out = Writer::willing();
+            let ended = run(&[seed.clone(), count.into()], &mut list, &mut out);
+            ended.map(|()| out.taken)
+        };
+        for count in strange_words("1").into_iter().chain(strange_words("all")) {
+            let ended = run(&[seed.clone(), count], &mut Unread, &mut Writer::willing());
+            assert_eq!(ended, Err(LotsError::Usage), "{seed:?}");
+        }
+        let (entrants, count) = (26, 27);
+        let too_few = LotsError::TooFew { entrants, count };
+        assert_eq!(outcome("27", &list), Err(too_few));
+        assert_eq!(outcome("1", b"a\n\n"), Err(LotsError::EmptyLine(2)));
+        let all = outcome("all", &list).unwrap();
+        assert_eq!(outcome("26", &list).as_ref(), Ok(&all));
+        assert!(orders.insert(all), "{seed:?}");
+    }
+}
+
+/// Lines keep each byte but the line feed, whatever stands beside them.
+#[test]
+fn strange_lines() {
+    let mut beside: Vec<Vec<u8>> = vec![vec![0xff], vec![0xfe, 0xff], vec![0xc3]];
+    beside.extend(
+        STRANGE
+            .iter()
+            .filter(|word| **word != "\n")
+            .map(|word| word.as_bytes().to_vec()),
+    );
+    for strange in beside {
+        for line in [
+            &strange[..],
+            &[&strange, b"a".as_slice()].concat(),
+            &[b"a", &strange[..]].concat(),
+        ] {
+            let (list, line_feed) = ([line, b"\n", line].concat(), [line, b"\n"].concat());
+            let (outcome, out) = run_of(&[Ok(&list)], Writer::willing());
+            assert_eq!(
+                (outcome, out.taken),
+                (Ok(()), line_feed.repeat(2)),
+                "{line:?}"
+            );
+            let empty = [&line_feed, &line_feed, b"\n".as_slice()].concat();
+            let (outcome, out) = run_of(&[Ok(&empty)], Writer::willing());
+            assert_eq!(
+                (outcome, out.calls.len()),
+                (Err(LotsError::EmptyLine(3)), 0)
+            );
+        }
     }
 }
 
