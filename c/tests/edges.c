@@ -158,17 +158,40 @@ static int all_are(const size_t *items, size_t length, size_t wanted)
         check(#G, "a large fill", memcmp(whole, pieces, LARGE) == 0 && whole[LARGE] == 0xee);      \
     }                                                                                              \
                                                                                                    \
+    /* Exchanges each item with one of those from it on, or of all, whose index is drawn. */       \
+    static int exchange_##G(S *state, size_t *items, int full)                                     \
+    {                                                                                              \
+        int drawn = 1;                                                                             \
+        for (size_t place = 0; place < ITEMS; place++) {                                           \
+            size_t other = 0;                                                                      \
+            size_t item = items[place];                                                            \
+            size_t first = full ? 0 : place;                                                       \
+            drawn &= nanorand_##G##_range_usize(state, first, ITEMS - 1, &other) == NANORAND_OK;   \
+            items[place] = items[other];                                                           \
+            items[other] = item;                                                                   \
+        }                                                                                          \
+        return drawn;                                                                              \
+    }                                                                                              \
+                                                                                                   \
     static void shuffles_##G(S start)                                                              \
     {                                                                                              \
         static size_t items[ITEMS];                                                                \
+        static size_t same[ITEMS];                                                                 \
         S state = start;                                                                           \
+        S other = start;                                                                           \
         for (size_t place = 0; place < ITEMS; place++) {                                           \
             items[place] = place;                                                                  \
+            same[place] = place;                                                                   \
         }                                                                                          \
         check(#G, "a large shuffle", nanorand_##G##_shuffle(&state, items, ITEMS) == 0);           \
         check(#G, "its items", is_permutation(items, ITEMS));                                      \
+        check(#G, "its indices", exchange_##G(&other, same, 0));                                   \
+        check(#G, "its order", memcmp(items, same, sizeof items) == 0);                            \
         check(#G, "a full one", nanorand_##G##_shuffle_full(&state, items, ITEMS) == 0);           \
         check(#G, "the same items", is_permutation(items, ITEMS));                                 \
+        check(#G, "their indices", exchange_##G(&other, same, 1));                                 \
+        check(#G, "their order", memcmp(items, same, sizeof items) == 0);                          \
+        check(#G, "what is drawn", memcmp(&state, &other, sizeof state) == 0);                     \
         check(#G, "a sample of all", nanorand_##G##_sample(&state, 1000, items, 1000) == 0);       \
         check(#G, "each once", is_permutation(items, 1000));                                       \
     }                                                                                              \

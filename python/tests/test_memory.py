@@ -218,6 +218,15 @@ class Leaks(unittest.TestCase):
         for name, call in OF_LOTS.items():
             with self.subTest(name=name):
                 self.keeps_nothing(call)
+        octets = bytes(range(65, 91))
+        views = bytearray(octets), memoryview(octets), array.array("B", octets)
+        for text in (octets, octets + b"\n\n", *views, TEXT, OTHER):
+            for call in (lots.digest, lots.count):
+                with self.subTest(name=call.__name__, kind=type(text).__name__):
+                    self.keeps_nothing(refused, call, text)
+            for seed in (text, octets):
+                with self.subTest(name="draw", kind=type(text).__name__):
+                    self.keeps_nothing(refused, lots.draw, seed, text)
 
     def test_long_memory(self):
         """Arrays that are too long for Python's own allocator, by what the process holds."""

@@ -191,6 +191,29 @@ class Randoms(unittest.TestCase):
             rng.seed(a=2, version=1)
             self.assertEqual(rng.generator, kind(2).generator)
 
+    def test_a_seed_drops_what_gauss_has_kept(self):
+        for kind in RANDOMS:
+            for seed in (None, 0, 2, -1, 2**400, 1.5, "text", b"octets", bytearray(b"octets")):
+                rng = kind(1)
+                rng.gauss(0, 1)
+                self.assertIsNotNone(rng.getstate()[2])
+                rng.seed(seed)
+                self.assertIsNone(rng.getstate()[2])
+                if seed is not None:
+                    self.assertEqual(rng.getstate(), kind(seed).getstate())
+
+    def test_each_octet_of_a_seed_counts(self):
+        """At both ends too, where other things are often cut off."""
+        whole = [b"", b"a", b"octets", bytes(31), bytes(100)]
+        seeds = [*whole, *(octets + end for octets in whole for end in (b"\0", b"\0\0", b" ", b"\n", b"\xff"))]
+        seeds += [end + octets for octets in whole for end in (b"\0", b" ", b"\n", b"\xef\xbb\xbf")]
+        for kind in RANDOMS:
+            length = SEED_LENGTHS.get(kind.__name__, 32)
+            for octets in seeds:
+                wanted = hashlib.sha256(octets).digest()[:length]
+                for seed in (octets, bytearray(octets)):
+                    self.assertEqual(kind(seed).getstate()[1][:length], wanted)
+
     def test_a_refused_seed_changes_nothing(self):
         for kind in RANDOMS:
             rng = kind(1)

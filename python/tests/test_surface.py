@@ -185,16 +185,28 @@ class Secrets(unittest.TestCase):
 
 class Errors(unittest.TestCase):
     def test_errors_cross_processes(self):
-        """As of a pool of workers, which pickles them."""
-        made = [errors.EmptyLine(7), errors.TooFew(3, 4), errors.ForeignState("WyRand")]
-        made += [getattr(errors, name)() for name in ("EmptyRange", "Exhausted", "EmptySeed", "SeedNotText")]
-        texts = ("OutOfBounds", "PastPeriod", "WrongLength", "LibraryRefused")
-        made += [getattr(errors, name)("why") for name in texts]
-        self.assertEqual({type(error).__name__ for error in made} | {"NanorandError"}, set(errors.__all__))
-        for error in made:
-            for again in (pickle.loads(pickle.dumps(error)), copy.copy(error)):
-                self.assertIs(type(again), type(error))
-                self.assertEqual((str(again), vars(again)), (str(error), vars(error)))
+        """As of a pool of workers, which pickles them: with arguments, text, attributes and what was added to them."""
+        rows = [(errors.EmptyLine, (7,), "line 7 is empty", {"line": 7}),
+                (errors.TooFew, (3, 4), "3 entrants, 4 asked for", {"entrants": 3, "count": 4}),
+                (errors.ForeignState, ("WyRand",), "the state is not one of WyRand", {"generator": "WyRand"}),
+                (errors.EmptyRange, (), "there is no number or item to draw", {}),
+                (errors.Exhausted, (), "128 words in a row were rejected", {}),
+                (errors.EmptySeed, (), "the seed is empty", {}),
+                (errors.SeedNotText, (), "the seed is not UTF-8", {})]
+        told = ("EmptyRange", "OutOfBounds", "PastPeriod", "WrongLength", "LibraryRefused", "NanorandError")
+        rows += [(getattr(errors, name), ("why not",), "why not", {}) for name in told]
+        self.assertEqual({kind.__name__ for kind, *_ in rows}, set(errors.__all__))
+        ways = [copy.copy, copy.deepcopy]
+        ways += [lambda error, protocol=protocol: pickle.loads(pickle.dumps(error, protocol))
+                 for protocol in range(pickle.HIGHEST_PROTOCOL + 1)]
+        for kind, arguments, text, attributes in rows:
+            for way in ways:
+                error = kind(*arguments)
+                error.added = [1]
+                for again in (error, way(error), way(way(error))):
+                    self.assertIs(type(again), kind)
+                    self.assertEqual((again.args, str(again)), (arguments, text))
+                    self.assertEqual(vars(again), {**attributes, "added": [1]})
 
 
 class Imports(unittest.TestCase):

@@ -144,12 +144,16 @@ impl EightLanes {
     /// Calls `fill_eight`, compiled for AVX2.
     #[inline(always)]
     pub(crate) fn run<W: Wide>(self, work: &mut W, out: &mut [u8]) {
+        #[cfg(test)]
+        tests::count_group();
         eight::run(self, work, out);
     }
 
     /// Calls `next_eight`, compiled for AVX2.
     #[inline(always)]
     pub(crate) fn next<W: Wide>(self, work: &mut W) -> [u8; 512] {
+        #[cfg(test)]
+        tests::count_group();
         eight::next(self, work)
     }
 }
@@ -608,8 +612,17 @@ mod plain {
 #[cfg(test)]
 mod tests {
     use super::{lanes, plain, plain_eight, EightLanes, U32x4, U32x8};
+    use crate::{ChaCha20, ChaCha20Stream, Keystream, Rng};
+    use core::sync::atomic::{AtomicUsize, Ordering};
 
     const CASES: usize = 250_000;
+
+    // How many groups of eight blocks were computed on eight words.
+    static GROUPS: AtomicUsize = AtomicUsize::new(0);
+
+    pub(super) fn count_group() {
+        GROUPS.fetch_add(1, Ordering::Relaxed);
+    }
 
     // Random words for the cases alone: xorshift, which is nothing of this library.
     struct Words(u64);
@@ -796,6 +809,33 @@ mod tests {
             assert_eq!(both(x.woven_pairs(y)), plain_eight::woven_pairs(a, b));
             assert_eq!(both(x.joined(y)), plain_eight::joined(a, b));
         });
+    }
+
+    // No other test of this program draws so many bytes of ChaCha.
+    #[test]
+    fn eight_words_are_used_where_they_can_be() {
+        #[cfg(all(feature = "std", target_arch = "x86_64"))]
+        assert_eq!(
+            EightLanes::find().is_some(),
+            std::is_x86_feature_detected!("avx2")
+        );
+        let groups_of = |fill: &mut dyn FnMut(&mut [u8]), size: usize| {
+            let before = GROUPS.load(Ordering::Relaxed);
+            fill(&mut [0; 5000][..size]);
+            GROUPS.load(Ordering::Relaxed) - before
+        };
+        let each = usize::from(EightLanes::find().is_some());
+        let mut rng = ChaCha20::new_key([1; 32], [2; 8]);
+        for size in [0, 511, 512, 513, 1023, 1024, 4096, 5000] {
+            let groups = groups_of(&mut |bytes| rng.fill_bytes(bytes), size);
+            assert_eq!(groups, each * (size / 512), "{size}");
+        }
+        let mut rng = ChaCha20Stream::new_key([1; 32], [2; 8]);
+        for size in [1, 512, 511, 3 * 512, 5000] {
+            let started = groups_of(&mut |bytes| rng.fill_bytes(bytes), size);
+            assert_eq!(started, each * ((size + 511) / 512), "{size}");
+            rng = ChaCha20Stream::new_key([1; 32], [2; 8]);
+        }
     }
 
     // Without std nothing asks the processor, so the target alone gives leave.

@@ -105,9 +105,16 @@ mod getentropy {
     }
 }
 
-/// `CCRandomGenerateBytes` of iOS and its kin, which fills the slice whole, or returns its own status.
 #[cfg(all(target_vendor = "apple", not(target_os = "macos")))]
-mod call {
+use common_crypto as call;
+
+/// `CCRandomGenerateBytes` of iOS and its kin, which fills the slice whole, or returns its own status. On Linux the
+/// tests have one in its place.
+#[cfg(any(
+    all(test, target_os = "linux"),
+    all(target_vendor = "apple", not(target_os = "macos")),
+))]
+mod common_crypto {
     use std::io;
     use std::os::raw::c_void;
 
@@ -129,14 +136,20 @@ mod call {
     }
 }
 
-/// `random_get` of WASI, which fills the slice whole, or returns its error.
 #[cfg(target_os = "wasi")]
-mod call {
+use wasi as call;
+
+/// `random_get` of WASI, which fills the slice whole, or returns its error. On Linux the tests have one in its place.
+#[cfg(any(all(test, target_os = "linux"), target_os = "wasi"))]
+mod wasi {
     use std::io;
 
     pub(super) const MOST: usize = usize::MAX;
 
-    #[link(wasm_import_module = "wasi_snapshot_preview1")]
+    #[cfg_attr(
+        target_os = "wasi",
+        link(wasm_import_module = "wasi_snapshot_preview1")
+    )]
     extern "C" {
         fn random_get(bytes: *mut u8, size: usize) -> i32;
     }
@@ -150,21 +163,24 @@ mod call {
     }
 }
 
-/// `ProcessPrng` of Windows, which fills the slice whole. Its library has no part for a linker, so it is
-/// loaded, and stays so.
 #[cfg(windows)]
-mod call {
+use process_prng as call;
+
+/// `ProcessPrng` of Windows, which fills the slice whole. Its library has no part for a linker, so it is
+/// loaded, and stays so. On Linux the tests have one in its place.
+#[cfg(any(all(test, target_os = "linux"), windows))]
+mod process_prng {
     use std::io;
     use std::os::raw::c_void;
 
-    type ProcessPrng = unsafe extern "system" fn(bytes: *mut u8, size: usize) -> i32;
+    pub(super) type ProcessPrng = unsafe extern "system" fn(bytes: *mut u8, size: usize) -> i32;
 
     pub(super) const MOST: usize = usize::MAX;
 
     // The system's folder alone: beside the program a library of that name would be anyone's.
     const LOAD_LIBRARY_SEARCH_SYSTEM32: u32 = 0x800;
 
-    #[link(name = "kernel32")]
+    #[cfg_attr(windows, link(name = "kernel32"))]
     extern "system" {
         fn LoadLibraryExA(name: *const u8, file: *mut c_void, flags: u32) -> *mut c_void;
         fn GetProcAddress(library: *mut c_void, name: *const u8) -> Option<ProcessPrng>;
@@ -224,7 +240,6 @@ mod tests {
     use std::vec::Vec;
 
     const EINTR: i32 = 4;
-    const EIO: i32 = 5;
 
     // The size that is asked for, and the count or the error of the system that comes back.
     type Request = (usize, Result<usize, i32>);
@@ -271,16 +286,19 @@ mod tests {
         }
     }
 
+    // Any error but an interruption ends a fill at any of its requests, and is returned.
     #[test]
     fn failures() {
-        let rows: [&[Request]; 3] = [
-            &[(8, Err(EIO))],
-            &[(8, Ok(3)), (5, Err(EIO))],
-            &[(8, Err(EINTR)), (8, Err(EIO))],
-        ];
-        for requests in rows {
-            let error = filled_by(requests, 8).1.expect_err("a failure");
-            assert_eq!(error.raw_os_error(), Some(EIO), "{requests:?}");
+        for number in (1..134).filter(|number| *number != EINTR) {
+            let rows: [&[Request]; 3] = [
+                &[(8, Err(number))],
+                &[(8, Ok(3)), (5, Err(number))],
+                &[(8, Err(EINTR)), (8, Err(number))],
+            ];
+            for requests in rows {
+                let error = filled_by(requests, 8).1.expect_err("a failure");
+                assert_eq!(error.raw_os_error(), Some(number), "{requests:?}");
+            }
         }
         for requests in [&[(8, Ok(0))][..], &[(8, Ok(7)), (1, Ok(0))]] {
             let error = filled_by(requests, 8).1.expect_err("no byte");
@@ -292,6 +310,7 @@ mod tests {
     #[cfg(all(target_os = "linux", not(miri)))]
     #[test]
     fn the_systems_own_error() {
+        const EIO: i32 = 5;
         const EINVAL: i32 = 22;
         let refused = super::call::request_with(&mut [0; 8], !0).expect_err("unknown flags");
         assert_eq!(refused.raw_os_error(), Some(EINVAL));
@@ -313,5 +332,113 @@ mod tests {
         assert!(bytes
             .chunks(100)
             .all(|part| part.iter().any(|byte| *byte != 0)));
+    }
+
+    // What stands for the calls of other systems. Each fills the bytes with ones.
+    #[cfg(target_os = "linux")]
+    #[allow(non_snake_case)]
+    mod other_systems {
+        use super::super::process_prng::ProcessPrng;
+        use std::cell::Cell;
+        use std::ffi::CStr;
+        use std::os::raw::{c_char, c_void};
+        use std::ptr::{null_mut, NonNull};
+        use std::thread_local;
+
+        thread_local! {
+            // What they return.
+            pub(super) static STATUS: Cell<i32> = const { Cell::new(0) };
+            // Whether Windows has the library, and the library the function.
+            pub(super) static LIBRARY: Cell<bool> = const { Cell::new(true) };
+            pub(super) static FUNCTION: Cell<bool> = const { Cell::new(true) };
+        }
+
+        unsafe extern "system" fn fill(bytes: *mut u8, size: usize) -> i32 {
+            bytes.write_bytes(1, size);
+            STATUS.with(Cell::get)
+        }
+
+        #[no_mangle]
+        unsafe extern "C" fn CCRandomGenerateBytes(bytes: *mut c_void, size: usize) -> i32 {
+            fill(bytes.cast(), size)
+        }
+
+        #[no_mangle]
+        unsafe extern "C" fn random_get(bytes: *mut u8, size: usize) -> i32 {
+            fill(bytes, size)
+        }
+
+        unsafe fn is(name: *const u8, text: &str) -> bool {
+            CStr::from_ptr(name.cast::<c_char>()).to_bytes() == text.as_bytes()
+        }
+
+        #[no_mangle]
+        unsafe extern "system" fn LoadLibraryExA(
+            name: *const u8,
+            file: *mut c_void,
+            flags: u32,
+        ) -> *mut c_void {
+            let found = is(name, "bcryptprimitives.dll") && file.is_null() && flags == 0x800;
+            if found && LIBRARY.with(Cell::get) {
+                NonNull::dangling().as_ptr()
+            } else {
+                null_mut()
+            }
+        }
+
+        #[no_mangle]
+        unsafe extern "system" fn GetProcAddress(
+            library: *mut c_void,
+            name: *const u8,
+        ) -> Option<ProcessPrng> {
+            let found = !library.is_null() && is(name, "ProcessPrng");
+            (found && FUNCTION.with(Cell::get)).then_some(fill)
+        }
+    }
+
+    // The bytes of a fill and its outcome where the system's call returns this status.
+    #[cfg(target_os = "linux")]
+    fn filled_with_status(
+        status: i32,
+        most: usize,
+        request: fn(&mut [u8]) -> io::Result<usize>,
+    ) -> ([u8; 9], io::Result<()>) {
+        let mut bytes = [0; 9];
+        other_systems::STATUS.with(|returned| returned.set(status));
+        let outcome = fill_by(&mut bytes[..8], most, request);
+        (bytes, outcome)
+    }
+
+    // Windows says by 0 that it failed, and the others by any other number.
+    #[cfg(target_os = "linux")]
+    #[test]
+    fn statuses_of_other_systems() {
+        use super::{common_crypto, process_prng, wasi};
+        let whole = [1, 1, 1, 1, 1, 1, 1, 1, 0];
+        for status in [0, 1, 2, -1, 5, 28, i32::MIN, i32::MAX] {
+            let (bytes, outcome) =
+                filled_with_status(status, process_prng::MOST, process_prng::request);
+            assert_eq!((bytes, outcome.is_ok()), (whole, status != 0), "{status}");
+            let (bytes, outcome) =
+                filled_with_status(status, common_crypto::MOST, common_crypto::request);
+            assert_eq!((bytes, outcome.is_ok()), (whole, status == 0), "{status}");
+            let (bytes, outcome) = filled_with_status(status, wasi::MOST, wasi::request);
+            let error = outcome.err().and_then(|error| error.raw_os_error());
+            assert_eq!((bytes, error), (whole, (status != 0).then_some(status)));
+        }
+    }
+
+    #[cfg(target_os = "linux")]
+    #[test]
+    fn windows_without_its_library() {
+        use super::process_prng::{request, MOST};
+        for missing in [&other_systems::LIBRARY, &other_systems::FUNCTION] {
+            missing.with(|there| there.set(false));
+            let (bytes, outcome) = filled_with_status(1, MOST, request);
+            assert!(outcome.is_err());
+            assert_eq!(bytes, [0; 9]);
+            missing.with(|there| there.set(true));
+            assert!(filled_with_status(1, MOST, request).1.is_ok());
+        }
     }
 }

@@ -13,16 +13,17 @@ use std::cell::Cell;
 use std::io::{ErrorKind, Read};
 
 thread_local! {
-    static REFUSES: Cell<bool> = const { Cell::new(false) };
+    /// The greatest request of this thread that is granted, in bytes.
+    static MOST: Cell<usize> = const { Cell::new(usize::MAX) };
 }
 
-/// The system's allocator, which refuses every request of a thread while it says so.
+/// The system's allocator, which refuses a thread's greater requests.
 struct Refusing;
 
 // SAFETY: each call is passed on to the system's allocator, or answered by null, which is a refusal.
 unsafe impl GlobalAlloc for Refusing {
     unsafe fn alloc(&self, layout: Layout) -> *mut u8 {
-        if REFUSES.with(Cell::get) {
+        if layout.size() > MOST.with(Cell::get) {
             std::ptr::null_mut()
         } else {
             System.alloc(layout)
@@ -37,15 +38,20 @@ unsafe impl GlobalAlloc for Refusing {
 #[global_allocator]
 static HEAP: Refusing = Refusing;
 
-/// The result of a call that gets no memory.
-fn without_memory<T>(call: impl FnOnce() -> T) -> T {
-    REFUSES.with(|refuses| refuses.set(true));
+/// The result of a call that gets no more than so many bytes at a time.
+fn with_memory<T>(most: usize, call: impl FnOnce() -> T) -> T {
+    MOST.with(|granted| granted.set(most));
     let result = call();
-    REFUSES.with(|refuses| refuses.set(false));
+    MOST.with(|granted| granted.set(usize::MAX));
     result
 }
 
-/// After five bytes of a block, the rest of it does not fit in a full vector.
+/// The result of a call that gets no memory.
+fn without_memory<T>(call: impl FnOnce() -> T) -> T {
+    with_memory(0, call)
+}
+
+/// After five bytes of a block, the rest of it does not fit in a full vector. It does in one of twice the size.
 fn is_refused<G: Rng<OUTPUT> + Clone, const OUTPUT: usize>(fresh: &G, held: usize) {
     let mut rng = BufferedRng::new(fresh.clone());
     rng.fill_bytes(&mut [0; 5]);
@@ -63,7 +69,8 @@ fn is_refused<G: Rng<OUTPUT> + Clone, const OUTPUT: usize>(fresh: &G, held: usiz
     assert_eq!((out.len(), out.capacity()), (held, room));
     assert_eq!(rng.rest(), left);
 
-    let count = rng.read_to_end(&mut out).expect("memory");
+    let twice = 2 * (held + OUTPUT);
+    let count = with_memory(twice, || rng.read_to_end(&mut out)).expect("memory");
     assert_eq!(count, left.len());
     assert_eq!(out[held..], left);
     assert_eq!(rng.buffered(), 0);
@@ -82,10 +89,18 @@ fn read_to_end() {
 #[test]
 fn read_to_end_without_an_allocation() {
     let mut rng = BufferedRng::new(ChaCha20::new_key([1; 32], [2; 8]));
-    rng.fill_bytes(&mut [0; 5]);
-    let mut out = Vec::with_capacity(100);
-    let count = without_memory(|| rng.read_to_end(&mut out)).expect("room");
-    assert_eq!(count, 59);
+    for held in [0, 1, 1000] {
+        for spare in (0..=24).map(|bit| (1 << bit) - 1) {
+            rng.fill_bytes(&mut [0; 5]);
+            let left = rng.rest().to_vec();
+            let mut out = Vec::with_capacity(held + left.len() + spare);
+            out.resize(held, 7);
+            let room = out.capacity();
+            let count = without_memory(|| rng.read_to_end(&mut out)).expect("room");
+            assert_eq!((count, out.capacity()), (left.len(), room));
+            assert_eq!(out[held..], left);
+        }
+    }
     let mut none = Vec::new();
     let count = without_memory(|| rng.read_to_end(&mut none)).expect("nothing to append");
     assert_eq!(count, 0);

@@ -5,7 +5,7 @@ mod refusing;
 
 use draw::run::run;
 use draw::DrawError;
-use refusing::refused_after;
+use refusing::{refused_above, refused_after};
 
 /// The outcome after so many requests for memory, and how much was written. `words` are the requests of the
 /// program, each of which is made 300 times.
@@ -55,4 +55,23 @@ fn the_first_four_arguments_take_no_memory() {
         (Err(DrawError::BadWord(4)), 0)
     );
     assert_eq!(run_after(0, "0", &[]), (Ok(()), 0));
+}
+
+/// 1000 items are of eight bytes each, and each list and text may double its room.
+#[test]
+fn no_request_is_for_much_more_than_is_needed() {
+    for (count, most) in [("0", 1000), ("10", 1000), ("1000", 16_000)] {
+        let arguments = [
+            "wyrand",
+            "d29b42879be2895f",
+            "buffered",
+            count,
+            "u128",
+            "shuffle",
+        ];
+        let arguments = arguments.map(String::from);
+        let mut out = vec![0; 10_000];
+        let outcome = refused_above(most, || run(&arguments, &mut out.as_mut_slice()));
+        assert_eq!(outcome, Ok(()), "{count}");
+    }
 }

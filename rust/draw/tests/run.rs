@@ -1,10 +1,16 @@
 //! A whole run: what arguments ask for, which are refused, and writers that fail.
 
+#[path = "../../tests/common/formats.rs"]
+mod formats;
+#[path = "../../tests/common/kinds.rs"]
+mod kinds;
 #[path = "../../program/tests/common/writer.rs"]
 mod writer;
 
 use draw::run::{report, run};
 use draw::DrawError;
+use formats::is_displayed;
+use kinds::kinds;
 use std::io::ErrorKind;
 use writer::{Does, Writer};
 
@@ -107,6 +113,52 @@ fn the_first_argument_that_cannot_be_read_is_named() {
             Err(DrawError::BadWord(number)),
             "{line}"
         );
+    }
+}
+
+/// What may stand beside an argument: ends of lines, a NUL, marks and letters past ASCII, and nothing.
+const STRANGE: [&str; 13] = [
+    "",
+    " ",
+    "\t",
+    "\r",
+    "\n",
+    "\0",
+    "\u{7f}",
+    "\u{e9}",
+    "\u{301}",
+    "\u{2212}",
+    "\u{feff}",
+    "\u{ff15}",
+    "\u{10ffff}",
+];
+
+/// In the place of each argument, something strange alone, before it or after it, and again in the last place, by each
+/// generator in each mode.
+#[test]
+fn strange_arguments_are_refused() {
+    let seeds = [8, 16, 40, 40, 40].map(|bytes| "5a".repeat(bytes));
+    let names = ["wyrand", "pcg64", "chacha8", "chacha12", "chacha20"];
+    for (name, seed) in names.into_iter().zip(&seeds) {
+        for mode in ["plain", "buffered"] {
+            let good = [name, seed, mode, "2", "u8", "i16:-3..5", "shuffle"];
+            assert!(text_of(&good).is_ok());
+            for (place, word) in good.iter().enumerate() {
+                for strange in STRANGE {
+                    let before = format!("{strange}{word}");
+                    let after = format!("{word}{strange}");
+                    for bad in [strange, &*before, &*after] {
+                        let mut words = good;
+                        words[6] = bad;
+                        words[place] = bad;
+                        let wanted = DrawError::BadWord(place + 1);
+                        if bad != *word {
+                            assert_eq!(text_of(&words), Err(wanted), "{words:?}");
+                        }
+                    }
+                }
+            }
+        }
     }
 }
 
@@ -298,6 +350,44 @@ fn a_failed_write_is_an_error() {
     }
 }
 
+/// A writer that takes a byte a call fails at any of them, the last of which is the flush, by an error of any kind.
+/// Only a write that was interrupted is made again.
+#[test]
+fn a_write_or_flush_that_fails_by_any_kind_of_error() {
+    let arguments = ["wyrand", SEED, "plain", "2", "u8"].map(String::from);
+    let text = b"218\nitems: 0 1\n";
+    for kind in kinds() {
+        for call in 0..=text.len() {
+            let mut out = Writer::failing(call, kind);
+            let outcome = run(&arguments, &mut out);
+            let taken = if kind == ErrorKind::Interrupted && call < text.len() {
+                assert_eq!((outcome, out.calls.len()), (Ok(()), text.len() + 2));
+                text.len()
+            } else {
+                let ended = (outcome, out.calls.len());
+                assert_eq!(ended, (Err(DrawError::Write), call + 1), "{kind:?}");
+                call
+            };
+            assert_eq!(out.taken, text[..taken], "{kind:?} at {call}");
+        }
+    }
+}
+
+/// The status is the same where the line of an error cannot be written, whatever the reason.
+#[test]
+fn a_report_that_fails_by_any_kind_of_error() {
+    let line = b"draw: bad word 12\n";
+    for kind in kinds() {
+        for call in 0..line.len() {
+            let mut err = Writer::failing(call, kind);
+            assert_eq!(report(Err(DrawError::BadWord(12)), &mut err), 2, "{kind:?}");
+            let whole = kind == ErrorKind::Interrupted;
+            let taken = if whole { line.len() } else { call };
+            assert_eq!(err.taken, line[..taken], "{kind:?} at {call}");
+        }
+    }
+}
+
 #[test]
 fn errors_are_reported_in_one_line() {
     assert_eq!(
@@ -309,6 +399,7 @@ fn errors_are_reported_in_one_line() {
         (DrawError::Memory, 3, "no memory"),
         (DrawError::Write, 4, "write failed"),
     ] {
+        is_displayed(&error, text, [20, 3]);
         let mut line = Vec::new();
         assert_eq!(report(Err(error), &mut line), status);
         assert_eq!(line, format!("draw: {text}\n").as_bytes());

@@ -110,12 +110,12 @@ impl Asked<'_> {
 /// Those that draw no block of ChaCha for each number.
 const FAST: [u64; 7] = [0, 1, 2, 3, 5, 7, 9];
 
-/// One of the ten generators and modes for so many requests or items: a fast one for many.
-fn generator_for(size: usize, rng: &mut WyRand) -> u64 {
+/// Which of the ten generators and modes answer so many requests or items: all of few, and a fast one of many.
+fn generators_for(size: usize, rng: &mut WyRand) -> Vec<u64> {
     if size < 100 {
-        rng.range(0..10)
+        (0..10).collect()
     } else {
-        FAST[rng.range(0..FAST.len())]
+        vec![FAST[rng.range(0..FAST.len())]]
     }
 }
 
@@ -180,20 +180,21 @@ fn is_refused(arguments: &[String], number: usize) {
 #[test]
 fn all_numbers_of_requests() {
     let mut rng = WyRand::new_seed(1);
-    for size in sizes(32_769) {
+    for size in sizes(32_769).into_iter().chain([131_073]) {
         let drawn = (0..size).map(|_| REQUESTS[rng.range(0..24_usize)]);
         let (words, calls): (Vec<&str>, Vec<Call>) = drawn.unzip();
         let count = rng.range(0..=(2000 / size.max(1)).min(1000));
         let count = u64::try_from(count).expect("a count");
-        let number = generator_for(size, &mut rng);
-        let (start, text) = command_of(number, rng.generate(), &calls, count);
-        let mut arguments = words_of(&format!("{start} {count} {}", words.join(" ")));
-        writes(&arguments, &text);
-        arguments.push("u9".to_owned());
-        is_refused(&arguments, size + 5);
-        let among = rng.range(0..=size);
-        arguments[among + 4] = "u9".to_owned();
-        is_refused(&arguments, among + 5);
+        for number in generators_for(size, &mut rng) {
+            let (start, text) = command_of(number, rng.generate(), &calls, count);
+            let mut arguments = words_of(&format!("{start} {count} {}", words.join(" ")));
+            writes(&arguments, &text);
+            arguments.push("u9".to_owned());
+            is_refused(&arguments, size + 5);
+            let among = rng.range(0..=size);
+            arguments[among + 4] = "u9".to_owned();
+            is_refused(&arguments, among + 5);
+        }
     }
 }
 
@@ -203,9 +204,10 @@ fn all_numbers_of_items() {
     let mut rng = WyRand::new_seed(2);
     for size in 0..=1000 {
         let count = u64::try_from(size).expect("a count");
-        let number = generator_for(size, &mut rng);
-        let (start, text) = command_of(number, 7, &[Call::Shuffle], count);
-        writes(&words_of(&format!("{start} {count} shuffle")), &text);
+        for number in generators_for(size, &mut rng) {
+            let (start, text) = command_of(number, 7, &[Call::Shuffle], count);
+            writes(&words_of(&format!("{start} {count} shuffle")), &text);
+        }
     }
 }
 

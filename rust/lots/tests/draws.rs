@@ -1,5 +1,9 @@
 //! The draw without its program: places and entrants, the lines of a list, and errors.
 
+#[path = "../../tests/common/formats.rs"]
+mod formats;
+
+use formats::is_displayed;
 use lots::{count_entrants, draw, draw_places, LotsError};
 
 /// What the seed "a seed" draws of ten, by the Python code of the repository's `docs/LOTS.md`.
@@ -112,7 +116,8 @@ const ERRORS: [(LotsError, u8, &str); 7] = [
 #[test]
 fn errors_have_a_status_and_a_text() {
     for (error, status, text) in ERRORS {
-        assert_eq!((error.status(), error.to_string()), (status, text.into()));
+        assert_eq!(error.status(), status);
+        is_displayed(&error, text, [40, 3]);
     }
 }
 

@@ -5,7 +5,7 @@ mod refusing;
 
 use lots::run::run;
 use lots::{draw_places, LotsError};
-use refusing::refused_after;
+use refusing::{refused_above, refused_after};
 
 /// The outcome after so many requests for memory, and how much was written.
 fn run_after(requests: usize) -> (Result<(), LotsError>, usize) {
@@ -44,4 +44,18 @@ fn a_draw_of_places_takes_no_memory() {
         refused_after(0, || draw_places("a seed", &mut places, 100)),
         Ok(())
     );
+}
+
+/// An entrant is of 16 bytes beside its text, and each list and text may double its room.
+#[test]
+fn no_request_is_for_much_more_than_is_needed() {
+    let arguments = ["seed", "all"].map(String::from);
+    for (entrants, most) in [(0, 1000), (1, 1000), (1000, 2 * 16_000)] {
+        let list = "1234567\n".repeat(entrants);
+        let mut out = vec![0; list.len()];
+        let outcome = refused_above(most, || {
+            run(&arguments, &mut list.as_bytes(), &mut out.as_mut_slice())
+        });
+        assert_eq!(outcome, Ok(()), "{entrants}");
+    }
 }

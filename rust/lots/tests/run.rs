@@ -1,11 +1,14 @@
 //! A whole run over readers and writers whose bytes and failures are known.
 
+#[path = "../../tests/common/kinds.rs"]
+mod kinds;
 #[path = "../../program/tests/common/writer.rs"]
 mod writer;
 
-use lots::run::run;
+use kinds::kinds;
+use lots::run::{report, run};
 use lots::LotsError;
-use std::collections::VecDeque;
+use std::collections::{HashSet, VecDeque};
 use std::io::{ErrorKind, Read, Result};
 use writer::{Does, Writer};
 
@@ -91,18 +94,63 @@ fn lists_of_every_size_around_that_of_a_piece() {
     }
 }
 
+/// A reader that gives a byte a read fails at any of them, also where it would end, by an error of any kind. Only a
+/// read that was interrupted is made again.
 #[test]
-fn a_failed_read_writes_nothing() {
-    for (kind, error) in [
-        (ErrorKind::Other, LotsError::Read),
-        (ErrorKind::WouldBlock, LotsError::Read),
-        (ErrorKind::UnexpectedEof, LotsError::Read),
-        (ErrorKind::NotConnected, LotsError::Read),
-        (ErrorKind::OutOfMemory, LotsError::Memory),
-    ] {
-        for pieces in [[Err(kind), Ok(LIST)], [Ok(LIST), Err(kind)]] {
+fn a_read_that_fails_by_any_kind_of_error() {
+    for kind in kinds() {
+        let error = match kind {
+            ErrorKind::Interrupted => None,
+            ErrorKind::OutOfMemory => Some(LotsError::Memory),
+            _ => Some(LotsError::Read),
+        };
+        for read in 0..=LIST.len() {
+            let mut pieces: Vec<_> = LIST.chunks(1).map(Ok).collect();
+            pieces.insert(read, Err(kind));
             let (outcome, out) = run_of(&pieces, Writer::willing());
-            assert_eq!((outcome, out.calls.len()), (Err(error), 0), "{kind:?}");
+            assert_eq!(outcome.err(), error, "{kind:?} at {read}");
+            let taken = if error.is_none() { DRAWN } else { b"" };
+            assert_eq!(out.taken, taken, "{kind:?} at {read}");
+            assert_eq!(out.calls.is_empty(), error.is_some());
+        }
+    }
+}
+
+/// A writer that takes a byte a call fails at any of them, the last of which is the flush, by an error of any kind.
+/// Only a write that was interrupted is made again.
+#[test]
+fn a_write_or_flush_that_fails_by_any_kind_of_error() {
+    for kind in kinds() {
+        for call in 0..=DRAWN.len() {
+            let (outcome, out) = run_of(&[Ok(LIST)], Writer::failing(call, kind));
+            let ended = (outcome, out.calls.len());
+            let taken = if kind == ErrorKind::Interrupted && call < DRAWN.len() {
+                assert_eq!(ended, (Ok(()), DRAWN.len() + 2), "at {call}");
+                DRAWN.len()
+            } else {
+                assert_eq!(ended, (Err(LotsError::Write), call + 1), "{kind:?}");
+                call
+            };
+            assert_eq!(out.taken, DRAWN[..taken], "{kind:?} at {call}");
+        }
+    }
+}
+
+/// The status is the same where the line of an error cannot be written, whatever the reason.
+#[test]
+fn a_report_that_fails_by_any_kind_of_error() {
+    let line = b"lots: line 12 is empty\n";
+    for kind in kinds() {
+        for call in 0..line.len() {
+            let mut err = Writer::failing(call, kind);
+            assert_eq!(
+                report(Err(LotsError::EmptyLine(12)), &mut err),
+                4,
+                "{kind:?}"
+            );
+            let whole = kind == ErrorKind::Interrupted;
+            let taken = if whole { line.len() } else { call };
+            assert_eq!(err.taken, line[..taken], "{kind:?} at {call}");
         }
     }
 }
@@ -141,6 +189,88 @@ fn other_arguments_are_refused_before_anything_is_read() {
         let mut out = Writer::willing();
         assert_eq!(run(&words, &mut Unread, &mut out), Err(LotsError::Usage));
         assert!(out.calls.is_empty(), "{words:?}");
+    }
+}
+
+/// What may stand beside a word: ends of lines, a NUL, marks and letters past ASCII.
+const STRANGE: [&str; 12] = [
+    " ",
+    "\t",
+    "\r",
+    "\n",
+    "\0",
+    "\u{7f}",
+    "\u{e9}",
+    "\u{301}",
+    "\u{2212}",
+    "\u{feff}",
+    "\u{ff15}",
+    "\u{10ffff}",
+];
+
+/// Something strange alone, before a word and after it.
+fn strange_words(word: &str) -> Vec<String> {
+    let beside = |strange: &&str| [format!("{strange}{word}"), format!("{word}{strange}")];
+    let alone = STRANGE.iter().map(|strange| (*strange).to_string());
+    STRANGE.iter().flat_map(beside).chain(alone).collect()
+}
+
+/// They are refused as a count, whatever the seed, and nothing is read. As a seed, each draws another order, and has the
+/// errors of any seed.
+#[test]
+fn strange_seeds_and_counts() {
+    let list: Vec<u8> = (b'a'..=b'z').flat_map(|letter| [letter, b'\n']).collect();
+    let mut orders = HashSet::new();
+    for seed in strange_words("seed").into_iter().chain(["seed".into()]) {
+        let outcome = |count: &str, mut list: &[u8]| {
+            let mut out = Writer::willing();
+            let ended = run(&[seed.clone(), count.into()], &mut list, &mut out);
+            ended.map(|()| out.taken)
+        };
+        for count in strange_words("1").into_iter().chain(strange_words("all")) {
+            let ended = run(&[seed.clone(), count], &mut Unread, &mut Writer::willing());
+            assert_eq!(ended, Err(LotsError::Usage), "{seed:?}");
+        }
+        let (entrants, count) = (26, 27);
+        let too_few = LotsError::TooFew { entrants, count };
+        assert_eq!(outcome("27", &list), Err(too_few));
+        assert_eq!(outcome("1", b"a\n\n"), Err(LotsError::EmptyLine(2)));
+        let all = outcome("all", &list).unwrap();
+        assert_eq!(outcome("26", &list).as_ref(), Ok(&all));
+        assert!(orders.insert(all), "{seed:?}");
+    }
+}
+
+/// Lines keep each byte but the line feed, whatever stands beside them.
+#[test]
+fn strange_lines() {
+    let mut beside: Vec<Vec<u8>> = vec![vec![0xff], vec![0xfe, 0xff], vec![0xc3]];
+    beside.extend(
+        STRANGE
+            .iter()
+            .filter(|word| **word != "\n")
+            .map(|word| word.as_bytes().to_vec()),
+    );
+    for strange in beside {
+        for line in [
+            &strange[..],
+            &[&strange, b"a".as_slice()].concat(),
+            &[b"a", &strange[..]].concat(),
+        ] {
+            let (list, line_feed) = ([line, b"\n", line].concat(), [line, b"\n"].concat());
+            let (outcome, out) = run_of(&[Ok(&list)], Writer::willing());
+            assert_eq!(
+                (outcome, out.taken),
+                (Ok(()), line_feed.repeat(2)),
+                "{line:?}"
+            );
+            let empty = [&line_feed, &line_feed, b"\n".as_slice()].concat();
+            let (outcome, out) = run_of(&[Ok(&empty)], Writer::willing());
+            assert_eq!(
+                (outcome, out.calls.len()),
+                (Err(LotsError::EmptyLine(3)), 0)
+            );
+        }
     }
 }
 

@@ -1,17 +1,11 @@
 //! Entropy readers, and the generators made from them.
 
+use crate::common::kinds::kinds;
 use crate::common::Pieces;
 use nanorand_proved::entropy::{backup, rdseed, system, EntropyError};
 use nanorand_proved::rand::ChaChaGroups;
 use nanorand_proved::{ChaCha12, ChaCha20, ChaCha20Stream, ChaCha8, Pcg64, WyRand};
 use std::io::{self, ErrorKind};
-
-/// The kinds of errors with which the readers fail. `Interrupted` is one of them.
-const FAULTS: [ErrorKind; 3] = [
-    ErrorKind::Interrupted,
-    ErrorKind::WouldBlock,
-    ErrorKind::BrokenPipe,
-];
 
 type Maker = fn(&mut Pieces) -> Result<(), EntropyError>;
 
@@ -68,17 +62,17 @@ fn short_readers() {
     }
 }
 
-/// A reader that fails at one of its reads. Nothing is read after a failure, nor after the last byte
-/// that is needed, not even no bytes.
+/// A reader that fails at one of its reads, by an error of any kind. Nothing is read after a failure, nor after the
+/// last byte that is needed, not even no bytes.
 #[test]
 fn failing_readers() {
     let bytes = counted();
     for (make, size) in MAKERS {
-        for kind in FAULTS {
+        for kind in kinds() {
             for read in 0..size {
                 let mut source = Pieces::failing(&bytes, 1, read, kind);
                 let made = make(&mut source);
-                assert_eq!(made, Err(EntropyError::Fault), "{read} of {size}");
+                assert_eq!(made, Err(EntropyError::Fault), "{kind:?}: {read} of {size}");
                 assert_eq!(source.reads(), read + 1, "{read} of {size}");
             }
             let mut source = Pieces::failing(&bytes, 1, size, kind);
@@ -160,12 +154,11 @@ fn defaults_differ() {
 
 #[test]
 fn errors_of_the_system() {
-    for (kind, error) in [
-        (ErrorKind::Unsupported, EntropyError::Unavailable),
-        (ErrorKind::PermissionDenied, EntropyError::Fault),
-        (ErrorKind::UnexpectedEof, EntropyError::Fault),
-        (ErrorKind::Other, EntropyError::Fault),
-    ] {
+    for kind in kinds() {
+        let error = match kind {
+            ErrorKind::Unsupported => EntropyError::Unavailable,
+            _ => EntropyError::Fault,
+        };
         assert_eq!(EntropyError::from(io::Error::from(kind)), error, "{kind:?}");
     }
 }

@@ -52,6 +52,28 @@ fn seeds_of_wyrand() {
     check_hashes(&[0, 1, 1 << 32, 1 << 63, u64::MAX].map(WyRand::new_seed));
 }
 
+/// A hash is that of what determines the coming blocks, also after draws.
+#[test]
+fn hashes_of_states() {
+    let mut source = WyRand::new_seed(1);
+    for draws in 0..100 {
+        let mut wyrand = WyRand::new_seed(source.generate());
+        let mut pcg64 = Pcg64::new_seed(source.generate());
+        let mut chacha = ChaCha8::at(source.generate(), source.generate(), source.generate());
+        for _ in 0..draws % 3 {
+            let _ = (wyrand.rand(), pcg64.rand(), chacha.rand());
+        }
+        assert_eq!(hash_of(&wyrand), hash_of(&wyrand.seed()));
+        assert_eq!(hash_of(&pcg64), hash_of(&pcg64.seed()));
+        let state = (chacha.key(), chacha.nonce(), chacha.counter());
+        assert_eq!(hash_of(&chacha), hash_of(&state));
+        let groups = ChaChaGroups::<8>::at(state.0, state.1, state.2);
+        assert_eq!(hash_of(&groups), hash_of(&state));
+        let buffer = buffer(wyrand.seed(), &state.1[..7]);
+        assert_eq!(hash_of(&buffer), hash_of(&(buffer.rest(), wyrand)));
+    }
+}
+
 /// Three of them differ from the first in the seed, one in `inc` alone. The last two differ from
 /// each other in `state` alone.
 #[test]

@@ -48,6 +48,55 @@ fn numbers_of_ranges() {
     }
 }
 
+/// The first numbers of a range whose high end is included, or excluded. The low end may be either.
+macro_rules! check_numbers {
+    ($number:ident, $low:literal, $high:literal, $included:expr, $excluded:expr) => {
+        for low in [Included($low), Excluded($low)] {
+            let highs = [(Included($high), $included), (Excluded($high), $excluded)];
+            for (high, numbers) in highs {
+                let mut rng = WyRand::new_seed(42);
+                for number in numbers {
+                    let drawn = rng.generate_range::<$number>((low, high));
+                    assert_eq!(drawn, Ok(number), "{low:?} {high:?}");
+                }
+            }
+        }
+    };
+}
+
+/// The second range of each type is wider than its greatest number.
+#[test]
+fn numbers_between_ends() {
+    check_numbers!(
+        f64,
+        -2.5,
+        10.0,
+        [6.010_301_075_485_392, 8.915_870_357_418_75],
+        [6.010_301_075_485_390_5, 8.915_870_357_418_749]
+    );
+    check_numbers!(
+        f64,
+        -1.5e308,
+        1.25e308,
+        [3.722_662_366_067_863_4e307, 1.011_491_478_632_125e308],
+        [3.722_662_366_067_859_4e307, 1.011_491_478_632_125e308]
+    );
+    check_numbers!(
+        f32,
+        -2.5,
+        10.0,
+        [8.323_384, 0.489_358_66],
+        [8.323_384, 0.489_358_43]
+    );
+    check_numbers!(
+        f32,
+        -3e38,
+        2.5e38,
+        [1.762_289_5e38, -1.684_682_2e38],
+        [1.762_289e38, -1.684_682_3e38]
+    );
+}
+
 /// What the least and the greatest word name.
 macro_rules! check_ends {
     ($number:ident) => {{

@@ -1,15 +1,16 @@
 //! No call fails where nothing is wrong, and none changes what it should not: at sizes, seeds, rounds and format options
 //! that are spread over all that there are. No clause of the proved source says so.
 
+use crate::common::formats::has_texts;
 use crate::common::{ByteScript, Pieces};
 use nanorand_proved::choices::choose_mut;
 use nanorand_proved::entropy::{system, EntropyError};
+use nanorand_proved::rand::ChaChaGroups;
 use nanorand_proved::{BufferedRng, ChaCha, ChaCha20, Pcg64, Rng, WyRand};
-use std::fmt::{Debug, Display};
 use std::io::ErrorKind;
 use std::iter::successors;
 
-const MOST: usize = 1_000_000;
+const MOST: usize = 2_100_000;
 
 /// A word of any length in bits: led by zeros or by ones, followed by zeros, a power of two or beside one, with
 /// few bits or with many. A bug between two bounds is met wherever these are.
@@ -39,14 +40,14 @@ fn option(rng: &mut WyRand) -> usize {
     number(rng, usize::from(u16::MAX))
 }
 
-/// Sizes up to `MOST`: the powers of two with their neighbours, and sizes of which each is above the last one by a
-/// sixteenth or less.
+/// Sizes up to `MOST`: the powers of two with their neighbours, and up to half of `MOST` sizes of which each is above
+/// the last one by a sixteenth or less.
 fn sizes() -> Vec<usize> {
     let mut rng = WyRand::new_seed(0x5eed);
-    let powers = (0..20).map(|bit| 1 << bit);
+    let powers = (0..22).map(|bit| 1 << bit);
     let near_powers = powers.flat_map(|power| [power - 1, power, power + 1]);
     let steps = successors(Some(1), |size| Some(size + rng.range(1..=size / 16 + 1)));
-    let steps = steps.take_while(|size| *size <= MOST);
+    let steps = steps.take_while(|size| *size <= MOST / 2);
     near_powers.chain(steps).chain([MOST]).collect()
 }
 
@@ -100,18 +101,37 @@ fn generators_are_made_of_any_bytes() {
     }
 }
 
-fn is_made<const ROUNDS: u8>(source: &mut Pieces) -> bool {
-    ChaCha::<ROUNDS>::new(source).is_ok()
+/// A width and a precision.
+fn options(rng: &mut WyRand) -> [usize; 2] {
+    [option(rng), option(rng)]
 }
 
-/// The makers of generators with these rounds.
-macro_rules! makers {
-    ($($rounds:literal)*) => { [$((|source| is_made::<$rounds>(source), $rounds)),*] };
+/// A `ChaCha` of these rounds is made of the reader's bytes. It and its groups have their texts at any counter.
+fn chacha_is_made_and_has_texts<const ROUNDS: u8>(rng: &mut WyRand, source: &mut Pieces) {
+    let made = ChaCha::<ROUNDS>::new(source);
+    assert!(made.is_ok(), "{ROUNDS}");
+    let counter = word(rng);
+    let state = format!("{{ rounds: {ROUNDS}, counter: {counter} }}");
+    let texts = [
+        &*format!("ChaCha20 {state}"),
+        &format!("ChaCha ({ROUNDS} rounds)"),
+    ];
+    let generator = ChaCha::<ROUNDS>::at([0; 32], [0; 8], counter);
+    has_texts(&generator, texts, options(rng));
+    let texts = [
+        &*format!("ChaChaGroups {state}"),
+        &format!("ChaCha ({ROUNDS} rounds, by groups)"),
+    ];
+    let generator = ChaChaGroups::<ROUNDS>::at([0; 32], [0; 8], counter);
+    has_texts(&generator, texts, options(rng));
 }
 
-type Maker = fn(&mut Pieces) -> bool;
+/// That of each of these numbers of rounds.
+macro_rules! chachas {
+    ($($rounds:literal)*) => { [$(chacha_is_made_and_has_texts::<$rounds>),*] };
+}
 
-const MAKERS: [(Maker, u8); 128] = makers!(
+const CHACHAS: [fn(&mut WyRand, &mut Pieces); 128] = chachas!(
     0 2 4 6 8 10 12 14 16 18 20 22 24 26 28 30 32 34 36 38 40 42 44 46 48 50 52 54 56 58 60 62 64 66 68 70 72 74
     76 78 80 82 84 86 88 90 92 94 96 98 100 102 104 106 108 110 112 114 116 118 120 122 124 126 128 130 132 134 136
     138 140 142 144 146 148 150 152 154 156 158 160 162 164 166 168 170 172 174 176 178 180 182 184 186 188 190 192
@@ -119,60 +139,47 @@ const MAKERS: [(Maker, u8); 128] = makers!(
     250 252 254
 );
 
+/// The bytes of words, and such that a key, a nonce or both are of zeros or of ones.
 #[test]
-fn chachas_of_any_rounds_are_made() {
-    let bytes = bytes_of_words(10_000);
-    let mut source = Pieces::of(&bytes, 50);
-    for _ in 0..10 {
-        for (make, rounds) in MAKERS {
-            assert!(make(&mut source), "{rounds}");
+fn chachas_of_any_rounds() {
+    let mut rng = WyRand::new_seed(6);
+    let (zeros, ones, words) = ([0; 40], [255; 40], bytes_of_words(5));
+    let seeds = [zeros, ones].concat();
+    let mixed = [&zeros[..32], &words[..8], &words[..32], &zeros[..8]].concat();
+    for chacha in CHACHAS {
+        for bytes in [&seeds, &mixed, &bytes_of_words(50)] {
+            let mut source = Pieces::of(bytes, 50);
+            while source.left() > 0 {
+                chacha(&mut rng, &mut source);
+            }
         }
     }
-}
-
-/// The value has these texts, whatever the width, the precision and the other options.
-fn has_texts<T: Debug + Display>(rng: &mut WyRand, value: &T, debug: &str, display: &str) {
-    let (width, precision) = (option(rng), option(rng));
-    assert_eq!(format!("{value:?}"), debug);
-    assert_eq!(format!("{value:width$?}"), debug);
-    assert_eq!(format!("{value:#.precision$?}"), debug);
-    assert_eq!(format!("{value:+0width$.precision$?}"), debug);
-    assert_eq!(format!("{value:width$.precision$}"), display);
 }
 
 fn wyrand_has_texts(rng: &mut WyRand) {
     let seed = word(rng);
     let text = format!("WyRand {{ seed: {seed:#x} }}");
-    has_texts(rng, &WyRand::new_seed(seed), &text, "WyRand");
+    has_texts(&WyRand::new_seed(seed), [&text, "WyRand"], options(rng));
 }
 
-/// After a draw, which sets all three numbers.
+/// Before a draw, and after one, which sets all three numbers.
 fn pcg64_has_texts(rng: &mut WyRand) {
     let old = u128::from(word(rng)) << 64 | u128::from(word(rng));
     let mut generator = Pcg64::new_seed(old);
+    let text = format!("Pcg64 {{ seed: {old:#x}, state: 0x0, inc: 0x0 }}");
+    has_texts(&generator, [&text, "Pcg64"], options(rng));
     let _ = generator.rand();
     let (seed, inc) = (generator.seed(), old.wrapping_mul(2).wrapping_add(1));
     let text = format!("Pcg64 {{ seed: {seed:#x}, state: {seed:#x}, inc: {inc:#x} }}");
-    has_texts(rng, &generator, &text, "Pcg64");
-}
-
-fn chacha_has_texts(rng: &mut WyRand, source: &mut Pieces) {
-    let counter = word(rng);
-    let text = format!("ChaCha20 {{ rounds: 20, counter: {counter} }}");
-    let mut generator = ChaCha20::new(source).expect("enough bytes");
-    generator.jump(counter);
-    has_texts(rng, &generator, &text, "ChaCha (20 rounds)");
+    has_texts(&generator, [&text, "Pcg64"], options(rng));
 }
 
 #[test]
 fn generators_have_texts() {
     let mut rng = WyRand::new_seed(3);
-    let bytes = bytes_of_words(20_000);
-    let mut source = Pieces::of(&bytes, 50);
     for _ in 0..4000 {
         wyrand_has_texts(&mut rng);
         pcg64_has_texts(&mut rng);
-        chacha_has_texts(&mut rng, &mut source);
     }
 }
 
@@ -216,7 +223,7 @@ fn writes_one(rejected: usize, word: u64, mark: u32, items: &mut [u32], expected
 #[test]
 fn one_item_is_lent() {
     let mut rng = WyRand::new_seed(5);
-    let mut items: Vec<u32> = (0..1_000_000).collect();
+    let mut items: Vec<u32> = (0..2_100_000).collect();
     let mut expected = items.clone();
     for size in sizes() {
         let (items, expected) = (&mut items[..size], &mut expected[..size]);

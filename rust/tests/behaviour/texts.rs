@@ -1,26 +1,18 @@
 //! The texts of generators and errors.
 
+use crate::common::formats;
 use nanorand_proved::buffer::{RestTooLong, TextRefused};
 use nanorand_proved::choices::weighted::WeightError;
 use nanorand_proved::entropy::EntropyError;
 use nanorand_proved::shuffles::NotArrangement;
 use nanorand_proved::{BufferedRng, PastPeriod, RangeError, Rng, WyRand};
-use nanorand_proved::{ChaCha, ChaCha12, ChaCha20, ChaCha8, Pcg64};
+use nanorand_proved::{ChaCha, ChaCha12, ChaCha12Stream, ChaCha20, ChaCha8, Pcg64};
 use std::error::Error;
 use std::fmt::{Debug, Display};
 
-/// The value has these texts. No format option changes them: alternate form, sign, width, fill or
-/// precision.
-fn has_texts<T: Debug + Display>(value: &T, debug: &str, display: &str) {
-    assert_eq!(format!("{value:?}"), debug);
-    assert_eq!(format!("{value:#?}"), debug);
-    assert_eq!(format!("{value:>200?}"), debug);
-    assert_eq!(format!("{value:08?}"), debug);
-    assert_eq!(format!("{value:*^+200.3?}"), debug);
-    assert_eq!(format!("{value}"), display);
-    assert_eq!(format!("{value:#}"), display);
-    assert_eq!(format!("{value:>20}"), display);
-    assert_eq!(format!("{value:*^200.3}"), display);
+/// The value has these texts, whatever the options.
+fn has_texts<T: Debug + Display + ?Sized>(value: &T, debug: &str, display: &str) {
+    formats::has_texts(value, [debug, display], [200, 3]);
 }
 
 #[test]
@@ -49,6 +41,15 @@ fn of_pcg64() {
         ),
     ] {
         has_texts(&Pcg64::new_seed(seed), debug, "Pcg64");
+    }
+    // A draw from the seed before one leaves it, also as the state.
+    for seed in [1, 1 << 64, u128::from(u64::MAX) << 64, u128::MAX >> 64] {
+        let mut rng = Pcg64::new_seed(seed);
+        rng.jump((1 << 126) - 1);
+        let inc = rng.seed().wrapping_mul(2).wrapping_add(1);
+        let _ = rng.rand();
+        let debug = format!("Pcg64 {{ seed: {seed:#x}, state: {seed:#x}, inc: {inc:#x} }}");
+        has_texts(&rng, &debug, "Pcg64");
     }
     let mut rng = Pcg64::new_seed(u128::MAX);
     let _ = rng.rand();
@@ -102,30 +103,64 @@ fn of_a_buffer() {
     assert_eq!(format!("{rng:?}"), text);
     let lines = format!("BufferedRng {{\n    inner: {inner},\n    buffered: 61,\n}}");
     assert_eq!(format!("{rng:#?}"), lines);
+    let inner = "ChaChaGroups { rounds: 12, counter: 8 }";
+    let mut rng = ChaCha12Stream::from_seed([1; 40]);
+    for buffered in (0..512).rev() {
+        let _ = rng.generate::<u8>();
+        let text = format!("BufferedRng {{ inner: {inner}, buffered: {buffered} }}");
+        assert_eq!(format!("{rng:?}"), text);
+        let lines = format!("BufferedRng {{\n    inner: {inner},\n    buffered: {buffered},\n}}");
+        assert_eq!(format!("{rng:#?}"), lines);
+    }
 }
 
 #[test]
 fn of_errors() {
     let rejected = "128 words in a row were rejected";
-    let rows: [(&dyn Error, &str); 12] = [
-        (&RangeError::Empty, "the range contains no number"),
-        (&RangeError::Exhausted, rejected),
-        (&WeightError::NoWeight, "no item has a weight"),
-        (&WeightError::TooHeavy, "the weights add up to 2^64 or more"),
-        (&WeightError::Exhausted, rejected),
-        (&EntropyError::Short, "the entropy reader ended early"),
-        (&EntropyError::Fault, "the entropy reader failed"),
-        (&EntropyError::Unavailable, "no entropy source is available"),
-        (&TextRefused, "a generator cannot be read into a string"),
-        (&RestTooLong, "a buffer holds less than a block"),
+    let rows: [(&dyn Error, &str, &str); 12] = [
+        (&RangeError::Empty, "Empty", "the range contains no number"),
+        (&RangeError::Exhausted, "Exhausted", rejected),
+        (&WeightError::NoWeight, "NoWeight", "no item has a weight"),
+        (
+            &WeightError::TooHeavy,
+            "TooHeavy",
+            "the weights add up to 2^64 or more",
+        ),
+        (&WeightError::Exhausted, "Exhausted", rejected),
+        (
+            &EntropyError::Short,
+            "Short",
+            "the entropy reader ended early",
+        ),
+        (&EntropyError::Fault, "Fault", "the entropy reader failed"),
+        (
+            &EntropyError::Unavailable,
+            "Unavailable",
+            "no entropy source is available",
+        ),
+        (
+            &TextRefused,
+            "TextRefused",
+            "a generator cannot be read into a string",
+        ),
+        (
+            &RestTooLong,
+            "RestTooLong",
+            "a buffer holds less than a block",
+        ),
         (
             &PastPeriod,
+            "PastPeriod",
             "the part ends past the period of the generator",
         ),
-        (&NotArrangement, "the list is no arrangement"),
+        (
+            &NotArrangement,
+            "NotArrangement",
+            "the list is no arrangement",
+        ),
     ];
-    for (error, text) in rows {
-        assert_eq!(error.to_string(), text);
+    for (error, debug, display) in rows {
+        has_texts(error, debug, display);
         assert!(error.source().is_none());
     }
 }

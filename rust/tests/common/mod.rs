@@ -1,6 +1,9 @@
 //! Generators whose bytes are known, and a reader that ends early or fails.
 #![allow(dead_code)] // each file of tests uses some of them
 
+pub mod formats;
+pub mod kinds;
+
 use nanorand_proved::rand::fill_by_blocks;
 use nanorand_proved::{Rng, SeedableRng};
 use std::io::{self, ErrorKind, Read};

@@ -12,6 +12,8 @@ static ALLOCATOR: Refusing = Refusing;
 thread_local! {
     /// How many requests of this thread are granted.
     static GRANTED: Cell<usize> = const { Cell::new(usize::MAX) };
+    /// The greatest of them, in bytes.
+    static MOST: Cell<usize> = const { Cell::new(usize::MAX) };
 }
 
 /// What the call returns if memory is refused after so many requests.
@@ -22,19 +24,27 @@ pub fn refused_after<T>(requests: usize, call: impl FnOnce() -> T) -> T {
     result
 }
 
-/// Whether this request is granted.
-fn granted() -> bool {
+/// What the call returns if no request for more than so many bytes is granted.
+pub fn refused_above<T>(most: usize, call: impl FnOnce() -> T) -> T {
+    MOST.with(|granted| granted.set(most));
+    let result = call();
+    MOST.with(|granted| granted.set(usize::MAX));
+    result
+}
+
+/// Whether a request for so many bytes is granted.
+fn granted(size: usize) -> bool {
     GRANTED.with(|granted| {
         let left = granted.get();
         granted.set(left.saturating_sub(1));
-        left > 0
+        left > 0 && size <= MOST.with(Cell::get)
     })
 }
 
 // SAFETY: what is granted is done by the system's allocator, with the same arguments.
 unsafe impl GlobalAlloc for Refusing {
     unsafe fn alloc(&self, layout: Layout) -> *mut u8 {
-        if granted() {
+        if granted(layout.size()) {
             System.alloc(layout)
         } else {
             null_mut()
@@ -42,7 +52,7 @@ unsafe impl GlobalAlloc for Refusing {
     }
 
     unsafe fn realloc(&self, place: *mut u8, layout: Layout, size: usize) -> *mut u8 {
-        if granted() {
+        if granted(size) {
             System.realloc(place, layout, size)
         } else {
             null_mut()

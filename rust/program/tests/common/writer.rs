@@ -1,4 +1,5 @@
 //! A writer that notes its calls, and fails where it is told to.
+#![allow(dead_code)] // each file of tests uses some of it
 
 use std::io::{ErrorKind, Result, Write};
 
@@ -15,6 +16,8 @@ pub enum Does {
 pub struct Writer {
     pub write: Does,
     pub flush: Does,
+    /// The call of this number, counted from 0, fails in any case.
+    pub fault: Option<(usize, ErrorKind)>,
     pub taken: Vec<u8>,
     pub calls: Vec<Option<usize>>,
 }
@@ -24,6 +27,7 @@ impl Writer {
         Writer {
             write,
             flush,
+            fault: None,
             taken: Vec::new(),
             calls: Vec::new(),
         }
@@ -33,12 +37,29 @@ impl Writer {
     pub fn willing() -> Writer {
         Writer::new(Does::Takes(usize::MAX), Does::Takes(0))
     }
+
+    /// One that takes a byte a call, and one of whose calls fails.
+    pub fn failing(call: usize, kind: ErrorKind) -> Writer {
+        Writer {
+            fault: Some((call, kind)),
+            ..Writer::new(Does::Takes(1), Does::Takes(0))
+        }
+    }
+
+    /// Notes a call, and returns what it does.
+    fn does(&mut self, call: Option<usize>, usually: Does) -> Does {
+        let number = self.calls.len();
+        self.calls.push(call);
+        match self.fault {
+            Some((fault, kind)) if fault == number => Does::Fails(kind),
+            _ => usually,
+        }
+    }
 }
 
 impl Write for Writer {
     fn write(&mut self, bytes: &[u8]) -> Result<usize> {
-        self.calls.push(Some(bytes.len()));
-        match self.write {
+        match self.does(Some(bytes.len()), self.write) {
             Does::Takes(most) => {
                 let size = most.min(bytes.len());
                 self.taken.extend_from_slice(&bytes[..size]);
@@ -49,8 +70,7 @@ impl Write for Writer {
     }
 
     fn flush(&mut self) -> Result<()> {
-        self.calls.push(None);
-        match self.flush {
+        match self.does(None, self.flush) {
             Does::Takes(_) => Ok(()),
             Does::Fails(kind) => Err(kind.into()),
         }

@@ -1,0 +1,50 @@
+//! Texts that no format option changes.
+#![allow(dead_code)] // each file of tests uses some of them
+
+use std::fmt::{Debug, Display};
+
+/// The value has these texts without an option, with each that there is, and with several. A width and a precision
+/// are given.
+pub fn has_texts<T: Debug + Display + ?Sized>(
+    value: &T,
+    [debug, display]: [&str; 2],
+    options: [usize; 2],
+) {
+    let [width, precision] = options;
+    let debugs = [
+        format!("{value:?}"),
+        format!("{value:#?}"),
+        format!("{value:-?}"),
+        format!("{value:+?}"),
+        format!("{value:0?}"),
+        format!("{value:x?}"),
+        format!("{value:X?}"),
+        format!("{value:width$?}"),
+        format!("{value:.precision$?}"),
+        format!("{value:*<-width$.precision$?}"),
+        format!("{value:^+#0width$.precision$x?}"),
+    ];
+    for (number, text) in debugs.iter().enumerate() {
+        assert_eq!(text, debug, "{number}: {width} {precision}");
+    }
+    is_displayed(value, display, options);
+}
+
+/// The same of its display alone.
+pub fn is_displayed<T: Display + ?Sized>(value: &T, display: &str, options: [usize; 2]) {
+    let [width, precision] = options;
+    let displays = [
+        format!("{value}"),
+        format!("{value:#}"),
+        format!("{value:-}"),
+        format!("{value:+}"),
+        format!("{value:0}"),
+        format!("{value:width$}"),
+        format!("{value:.precision$}"),
+        format!("{value:*<-width$.precision$}"),
+        format!("{value:^+#0width$.precision$}"),
+    ];
+    for (number, text) in displays.iter().enumerate() {
+        assert_eq!(text, display, "{number}: {width} {precision}");
+    }
+}

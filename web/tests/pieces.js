@@ -1,0 +1,130 @@
+// Tries scripts of the page, whose code stands before this. Returns names of cases, what was found, and what was wanted.
+
+const cases = [];
+const same = (name, found, wanted) => cases.push([name, found, wanted]);
+
+/** A module with these exports in place of its own. */
+function moduleOf(exports) {
+  const memory = { buffer: new ArrayBuffer(65536), grow() { throw new RangeError("no room"); } };
+  return new Module({ exports: { memory, ...exports } }, 64);
+}
+
+/** The reason of the refusal, and what its words need, that an error becomes. */
+function refusalOf(error) {
+  const { reason, values } = Refusal.of(error);
+  return [reason, values];
+}
+
+function errors() {
+  same("a refusal", refusalOf(new Refusal("line is empty", { line: 5 })), ["line is empty", { line: 5 }]);
+  same("a range", refusalOf(new RangeError("too long")), ["no memory", {}]);
+  for (const error of [new Error("a"), new TypeError("b"), new WebAssembly.RuntimeError("c"), "d", null]) {
+    same(`the error ${error}`, refusalOf(error), ["the module failed", { reason: String(error) }]);
+  }
+  try {
+    moduleOf({}).digest(new Uint8Array(65536));
+    same("memory that does not grow", "", "an error");
+  } catch (error) {
+    same("memory that does not grow", refusalOf(error), ["no memory", {}]);
+  }
+}
+
+const RECORD = {
+  seed: "a seed", list: "0".repeat(64), entrants: 9, drawn: 1, version: "1.0.0", module: "1".repeat(64),
+  result: "2".repeat(64), named: [utf8("Ada")],
+};
+
+function versions() {
+  for (const [number, version] of [[0, "0.0.0"], [99, "0.0.99"], [100, "0.1.0"], [10000, "1.0.0"], [10203, "1.2.3"],
+    [109900, "10.99.0"], [123456, "12.34.56"], [9999999, "999.99.99"]]) {
+    same(`version ${number}`, moduleOf({ nanorand_v1_version: () => number }).version(), version);
+    same(`a record of ${version}`, readRecord(writeRecord({ ...RECORD, version })).version, version);
+  }
+}
+
+/** The entrants that a record names, as texts, or the line at which it is none. */
+function namedIn(text) {
+  try {
+    return readRecord(text).named.map(textOf);
+  } catch (error) {
+    return error.line;
+  }
+}
+
+/** Lines of every length, folded once, twice or not at all, with text right below. */
+function folds() {
+  for (let length = 40; length < 60; length += 1) {
+    const line = "x".repeat(length);
+    const isLong = 3 + length >= 50;
+    for (const [number, more] of [["", ""], ["\nYours", " Yours"], ["\nYours\nthe clerk", " Yours"]]) {
+      const record = writeRecord({ ...RECORD, named: [utf8(line)] }).trimEnd();
+      same(`${length} letters, then ${number}`, namedIn(record + number), [line + (isLong ? more : "")]);
+    }
+    const record = writeRecord({ ...RECORD, named: [utf8("y".repeat(50))] }).trimEnd();
+    const wanted = `${"y".repeat(50)} ${line}${length >= 50 ? " Yours" : ""}`;
+    same(`a fold, ${length} letters and more`, namedIn(`${record}\n${line}\nYours\nthe clerk`), [wanted]);
+  }
+}
+
+/** Spaces and tabs at the ends of lines are told, whether the list is text or not. */
+function spaces() {
+  for (const line of [[97], [0xff], [0xc3, 0xa9], [0xc3]]) {
+    for (const space of [9, 32]) {
+      for (const [place, spaced] of [[0, line], [1, [space, ...line]], [1, [...line, space]], [0, [...line, 13]]]) {
+        for (const other of [[98], [0xfe]]) {
+          const warnings = warningsOf(Uint8Array.from([...spaced, 10, ...other, 10]));
+          const told = warnings.filter((warning) => warning.includes("a space or a tab")).length;
+          same(`spaces of ${spaced} and ${other}`, told, place);
+        }
+      }
+    }
+  }
+}
+
+/** What a promise became: its answer, or the reason and the values of its refusal. */
+const ended = (promise) => promise.then((answer) => answer, ({ reason, values }) => [reason, values]);
+
+async function clients() {
+  const workers = [];
+  const real = window.Worker;
+  window.Worker = class {
+    constructor() {
+      this.sent = [];
+      workers.push(this);
+    }
+
+    postMessage(message) {
+      this.sent.push(message);
+    }
+  };
+  try {
+    for (const [message, reason] of [["it stopped", "it stopped"], ["", "the worker cannot start"]]) {
+      const told = [];
+      const client = new Client("", (progress) => told.push(progress));
+      const worker = workers[workers.length - 1];
+      const answers = ["start", "list", "draw", "check"].map((task) => ended(client.ask(task, { task })));
+      same("what is sent", worker.sent.map(({ number, task }) => [number, task]),
+        [[1, "start"], [2, "list"], [3, "draw"], [4, "check"]]);
+      worker.onmessage({ data: { number: 2, progress: "Counting" } });
+      worker.onmessage({ data: { number: 2, answer: "counted" } });
+      worker.onmessage({ data: { number: 1, refusal: { reason: "line is empty", values: { line: 3 } } } });
+      const failed = ["the module failed", { reason }];
+      worker.onerror({ message });
+      same("answers", await Promise.all(answers), [["line is empty", { line: 3 }], "counted", failed, failed]);
+      same("progress", told.slice(0, 1), ["Counting"]);
+      for (const task of ["list", "draw", "check", "draw"]) {
+        const waiting = new Promise((resolve) => setTimeout(resolve, 1000, "no answer"));
+        const after = await Promise.race([ended(client.ask(task, {})), waiting]);
+        same(`a ${task} after its worker was lost`, after, failed);
+      }
+    }
+  } finally {
+    window.Worker = real;
+  }
+}
+
+errors();
+versions();
+folds();
+spaces();
+return clients().then(() => cases);
