@@ -318,14 +318,22 @@ static void one_keystream(nanorand_stream stream, nanorand_keystream keystream)
     check("keystream", "the stream's bytes", holds);
 }
 
+/* Gives bytes values by which they can be told apart. */
+static void number_bytes(void *bytes, size_t length)
+{
+    for (size_t place = 0; place < length; place++) {
+        ((uint8_t *)bytes)[place] = (uint8_t)(place * 37 + 90);
+    }
+}
+
 int main(void)
 {
     nanorand_pcg64 pcg64 = {5, 1};
     nanorand_stream stream;
     nanorand_keystream keystream;
-    memset(&keystream, 0x5a, sizeof keystream);
+    number_bytes(&keystream, sizeof keystream);
     keystream.buffered = 0;
-    memset(&stream, 0x5a, sizeof stream);
+    number_bytes(&stream, sizeof stream);
     stream.chacha.counter = 3;
     stream.buffered = 0;
     check("the library", "version", nanorand_version() == NANORAND_VERSION);

@@ -7,7 +7,7 @@ mod common;
 use common::{rising, Steps};
 use nanorand_proved::samples::sample;
 use nanorand_proved::shuffles::shuffle_full;
-use nanorand_proved::{BufferedRng, ChaCha20, RangeError, Rng, WyRand};
+use nanorand_proved::{chacha_stream, BufferedRng, ChaCha20, RangeError, Rng, WyRand};
 use std::alloc::{GlobalAlloc, Layout, System};
 use std::cell::Cell;
 use std::io::{ErrorKind, Read};
@@ -51,10 +51,10 @@ fn without_memory<T>(call: impl FnOnce() -> T) -> T {
     with_memory(0, call)
 }
 
-/// After five bytes of a block, the rest of it does not fit in a full vector. It does in one of twice the size.
-fn is_refused<G: Rng<OUTPUT> + Clone, const OUTPUT: usize>(fresh: &G, held: usize) {
+/// After some bytes of a block, the rest of it does not fit in a full vector. It does in one of twice the size.
+fn is_refused<G: Rng<OUTPUT> + Clone, const OUTPUT: usize>(fresh: &G, taken: usize, held: usize) {
     let mut rng = BufferedRng::new(fresh.clone());
-    rng.fill_bytes(&mut [0; 5]);
+    rng.fill_bytes(&mut vec![0; taken]);
     let left = rng.rest().to_vec();
     let mut out = vec![7; held];
     out.shrink_to_fit();
@@ -76,29 +76,50 @@ fn is_refused<G: Rng<OUTPUT> + Clone, const OUTPUT: usize>(fresh: &G, held: usiz
     assert_eq!(rng.buffered(), 0);
 }
 
+/// The same after each number of bytes.
+fn each_is_refused<G: Rng<OUTPUT> + Clone, const OUTPUT: usize>(fresh: &G) {
+    for taken in 1..OUTPUT {
+        for held in [0, 2, 1000, 70_000] {
+            is_refused(fresh, taken, held);
+        }
+    }
+}
+
 #[test]
 fn read_to_end() {
-    for held in [0, 2, 1000, 70_000] {
-        is_refused(&Steps::new(), held);
-        is_refused(&WyRand::new_seed(42), held);
-        is_refused(&ChaCha20::new_key([1; 32], [2; 8]), held);
-    }
+    each_is_refused(&Steps::new());
+    each_is_refused(&WyRand::new_seed(42));
+    each_is_refused(&ChaCha20::new_key([1; 32], [2; 8]));
+    each_is_refused(chacha_stream::<20>([1; 32], [2; 8]).inner());
+}
+
+/// With this spare capacity, the rest of a block fits in a vector without an allocation.
+fn fits<G: Rng<OUTPUT>, const OUTPUT: usize>(
+    rng: &mut BufferedRng<G, OUTPUT>,
+    taken: usize,
+    [held, spare]: [usize; 2],
+) {
+    rng.fill_bytes(&mut vec![0; taken]);
+    let left = rng.rest().to_vec();
+    let mut out = Vec::with_capacity(held + left.len() + spare);
+    out.resize(held, 7);
+    let room = out.capacity();
+    let count = without_memory(|| rng.read_to_end(&mut out)).expect("room");
+    assert_eq!((count, out.capacity()), (left.len(), room));
+    assert_eq!(out[held..], left);
 }
 
 /// With enough spare capacity, or nothing buffered, there is no allocation to refuse.
 #[test]
 fn read_to_end_without_an_allocation() {
+    let mut stream = chacha_stream::<20>([1; 32], [2; 8]);
+    for taken in 1..=512 {
+        fits(&mut stream, taken, [3, 0]);
+    }
     let mut rng = BufferedRng::new(ChaCha20::new_key([1; 32], [2; 8]));
     for held in [0, 1, 1000] {
         for spare in (0..=24).map(|bit| (1 << bit) - 1) {
-            rng.fill_bytes(&mut [0; 5]);
-            let left = rng.rest().to_vec();
-            let mut out = Vec::with_capacity(held + left.len() + spare);
-            out.resize(held, 7);
-            let room = out.capacity();
-            let count = without_memory(|| rng.read_to_end(&mut out)).expect("room");
-            assert_eq!((count, out.capacity()), (left.len(), room));
-            assert_eq!(out[held..], left);
+            fits(&mut rng, 5, [held, spare]);
         }
     }
     let mut none = Vec::new();

@@ -240,6 +240,24 @@ fn lists() {
     });
 }
 
+/// Lists of few, many and very many entrants, and one with an empty line behind them; draws of their places.
+#[test]
+fn lists_of_many() {
+    for entrants in (0..=1025).chain([4095, 4096, 4097, 65_535, 65_536, 65_537]) {
+        both(1, |library, _| {
+            let mut numbers = [7; 2];
+            let list = "Ada\n".repeat(entrants);
+            let statuses = [
+                (library.count)(list.as_bytes(), &mut numbers[0]),
+                (library.count)((list + "\n").as_bytes(), &mut numbers[1]),
+            ];
+            let mut places = vec![7; entrants];
+            let drawn = (library.draw)(b"a seed", &mut places, entrants);
+            (statuses, numbers, drawn, places)
+        });
+    }
+}
+
 #[test]
 fn draws() {
     both(20_000, |library, mut chooser| {

@@ -227,12 +227,27 @@ fn all_lengths_of_arguments() {
     }
 }
 
-/// A bad argument of every number is reported by its number.
+/// Texts of every length are written at once.
+#[test]
+fn all_lengths_of_texts() {
+    for length in sizes(131_073).into_iter().filter(|length| *length > 1) {
+        let odd = length % 2;
+        let requests = "u8:10..=10 ".repeat(odd) + &"u8:7..=7 ".repeat(length / 2 - odd);
+        let arguments = words_of(&format!("wyrand d29b42879be2895f plain 0 {requests}"));
+        writes(
+            &arguments,
+            &("10\n".repeat(odd) + &"7\n".repeat(length / 2 - odd)),
+        );
+    }
+}
+
+/// A bad argument of every number is reported by its number. Nothing is flushed.
 #[test]
 fn all_numbers_are_reported() {
     for number in sizes(usize::MAX) {
-        let mut line = Vec::new();
+        let mut line = Writer::willing();
         assert_eq!(report(Err(DrawError::BadWord(number)), &mut line), 2);
-        assert_eq!(line, format!("draw: bad word {number}\n").as_bytes());
+        assert_eq!(line.taken, format!("draw: bad word {number}\n").as_bytes());
+        assert!(!line.calls.contains(&None));
     }
 }

@@ -75,9 +75,24 @@ fn all_numbers_of_entrants() {
             count: size + 1,
         };
         is_refused(&(size + 1).to_string(), &list, too_few);
-        let empty = rng.range(0..=size);
-        entrants.insert(empty, String::new());
-        is_refused("all", &lines_of(&entrants), LotsError::EmptyLine(empty + 1));
+        for empty in [rng.range(0..=size), size] {
+            entrants.insert(empty, String::new());
+            is_refused("all", &lines_of(&entrants), LotsError::EmptyLine(empty + 1));
+            entrants.remove(empty);
+        }
+    }
+}
+
+/// An empty line in each place of a list.
+#[test]
+fn all_places_of_an_empty_line() {
+    for place in 0..=1025 {
+        let list = format!(
+            "{}\n{}",
+            "Ada\n".repeat(place),
+            "Zo\u{eb}\n".repeat(1025 - place)
+        );
+        is_refused("all", &list, LotsError::EmptyLine(place + 1));
     }
 }
 
@@ -92,11 +107,12 @@ fn all_lengths() {
     }
 }
 
-/// The line that is written of an error, and the status.
+/// The line that is written of an error, and the status. Nothing is flushed.
 fn reports(error: LotsError, status: u8, text: &str) {
-    let mut line = Vec::new();
+    let mut line = Writer::willing();
     assert_eq!(report(Err(error), &mut line), status);
-    assert_eq!(line, text.as_bytes());
+    assert_eq!(line.taken, text.as_bytes());
+    assert!(!line.calls.contains(&None));
 }
 
 /// An empty line of every number, and every number of entrants and of what is asked for, are reported.

@@ -303,6 +303,46 @@ fn a_buffer_keeps_the_bytes_of_its_original() {
     for_each_size!(clones_its_rest);
 }
 
+thread_local! {
+    /// How many generators this thread has made.
+    static MADE: Cell<usize> = const { Cell::new(0) };
+}
+
+/// A generator that is counted when it is made.
+struct Counted;
+
+impl Default for Counted {
+    fn default() -> Self {
+        MADE.with(|made| made.set(made.get() + 1));
+        Counted
+    }
+}
+
+impl Clone for Counted {
+    fn clone(&self) -> Self {
+        Self::default()
+    }
+}
+
+impl Rng<8> for Counted {
+    fn rand(&mut self) -> [u8; 8] {
+        [7; 8]
+    }
+}
+
+/// A buffer makes one generator, by default and when it is cloned.
+#[test]
+fn a_buffer_makes_its_generator_once() {
+    let made = || MADE.with(|made| made.replace(0));
+    let mut rng = BufferedRng::<Counted, 8>::default();
+    assert_eq!(made(), 1);
+    rng.fill_bytes(&mut [0; 3]);
+    let copy = rng.clone();
+    assert_eq!(made(), 1);
+    let _ = (rng.into_inner(), copy.into_inner());
+    assert_eq!(made(), 0);
+}
+
 /// A buffer that is restored from its buffered bytes and its generator gives the same bytes.
 fn is_restored<G: Rng<OUTPUT> + Clone, const OUTPUT: usize>(rng: &BufferedRng<G, OUTPUT>) {
     let mut original = rng.clone();

@@ -3,18 +3,14 @@
 use std::iter::successors;
 
 /// Sizes up to `most`. Up to an eighth of it, each size is at most a tenth above another, so that a bug of sizes from
-/// one to a tenth above it meets one of them, and each power of two has its neighbours. Above, each power of two has
-/// the size after it.
+/// one to a tenth above it meets one of them. Each power of two is there with its neighbours.
 pub fn sizes(most: usize) -> Vec<usize> {
     let dense = most / 8;
     let steps = successors(Some(0), |size: &usize| size.checked_add((size / 11).max(1)));
     let mut sizes: Vec<usize> = steps.take_while(|size| *size <= dense).collect();
     for power in (0..usize::BITS).map(|bit| 1 << bit) {
-        if power < dense {
-            sizes.extend([power - 1, power]);
-        }
         if power < most {
-            sizes.push(power + 1);
+            sizes.extend([power - 1, power, power + 1]);
         }
     }
     sizes
