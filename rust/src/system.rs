@@ -286,6 +286,33 @@ mod tests {
         }
     }
 
+    // A request is made again however often it was interrupted in a row.
+    #[test]
+    fn many_interruptions() {
+        let mut requests: Vec<Request> = vec![(8, Err(EINTR)); 10_000];
+        requests.push((8, Ok(7)));
+        requests.resize(20_000, (1, Err(EINTR)));
+        requests.push((1, Ok(1)));
+        let (bytes, result) = filled_by(&requests, 8);
+        assert!(result.is_ok());
+        assert_eq!(bytes, [1, 2, 3, 4, 5, 6, 7, 8]);
+    }
+
+    // More bytes than 32 bits count are one request. None is written, so they take no memory.
+    #[cfg(all(target_pointer_width = "64", not(miri)))]
+    #[test]
+    fn more_than_4_gibibytes() {
+        for size in [1 << 32, (1 << 32) + 5] {
+            let mut sizes = vec![];
+            let filled = fill_by(&mut vec![0; size], usize::MAX, |part| {
+                sizes.push(part.len());
+                Ok(part.len())
+            });
+            assert!(filled.is_ok());
+            assert_eq!(sizes, [size]);
+        }
+    }
+
     // Any error but an interruption ends a fill at any of its requests, and is returned.
     #[test]
     fn failures() {
@@ -341,7 +368,7 @@ mod tests {
         use super::super::process_prng::ProcessPrng;
         use std::cell::Cell;
         use std::ffi::CStr;
-        use std::os::raw::{c_char, c_void};
+        use std::os::raw::{c_char, c_int, c_void};
         use std::ptr::{null_mut, NonNull};
         use std::thread_local;
 
@@ -353,8 +380,13 @@ mod tests {
             pub(super) static FUNCTION: Cell<bool> = const { Cell::new(true) };
         }
 
+        extern "C" {
+            fn __errno_location() -> *mut c_int;
+        }
+
         unsafe extern "system" fn fill(bytes: *mut u8, size: usize) -> i32 {
             bytes.write_bytes(1, size);
+            *__errno_location() = 1117;
             STATUS.with(Cell::get)
         }
 
@@ -382,6 +414,7 @@ mod tests {
             if found && LIBRARY.with(Cell::get) {
                 NonNull::dangling().as_ptr()
             } else {
+                *__errno_location() = 126;
                 null_mut()
             }
         }
@@ -392,6 +425,7 @@ mod tests {
             name: *const u8,
         ) -> Option<ProcessPrng> {
             let found = !library.is_null() && is(name, "ProcessPrng");
+            *__errno_location() = 127;
             (found && FUNCTION.with(Cell::get)).then_some(fill)
         }
     }
@@ -418,13 +452,37 @@ mod tests {
         for status in [0, 1, 2, -1, 5, 28, i32::MIN, i32::MAX] {
             let (bytes, outcome) =
                 filled_with_status(status, process_prng::MOST, process_prng::request);
-            assert_eq!((bytes, outcome.is_ok()), (whole, status != 0), "{status}");
+            let error = outcome.err().and_then(|error| error.raw_os_error());
+            assert_eq!((bytes, error), (whole, (status == 0).then_some(1117)));
             let (bytes, outcome) =
                 filled_with_status(status, common_crypto::MOST, common_crypto::request);
-            assert_eq!((bytes, outcome.is_ok()), (whole, status == 0), "{status}");
+            let error = outcome.err().map(|error| error.kind());
+            let wanted = (status != 0).then_some(ErrorKind::Other);
+            assert_eq!((bytes, error), (whole, wanted), "{status}");
             let (bytes, outcome) = filled_with_status(status, wasi::MOST, wasi::request);
             let error = outcome.err().and_then(|error| error.raw_os_error());
             assert_eq!((bytes, error), (whole, (status != 0).then_some(status)));
+        }
+    }
+
+    // They fill slices of any size whole.
+    #[cfg(target_os = "linux")]
+    #[test]
+    fn long_fills_by_other_systems() {
+        use super::{common_crypto, process_prng, wasi};
+        type Requester = fn(&mut [u8]) -> io::Result<usize>;
+        let rows: [(i32, usize, Requester); 3] = [
+            (1, process_prng::MOST, process_prng::request),
+            (0, common_crypto::MOST, common_crypto::request),
+            (0, wasi::MOST, wasi::request),
+        ];
+        for (status, most, request) in rows {
+            for size in [0, 255, 256, 257, 4097, 100_000] {
+                let mut bytes = vec![0; size];
+                other_systems::STATUS.with(|returned| returned.set(status));
+                assert!(fill_by(&mut bytes, most, request).is_ok(), "{size}");
+                assert!(bytes.iter().all(|byte| *byte == 1), "{size}");
+            }
         }
     }
 
@@ -432,11 +490,12 @@ mod tests {
     #[test]
     fn windows_without_its_library() {
         use super::process_prng::{request, MOST};
-        for missing in [&other_systems::LIBRARY, &other_systems::FUNCTION] {
+        let (library, function) = (&other_systems::LIBRARY, &other_systems::FUNCTION);
+        for (missing, number) in [(library, 126), (function, 127)] {
             missing.with(|there| there.set(false));
             let (bytes, outcome) = filled_with_status(1, MOST, request);
-            assert!(outcome.is_err());
-            assert_eq!(bytes, [0; 9]);
+            let error = outcome.err().and_then(|error| error.raw_os_error());
+            assert_eq!((bytes, error), ([0; 9], Some(number)));
             missing.with(|there| there.set(true));
             assert!(filled_with_status(1, MOST, request).1.is_ok());
         }

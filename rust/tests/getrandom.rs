@@ -1,8 +1,10 @@
 //! Seeds by a `getrandom` that stands for the system's: what it is asked for, and what becomes of what it answers.
 #![cfg(all(target_os = "linux", feature = "std"))]
 
-use nanorand_proved::{ChaCha20, Pcg64, WyRand};
-use std::cell::RefCell;
+use nanorand_proved::rand::ChaChaGroups;
+use nanorand_proved::system;
+use nanorand_proved::{BufferedRng, ChaCha20, ChaCha20Stream, ChaCha8, Pcg64, WyRand};
+use std::cell::{Cell, RefCell};
 use std::collections::VecDeque;
 use std::os::raw::{c_int, c_uint, c_void};
 
@@ -17,6 +19,8 @@ thread_local! {
     static ANSWERS: RefCell<VecDeque<Result<usize, c_int>>> = RefCell::default();
     /// The sizes and the flags that were asked for.
     static ASKED: RefCell<Vec<(usize, c_uint)>> = RefCell::default();
+    /// The next byte, and what the one after it has more.
+    static BYTES: Cell<(u8, u8)> = const { Cell::new((7, 0)) };
 }
 
 /// std calls it too, where a table is hashed. None is here.
@@ -26,7 +30,12 @@ unsafe extern "C" fn getrandom(bytes: *mut c_void, size: usize, flags: c_uint) -
     let answer = ANSWERS.with(|answers| answers.borrow_mut().pop_front());
     match answer.unwrap_or(Ok(size)) {
         Ok(count) => {
-            bytes.write_bytes(7, count);
+            let (mut byte, step) = BYTES.with(Cell::get);
+            for place in 0..count {
+                bytes.cast::<u8>().add(place).write(byte);
+                byte = byte.wrapping_add(step);
+            }
+            BYTES.with(|next| next.set((byte, step)));
             count.try_into().unwrap_or(-1)
         }
         Err(number) => {
@@ -81,5 +90,51 @@ fn errors_of_the_system_are_returned() {
             assert_eq!(error.raw_os_error(), Some(number));
             assert_eq!(asked.len(), answers.len());
         }
+    }
+}
+
+/// A generator is made of the system's bytes in their order, whatever they are: all of zeros or of ones, too.
+#[test]
+fn seeds_are_the_bytes_of_the_system() {
+    for (first, step) in [(0_u8, 0), (255, 0), (7, 0), (1, 1), (200, 77)] {
+        let mut seed = [0; 40];
+        let mut byte = first;
+        for place in &mut seed {
+            *place = byte;
+            byte = byte.wrapping_add(step);
+        }
+        let made = |call: &mut dyn FnMut()| {
+            BYTES.with(|next| next.set((first, step)));
+            call();
+            BYTES.with(|next| next.set((7, 0)));
+        };
+        let (word, wide) = (seed[..8].try_into(), seed[..16].try_into());
+        let wyrand = WyRand::from_seed(word.expect("8 bytes"));
+        let pcg64 = Pcg64::from_seed(wide.expect("16 bytes"));
+        let (chacha, stream) = (ChaCha20::from_seed(seed), ChaCha20Stream::from_seed(seed));
+        let groups = ChaChaGroups::new_key(chacha.key(), chacha.nonce());
+        made(&mut || assert_eq!(WyRand::from_entropy().ok().as_ref(), Some(&wyrand)));
+        made(&mut || assert_eq!(WyRand::default(), wyrand));
+        made(&mut || assert_eq!(Pcg64::from_entropy().ok().as_ref(), Some(&pcg64)));
+        made(&mut || assert_eq!(Pcg64::default(), pcg64));
+        made(&mut || assert_eq!(ChaCha20::from_entropy().ok().as_ref(), Some(&chacha)));
+        made(&mut || assert_eq!(ChaCha20::default(), chacha));
+        made(&mut || assert_eq!(ChaCha8::default(), ChaCha8::from_seed(seed)));
+        made(&mut || assert_eq!(ChaChaGroups::<20>::default(), groups));
+        made(&mut || assert_eq!(ChaCha20Stream::from_entropy().ok().as_ref(), Some(&stream)));
+        made(&mut || assert_eq!(ChaCha20Stream::default(), stream));
+        made(&mut || assert_eq!(BufferedRng::<WyRand, 8>::default().inner(), &wyrand));
+    }
+}
+
+/// A slice of any size is filled whole, by one request where the system answers it whole.
+#[test]
+fn slices_of_any_size_are_filled() {
+    for size in [0, 1, 255, 256, 257, 4097, 65_537, 1 << 20] {
+        let mut bytes = vec![0; size];
+        let (outcome, asked) = answered(&[], || system::fill(&mut bytes));
+        assert!(outcome.is_ok(), "{size}");
+        assert!(bytes.iter().all(|byte| *byte == 7), "{size}");
+        assert!(asked.into_iter().eq((size > 0).then_some((size, 0))));
     }
 }

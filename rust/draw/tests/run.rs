@@ -2,16 +2,14 @@
 
 #[path = "../../tests/common/formats.rs"]
 mod formats;
-#[path = "../../tests/common/kinds.rs"]
-mod kinds;
 #[path = "../../program/tests/common/writer.rs"]
 mod writer;
 
 use draw::run::{report, run};
 use draw::DrawError;
 use formats::is_displayed;
-use kinds::kinds;
 use std::io::ErrorKind;
+use writer::kinds::faults;
 use writer::{Does, Writer};
 
 const SEED: &str = "d29b42879be2895f";
@@ -175,6 +173,14 @@ fn seeds_have_two_digits_a_byte() {
         let seed = &digits[..2 * bytes];
         let of_seed = |seed: &str| text_of(&[generator, seed, "plain", "0", "u64"]);
         assert_eq!(of_seed(seed), of_seed(&seed.to_uppercase()));
+        for odd in [0, 1, 3] {
+            let turned = |(place, digit): (usize, char)| match (place / 2 + odd) % 4 {
+                0 | 1 => digit.to_ascii_uppercase(),
+                _ => digit,
+            };
+            let mixed: String = seed.chars().enumerate().map(turned).collect();
+            assert_eq!(of_seed(&mixed), of_seed(seed), "{mixed}");
+        }
         for place in 0..seed.len() {
             let (before, after) = (&seed[..place], &seed[place + 1..]);
             assert_ne!(
@@ -331,14 +337,14 @@ fn a_failed_write_is_an_error() {
     for (write, flush, outcome, taken) in [
         (Does::Takes(0), all, Err(DrawError::Write), 0),
         (
-            Does::Fails(ErrorKind::BrokenPipe),
+            Does::Fails(ErrorKind::BrokenPipe.into()),
             all,
             Err(DrawError::Write),
             0,
         ),
         (
             all,
-            Does::Fails(ErrorKind::Other),
+            Does::Fails(ErrorKind::Other.into()),
             Err(DrawError::Write),
             text.len(),
         ),
@@ -356,19 +362,20 @@ fn a_failed_write_is_an_error() {
 fn a_write_or_flush_that_fails_by_any_kind_of_error() {
     let arguments = ["wyrand", SEED, "plain", "2", "u8"].map(String::from);
     let text = b"218\nitems: 0 1\n";
-    for kind in kinds() {
+    for fault in faults() {
+        let kind = fault.kind();
         for call in 0..=text.len() {
-            let mut out = Writer::failing(call, kind);
+            let mut out = Writer::failing(call, fault);
             let outcome = run(&arguments, &mut out);
             let taken = if kind == ErrorKind::Interrupted && call < text.len() {
                 assert_eq!((outcome, out.calls.len()), (Ok(()), text.len() + 2));
                 text.len()
             } else {
                 let ended = (outcome, out.calls.len());
-                assert_eq!(ended, (Err(DrawError::Write), call + 1), "{kind:?}");
+                assert_eq!(ended, (Err(DrawError::Write), call + 1), "{fault:?}");
                 call
             };
-            assert_eq!(out.taken, text[..taken], "{kind:?} at {call}");
+            assert_eq!(out.taken, text[..taken], "{fault:?} at {call}");
         }
     }
 }
@@ -377,13 +384,18 @@ fn a_write_or_flush_that_fails_by_any_kind_of_error() {
 #[test]
 fn a_report_that_fails_by_any_kind_of_error() {
     let line = b"draw: bad word 12\n";
-    for kind in kinds() {
+    for fault in faults() {
+        let kind = fault.kind();
         for call in 0..line.len() {
-            let mut err = Writer::failing(call, kind);
-            assert_eq!(report(Err(DrawError::BadWord(12)), &mut err), 2, "{kind:?}");
+            let mut err = Writer::failing(call, fault);
+            assert_eq!(
+                report(Err(DrawError::BadWord(12)), &mut err),
+                2,
+                "{fault:?}"
+            );
             let whole = kind == ErrorKind::Interrupted;
             let taken = if whole { line.len() } else { call };
-            assert_eq!(err.taken, line[..taken], "{kind:?} at {call}");
+            assert_eq!(err.taken, line[..taken], "{fault:?} at {call}");
         }
     }
 }
@@ -399,7 +411,9 @@ fn errors_are_reported_in_one_line() {
         (DrawError::Memory, 3, "no memory"),
         (DrawError::Write, 4, "write failed"),
     ] {
-        is_displayed(&error, text, [20, 3]);
+        for width in 0..=60 {
+            is_displayed(&error, text, [width, 60 - width]);
+        }
         let mut line = Vec::new();
         assert_eq!(report(Err(error), &mut line), status);
         assert_eq!(line, format!("draw: {text}\n").as_bytes());
@@ -407,5 +421,6 @@ fn errors_are_reported_in_one_line() {
         assert_eq!(report(Err(error), &mut [].as_mut_slice()), status);
         let boxed: Box<dyn std::error::Error> = error.into();
         assert_eq!(boxed.to_string(), text);
+        assert!(boxed.source().is_none());
     }
 }

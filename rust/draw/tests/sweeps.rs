@@ -158,7 +158,7 @@ fn words_of(line: &str) -> Vec<String> {
 
 /// The text of these arguments is written at once and then flushed, and a flush that fails is an error.
 fn writes(arguments: &[String], text: &str) {
-    let fails = Does::Fails(ErrorKind::BrokenPipe);
+    let fails = Does::Fails(ErrorKind::BrokenPipe.into());
     for (flush, outcome) in [(Does::Takes(0), Ok(())), (fails, Err(DrawError::Write))] {
         let mut out = Writer::new(Does::Takes(usize::MAX), flush);
         assert_eq!(run(arguments, &mut out), outcome, "{}", text.len());
@@ -211,6 +211,20 @@ fn all_numbers_of_items() {
     }
 }
 
+/// Each generator and mode has any seed, and shuffles many items.
+#[test]
+fn all_generators() {
+    let calls = [Call::Gen(Kind::U64), Call::Shuffle];
+    for number in 0..10 {
+        for seed in [0, 1, 1 << 32, u64::MAX] {
+            for count in [0, 1, 99, 100, 128, 500, 1000] {
+                let (start, text) = command_of(number, seed, &calls, count);
+                writes(&words_of(&format!("{start} {count} u64 shuffle")), &text);
+            }
+        }
+    }
+}
+
 /// Arguments of every length are read, and so are bad ones.
 #[test]
 fn all_lengths_of_arguments() {
@@ -220,6 +234,8 @@ fn all_lengths_of_arguments() {
         let ranges = format!("u8:{zeros}7..={zeros}7 i64:-{zeros}8..-{zeros}7");
         let arguments = words_of(&format!("{start} {zeros}2 {ranges}"));
         writes(&arguments, "7\n-8\nitems: 0 1\n");
+        let one_more = words_of(&format!("{start} {zeros}{zeros}2 u8:7..=7"));
+        writes(&one_more, "7\nitems: 0 1\n");
         for (before, after) in [("u8", "8"), ("u8:", "256.."), ("i8:-1..", "x")] {
             let arguments = words_of(&format!("{start} 0 {before}{zeros}{after} u8"));
             is_refused(&arguments, 5);

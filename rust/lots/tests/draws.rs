@@ -117,7 +117,9 @@ const ERRORS: [(LotsError, u8, &str); 7] = [
 fn errors_have_a_status_and_a_text() {
     for (error, status, text) in ERRORS {
         assert_eq!(error.status(), status);
-        is_displayed(&error, text, [40, 3]);
+        for width in 0..=60 {
+            is_displayed(&error, text, [width, 60 - width]);
+        }
     }
 }
 
@@ -138,5 +140,6 @@ fn errors_are_reported_in_one_line() {
         );
         let boxed: Box<dyn std::error::Error> = error.into();
         assert_eq!(boxed.to_string(), text);
+        assert!(boxed.source().is_none());
     }
 }

@@ -1,25 +1,23 @@
 //! A whole run over readers and writers whose bytes and failures are known.
 
-#[path = "../../tests/common/kinds.rs"]
-mod kinds;
 #[path = "../../program/tests/common/writer.rs"]
 mod writer;
 
-use kinds::kinds;
 use lots::run::{report, run};
 use lots::LotsError;
 use std::collections::{HashSet, VecDeque};
 use std::io::{ErrorKind, Read, Result};
+use writer::kinds::{faults, Fault};
 use writer::{Does, Writer};
 
 /// A reader that gives these pieces and errors, one each time, and then no byte.
-struct Pieces(VecDeque<std::result::Result<Vec<u8>, ErrorKind>>);
+struct Pieces(VecDeque<std::result::Result<Vec<u8>, Fault>>);
 
 impl Read for Pieces {
     fn read(&mut self, bytes: &mut [u8]) -> Result<usize> {
         let Pieces(pieces) = self;
         let mut piece = match pieces.pop_front() {
-            Some(piece) => piece?,
+            Some(piece) => piece.map_err(Fault::error)?,
             None => return Ok(0),
         };
         let rest = piece.split_off(piece.len().min(bytes.len()));
@@ -49,7 +47,7 @@ fn arguments(count: &str) -> [String; 2] {
 
 /// What a run of all of this list returns, and the writer after it.
 fn run_of(
-    pieces: &[std::result::Result<&[u8], ErrorKind>],
+    pieces: &[std::result::Result<&[u8], Fault>],
     mut out: Writer,
 ) -> (std::result::Result<(), LotsError>, Writer) {
     let pieces = pieces.iter().map(|piece| piece.map(<[u8]>::to_vec));
@@ -66,7 +64,7 @@ fn the_text_is_written_at_once_and_then_flushed() {
 
 #[test]
 fn a_reader_may_be_interrupted_and_give_any_pieces() {
-    let interrupted = Err(ErrorKind::Interrupted);
+    let interrupted = Err(ErrorKind::Interrupted.into());
     for cut in 1..LIST.len() {
         let (first, rest) = LIST.split_at(cut);
         let pieces = [
@@ -82,15 +80,39 @@ fn a_reader_may_be_interrupted_and_give_any_pieces() {
     }
 }
 
+/// It is read again however often it was interrupted in a row.
+#[test]
+fn a_reader_may_be_interrupted_many_times() {
+    let interrupted = vec![Err(ErrorKind::Interrupted.into()); 10_000];
+    for cut in [0, 1, LIST.len()] {
+        let (first, rest) = LIST.split_at(cut);
+        let mut pieces = interrupted.clone();
+        pieces.extend(
+            [first, rest]
+                .into_iter()
+                .filter(|piece| !piece.is_empty())
+                .map(Ok),
+        );
+        pieces.extend(interrupted.clone());
+        let (outcome, out) = run_of(&pieces, Writer::willing());
+        assert_eq!((outcome, out.taken.as_slice()), (Ok(()), DRAWN), "{cut}");
+    }
+}
+
+/// Each power of two to 2^22 with its neighbours, and one size far above.
 #[test]
 fn lists_of_every_size_around_that_of_a_piece() {
-    for size in [
-        4095, 4096, 4097, 8192, 16383, 16384, 16385, 32768, 65536, 100_000,
-    ] {
+    let powers = (12..=22).map(|bit| 1 << bit);
+    let near_powers = powers.flat_map(|power: usize| [power - 1, power, power + 1]);
+    for size in near_powers.chain([100_000, 70_000_001]) {
         let entrant = vec![b'x'; size];
-        let (outcome, out) = run_of(&[Ok(&entrant)], Writer::willing());
+        let mut out = Writer::willing();
+        let outcome = run(&arguments("all"), &mut entrant.as_slice(), &mut out);
         assert_eq!((outcome, out.taken.len()), (Ok(()), size + 1), "{size}");
-        assert_eq!(out.taken.strip_suffix(b"\n"), Some(entrant.as_slice()));
+        assert!(
+            out.taken.strip_suffix(b"\n") == Some(entrant.as_slice()),
+            "{size}"
+        );
     }
 }
 
@@ -98,7 +120,8 @@ fn lists_of_every_size_around_that_of_a_piece() {
 /// read that was interrupted is made again.
 #[test]
 fn a_read_that_fails_by_any_kind_of_error() {
-    for kind in kinds() {
+    for fault in faults() {
+        let kind = fault.kind();
         let error = match kind {
             ErrorKind::Interrupted => None,
             ErrorKind::OutOfMemory => Some(LotsError::Memory),
@@ -106,11 +129,11 @@ fn a_read_that_fails_by_any_kind_of_error() {
         };
         for read in 0..=LIST.len() {
             let mut pieces: Vec<_> = LIST.chunks(1).map(Ok).collect();
-            pieces.insert(read, Err(kind));
+            pieces.insert(read, Err(fault));
             let (outcome, out) = run_of(&pieces, Writer::willing());
-            assert_eq!(outcome.err(), error, "{kind:?} at {read}");
+            assert_eq!(outcome.err(), error, "{fault:?} at {read}");
             let taken = if error.is_none() { DRAWN } else { b"" };
-            assert_eq!(out.taken, taken, "{kind:?} at {read}");
+            assert_eq!(out.taken, taken, "{fault:?} at {read}");
             assert_eq!(out.calls.is_empty(), error.is_some());
         }
     }
@@ -120,18 +143,19 @@ fn a_read_that_fails_by_any_kind_of_error() {
 /// Only a write that was interrupted is made again.
 #[test]
 fn a_write_or_flush_that_fails_by_any_kind_of_error() {
-    for kind in kinds() {
+    for fault in faults() {
+        let kind = fault.kind();
         for call in 0..=DRAWN.len() {
-            let (outcome, out) = run_of(&[Ok(LIST)], Writer::failing(call, kind));
+            let (outcome, out) = run_of(&[Ok(LIST)], Writer::failing(call, fault));
             let ended = (outcome, out.calls.len());
             let taken = if kind == ErrorKind::Interrupted && call < DRAWN.len() {
                 assert_eq!(ended, (Ok(()), DRAWN.len() + 2), "at {call}");
                 DRAWN.len()
             } else {
-                assert_eq!(ended, (Err(LotsError::Write), call + 1), "{kind:?}");
+                assert_eq!(ended, (Err(LotsError::Write), call + 1), "{fault:?}");
                 call
             };
-            assert_eq!(out.taken, DRAWN[..taken], "{kind:?} at {call}");
+            assert_eq!(out.taken, DRAWN[..taken], "{fault:?} at {call}");
         }
     }
 }
@@ -140,17 +164,18 @@ fn a_write_or_flush_that_fails_by_any_kind_of_error() {
 #[test]
 fn a_report_that_fails_by_any_kind_of_error() {
     let line = b"lots: line 12 is empty\n";
-    for kind in kinds() {
+    for fault in faults() {
+        let kind = fault.kind();
         for call in 0..line.len() {
-            let mut err = Writer::failing(call, kind);
+            let mut err = Writer::failing(call, fault);
             assert_eq!(
                 report(Err(LotsError::EmptyLine(12)), &mut err),
                 4,
-                "{kind:?}"
+                "{fault:?}"
             );
             let whole = kind == ErrorKind::Interrupted;
             let taken = if whole { line.len() } else { call };
-            assert_eq!(err.taken, line[..taken], "{kind:?} at {call}");
+            assert_eq!(err.taken, line[..taken], "{fault:?} at {call}");
         }
     }
 }
@@ -160,8 +185,8 @@ fn a_failed_write_is_an_error() {
     let all = Does::Takes(usize::MAX);
     for (write, flush, taken, calls) in [
         (Does::Takes(0), all, 0, 1),
-        (Does::Fails(ErrorKind::BrokenPipe), all, 0, 1),
-        (all, Does::Fails(ErrorKind::Other), 20, 2),
+        (Does::Fails(ErrorKind::BrokenPipe.into()), all, 0, 1),
+        (all, Does::Fails(ErrorKind::Other.into()), 20, 2),
     ] {
         let (outcome, out) = run_of(&[Ok(LIST)], Writer::new(write, flush));
         assert_eq!(outcome, Err(LotsError::Write));

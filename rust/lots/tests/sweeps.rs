@@ -36,7 +36,7 @@ fn text_drawn(entrants: &[String], count: usize) -> String {
 /// A run draws this text, writes it at once and then flushes. A flush that fails is an error.
 fn draws(seed: &str, count: &str, list: &str, text: &str) {
     let arguments = [seed, count].map(String::from);
-    let fails = Does::Fails(ErrorKind::BrokenPipe);
+    let fails = Does::Fails(ErrorKind::BrokenPipe.into());
     for (flush, outcome) in [(Does::Takes(0), Ok(())), (fails, Err(LotsError::Write))] {
         let mut out = Writer::new(Does::Takes(usize::MAX), flush);
         let ended = run(&arguments, &mut list.as_bytes(), &mut out);
@@ -96,10 +96,13 @@ fn all_places_of_an_empty_line() {
     }
 }
 
+/// About so many bytes Linux gives a program in one argument.
+const MOST_OF_LINUX: usize = 131_070;
+
 /// A seed, a count and an entrant of every length.
 #[test]
 fn all_lengths() {
-    for length in sizes(65_537) {
+    for length in sizes(65_537).into_iter().chain([MOST_OF_LINUX]) {
         let one = format!("{}1", "0".repeat(length));
         let line = format!("{one}\n");
         draws(&one, &one, &one, &line);

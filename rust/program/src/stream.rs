@@ -81,6 +81,27 @@ mod tests {
     }
 
     #[test]
+    fn a_stream_without_a_byte_or_without_room_fails() {
+        let (near, far) = UnixStream::pair().unwrap();
+        near.set_nonblocking(true).unwrap();
+        let mut near = Stream::of(&near, &AtomicBool::new(false));
+        let error = near.read(&mut [0]).unwrap_err();
+        assert_eq!(error.kind(), ErrorKind::WouldBlock);
+        let mut left = 10_000;
+        let error = loop {
+            match near.write(&[0; 4096]) {
+                Ok(count) => assert!(count > 0),
+                Err(error) => break error,
+            }
+            left -= 1;
+            assert!(left > 0, "there is always room");
+        };
+        assert_eq!(error.kind(), ErrorKind::WouldBlock);
+        drop(far);
+        assert_eq!(near.write(b"a").unwrap_err().kind(), ErrorKind::BrokenPipe);
+    }
+
+    #[test]
     fn a_stream_that_was_closed_fails() {
         let (near, _far) = UnixStream::pair().unwrap();
         let mut stream = Stream::of(&near, &AtomicBool::new(true));

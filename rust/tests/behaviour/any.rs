@@ -109,6 +109,31 @@ fn one_request_a_call() {
     assert_eq!(waste.drawn(), 8);
 }
 
+/// A request to a generator that is taken.
+fn by_reference<R: Rng<N>, const N: usize>(mut rng: R, bytes: &mut [u8]) {
+    rng.fill_bytes(bytes);
+}
+
+/// So it is for requests of any size, also where the generator is borrowed.
+#[test]
+fn large_requests_are_one() {
+    for size in [9, 63, 64, 65, 511, 512, 513, 4096, 4097, 100_000] {
+        let (mut waste, mut same) = (Waste::new(), Waste::new());
+        let (mut bytes, mut expected) = (vec![0; size], vec![1; size]);
+        same.fill_bytes(&mut expected);
+        let mut lent = waste.as_any();
+        lent.bytes(&mut bytes);
+        assert!(bytes == expected, "{size}");
+        lent.rng().fill_bytes(&mut bytes);
+        same.fill_bytes(&mut expected);
+        assert!(bytes == expected, "{size}");
+        by_reference(&mut waste, &mut bytes);
+        same.fill_bytes(&mut expected);
+        assert!(bytes == expected, "{size}");
+        assert_eq!(waste, same, "{size}");
+    }
+}
+
 /// Calls of a user's own, which are no requests of one another.
 struct Own;
 

@@ -1,7 +1,7 @@
 //! Characters and their ranges. Literal characters come from another implementation of the rule.
 
 use crate::common::{zeros, ByteScript, Constant};
-use nanorand_proved::RangeError::{self, Empty};
+use nanorand_proved::RangeError::{self, Empty, Exhausted};
 use nanorand_proved::{Rng, WyRand};
 use std::ops::Bound::{Excluded, Included, Unbounded};
 
@@ -73,4 +73,17 @@ fn ends_of_ranges() {
         }
     }
     assert_eq!(Constant::new(255).generate_range::<char>(..), Ok(char::MAX));
+}
+
+/// A range of all characters is refused where a character alone is U+0000.
+#[test]
+fn all_characters_are_a_range() {
+    for bounds in [
+        (Unbounded, Unbounded),
+        (Included('\0'), Included(char::MAX)),
+    ] {
+        let mut rng = zeros();
+        assert_eq!(rng.generate_range::<char>(bounds), Err(Exhausted));
+        assert_eq!(rng.drawn(), 128);
+    }
 }

@@ -1,11 +1,11 @@
 //! Entropy readers, and the generators made from them.
 
-use crate::common::kinds::kinds;
+use crate::common::kinds::faults;
 use crate::common::Pieces;
 use nanorand_proved::entropy::{backup, rdseed, system, EntropyError};
 use nanorand_proved::rand::ChaChaGroups;
 use nanorand_proved::{ChaCha12, ChaCha20, ChaCha20Stream, ChaCha8, Pcg64, WyRand};
-use std::io::{self, ErrorKind};
+use std::io::ErrorKind;
 
 type Maker = fn(&mut Pieces) -> Result<(), EntropyError>;
 
@@ -68,14 +68,18 @@ fn short_readers() {
 fn failing_readers() {
     let bytes = counted();
     for (make, size) in MAKERS {
-        for kind in kinds() {
+        for fault in faults() {
             for read in 0..size {
-                let mut source = Pieces::failing(&bytes, 1, read, kind);
+                let mut source = Pieces::failing(&bytes, 1, read, fault);
                 let made = make(&mut source);
-                assert_eq!(made, Err(EntropyError::Fault), "{kind:?}: {read} of {size}");
+                assert_eq!(
+                    made,
+                    Err(EntropyError::Fault),
+                    "{fault:?}: {read} of {size}"
+                );
                 assert_eq!(source.reads(), read + 1, "{read} of {size}");
             }
-            let mut source = Pieces::failing(&bytes, 1, size, kind);
+            let mut source = Pieces::failing(&bytes, 1, size, fault);
             assert_eq!(make(&mut source), Ok(()));
             assert_eq!(source.reads(), size);
         }
@@ -154,11 +158,11 @@ fn defaults_differ() {
 
 #[test]
 fn errors_of_the_system() {
-    for kind in kinds() {
-        let error = match kind {
+    for fault in faults() {
+        let error = match fault.kind() {
             ErrorKind::Unsupported => EntropyError::Unavailable,
             _ => EntropyError::Fault,
         };
-        assert_eq!(EntropyError::from(io::Error::from(kind)), error, "{kind:?}");
+        assert_eq!(EntropyError::from(fault.error()), error, "{fault:?}");
     }
 }

@@ -56,7 +56,7 @@ fn seeds_of_wyrand() {
 #[test]
 fn hashes_of_states() {
     let mut source = WyRand::new_seed(1);
-    for draws in 0..100 {
+    for draws in 0..100_u8 {
         let mut wyrand = WyRand::new_seed(source.generate());
         let mut pcg64 = Pcg64::new_seed(source.generate());
         let mut chacha = ChaCha8::at(source.generate(), source.generate(), source.generate());
@@ -71,6 +71,9 @@ fn hashes_of_states() {
         assert_eq!(hash_of(&groups), hash_of(&state));
         let buffer = buffer(wyrand.seed(), &state.1[..7]);
         assert_eq!(hash_of(&buffer), hash_of(&(buffer.rest(), wyrand)));
+        let rest = vec![draws; 5 * usize::from(draws)];
+        let stream = BufferedRng::with_rest(groups, &rest).expect("less than a block");
+        assert_eq!(hash_of(&stream), hash_of(&(&rest[..], stream.inner())));
     }
 }
 

@@ -102,6 +102,7 @@ macro_rules! check_ends {
     ($number:ident) => {{
         let (least, greatest, ulp) = ($number::MIN, $number::MAX, $number::EPSILON);
         let (half, quarter) = (ulp / 2.0, ulp / 4.0);
+        let [first, second, third] = [1, 2, 3].map($number::from_bits);
         for (low, high, by_least, by_greatest) in [
             (Included(0.0), Excluded(1.0), 0.0, 1.0 - half),
             (Included(0.0), Included(1.0), 0.0, 1.0),
@@ -109,6 +110,12 @@ macro_rules! check_ends {
             (Included(-1.0), Included(quarter), -1.0, quarter),
             (Included(-1.0), Included(3.0 * quarter), -1.0, 3.0 * quarter),
             (Included(3.5), Included(3.5), 3.5, 3.5),
+            // The least numbers have no halves.
+            (Included(first), Included(first), first, first),
+            (Included(first), Included(third), first, third),
+            (Included(second), Included(third), second, third),
+            (Included(-third), Included(first), -third, first),
+            (Included(-first), Included(0.0), -first, 0.0),
             (Included(0.0), Included(-0.0), 0.0, 0.0),
             (Included(least), Included(greatest), least, greatest),
             (
@@ -144,6 +151,8 @@ macro_rules! check_empty {
             (Included(1.0), Excluded(1.0)),
             (Excluded(1.0), Included(1.0)),
             (Excluded($number::MAX), Unbounded),
+            (Excluded($number::MIN), Included($number::MIN)),
+            (Excluded(-0.0), Included(0.0)),
             (Unbounded, Excluded($number::MIN)),
         ] {
             let drawn = rng.generate_range::<$number>((low, high));
@@ -183,6 +192,16 @@ macro_rules! check_rejected {
                 Ok(next),
             ),
             (Excluded(1.0), Included(next), &only_the_last, Ok(next)),
+            // Zero is excluded whatever its sign, and so is the least number.
+            (Excluded(-0.0), Included(1.0), &[0, 255], Ok(1.0)),
+            (Excluded(0.0), Included(1.0), &[0, 0, 255], Ok(1.0)),
+            (
+                Excluded($number::MIN),
+                Unbounded,
+                &[0, 255],
+                Ok($number::MAX),
+            ),
+            (Excluded($number::MIN), Included(0.0), &[0, 255], Ok(0.0)),
             (Included(1.0), Excluded(next), &[255; 128], Err(Exhausted)),
             (Excluded(1.0), Included(next), &[0; 128], Err(Exhausted)),
         ] {

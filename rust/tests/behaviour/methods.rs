@@ -47,6 +47,60 @@ fn methods_are_the_functions() {
     check(ChaCha8::new_key([1; 32], [2; 8]));
 }
 
+/// So it does where little can come, or one thing alone: it draws as much.
+#[test]
+fn methods_are_the_functions_of_few_items() {
+    let mut rng = WyRand::new_seed(42);
+    let mut same = rng.clone();
+    for length in 0..5 {
+        let items = rising(length);
+        let (mut left, mut right) = (rising(length), rising(length));
+        for slots in 0..=length {
+            let answer = rng.sample(length, &mut left[..slots]);
+            assert_eq!(
+                answer,
+                samples::sample(&mut same, length, &mut right[..slots])
+            );
+            assert_eq!((&left, &rng), (&right, &same), "{slots} of {length}");
+        }
+        rng.permute(&mut left);
+        assert_eq!(same.shuffle(&mut right), Ok(()));
+        assert_eq!((&left, &rng), (&right, &same), "{length}");
+        assert_eq!(rng.choose(&items), choices::choose(&mut same, &items));
+        let item = rng.choose_mut(&mut left).map(|item| *item);
+        assert_eq!(
+            item,
+            choices::choose_mut(&mut same, &mut right).map(|item| *item)
+        );
+        let weights = vec![1; length];
+        let index = rng.choose_weighted(&weights);
+        assert_eq!(index, choices::choose_weighted(&mut same, &weights));
+        assert_eq!((&left, &rng), (&right, &same), "{length}");
+    }
+    for (numerator, denominator) in [(0, 1), (1, 1), (2, 1), (0, 3), (3, 3), (4, 3), (0, 0)] {
+        let truth = rng.ratio(numerator, denominator);
+        assert_eq!(truth, choices::ratio(&mut same, numerator, denominator));
+        assert_eq!(rng, same, "{numerator} of {denominator}");
+    }
+}
+
+/// So it does for slices and counts of many sizes, also beyond the items.
+#[test]
+fn partial_shuffles_are_the_function() {
+    let mut rng = WyRand::new_seed(42);
+    let mut same = rng.clone();
+    for length in (0..=66).chain([100, 1000, 5000]) {
+        for count in [0, 1, 2, length / 2, length, length + 1, usize::MAX] {
+            let (mut left, mut right) = (rising(length), rising(length));
+            assert_eq!(rng.partial_shuffle(&mut left, count), Ok(()));
+            let answer = shuffles::partial_shuffle(&mut same, &mut right, count);
+            assert_eq!(answer, Ok(()));
+            assert_eq!(left, right, "{count} of {length}");
+            assert_eq!(rng, same, "{count} of {length}");
+        }
+    }
+}
+
 #[test]
 fn errors_are_those_of_the_functions() {
     let mut rng = Constant::new(0);
@@ -60,7 +114,9 @@ fn errors_are_those_of_the_functions() {
     assert_eq!(rng.ratio(1, 0), Err(Empty));
     assert_eq!(rng.drawn(), 0);
     assert_eq!(rng.ratio(1, 3), Err(Exhausted));
-    assert_eq!(rng.sample(3, &mut [0]), Err(Exhausted));
+    let mut places = [9; 2];
+    assert_eq!(rng.sample(4, &mut places), Err(Exhausted));
+    assert_eq!(places, [9; 2]);
     assert_eq!(rng.partial_shuffle(&mut [1, 2, 3], 1), Err(Exhausted));
     assert_eq!(rng.drawn(), 3 * 128);
 }
@@ -102,4 +158,16 @@ fn iterators_draw_what_is_asked_for() {
     assert_eq!((values.next(), values.next()), (Some(0x0100), Some(0x0908)));
     assert_eq!(hint(&steps.generate_iter()), (usize::MAX, None));
     assert_eq!(steps.drawn(), 2);
+}
+
+/// Values that are passed over are drawn.
+#[test]
+fn iterators_draw_what_is_passed_over() {
+    for passed in 0..70 {
+        let (mut steps, mut wanted) = (Steps::new(), Steps::new());
+        let values: Vec<u16> = (0..=passed).map(|_| wanted.generate()).collect();
+        let next = steps.generate_iter::<u16>().nth(passed);
+        assert_eq!(next.as_ref(), values.last());
+        assert_eq!(steps, wanted, "{passed}");
+    }
 }

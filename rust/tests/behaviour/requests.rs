@@ -136,7 +136,7 @@ fn stream_of<G: Rng<OUTPUT>, const OUTPUT: usize>(mut rng: G, count: usize) -> V
     stream
 }
 
-/// One request to a plain generator, and two to a buffered one, the second by `read`.
+/// One request to a plain generator, and three to a buffered one, the second by `read` and the third by `read_exact`.
 fn check_length<G: Rng<OUTPUT> + Clone, const OUTPUT: usize>(
     fresh: &G,
     stream: &[u8],
@@ -152,11 +152,13 @@ fn check_length<G: Rng<OUTPUT> + Clone, const OUTPUT: usize>(
     assert_eq!(bytes, stream[..length], "{length}");
     assert_eq!(buffered.read(&mut bytes).expect("no error"), length);
     assert_eq!(bytes, stream[length..2 * length], "{length}");
+    buffered.read_exact(&mut bytes).expect("no error");
+    assert_eq!(bytes, stream[2 * length..3 * length], "{length}");
 }
 
 /// A request of any length gives the blocks, and leaves the state after the last one that it began.
 fn check_lengths<G: Rng<OUTPUT> + Clone + PartialEq + Debug, const OUTPUT: usize>(fresh: &G) {
-    let stream = stream_of(fresh.clone(), 140_000);
+    let stream = stream_of(fresh.clone(), 210_000);
     for length in LENGTHS {
         check_length(fresh, &stream, length);
     }

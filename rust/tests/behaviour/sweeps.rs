@@ -2,12 +2,15 @@
 //! that are spread over all that there are. No clause of the proved source says so.
 
 use crate::common::formats::has_texts;
-use crate::common::{ByteScript, Pieces};
+use crate::common::{ByteScript, Pieces, Rising};
 use nanorand_proved::choices::choose_mut;
 use nanorand_proved::entropy::{system, EntropyError};
 use nanorand_proved::rand::ChaChaGroups;
-use nanorand_proved::{BufferedRng, ChaCha, ChaCha20, Pcg64, Rng, WyRand};
-use std::io::ErrorKind;
+use nanorand_proved::{
+    chacha_stream, BufferedRng, ChaCha, ChaCha20, ChaCha20Stream, Pcg64, RandomGen, Rng, WyRand,
+};
+use std::fmt::Debug;
+use std::io::{ErrorKind, Read};
 use std::iter::successors;
 
 const MOST: usize = 2_100_000;
@@ -183,16 +186,26 @@ fn generators_have_texts() {
     }
 }
 
-/// From 1 to 63 buffered bytes are appended to a vector that has this many items, and too little room for the bytes.
-fn is_appended(rng: &mut WyRand, buffer: &mut BufferedRng<ChaCha20, 64>, size: usize) {
-    let taken = number(rng, 62) + 1;
+/// From one byte to a block less one, which are buffered, are appended to a vector that has this many items, and too
+/// little room for the bytes. The call is that of the buffer, or that of a reader.
+fn is_appended<G: Rng<OUTPUT>, const OUTPUT: usize>(
+    rng: &mut WyRand,
+    buffer: &mut BufferedRng<G, OUTPUT>,
+    size: usize,
+) {
+    let taken = number(rng, OUTPUT - 2) + 1;
     buffer.fill_bytes(&mut vec![0; taken]);
     let buffered = buffer.buffered();
     let room = size + number(rng, buffered.saturating_sub(1));
     let mut out = Vec::with_capacity(room);
     out.resize(size, 7);
     let expected = [&out, buffer.rest()].concat();
-    assert_eq!(buffer.read_to_end(&mut out), Ok(buffered), "{size}");
+    let count = if rng.generate() {
+        buffer.read_to_end(&mut out).ok()
+    } else {
+        Read::read_to_end(buffer, &mut out).ok()
+    };
+    assert_eq!(count, Some(buffered), "{size}");
     assert!(out == expected, "{size}");
 }
 
@@ -200,16 +213,20 @@ fn is_appended(rng: &mut WyRand, buffer: &mut BufferedRng<ChaCha20, 64>, size: u
 fn buffered_bytes_are_appended() {
     let mut rng = WyRand::new_seed(4);
     let mut buffer = BufferedRng::new(ChaCha20::new_key([1; 32], [2; 8]));
+    let mut stream: ChaCha20Stream = chacha_stream([1; 32], [2; 8]);
+    let mut wide = BufferedRng::new(Rising::<4096>::new());
     for size in sizes() {
         for _ in 0..2 {
             is_appended(&mut rng, &mut buffer, size);
+            is_appended(&mut rng, &mut stream, size);
+            is_appended(&mut rng, &mut wide, size);
         }
     }
 }
 
 /// Of these items the chosen one alone is written, and none if the choice fails. Words of 0 before the word are
 /// rejected.
-fn writes_one(rejected: usize, word: u64, mark: u32, items: &mut [u32], expected: &mut [u32]) {
+fn writes_one<T: Copy>(rejected: usize, word: u64, mark: T, items: &mut [T], expected: &mut [T]) {
     let mut rng = ByteScript::after_zeros(8 * rejected, &word.to_le_bytes());
     let mut same = rng.clone();
     if let Ok(item) = choose_mut(&mut rng, items) {
@@ -225,7 +242,7 @@ fn one_item_is_lent() {
     let mut rng = WyRand::new_seed(5);
     let mut items: Vec<u32> = (0..2_100_000).collect();
     let mut expected = items.clone();
-    for size in sizes() {
+    for size in (1..=1100).chain(sizes()) {
         let (items, expected) = (&mut items[..size], &mut expected[..size]);
         for _ in 0..8 {
             for rejected in [0, number(&mut rng, 129), 128] {
@@ -234,4 +251,29 @@ fn one_item_is_lent() {
             }
         }
     }
+}
+
+/// Items of this type are changed as little.
+fn one_is_lent_of<T: RandomGen<WyRand, 8> + Copy + PartialEq + Debug>() {
+    let mut rng = WyRand::new_seed(7);
+    for size in (1..=70).chain([1000, 4096]) {
+        let mut items: Vec<T> = rng.generate_iter().take(size).collect();
+        let mut expected = items.clone();
+        for _ in 0..8 {
+            writes_one(0, rng.generate(), rng.generate(), &mut items, &mut expected);
+            assert_eq!(items, expected, "{size}");
+        }
+    }
+}
+
+#[test]
+fn one_item_of_any_type_is_lent() {
+    one_is_lent_of::<bool>();
+    one_is_lent_of::<u8>();
+    one_is_lent_of::<u16>();
+    one_is_lent_of::<f32>();
+    one_is_lent_of::<u64>();
+    one_is_lent_of::<u128>();
+    one_is_lent_of::<[u8; 3]>();
+    one_is_lent_of::<(u8, u64, char)>();
 }

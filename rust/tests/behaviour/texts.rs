@@ -161,6 +161,9 @@ fn of_errors() {
     ];
     for (error, debug, display) in rows {
         has_texts(error, debug, display);
+        for width in 0..=100 {
+            formats::has_texts(error, [debug, display], [width, 100 - width]);
+        }
         assert!(error.source().is_none());
     }
 }

@@ -47,6 +47,49 @@ fn items_in_their_order() {
     assert_eq!(arrays, [[0x0100, 0x0908], [0x1110, 0x1918]]);
 }
 
+/// An array of any values but bytes takes what its items take one by one.
+#[test]
+#[allow(clippy::float_cmp)] // the same numbers, drawn one by one
+fn arrays_of_any_items() {
+    macro_rules! check {
+        ($($item:ty),+) => { $({
+            let (mut rng, mut same) = (Steps::new(), Steps::new());
+            assert_eq!(rng.generate::<[$item; 33]>(), [(); 33].map(|()| same.generate::<$item>()));
+            assert_eq!(rng, same, stringify!($item));
+        })+ };
+    }
+    check!(bool, char, f32, f64, i8, i16, i32, i64, i128, isize, u16, u32, u64, u128, usize);
+    check!(
+        NonZeroU8,
+        NonZeroI8,
+        NonZeroU16,
+        (u8,),
+        (u8, bool),
+        [u8; 3],
+        [bool; 2],
+        [u16; 3]
+    );
+}
+
+/// A range of one number takes a word too.
+#[test]
+fn ranges_of_one_number() {
+    macro_rules! check {
+        ($($number:ty)+) => { $({
+            let (mut rng, mut same) = (Steps::new(), Steps::new());
+            let number: $number = 5;
+            assert_eq!(rng.generate_range(number..=number), Ok(number));
+            let _: $number = same.generate();
+            assert_eq!(rng, same, stringify!($number));
+        })+ };
+    }
+    check!(i8 i16 i32 i64 i128 isize u8 u16 u32 u64 u128 usize);
+    let mut rng = Steps::new();
+    assert_eq!(rng.generate_range('a'..='a'), Ok('a'));
+    assert_eq!(rng.generate_range(2.5..=2.5_f64), Ok(2.5));
+    assert_eq!(rng.drawn(), 2);
+}
+
 #[test]
 fn integers_that_are_not_zero() {
     macro_rules! check {

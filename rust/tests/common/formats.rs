@@ -22,6 +22,9 @@ pub fn has_texts<T: Debug + Display + ?Sized>(
         format!("{value:width$?}"),
         format!("{value:.precision$?}"),
         format!("{value:*<-width$.precision$?}"),
+        format!("{value:>width$?}"),
+        format!("{value:^width$?}"),
+        format!("{value:0>width$.precision$?}"),
         format!("{value:^+#0width$.precision$x?}"),
     ];
     for (number, text) in debugs.iter().enumerate() {
@@ -42,6 +45,9 @@ pub fn is_displayed<T: Display + ?Sized>(value: &T, display: &str, options: [usi
         format!("{value:width$}"),
         format!("{value:.precision$}"),
         format!("{value:*<-width$.precision$}"),
+        format!("{value:>width$}"),
+        format!("{value:^width$}"),
+        format!("{value:0>width$.precision$}"),
         format!("{value:^+#0width$.precision$}"),
     ];
     for (number, text) in displays.iter().enumerate() {

@@ -1,4 +1,5 @@
 //! Errors of every kind that a call of the system may have.
+#![allow(dead_code)] // each file of tests uses some of them
 
 use std::io::{Error, ErrorKind};
 
@@ -30,4 +31,43 @@ pub fn kinds() -> Vec<ErrorKind> {
     kinds.sort_unstable();
     kinds.dedup();
     kinds
+}
+
+/// An error of a kind alone, one with a text, or one of the system's number.
+#[derive(Clone, Copy, Debug)]
+pub enum Fault {
+    Alone(ErrorKind),
+    Told(ErrorKind),
+    Numbered(i32),
+}
+
+impl Fault {
+    pub fn error(self) -> Error {
+        match self {
+            Fault::Alone(kind) => kind.into(),
+            Fault::Told(kind) => Error::new(kind, "a fault"),
+            Fault::Numbered(number) => Error::from_raw_os_error(number),
+        }
+    }
+
+    pub fn kind(self) -> ErrorKind {
+        self.error().kind()
+    }
+}
+
+impl From<ErrorKind> for Fault {
+    fn from(kind: ErrorKind) -> Fault {
+        Fault::Alone(kind)
+    }
+}
+
+/// Errors of every kind, in each form that one may have.
+pub fn faults() -> Vec<Fault> {
+    let forms = |kind| [Fault::Alone(kind), Fault::Told(kind)];
+    let numbered = (1..200).map(Fault::Numbered);
+    kinds()
+        .into_iter()
+        .flat_map(forms)
+        .chain(numbered)
+        .collect()
 }

@@ -4,9 +4,10 @@
 pub mod formats;
 pub mod kinds;
 
+use kinds::Fault;
 use nanorand_proved::rand::fill_by_blocks;
 use nanorand_proved::{Rng, SeedableRng};
-use std::io::{self, ErrorKind, Read};
+use std::io::{self, Read};
 
 /// The bytes 0, 1, 2, .. modulo 256, in blocks of `SIZE` bytes.
 #[derive(Clone, Debug, Default, PartialEq, Eq)]
@@ -207,7 +208,7 @@ impl<const SIZE: usize> Rng<SIZE> for Forking<SIZE> {
 pub struct Pieces<'a> {
     bytes: &'a [u8],
     piece: usize,
-    fault: Option<(usize, ErrorKind)>,
+    fault: Option<(usize, Fault)>,
     reads: usize,
 }
 
@@ -222,9 +223,9 @@ impl<'a> Pieces<'a> {
     }
 
     /// The same, whose read of that number, counted from 0, fails.
-    pub fn failing(bytes: &'a [u8], piece: usize, read: usize, kind: ErrorKind) -> Self {
+    pub fn failing(bytes: &'a [u8], piece: usize, read: usize, fault: impl Into<Fault>) -> Self {
         Pieces {
-            fault: Some((read, kind)),
+            fault: Some((read, fault.into())),
             ..Pieces::of(bytes, piece)
         }
     }
@@ -245,7 +246,7 @@ impl Read for Pieces<'_> {
         let read = self.reads;
         self.reads += 1;
         match self.fault {
-            Some((number, kind)) if number == read => Err(kind.into()),
+            Some((number, fault)) if number == read => Err(fault.error()),
             _ => {
                 let count = self.piece.min(self.bytes.len()).min(out.len());
                 let (given, left) = self.bytes.split_at(count);

@@ -1,7 +1,11 @@
 //! A writer that notes its calls, and fails where it is told to.
 #![allow(dead_code)] // each file of tests uses some of it
 
-use std::io::{ErrorKind, Result, Write};
+#[path = "../../../tests/common/kinds.rs"]
+pub mod kinds;
+
+use kinds::Fault;
+use std::io::{Result, Write};
 
 /// What a call of the writer does.
 #[derive(Clone, Copy)]
@@ -9,7 +13,7 @@ pub enum Does {
     /// Takes at most so many bytes.
     Takes(usize),
     /// Fails.
-    Fails(ErrorKind),
+    Fails(Fault),
 }
 
 /// `calls` are the sizes of what was written, and `None` for each flush.
@@ -17,7 +21,7 @@ pub struct Writer {
     pub write: Does,
     pub flush: Does,
     /// The call of this number, counted from 0, fails in any case.
-    pub fault: Option<(usize, ErrorKind)>,
+    pub fault: Option<(usize, Fault)>,
     pub taken: Vec<u8>,
     pub calls: Vec<Option<usize>>,
 }
@@ -39,9 +43,9 @@ impl Writer {
     }
 
     /// One that takes a byte a call, and one of whose calls fails.
-    pub fn failing(call: usize, kind: ErrorKind) -> Writer {
+    pub fn failing(call: usize, fault: Fault) -> Writer {
         Writer {
-            fault: Some((call, kind)),
+            fault: Some((call, fault)),
             ..Writer::new(Does::Takes(1), Does::Takes(0))
         }
     }
@@ -51,7 +55,7 @@ impl Writer {
         let number = self.calls.len();
         self.calls.push(call);
         match self.fault {
-            Some((fault, kind)) if fault == number => Does::Fails(kind),
+            Some((call, fault)) if call == number => Does::Fails(fault),
             _ => usually,
         }
     }
@@ -65,14 +69,14 @@ impl Write for Writer {
                 self.taken.extend_from_slice(&bytes[..size]);
                 Ok(size)
             }
-            Does::Fails(kind) => Err(kind.into()),
+            Does::Fails(fault) => Err(fault.error()),
         }
     }
 
     fn flush(&mut self) -> Result<()> {
         match self.does(None, self.flush) {
             Does::Takes(_) => Ok(()),
-            Does::Fails(kind) => Err(kind.into()),
+            Does::Fails(fault) => Err(fault.error()),
         }
     }
 }
