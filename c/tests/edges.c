@@ -24,7 +24,7 @@ HOLDS(lots_too_few, NANORAND_LOTS_TOO_FEW == 3);
 HOLDS(lots_empty_line, NANORAND_LOTS_EMPTY_LINE == 4);
 HOLDS(lots_exhausted, NANORAND_LOTS_EXHAUSTED == 8);
 
-enum { LARGE = (1 << 20) + 1, ITEMS = 100000, OFFSETS = 16, SHORT = 200 };
+enum { LARGE = (1 << 22) + 1, ITEMS = (1 << 18) + 3, OFFSETS = 16, SHORT = 200 };
 
 static unsigned passed = 0;
 static unsigned failed = 0;
@@ -145,8 +145,9 @@ static int all_are(const size_t *items, size_t length, size_t wanted)
     /* One fill, and the same bytes in pieces of 64. */                                            \
     static void lengths_##G(S start)                                                               \
     {                                                                                              \
-        static uint8_t whole[LARGE + 1], pieces[LARGE];                                            \
+        static uint8_t memory[LARGE + 2], pieces[LARGE];                                           \
         const size_t rest = LARGE % 64;                                                            \
+        uint8_t *whole = memory + 1; /* an odd address */                                          \
         S state = start;                                                                           \
         S other = start;                                                                           \
         whole[LARGE] = 0xee;                                                                       \
@@ -298,6 +299,12 @@ static void draws(void)
     check("lots", "seed first", nanorand_lots_draw(NULL, 0, places, 3, 9) == NANORAND_LOTS_BAD_SEED);
     check("lots", "the places stay", all_are(places, 3, 7));
     check("lots", "too few", nanorand_lots_draw(seed, 1, places, 3, 4) == NANORAND_LOTS_TOO_FEW);
+    check("lots", "the places in some order", is_permutation(places, 3));
+    for (int power = 2; power < 64; power++) {
+        const size_t many = (size_t)1 << power;
+        check("lots", "many more", nanorand_lots_draw(seed, 1, places, 3, many) == NANORAND_LOTS_TOO_FEW
+                  && nanorand_lots_draw(seed, 1, places, 3, many | 1) == NANORAND_LOTS_TOO_FEW);
+    }
     check("lots", "none of none", nanorand_lots_draw(seed, 1, NULL, 0, 0) == NANORAND_OK);
     check("lots", "one of none", nanorand_lots_draw(seed, 1, NULL, 0, 1) == NANORAND_LOTS_TOO_FEW);
     check("lots", "all of three", nanorand_lots_draw(seed, 1, places, 3, 3) == NANORAND_OK);

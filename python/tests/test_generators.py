@@ -97,6 +97,14 @@ class Matrix(OwnList):
         memoryview(self.items[place])[:] = item
 
 
+class OwnWyRand(WyRand):
+    """Of a user, in a module where pickles find it."""
+
+
+class OwnStream(Stream):
+    """The same of a stream."""
+
+
 class States(unittest.TestCase):
     def test_saved_and_restored(self):
         for rng in generators():
@@ -128,6 +136,15 @@ class States(unittest.TestCase):
                 self.assertEqual(rng.state, before)
                 self.assertNotEqual(made, rng)
                 rng.u64()
+                self.assertEqual(made, rng)
+
+    def test_copies_of_subclasses(self):
+        """A copy has the class of its generator by every way."""
+        for rng in (OwnWyRand(42), OwnStream(KEY, NONCE, 5, b"abc")):
+            copies = [rng.copy(), rng.part(0, 1), copy.copy(rng), copy.deepcopy(rng), copy.deepcopy([rng])[0]]
+            copies += [pickle.loads(pickle.dumps(rng, protocol)) for protocol in range(pickle.HIGHEST_PROTOCOL + 1)]
+            for made in copies:
+                self.assertIs(type(made), type(rng))
                 self.assertEqual(made, rng)
 
     def test_pickles_of_version_1(self):

@@ -35,6 +35,15 @@ class Fails:
         raise KeyError
 
 
+class FailsLate(list):
+    """A list that gives no item from its sixth on."""
+
+    def __getitem__(self, place):
+        if place > 4:
+            raise KeyError(place)
+        return super().__getitem__(place)
+
+
 class Refuses(list):
     """A list that takes no items."""
 
@@ -45,7 +54,8 @@ class Refuses(list):
 LIST, TUPLE, TEXT, BUFFER = ITEMS, tuple(ITEMS), "text", bytearray(16)
 WORDS, DOUBLES, READ_ONLY = array.array("Q", [0] * 9), array.array("d", [0] * 9), memoryview(b"12345678")
 FAILS, REFUSES, REALS, WHOLES, OTHER = Fails(), Refuses(ITEMS), [1.5] * 9, [2] * 9, object()
-SHARED = [LIST, TUPLE, TEXT, BUFFER, WORDS, DOUBLES, READ_ONLY, FAILS, REFUSES, REALS, WHOLES, OTHER, BIG]
+LATE = FailsLate(ITEMS)
+SHARED = [LIST, TUPLE, TEXT, BUFFER, WORDS, DOUBLES, READ_ONLY, FAILS, LATE, REFUSES, REALS, WHOLES, OTHER, BIG]
 
 SUCCEED = {
     "u64": lambda rng: rng.u64(),
@@ -101,12 +111,14 @@ FAIL = {
                 lambda rng: rng.choices(LIST, [FAILS] * 9), lambda rng: rng.choices(LIST, OTHER),
                 lambda rng: rng.choices(LIST, k=BIG),
                 lambda rng: rng.choices(LIST, cum_weights=[3, 2] + WHOLES[2:]), lambda rng: rng.choices(LIST, k=2**62)],
-    "sample": [lambda rng: rng.sample(LIST, 10), lambda rng: rng.sample(FAILS, 2), lambda rng: rng.sample(OTHER, 2),
+    "sample": [lambda rng: rng.sample(LIST, 10), lambda rng: rng.sample(FAILS, 2), lambda rng: rng.sample(LATE, 9),
+               lambda rng: rng.sample(OTHER, 2),
                lambda rng: rng.sample(LIST, BIG), lambda rng: rng.sample_below(5, 1000),
                lambda rng: rng.sample_below(2**63, 2**62),
                lambda rng: rng.sample_below(BIG, 1)],
     "shuffle": [lambda rng: rng.shuffle(TUPLE), lambda rng: rng.shuffle(FAILS), lambda rng: rng.shuffle(REFUSES),
                 lambda rng: rng.shuffle(READ_ONLY), lambda rng: rng.shuffle_full(REFUSES),
+                lambda rng: rng.shuffle(LATE), lambda rng: rng.shuffle_full(LATE),
                 lambda rng: rng.shuffle(OTHER)],
     "fill": [lambda rng: rng.fill(READ_ONLY), lambda rng: rng.fill(DOUBLES), lambda rng: rng.fill(OTHER),
              lambda rng: rng.fill(memoryview(BUFFER)[::2]), lambda rng: rng.fill_range(BUFFER, 6, 1),
@@ -158,7 +170,7 @@ OF_LOTS = {
     "draw": lambda: (lots.draw("seed", LIST, 5), lots.draw("seed", b"a\nb\n")),
     "refused": lambda: [refused(lots.draw, *arguments) for arguments in (
         ("", LIST), (b"\xff", LIST), ("seed", LIST, 10), ("seed", OTHER), ("seed", FAILS), ("seed", LIST, BIG),
-        ("seed", TEXT))],
+        ("seed", TEXT), ("seed", LATE))],
 }
 
 

@@ -13,7 +13,7 @@ from array import array
 from makers import KEY, NONCE
 from test_answers import octets, rows
 
-from nanorand import ChaCha20, Pcg64, Stream, WyRand, _native
+from nanorand import ChaCha20, Pcg64, Stream, WyRand, _native, lots
 from nanorand.errors import ForeignState, NanorandError, OutOfBounds, WrongLength
 
 try:
@@ -25,6 +25,7 @@ except ImportError as error:
     raise unittest.SkipTest(f"NumPy is not there: {error}") from None
 
 BITS = {WyRandBits: WyRand, Pcg64Bits: Pcg64, StreamBits: Stream}
+BITS_OF = {kind: bits for bits, kind in BITS.items()}
 STARTS = [WyRand(42), Pcg64(2**64 + 42), Stream(KEY), Stream(KEY, NONCE, 5, b"abc"), Stream(KEY, counter=2**64 - 1)]
 JUMPS = {WyRandBits: 2**48, Pcg64Bits: 2**64}
 LAST_JUMPS = {WyRandBits: 2**16 - 1, Pcg64Bits: 2**62 - 1, StreamBits: 2**16 - 1}
@@ -32,8 +33,11 @@ LAST_JUMPS = {WyRandBits: 2**16 - 1, Pcg64Bits: 2**62 - 1, StreamBits: 2**16 - 1
 
 def bits_of(generator):
     """The bit generator that goes on where the generator is."""
-    kind = next(bits for bits, kind in BITS.items() if kind is type(generator))
-    return kind.of(generator)
+    return BITS_OF[type(generator)].of(generator)
+
+
+class OwnBits(Pcg64Bits):
+    """Of a user, in a module where pickles find it."""
 
 
 class Model:
@@ -219,6 +223,13 @@ class States(unittest.TestCase):
                 other.random_raw(5)
                 self.assertEqual(bits.state, wanted)
 
+    def test_copies_of_subclasses(self):
+        for bits in (OwnBits(5), OwnBits.of(Pcg64(7)), OwnBits(5).jumped()):
+            DRAWS[Model.half_word](bits)
+            for other in (pickle.loads(pickle.dumps(bits)), copy.copy(bits), copy.deepcopy(bits)):
+                self.assertIs(type(other), OwnBits)
+                self.assertEqual(other.state, bits.state)
+
     def test_pickles_of_generators_elsewhere(self):
         for kind in BITS:
             rng = numpy.random.Generator(kind(7))
@@ -271,10 +282,27 @@ class Seeds(unittest.TestCase):
                 self.assertRaises(TypeError, kind.of, other)
 
 
+class Octets(unittest.TestCase):
+    def test_arrays_by_columns(self):
+        """The bytes of a view are in the order of its indices, however they lie in memory."""
+        for text in (bytes(range(97, 121)), b"a\nb\nc\nd\n"):
+            rows = numpy.frombuffer(text, "u1").reshape(2, -1)
+            for view in (memoryview(rows), memoryview(numpy.asfortranarray(rows))):
+                self.assertEqual(view.tobytes(), text)
+                self.assertEqual(lots.digest(view), lots.digest(text))
+                self.assertEqual(lots.count(view), lots.count(text))
+                self.assertEqual(lots.draw(view, view), lots.draw(text, text))
+        key = bytes(range(32))
+        view = memoryview(numpy.asfortranarray(numpy.frombuffer(key, "u1").reshape(4, 8)))
+        self.assertEqual(Stream(view), Stream(key))
+
+
 class Jumps(unittest.TestCase):
     def test_as_the_generator_jumps(self):
         for start in STARTS[:2]:
-            for jumps in (0, 1, 2, 3, 1000, 2**16 - 1):
+            last = LAST_JUMPS[BITS_OF[type(start)]]
+            far = {min(jumps, last) for jumps in (2**16 - 1, 2**31, 2**32, 2**32 + 1, 2**48 + 5, last)}
+            for jumps in (0, 1, 2, 3, 1000, *sorted(far)):
                 bits, model = bits_of(start), start.copy()
                 DRAWS[Model.half_word](bits)
                 model.u64()

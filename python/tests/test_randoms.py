@@ -113,19 +113,21 @@ class Randoms(unittest.TestCase):
 
     def test_bits(self):
         for kind in RANDOMS:
-            for bits in (0, 1, 2, 7, 8, 9, 31, 32, 33, 63, 64, 65, 511, 512, 513, 10_000):
+            for bits in (0, 1, 2, 7, 8, 9, 31, 32, 33, 63, 64, 65, 511, 512, 513, 10_000, 1_000_003):
                 rng = kind("bits")
                 same = rng.generator.copy()
-                drawn = [rng.getrandbits(bits) for _ in range(50)]
+                times = 50 if bits <= 10_000 else 5
+                drawn = [rng.getrandbits(bits) for _ in range(times)]
                 length = -(-bits // 8)
-                wanted = [int.from_bytes(same.bytes(length), "little") >> 8 * length - bits for _ in range(50)]
+                wanted = [int.from_bytes(same.bytes(length), "little") >> 8 * length - bits for _ in range(times)]
                 self.assertEqual(drawn, wanted)
                 self.assertTrue(all(0 <= number < 2**bits for number in drawn))
-                self.assertEqual(max(number.bit_length() for number in drawn), bits)
+                if bits <= 10_000:
+                    self.assertEqual(max(number.bit_length() for number in drawn), bits)
 
     def test_bytes(self):
         for kind in RANDOMS:
-            for length in (0, 1, 8, 63, 64, 65, 1000):
+            for length in (0, 1, 8, 63, 64, 65, 1000, 65_535, 65_537, 1_000_003, 5_000_001):
                 rng, same = kind(5), kind(5)
                 self.assertEqual(rng.randbytes(length), same.generator.bytes(length))
                 self.assertEqual(rng.randbytes(length), same.getrandbits(8 * length).to_bytes(length, "little"))
@@ -213,6 +215,16 @@ class Randoms(unittest.TestCase):
                 wanted = hashlib.sha256(octets).digest()[:length]
                 for seed in (octets, bytearray(octets)):
                     self.assertEqual(kind(seed).getstate()[1][:length], wanted)
+
+    def test_long_seeds(self):
+        """Each letter counts, also behind a million others."""
+        for kind in RANDOMS:
+            length = SEED_LENGTHS.get(kind.__name__, 32)
+            for size in (1000, 65_535, 65_537, 1_000_003):
+                for text in ("x" * size, "x" * size + "y", "x" * size + "z"):
+                    digest = hashlib.sha256(text.encode()).digest()
+                    for seed in (text, text.encode(), bytearray(text.encode())):
+                        self.assertEqual(kind(seed).generator.state[:length], digest[:length])
 
     def test_a_refused_seed_changes_nothing(self):
         for kind in RANDOMS:
@@ -383,11 +395,11 @@ class Generators(unittest.TestCase):
 
     def test_a_seed_and_a_state_make_a_new_one(self):
         for kind in RANDOMS:
-            rng = kind(7)
-            first, saved = rng.generator, rng.getstate()
-            before = first.state
-            for start in (lambda rng=rng: rng.seed(8), lambda rng=rng, saved=saved: rng.setstate(saved)):
-                start()
+            saved = kind(9).getstate()
+            for start in (lambda rng: rng.seed(8), lambda rng, saved=saved: rng.setstate(saved)):
+                rng = kind(7)
+                first, before = rng.generator, rng.generator.state
+                start(rng)
                 rng.random()
                 self.assertEqual(first.state, before)
 
@@ -463,6 +475,25 @@ class Subclasses(unittest.TestCase):
             self.assertEqual(Bits(7).randbytes(9), kind(7).getrandbits(72).to_bytes(9, "little"))
             self.assertEqual(called, ["getrandbits"])
             self.assertEqual(Floats(7).randbytes(9), kind(7).generator.bytes(9))
+
+    def test_bits_of_another_base(self):
+        """A class that has its `getrandbits` from beside draws bytes by it too."""
+        class Zeros:
+            def getrandbits(self, k):
+                return 0
+
+        for kind in RANDOMS:
+            class Own(Zeros, kind):
+                pass
+
+            class Below(Own):
+                pass
+
+            class Behind(kind, Zeros):
+                pass
+
+            self.assertEqual((Own(7).randbytes(9), Below(7).randbytes(9)), (bytes(9), bytes(9)))
+            self.assertEqual(Behind(7).randbytes(9), kind(7).randbytes(9))
 
     def test_bytes_of_its_own(self):
         class Own(Pcg64Random):

@@ -196,6 +196,15 @@ def long_records(counts: Counts, page: Page) -> None:
             "The SHA-256 of the result differs.")
 
 
+def of_no_entrants(counts: Counts, page: Page) -> None:
+    """A list without a line has no entrants, of whom all can be drawn."""
+    record = first_record(page, "seed", "all", "")
+    counts.same("no entrants", record.split("\n")[2:5], [f"list SHA-256: {sha256(b'')}", "entrants: 0", "drawn: 0"])
+    outcome(counts, page, "a record of no entrants", record, "agrees")
+    page.paste(LIST)
+    outcome(counts, page, "it, with a list", record, "differs", "Another list:")
+
+
 def seeds_survive(counts: Counts, page: Page, program: str) -> None:
     """A record holds any seed in one line, and a second page reads the same from it."""
     seeds = [" ", "  two  ", "\ttab", "\"quoted\"", "\\", "\\n", "é", "e\u0301", "🎲", "\u200b",
@@ -258,5 +267,6 @@ def run(counts: Counts, page: Page, program: str, digests: Dict[int, str]) -> No
     broken_records(counts, page, record)
     records_of_mails(counts, page)
     long_records(counts, page)
+    of_no_entrants(counts, page)
     seeds_survive(counts, page, program)
     seed_of_lines(counts, page, program, record)

@@ -81,6 +81,21 @@ function spaces() {
   }
 }
 
+/** Lines that differ in spaces of ASCII at their ends are alike, and a line of them alone is blank; of no other byte. */
+function endings() {
+  const isTold = (list, words) => warningsOf(Uint8Array.from(list)).some((warning) => warning.includes(words));
+  for (const line of [[97], [0xff]]) {
+    for (let code = 0; code < 128; code += 1) {
+      if (code === 10) continue;
+      const isSpace = [9, 11, 12, 13, 32].includes(code);
+      for (const other of [[code, ...line], [...line, code], [code, code, ...line, code]]) {
+        same(`${other} beside ${line}`, isTold([...line, 10, ...other, 10], "the spaces at its ends"), isSpace);
+      }
+      same(`${code} alone, with ${line}`, isTold([...line, 10, code, 10], "Line 2 is an entrant of spaces"), isSpace);
+    }
+  }
+}
+
 /** What a promise became: its answer, or the reason and the values of its refusal. */
 const ended = (promise) => promise.then((answer) => answer, ({ reason, values }) => [reason, values]);
 
@@ -127,4 +142,5 @@ errors();
 versions();
 folds();
 spaces();
+endings();
 return clients().then(() => cases);

@@ -1,5 +1,6 @@
-"""The scripts of the page alone, in a browser: versions, errors, the worker's client, folded records, spaces."""
+"""The scripts of the page alone, in a browser: versions, errors, the worker's client, folded records, spaces, names."""
 
+import unicodedata
 from pathlib import Path
 
 from counts import Counts
@@ -7,6 +8,20 @@ from glue import build
 from page import Page
 
 SCRIPTS = ("record", "list", "module", "client")
+# Letters that Unicode has no name for, or one that says less.
+NAMES = {
+    0x00: "null", 0x09: "tab", 0x0d: "carriage return", 0x7f: "delete", 0x2800: "empty Braille pattern",
+    0xfe0e: "text variation", 0xfe0f: "emoji variation", 0xfeff: "byte order mark",
+}
+
+
+def names(counts: Counts, page: Page) -> None:
+    """A letter that nobody sees has Unicode's name."""
+    found = page.browser.run('"use strict";\n' + build.joined("names", set()) + "return Array.from(NAMES);")
+    counts.case("names", "" if len(found) > 30 else "there are few")
+    for number, name in found:
+        wanted = NAMES.get(number) or unicodedata.name(chr(number))
+        counts.same(f"the name of U+{number:04X}", name.lower(), wanted.lower())
 
 
 def run(counts: Counts, page: Page) -> None:
@@ -15,3 +30,4 @@ def run(counts: Counts, page: Page) -> None:
     tests = Path(__file__).with_suffix(".js").read_text(encoding="utf-8")
     for name, found, wanted in page.browser.run(code + tests):
         counts.same(name, found, wanted)
+    names(counts, page)

@@ -1,8 +1,8 @@
 //! `choose_mut`: which items are written. No clause says it.
 
 use crate::comparing::{equal, equal_at};
-use nanorand::RangeError;
-use nanorand::choices::choose_mut;
+use nanorand::choices::{choose, choose_mut};
+use nanorand::{RangeError, WyRand};
 use std::process::Abort;
 use test_support::Script;
 
@@ -32,6 +32,26 @@ fn lends_the_item(rt: &impl Abort, words: &[u64], index: usize) -> Result<(), Ra
 fn the_chosen_item_alone_is_written(rt: HostRuntime) -> Result<(), RangeError> {
     for (word, index) in WORDS {
         lends_the_item(&rt, &[word], index)?;
+    }
+    Ok(())
+}
+
+// Of a thousand items too it is the one that `choose` lends, and no item moves.
+#[test]
+fn one_of_a_thousand(rt: HostRuntime) -> Result<(), RangeError> {
+    let mut numbered = [0usize; 1000];
+    for (place, item) in numbered.iter_mut().enumerate() {
+        *item = place;
+    }
+    let (mut rng, mut same) = (WyRand::new_seed(42), WyRand::new_seed(42));
+    for _ in 0..200 {
+        let (mut items, mut expected) = (numbered, numbered);
+        let index = *choose(&mut same, &numbered)?;
+        *choose_mut(&mut rng, &mut items)? = 5000;
+        if let Some(item) = expected.get_mut(index) {
+            *item = 5000;
+        }
+        equal_at(&rt, items, expected, index);
     }
     Ok(())
 }
