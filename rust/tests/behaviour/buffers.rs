@@ -311,16 +311,22 @@ thread_local! {
 /// A generator that is counted when it is made.
 struct Counted;
 
-impl Default for Counted {
-    fn default() -> Self {
+impl Counted {
+    fn new() -> Self {
         MADE.with(|made| made.set(made.get() + 1));
         Counted
     }
 }
 
+impl Default for Counted {
+    fn default() -> Self {
+        Self::new()
+    }
+}
+
 impl Clone for Counted {
     fn clone(&self) -> Self {
-        Self::default()
+        Self::new()
     }
 }
 
