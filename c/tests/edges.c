@@ -159,7 +159,7 @@ static int all_are(const size_t *items, size_t length, size_t wanted)
         check(#G, "a large fill", memcmp(whole, pieces, LARGE) == 0 && whole[LARGE] == 0xee);      \
     }                                                                                              \
                                                                                                    \
-    /* Exchanges each item with one of those from it on, or of all, whose index is drawn. */       \
+    /* Swaps each item with a drawn one: of all items, or of those not before it. */               \
     static int exchange_##G(S *state, size_t *items, int full)                                     \
     {                                                                                              \
         int drawn = 1;                                                                             \
@@ -325,7 +325,7 @@ static void one_keystream(nanorand_stream stream, nanorand_keystream keystream)
     check("keystream", "the stream's bytes", holds);
 }
 
-/* Gives bytes values by which they can be told apart. */
+/* Gives neighbouring bytes different values. */
 static void number_bytes(void *bytes, size_t length)
 {
     for (size_t place = 0; place < length; place++) {

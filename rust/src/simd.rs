@@ -617,7 +617,7 @@ mod tests {
 
     const CASES: usize = 250_000;
 
-    // How many groups of eight blocks were computed on eight words.
+    // The number of groups of eight blocks that were computed on vectors of eight words.
     static GROUPS: AtomicUsize = AtomicUsize::new(0);
 
     pub(super) fn count_group() {
@@ -811,7 +811,7 @@ mod tests {
         });
     }
 
-    // No other test of this program draws so many bytes of ChaCha.
+    // No other unit test computes groups, so none changes the count meanwhile.
     #[test]
     fn eight_words_are_used_where_they_can_be() {
         #[cfg(all(feature = "std", target_arch = "x86_64"))]

@@ -51,7 +51,7 @@ fn without_memory<T>(call: impl FnOnce() -> T) -> T {
     with_memory(0, call)
 }
 
-/// After some bytes of a block, the rest of it does not fit in a full vector. It does in one of twice the size.
+/// The rest of a block does not fit in a full vector when no memory is granted. It does when twice the size is.
 fn is_refused<G: Rng<OUTPUT> + Clone, const OUTPUT: usize>(fresh: &G, taken: usize, held: usize) {
     let mut rng = BufferedRng::new(fresh.clone());
     rng.fill_bytes(&mut vec![0; taken]);

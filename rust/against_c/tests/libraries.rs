@@ -240,7 +240,7 @@ fn lists() {
     });
 }
 
-/// Lists of few, many and very many entrants, and one with an empty line behind them; draws of their places.
+/// Counts lists of 0 to 65,537 entrants, with and without an empty line at the end, and draws their places.
 #[test]
 fn lists_of_many() {
     for entrants in (0..=1025).chain([4095, 4096, 4097, 65_535, 65_536, 65_537]) {

@@ -96,13 +96,13 @@ fn all_places_of_an_empty_line() {
     }
 }
 
-/// About so many bytes Linux gives a program in one argument.
-const MOST_OF_LINUX: usize = 131_070;
+/// Linux passes at most about this many bytes in one argument.
+const LONGEST_ARGUMENT: usize = 131_070;
 
 /// A seed, a count and an entrant of every length.
 #[test]
 fn all_lengths() {
-    for length in sizes(65_537).into_iter().chain([MOST_OF_LINUX]) {
+    for length in sizes(65_537).into_iter().chain([LONGEST_ARGUMENT]) {
         let one = format!("{}1", "0".repeat(length));
         let line = format!("{one}\n");
         draws(&one, &one, &one, &line);

@@ -109,12 +109,12 @@ fn one_request_a_call() {
     assert_eq!(waste.drawn(), 8);
 }
 
-/// A request to a generator that is taken.
+/// Makes one request of a generator that is passed by value, or by reference.
 fn by_reference<R: Rng<N>, const N: usize>(mut rng: R, bytes: &mut [u8]) {
     rng.fill_bytes(bytes);
 }
 
-/// So it is for requests of any size, also where the generator is borrowed.
+/// A large request is passed on whole, also through a borrowed generator.
 #[test]
 fn large_requests_are_one() {
     for size in [9, 63, 64, 65, 511, 512, 513, 4096, 4097, 100_000] {

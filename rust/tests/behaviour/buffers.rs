@@ -10,7 +10,7 @@ use std::fmt::Debug;
 use std::io::Read;
 use std::panic::{catch_unwind, AssertUnwindSafe};
 
-/// Runs a check for blocks of one byte and of eight, 64 and 512, as the generators have them.
+/// Runs a check for blocks of 1, 8, 64 and 512 bytes; the generators have the last three.
 macro_rules! for_each_size {
     ($check:ident) => {{
         $check::<1>();
@@ -25,17 +25,17 @@ fn byte(number: usize) -> u8 {
     number.to_le_bytes()[0]
 }
 
-/// The bytes of `Rising` from one number to before another.
+/// The bytes of `Rising` with the numbers `from` to `to - 1`.
 fn bytes(from: usize, to: usize) -> Vec<u8> {
     (from..to).map(byte).collect()
 }
 
-/// How many bytes are left of a block once so many bytes were drawn.
+/// The number of bytes left in the current block after `drawn` bytes.
 fn left_after(drawn: usize, size: usize) -> usize {
     (size - drawn % size) % size
 }
 
-/// A buffer that has given so many bytes.
+/// A buffer after its first `taken` bytes were drawn.
 fn after<const SIZE: usize>(taken: usize) -> BufferedRng<Rising<SIZE>, SIZE> {
     let mut rng = BufferedRng::new(Rising::new());
     rng.fill_bytes(&mut vec![0; taken]);
@@ -57,7 +57,7 @@ fn requests_go_on() {
     }
 }
 
-/// Text is refused; the text and the buffer stay as they were.
+/// `read_to_string` returns an error, and leaves the text and the buffer unchanged.
 fn refuses_text<const SIZE: usize>() {
     for taken in 0..=SIZE {
         let mut rng = after::<SIZE>(taken);
@@ -146,7 +146,7 @@ fn an_empty_buffer_allocates_nothing() {
     for_each_size!(appends_nothing);
 }
 
-/// A new seed leaves the buffered bytes, and gives those behind them.
+/// After `reseed`, the buffered bytes still come first, and then the bytes of the new seed.
 fn keeps_its_rest<const SIZE: usize>() {
     for taken in 0..=SIZE {
         let mut rng = after::<SIZE>(taken);
@@ -173,7 +173,7 @@ fn reseeded_behind_the_buffer() {
     assert_eq!(four, [126, 3, 231, 179]);
 }
 
-/// As many blocks of `Rising` as are left, and then a panic.
+/// A generator that panics once no block is left.
 struct Ending<'a, const SIZE: usize> {
     rising: Rising<SIZE>,
     left: &'a Cell<usize>,
@@ -204,8 +204,8 @@ fn goes_on_behind<const SIZE: usize>(taken: usize, length: usize, blocks: usize)
     assert_eq!(rng.generate::<u8>(), byte(next), "{taken} {length}");
 }
 
-/// The same from places of two blocks and a half, for lengths up to five blocks: all of them where a block
-/// has eight bytes.
+/// Requests of up to five blocks, from every place in the first two and a half. Blocks of 64 and 512 bytes are
+/// sampled.
 fn no_byte_comes_again<const SIZE: usize>() {
     let step = (SIZE / 8).max(2) - 1;
     for taken in (0..(5 * SIZE + 1) / 2).step_by(step) {
@@ -222,7 +222,7 @@ fn a_panic_makes_no_byte_come_again() {
     for_each_size!(no_byte_comes_again);
 }
 
-/// The outer buffer asks the inner one for blocks, whose rest stays.
+/// The outer buffer takes whole blocks from the inner one, which keeps its own rest.
 fn buffers_a_buffer<const SIZE: usize>() {
     let once = after::<SIZE>(1);
     assert_eq!(once.buffered(), SIZE - 1);
@@ -304,11 +304,11 @@ fn a_buffer_keeps_the_bytes_of_its_original() {
 }
 
 thread_local! {
-    /// How many generators this thread has made.
+    /// The number of generators that this thread has made.
     static MADE: Cell<usize> = const { Cell::new(0) };
 }
 
-/// A generator that is counted when it is made.
+/// A generator that counts how often it is created.
 struct Counted;
 
 impl Counted {
@@ -336,7 +336,7 @@ impl Rng<8> for Counted {
     }
 }
 
-/// A buffer makes one generator, by default and when it is cloned.
+/// `default` and `clone` of a buffer create exactly one generator.
 #[test]
 fn a_buffer_makes_its_generator_once() {
     let made = || MADE.with(|made| made.replace(0));

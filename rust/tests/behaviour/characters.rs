@@ -75,7 +75,7 @@ fn ends_of_ranges() {
     assert_eq!(Constant::new(255).generate_range::<char>(..), Ok(char::MAX));
 }
 
-/// A range of all characters is refused where a character alone is U+0000.
+/// Zeros give U+0000 as a plain character, but a range of all characters rejects the word 0.
 #[test]
 fn all_characters_are_a_range() {
     for bounds in [

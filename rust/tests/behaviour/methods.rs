@@ -47,7 +47,7 @@ fn methods_are_the_functions() {
     check(ChaCha8::new_key([1; 32], [2; 8]));
 }
 
-/// So it does where little can come, or one thing alone: it draws as much.
+/// Methods draw as many words as the functions, also where only one result is possible.
 #[test]
 fn methods_are_the_functions_of_few_items() {
     let mut rng = WyRand::new_seed(42);
@@ -84,7 +84,7 @@ fn methods_are_the_functions_of_few_items() {
     }
 }
 
-/// So it does for slices and counts of many sizes, also beyond the items.
+/// The method equals the function for slices and counts of many sizes, also counts above the length.
 #[test]
 fn partial_shuffles_are_the_function() {
     let mut rng = WyRand::new_seed(42);

@@ -3,8 +3,7 @@
 
 use std::fmt::{Debug, Display};
 
-/// The value has these texts without an option, with each that there is, and with several. A width and a precision
-/// are given.
+/// Checks that format options change neither text of the value. `options` are a width and a precision.
 pub fn has_texts<T: Debug + Display + ?Sized>(
     value: &T,
     [debug, display]: [&str; 2],
@@ -33,7 +32,7 @@ pub fn has_texts<T: Debug + Display + ?Sized>(
     is_displayed(value, display, options);
 }
 
-/// The same of its display alone.
+/// Checks this for `Display` alone.
 pub fn is_displayed<T: Display + ?Sized>(value: &T, display: &str, options: [usize; 2]) {
     let [width, precision] = options;
     let displays = [

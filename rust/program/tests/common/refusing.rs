@@ -12,7 +12,7 @@ static ALLOCATOR: Refusing = Refusing;
 thread_local! {
     /// How many requests of this thread are granted.
     static GRANTED: Cell<usize> = const { Cell::new(usize::MAX) };
-    /// The greatest of them, in bytes.
+    /// The largest request of this thread that is granted, in bytes.
     static MOST: Cell<usize> = const { Cell::new(usize::MAX) };
 }
 
@@ -24,7 +24,7 @@ pub fn refused_after<T>(requests: usize, call: impl FnOnce() -> T) -> T {
     result
 }
 
-/// What the call returns if no request for more than so many bytes is granted.
+/// Returns the call's result when every request for more than `most` bytes fails.
 pub fn refused_above<T>(most: usize, call: impl FnOnce() -> T) -> T {
     MOST.with(|granted| granted.set(most));
     let result = call();
@@ -32,7 +32,7 @@ pub fn refused_above<T>(most: usize, call: impl FnOnce() -> T) -> T {
     result
 }
 
-/// Whether a request for so many bytes is granted.
+/// Whether a request for `size` bytes is granted.
 fn granted(size: usize) -> bool {
     GRANTED.with(|granted| {
         let left = granted.get();
