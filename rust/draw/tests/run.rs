@@ -9,8 +9,7 @@ use draw::run::{report, run};
 use draw::DrawError;
 use formats::is_displayed;
 use std::io::ErrorKind;
-use writer::kinds::faults;
-use writer::{Does, Writer};
+use writer::{fails_with_its_writer, reports_without_its_writer, Does, Writer};
 
 const SEED: &str = "d29b42879be2895f";
 
@@ -356,48 +355,17 @@ fn a_failed_write_is_an_error() {
     }
 }
 
-/// A writer that takes a byte a call fails at any of them, the last of which is the flush, by an error of any kind.
-/// Only a write that was interrupted is made again.
 #[test]
 fn a_write_or_flush_that_fails_by_any_kind_of_error() {
     let arguments = ["wyrand", SEED, "plain", "2", "u8"].map(String::from);
     let text = b"218\nitems: 0 1\n";
-    for fault in faults() {
-        let kind = fault.kind();
-        for call in 0..=text.len() {
-            let mut out = Writer::failing(call, fault);
-            let outcome = run(&arguments, &mut out);
-            let taken = if kind == ErrorKind::Interrupted && call < text.len() {
-                assert_eq!((outcome, out.calls.len()), (Ok(()), text.len() + 2));
-                text.len()
-            } else {
-                let ended = (outcome, out.calls.len());
-                assert_eq!(ended, (Err(DrawError::Write), call + 1), "{fault:?}");
-                call
-            };
-            assert_eq!(out.taken, text[..taken], "{fault:?} at {call}");
-        }
-    }
+    fails_with_its_writer(text, DrawError::Write, |out| run(&arguments, out));
 }
 
-/// The status is the same where the line of an error cannot be written, whatever the reason.
 #[test]
 fn a_report_that_fails_by_any_kind_of_error() {
     let line = b"draw: bad word 12\n";
-    for fault in faults() {
-        let kind = fault.kind();
-        for call in 0..line.len() {
-            let mut err = Writer::failing(call, fault);
-            assert_eq!(
-                report(Err(DrawError::BadWord(12)), &mut err),
-                2,
-                "{fault:?}"
-            );
-            let whole = kind == ErrorKind::Interrupted;
-            let taken = if whole { line.len() } else { call };
-            assert_eq!(err.taken, line[..taken], "{fault:?} at {call}");
-        }
-    }
+    reports_without_its_writer(line, 2, |err| report(Err(DrawError::BadWord(12)), err));
 }
 
 #[test]

@@ -8,7 +8,7 @@ use lots::LotsError;
 use std::collections::{HashSet, VecDeque};
 use std::io::{ErrorKind, Read, Result};
 use writer::kinds::{faults, Fault};
-use writer::{Does, Writer};
+use writer::{fails_with_its_writer, reports_without_its_writer, Does, Writer};
 
 /// A reader that gives these pieces and errors, one each time, and then no byte.
 struct Pieces(VecDeque<std::result::Result<Vec<u8>, Fault>>);
@@ -139,45 +139,17 @@ fn a_read_that_fails_by_any_kind_of_error() {
     }
 }
 
-/// A writer that takes a byte a call fails at any of them, the last of which is the flush, by an error of any kind.
-/// Only a write that was interrupted is made again.
 #[test]
 fn a_write_or_flush_that_fails_by_any_kind_of_error() {
-    for fault in faults() {
-        let kind = fault.kind();
-        for call in 0..=DRAWN.len() {
-            let (outcome, out) = run_of(&[Ok(LIST)], Writer::failing(call, fault));
-            let ended = (outcome, out.calls.len());
-            let taken = if kind == ErrorKind::Interrupted && call < DRAWN.len() {
-                assert_eq!(ended, (Ok(()), DRAWN.len() + 2), "at {call}");
-                DRAWN.len()
-            } else {
-                assert_eq!(ended, (Err(LotsError::Write), call + 1), "{fault:?}");
-                call
-            };
-            assert_eq!(out.taken, DRAWN[..taken], "{fault:?} at {call}");
-        }
-    }
+    fails_with_its_writer(DRAWN, LotsError::Write, |out| {
+        run(&arguments("all"), &mut &*LIST, out)
+    });
 }
 
-/// The status is the same where the line of an error cannot be written, whatever the reason.
 #[test]
 fn a_report_that_fails_by_any_kind_of_error() {
     let line = b"lots: line 12 is empty\n";
-    for fault in faults() {
-        let kind = fault.kind();
-        for call in 0..line.len() {
-            let mut err = Writer::failing(call, fault);
-            assert_eq!(
-                report(Err(LotsError::EmptyLine(12)), &mut err),
-                4,
-                "{fault:?}"
-            );
-            let whole = kind == ErrorKind::Interrupted;
-            let taken = if whole { line.len() } else { call };
-            assert_eq!(err.taken, line[..taken], "{fault:?} at {call}");
-        }
-    }
+    reports_without_its_writer(line, 4, |err| report(Err(LotsError::EmptyLine(12)), err));
 }
 
 #[test]

@@ -4,8 +4,9 @@
 #[path = "../../../tests/common/kinds.rs"]
 pub mod kinds;
 
-use kinds::Fault;
-use std::io::{Result, Write};
+use kinds::{faults, Fault};
+use std::fmt::Debug;
+use std::io::{ErrorKind, Result, Write};
 
 /// What a call of the writer does.
 #[derive(Clone, Copy)]
@@ -77,6 +78,42 @@ impl Write for Writer {
         match self.does(None, self.flush) {
             Does::Takes(_) => Ok(()),
             Does::Fails(fault) => Err(fault.error()),
+        }
+    }
+}
+
+/// A run returns `failed` if any call of its writer fails, by an error of any kind: a write of one byte of `text`, or
+/// the flush after them. Only an interrupted write is tried again.
+pub fn fails_with_its_writer<E: Copy + Debug + PartialEq>(
+    text: &[u8],
+    failed: E,
+    run: impl Fn(&mut Writer) -> std::result::Result<(), E>,
+) {
+    for fault in faults() {
+        for call in 0..=text.len() {
+            let mut out = Writer::failing(call, fault);
+            let ended = (run(&mut out), out.calls.len());
+            let is_retried = fault.kind() == ErrorKind::Interrupted && call < text.len();
+            let (expected, taken) = if is_retried {
+                ((Ok(()), text.len() + 2), text.len())
+            } else {
+                ((Err(failed), call + 1), call)
+            };
+            assert_eq!(ended, expected, "{fault:?} at {call}");
+            assert_eq!(out.taken, text[..taken], "{fault:?} at {call}");
+        }
+    }
+}
+
+/// A report returns `status` even if its line cannot be written, whatever the error.
+pub fn reports_without_its_writer(line: &[u8], status: u8, report: impl Fn(&mut Writer) -> u8) {
+    for fault in faults() {
+        for call in 0..line.len() {
+            let mut err = Writer::failing(call, fault);
+            assert_eq!(report(&mut err), status, "{fault:?} at {call}");
+            let is_retried = fault.kind() == ErrorKind::Interrupted;
+            let taken = if is_retried { line.len() } else { call };
+            assert_eq!(err.taken, line[..taken], "{fault:?} at {call}");
         }
     }
 }
