@@ -38,7 +38,7 @@ unsafe impl GlobalAlloc for Refusing {
 #[global_allocator]
 static HEAP: Refusing = Refusing;
 
-/// The result of a call that gets no more than so many bytes at a time.
+/// The result of a call when every request for more than `most` bytes fails.
 fn with_memory<T>(most: usize, call: impl FnOnce() -> T) -> T {
     MOST.with(|granted| granted.set(most));
     let result = call();
@@ -46,7 +46,7 @@ fn with_memory<T>(most: usize, call: impl FnOnce() -> T) -> T {
     result
 }
 
-/// The result of a call that gets no memory.
+/// The result of a call when every request for memory fails.
 fn without_memory<T>(call: impl FnOnce() -> T) -> T {
     with_memory(0, call)
 }
