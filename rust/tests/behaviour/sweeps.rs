@@ -64,7 +64,7 @@ fn filled(mut source: Pieces, out: &mut [u8]) -> (Result<(), EntropyError>, usiz
 fn slices_are_filled() {
     let mut rng = WyRand::new_seed(1);
     let (bytes, mut out) = (vec![7; MOST], vec![0; MOST]);
-    for size in sizes() {
+    for size in (0..=2048).chain(sizes()) {
         let out = &mut out[..size];
         let (piece, left) = (number(&mut rng, size) + 1, number(&mut rng, size));
         let reads_of = |bytes: usize| (bytes + piece - 1) / piece;
