@@ -6,9 +6,20 @@ mod refusing;
 use lots::run::run;
 use lots::{draw_places, LotsError};
 use refusing::{refused_above, refused_after};
+use std::io::{Read, Result};
 
-/// The outcome after so many requests for memory, and how much was written.
-fn run_after(requests: usize) -> (Result<(), LotsError>, usize) {
+/// Reads at most so many bytes at once.
+struct Slow<'a>(&'a [u8], usize);
+
+impl Read for Slow<'_> {
+    fn read(&mut self, out: &mut [u8]) -> Result<usize> {
+        let size = self.1.min(out.len());
+        self.0.read(&mut out[..size])
+    }
+}
+
+/// The outcome after so many requests for memory, of a list that comes in pieces, and how much was written.
+fn run_after(requests: usize, piece: usize) -> (std::result::Result<(), LotsError>, usize) {
     let arguments = ["seed".to_string(), "all".to_string()];
     let list: Vec<u8> = (0..5000)
         .flat_map(|number| format!("{number}\n").into_bytes())
@@ -16,7 +27,7 @@ fn run_after(requests: usize) -> (Result<(), LotsError>, usize) {
     let mut out = vec![0; list.len()];
     let mut rest = out.as_mut_slice();
     let outcome = refused_after(requests, || {
-        run(&arguments, &mut list.as_slice(), &mut rest)
+        run(&arguments, &mut Slow(&list, piece), &mut rest)
     });
     let left = rest.len();
     (outcome, list.len() - left)
@@ -24,17 +35,19 @@ fn run_after(requests: usize) -> (Result<(), LotsError>, usize) {
 
 #[test]
 fn each_request_may_be_refused() {
-    let mut count = 0;
-    for outcome in (0..)
-        .map(run_after)
-        .take_while(|outcome| outcome.0.is_err())
-    {
-        assert_eq!(outcome, (Err(LotsError::Memory), 0));
-        count += 1;
+    for piece in [1, 7, 40, 63, 64, 1000, 100_000] {
+        let mut count = 0;
+        for outcome in (0..)
+            .map(|requests| run_after(requests, piece))
+            .take_while(|outcome| outcome.0.is_err())
+        {
+            assert_eq!(outcome, (Err(LotsError::Memory), 0), "{piece}");
+            count += 1;
+        }
+        // Two lists and a text grow.
+        assert!(count > 20, "{count}");
+        assert_eq!(run_after(count, piece), (Ok(()), 23890));
     }
-    // Two lists and a text grow.
-    assert!(count > 20, "{count}");
-    assert_eq!(run_after(count), (Ok(()), 23890));
 }
 
 #[test]

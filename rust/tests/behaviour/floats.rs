@@ -6,6 +6,7 @@ use crate::common::{zeros, Constant, Script, Steps};
 use nanorand_proved::RangeError::{Empty, Exhausted};
 use nanorand_proved::{BufferedRng, Rng, WyRand};
 use std::ops::Bound::{Excluded, Included, Unbounded};
+use std::ops::RangeBounds;
 
 #[test]
 #[allow(clippy::cast_precision_loss)] // 53 bits
@@ -162,16 +163,49 @@ macro_rules! check_empty {
     }};
 }
 
-/// Numbers of any size, with infinite ones and NaN.
+/// Numbers of any size, with infinite ones and NaN, and those where something changes. An included end is what the least
+/// or the greatest word names, an excluded one never comes, and no number lies outside.
 macro_rules! check_bounds {
     ($number:ident) => {{
         let mut rng = WyRand::new_seed(1);
-        for _ in 0..2000 {
-            let [low, high] = [(); 2].map(|()| $number::from_bits(rng.generate()));
-            let some = low.is_finite() && high.is_finite() && low < high;
-            let drawn = rng.generate_range(low..high);
-            assert_eq!(drawn.is_ok(), some, "{low} {high}");
-            assert!(drawn.map_or(true, |number| low <= number && number < high));
+        let (small, great) = ($number::MIN_POSITIVE, $number::MAX);
+        let mut ends: Vec<$number> = [1, 2, 3, 4, 5].map($number::from_bits).to_vec();
+        ends.extend([small / 2.0, small, small * 2.0, $number::EPSILON, 1.0, 3.0]);
+        ends.extend([great / 4.0, great / 2.0, great / 1.9, great / 1.1, great]);
+        ends.extend([0.0, $number::INFINITY, $number::NAN]);
+        ends.extend([(); 40].map(|()| $number::from_bits(rng.generate())));
+        let opposite: Vec<$number> = ends.iter().map(|end| -end).collect();
+        ends.extend(opposite);
+        for low in &ends {
+            for high in &ends {
+                let some = low.is_finite() && high.is_finite() && low < high;
+                let (least, greatest) = (|| Constant::new(0), || Constant::new(255));
+                let [included, excluded] = [(Included(*low)), (Excluded(*low))];
+                for low_end in [included, excluded] {
+                    for high_end in [Included(*high), Excluded(*high)] {
+                        let drawn = rng.generate_range::<$number>((low_end, high_end));
+                        let is_one = low == high && low.is_finite();
+                        let both = low_end == included && high_end == Included(*high);
+                        let empty = drawn == Err(Empty);
+                        assert_eq!(empty, !(some || is_one && both), "{low_end:?} {high_end:?}");
+                        if let Ok(number) = drawn {
+                            assert!((low_end, high_end).contains(&number), "{number}");
+                        }
+                    }
+                    if some {
+                        let last = greatest().generate_range((low_end, Included(*high)));
+                        assert_eq!(last, Ok(*high), "{low_end:?}");
+                        let last = greatest().generate_range((low_end, Excluded(*high)));
+                        assert!(last.map_or(true, |number| number < *high), "{low} {high}");
+                    }
+                }
+                if some {
+                    let first = least().generate_range::<$number>((included, Included(*high)));
+                    assert_eq!(first, Ok(*low), "{high}");
+                    let first = least().generate_range::<$number>((excluded, Included(*high)));
+                    assert_eq!(first, Err(Exhausted), "{low} {high}");
+                }
+            }
         }
     }};
 }

@@ -3,7 +3,7 @@
 use crate::common::{zeros, Constant, Script};
 use nanorand_proved::values::pick_word;
 use nanorand_proved::RangeError::{self, Empty, Exhausted};
-use nanorand_proved::{RandomRange, Rng};
+use nanorand_proved::{RandomRange, Rng, WyRand};
 use std::fmt::Debug;
 use std::ops::Bound::{self, Excluded, Included, Unbounded};
 
@@ -100,4 +100,57 @@ macro_rules! check_ends {
 #[test]
 fn every_pair_of_bounds_at_both_ends() {
     check_ends!(u8, u16, u32, u64, u128, usize, i8, i16, i32, i64, i128, isize);
+}
+
+/// The first and the last number that the bounds admit.
+macro_rules! admitted {
+    ($number:ty, $low:ident, $high:ident) => {{
+        let first = match $low {
+            Included(number) => Some(number),
+            Excluded(number) => number.checked_add(1),
+            Unbounded => Some(<$number>::MIN),
+        };
+        let last = match $high {
+            Included(number) => Some(number),
+            Excluded(number) => number.checked_sub(1),
+            Unbounded => Some(<$number>::MAX),
+        };
+        first.zip(last).filter(|(first, last)| first <= last)
+    }};
+}
+
+/// Bounds at each power of two and its negative, and beside them. Of a range that has numbers the greatest word names
+/// the last; the least word names the first, or is rejected where not all numbers have equally many words without it.
+macro_rules! check_bounds {
+    ($($number:ident: $unsigned:ident),+) => { $({
+        let mut rng = WyRand::new_seed(1);
+        let powers = (0..$number::BITS).flat_map(|bit| [$number::MAX >> bit, $number::MIN >> bit]);
+        let ends: Vec<$number> = powers
+            .flat_map(|end| [end.wrapping_sub(1), end, end.wrapping_add(1)])
+            .collect();
+        for low in &ends {
+            let near = [low.wrapping_sub(1), *low, low.wrapping_add(1), low.wrapping_add(2)];
+            let others = [(); 6].map(|()| *rng.choose(&ends).expect("an end"));
+            for high in near.iter().chain(&others) {
+                for low in [Included(*low), Excluded(*low), Unbounded] {
+                    for high in [Included(*high), Excluded(*high), Unbounded] {
+                        let admitted = admitted!($number, low, high);
+                        let by_least = admitted.map_or(Err(Empty), |(first, last)| {
+                            let others = last.wrapping_sub(first) as $unsigned;
+                            let divides = others == $unsigned::MAX || (others + 1).is_power_of_two();
+                            if divides { Ok(first) } else { Err(Exhausted) }
+                        });
+                        gives(low, high, by_least, admitted.map(|(_, last)| last).ok_or(Empty));
+                    }
+                }
+            }
+        }
+    })+ };
+}
+
+#[test]
+#[allow(clippy::cast_sign_loss)] // the distance of two numbers
+fn bounds_of_every_length() {
+    check_bounds!(u8: u8, u16: u16, u32: u32, u64: u64, u128: u128, usize: usize);
+    check_bounds!(i8: u8, i16: u16, i32: u32, i64: u64, i128: u128, isize: usize);
 }
