@@ -27,14 +27,13 @@ fn arguments() {
 #[test]
 fn standard_output_that_cannot_be_written() {
     for out in [">&-", ">/dev/full", "1</dev/null"] {
-        ends(&format!("$draw {out}"), 4, "", "draw: write failed\n");
-        ends(&format!("$draw {out} 2>&-"), 4, "", "");
-        ends(
-            &format!("\"$0\" wyrand d29b42879be2895f plain 0 {out}"),
-            0,
-            "",
-            "",
-        );
+        for input in ["", "<&-", "</dev/null"] {
+            let streams = format!("{input} {out}");
+            ends(&format!("$draw {streams}"), 4, "", "draw: write failed\n");
+            ends(&format!("$draw {streams} 2>&-"), 4, "", "");
+            let nothing = format!("\"$0\" wyrand d29b42879be2895f plain 0 {streams}");
+            ends(&nothing, 0, "", "");
+        }
     }
     ends("$draw 1<>/dev/null", 0, "", "");
 }

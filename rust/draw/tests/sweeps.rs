@@ -220,15 +220,18 @@ fn all_numbers_of_items() {
     }
 }
 
-/// Each generator and mode has any seed, and shuffles many items.
+/// Each generator and mode has any seed, whose digits may be capitals, and shuffles many items.
 #[test]
 fn all_generators() {
     let calls = [Call::Gen(Kind::U64), Call::Shuffle];
     for number in 0..10 {
-        for seed in [0, 1, 1 << 32, u64::MAX] {
+        for seed in [0, 1, 1 << 32, 0x0123_4567_89ab_cdef, u64::MAX] {
             for count in [0, 1, 99, 100, 128, 500, 1000] {
                 let (start, text) = command_of(number, seed, &calls, count);
-                writes(&words_of(&format!("{start} {count} u64 shuffle")), &text);
+                let mut arguments = words_of(&format!("{start} {count} u64 shuffle"));
+                writes(&arguments, &text);
+                arguments[1].make_ascii_uppercase();
+                writes(&arguments, &text);
             }
         }
     }

@@ -51,9 +51,11 @@ fn refusals() {
 #[test]
 fn standard_input_that_cannot_be_read() {
     let failed = "lots: read failed\n";
-    ends("\"$0\" seed all <&-", 6, "", failed);
-    ends("\"$0\" seed all <.", 6, "", failed);
-    ends("\"$0\" seed all 0>/dev/null", 6, "", failed);
+    for count in ["0", "00", "1", "all", "18446744073709551615"] {
+        for input in ["<&-", "<.", "0>/dev/null"] {
+            ends(&format!("\"$0\" seed {count} {input}"), 6, "", failed);
+        }
+    }
     // Nothing is read where the arguments are refused.
     ends(
         "\"$0\" seed <&-",

@@ -99,6 +99,18 @@ fn a_reader_may_be_interrupted_many_times() {
     }
 }
 
+/// So is one that gives many bytes before, of which each piece is a read.
+#[test]
+fn a_reader_may_be_interrupted_after_many_bytes() {
+    let entrant = vec![b'x'; 9_000_001];
+    let mut pieces = Vec::new();
+    for piece in entrant.chunks(10_000) {
+        pieces.extend([Err(ErrorKind::Interrupted.into()), Ok(piece)]);
+    }
+    let (outcome, out) = run_of(&pieces, Writer::willing());
+    assert_eq!((outcome, out.taken.len()), (Ok(()), entrant.len() + 1));
+}
+
 /// Each power of two to 2^22 with its neighbours, and one size far above.
 #[test]
 fn lists_of_every_size_around_that_of_a_piece() {

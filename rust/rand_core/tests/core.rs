@@ -33,7 +33,8 @@ fn what_is_not_implemented() {
 /// The four functions of `RngCore` give what the functions of `Rng` give, and leave the same.
 fn check<G: Rng<OUTPUT> + Clone + PartialEq + Debug, const OUTPUT: usize>(fresh: &G) {
     let (mut core, mut own) = (Core(fresh.clone()), fresh.clone());
-    for length in (0..40).chain([63, 64, 65, 255, 256, 257, 600]) {
+    let long = [65_535, 65_536, 65_537, 1_000_003];
+    for length in (0..40).chain([63, 64, 65, 255, 256, 257, 600]).chain(long) {
         assert_eq!(core.next_u32(), own.next_u32());
         assert_eq!(core.next_u64(), own.next_u64());
         let (mut some, mut again) = (vec![0; length], vec![1; length]);
