@@ -4,6 +4,9 @@ NumPy is needed for this module and for nothing else of the package. A seed is w
 take, mixed by `numpy.random.SeedSequence` as there. `of` goes on where a generator of this package is, so that the
 words are those of every other language; which numbers NumPy makes of words is NumPy's.
 
+None of the classes is a vetted cryptographic generator: for keys, tokens and passwords, or where an adversary
+matters, take a vetted one.
+
 >>> import numpy
 >>> from nanorand import Pcg64
 >>> from nanorand.numpy import Pcg64Bits
