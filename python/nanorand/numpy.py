@@ -141,6 +141,9 @@ class GeneratorBits(BitGenerator):
 
         A jump is 2^48 words of `WyRandBits`, 2^64 of `Pcg64Bits`, and 2^48 blocks of eight words of `StreamBits`.
 
+        Words a power of two apart are correlated. Those of `Pcg64Bits` that are an odd number of jumps apart have the
+        same lowest two bits, and more where the number is even. For many tasks take `of` and parts of an odd length.
+
         >>> Pcg64Bits(42).jumped(2).random_raw() == Pcg64Bits(42).jumped().jumped().random_raw()
         True
         """
