@@ -11,8 +11,14 @@
  * must not overlap anything else that the call takes. Bytes may lie at any address, the rest as its type wants.
  *
  * WyRand and Pcg64 are not cryptographically secure: never draw a key, a token or a password from them.
- * ChaCha is the keystream of a stream cipher under the key, the nonce and the counter of its state. Nothing
- * here seeds itself from the system or erases a key from memory.
+ * ChaCha is the keystream of a stream cipher under the key, the nonce and the counter of its state. It is not
+ * a vetted cryptographic generator: nothing here seeds itself from the system, reseeds itself or erases a key
+ * from memory, and nothing was audited. For keys, tokens and passwords, or where an adversary matters, take a
+ * vetted one.
+ *
+ * The seed of WyRand and of Pcg64 is the state itself, and is not mixed. Generators with neighbouring seeds,
+ * such as 0, 1, 2, .., draw correlated numbers. For many generators take parts of one stream, or mixed seeds:
+ * numbers that another generator drew, or the first bytes of a SHA-256 of a name (nanorand_lots_digest).
  */
 #ifndef NANORAND_H
 #define NANORAND_H
@@ -30,7 +36,7 @@
 /* The status of ranges, shuffles, samples and parts. */
 #define NANORAND_OK 0          /* drawn, or moved */
 #define NANORAND_EMPTY 1       /* the range is empty, or the sample too large: nothing drawn or written */
-#define NANORAND_EXHAUSTED 2   /* 128 words in a row were rejected; they stay drawn */
+#define NANORAND_EXHAUSTED 2   /* 128 words in a row were rejected; they stay consumed */
 #define NANORAND_PAST_PERIOD 3 /* the part ends past the period of the generator: nothing moved */
 
 /* The status of nanorand_lots_count and nanorand_lots_draw, which is else NANORAND_OK. */
@@ -141,7 +147,10 @@ typedef struct nanorand_v1_wyrand {
     uint64_t seed;
 } nanorand_wyrand;
 
-/* A 128-bit number, as its low and its high 64 bits. */
+/*
+ * A 128-bit number, as its low and its high 64 bits. As a seed of Pcg64 it is the state itself, and
+ * is not mixed: generators with neighbouring seeds draw correlated numbers.
+ */
 typedef struct nanorand_v1_pcg64 {
     uint64_t low;
     uint64_t high;
@@ -188,12 +197,13 @@ typedef struct nanorand_v1_keystream {
  *
  * nanorand_.._u64: Draws a number of 64 bits: the next 8 bytes, least byte first.
  *
- * nanorand_.._fill_bytes: Fills `buffer` with the next bytes, by one request.
+ * nanorand_.._fill_bytes: Fills `buffer` with the next bytes, by one request. A length of 0 draws
+ * nothing.
  *
  * nanorand_.._range_u32: Draws a number from `first` to `last`, both included, by words of 32 bits,
  * and returns a status: 0 if `number` was written, 1 if the range is empty, 2 if 128 words in a row
  * were rejected. After 1 and 2 `number` is unchanged. After 1 nothing was drawn; after 2 the words
- * stay drawn.
+ * stay consumed.
  *
  * nanorand_.._range_u64: Draws a number from `first` to `last`, both included, by words of 64 bits.
  * The status is that of a range of `uint32_t`.
@@ -206,7 +216,7 @@ typedef struct nanorand_v1_keystream {
  *
  * nanorand_.._shuffle: Shuffles the items: each, from the first on, is exchanged with one drawn
  * from it and those after it. It returns 0, or 2 if 128 words in a row were rejected for one index;
- * the exchanges before that stay.
+ * the exchanges before that stay, and the words stay consumed. A length of 0 draws nothing.
  *
  * nanorand_.._shuffle_full: Shuffles the items as the crate nanorand 0.7.0 did: each is exchanged
  * with one drawn from all, and of three items or more the orders are not equally frequent. The
@@ -216,7 +226,8 @@ typedef struct nanorand_v1_keystream {
  * algorithm; each set of them is the sample for equally many lists of words, their order is not
  * uniform. It returns 0, or 1 if there are more places than numbers (nothing is drawn or written),
  * or 2 if 128 words in a row were rejected for one place; the places before it are then written,
- * and the draws stay.
+ * and the words stay consumed. A length of 0 draws nothing. The time is O(k^2) for k places, since
+ * each number drawn is compared with those before it.
  *
  * nanorand_.._part: Moves to the beginning of part `index`, counted from 0, of parts of so many
  * draws: `index * draws` draws further on, where a draw is what a `uint64_t` takes. Parts of one
@@ -227,7 +238,12 @@ typedef struct nanorand_v1_keystream {
 
 /* ---- WyRand: 64 bits of state, the fastest. Not cryptographically secure. ---- */
 
-/* The generator with this seed. */
+/*
+ * The generator with this seed. The seed is the state itself, and is not mixed: generators with
+ * neighbouring seeds, such as 0, 1, 2, .., draw correlated numbers. For many generators take parts
+ * of one stream, or mixed seeds: numbers that another generator drew, or the first 8 bytes of a
+ * SHA-256 of a name.
+ */
 nanorand_wyrand nanorand_wyrand_new_seed(uint64_t seed);
 
 uint64_t nanorand_wyrand_u64(nanorand_wyrand *rng) NANORAND_NOT_NULL((1));
@@ -293,7 +309,7 @@ uint8_t nanorand_pcg64_part(
     nanorand_pcg64 *seed, uint64_t index, uint64_t draws)
     NANORAND_NOT_NULL((1)) NANORAND_USE_STATUS;
 
-/* ---- ChaCha with 8 rounds. Each call begins a new block, also for a single number. ---- */
+/* ---- ChaCha with 8 rounds. Each call begins a new block, also for a number: fill many bytes at once. ---- */
 
 /* Writes the block at the counter, and adds 1 to the counter. */
 void nanorand_chacha8_block(nanorand_chacha *state, uint8_t out[64]) NANORAND_NOT_NULL((1, 2));
@@ -302,7 +318,7 @@ uint64_t nanorand_chacha8_u64(nanorand_chacha *state) NANORAND_NOT_NULL((1));
 
 /*
  * Fills `buffer` with the blocks from the counter on, by one request. The counter advances by the
- * number of blocks that `buffer` takes, the last one counted whole.
+ * number of blocks that `buffer` takes, the last one counted whole. A length of 0 draws nothing.
  */
 void nanorand_chacha8_fill_bytes(
     nanorand_chacha *state, uint8_t *buffer, size_t length) NANORAND_NOT_NULL((1));
@@ -332,7 +348,7 @@ uint8_t nanorand_chacha8_part(
     nanorand_chacha *state, uint64_t index, uint64_t draws)
     NANORAND_NOT_NULL((1)) NANORAND_USE_STATUS;
 
-/* ---- ChaCha with 12 rounds. Each call begins a new block, also for a single number. ---- */
+/* ---- ChaCha with 12 rounds. Each call begins a new block, also for a number: fill many bytes at once. ---- */
 
 /* Writes the block at the counter, and adds 1 to the counter. */
 void nanorand_chacha12_block(nanorand_chacha *state, uint8_t out[64]) NANORAND_NOT_NULL((1, 2));
@@ -341,7 +357,7 @@ uint64_t nanorand_chacha12_u64(nanorand_chacha *state) NANORAND_NOT_NULL((1));
 
 /*
  * Fills `buffer` with the blocks from the counter on, by one request. The counter advances by the
- * number of blocks that `buffer` takes, the last one counted whole.
+ * number of blocks that `buffer` takes, the last one counted whole. A length of 0 draws nothing.
  */
 void nanorand_chacha12_fill_bytes(
     nanorand_chacha *state, uint8_t *buffer, size_t length) NANORAND_NOT_NULL((1));
@@ -371,7 +387,7 @@ uint8_t nanorand_chacha12_part(
     nanorand_chacha *state, uint64_t index, uint64_t draws)
     NANORAND_NOT_NULL((1)) NANORAND_USE_STATUS;
 
-/* ---- ChaCha with 20 rounds. Each call begins a new block, also for a single number. ---- */
+/* ---- ChaCha with 20 rounds. Each call begins a new block, also for a number: for many, take keystream. ---- */
 
 /* Writes the block at the counter, and adds 1 to the counter. */
 void nanorand_chacha20_block(nanorand_chacha *state, uint8_t out[64]) NANORAND_NOT_NULL((1, 2));
@@ -380,7 +396,7 @@ uint64_t nanorand_chacha20_u64(nanorand_chacha *state) NANORAND_NOT_NULL((1));
 
 /*
  * Fills `buffer` with the blocks from the counter on, by one request. The counter advances by the
- * number of blocks that `buffer` takes, the last one counted whole.
+ * number of blocks that `buffer` takes, the last one counted whole. A length of 0 draws nothing.
  */
 void nanorand_chacha20_fill_bytes(
     nanorand_chacha *state, uint8_t *buffer, size_t length) NANORAND_NOT_NULL((1));

@@ -1,6 +1,13 @@
 """Seeded random generators over a proved library: the same numbers in every language.
 
 `WyRand` and `Pcg64` are not cryptographically secure: draw no key, token or password from them.
+`Stream` and the ChaCha classes are not vetted cryptographic generators either: no key is erased
+from memory, and nothing reseeds itself. For keys, tokens and passwords, or where an adversary
+matters, take a vetted one.
+
+The seed of `WyRand` and `Pcg64` is the state itself, and is not mixed: generators with neighbouring
+seeds draw correlated numbers. The docstrings of the two say what to do.
+
 `nanorand.randoms` has the generators as `random.Random`, `nanorand.lots` the public draw by lot,
 and `nanorand.errors` every error.
 

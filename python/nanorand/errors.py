@@ -1,6 +1,7 @@
 """The errors of this package.
 
-After each of them the generator's state is as before, but for `Exhausted`. A value of a wrong
+After each of them the generator's state is as before, but for `Exhausted`: the words that were
+rejected, and those drawn before them, stay consumed. A value of a wrong
 type, a float for one, is a `TypeError`. A number is told in digits, and one of more than about 100
 digits by how many bits it has.
 
@@ -48,7 +49,7 @@ class EmptyRange(NanorandError, ValueError):
 
 
 class Exhausted(NanorandError, RuntimeError):
-    """128 words in a row were rejected: fewer than one draw in 2^128. They stay drawn.
+    """128 words in a row were rejected, which happens with probability below 2^-128. They stay consumed.
 
     >>> str(Exhausted())
     '128 words in a row were rejected'

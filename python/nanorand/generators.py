@@ -1,6 +1,8 @@
 """The generators. Each starts from a seed or a key, and draws the same numbers in every language.
 
 `WyRand` and `Pcg64` are not cryptographically secure: draw no key, token or password from them.
+`Stream` and the ChaCha classes are not vetted cryptographic generators either: where an adversary
+matters, take a vetted one.
 
 >>> from nanorand.generators import WyRand
 >>> WyRand(42).below(100)

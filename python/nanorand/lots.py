@@ -57,7 +57,7 @@ def draw(seed: Seed, entrants: object, count: Optional[SupportsIndex] = None) ->
 
     The entrants are the lines of a list of bytes, or the items of another sequence. A seed is a text,
     or its bytes in UTF-8. These errors come in this order: `EmptySeed`, `SeedNotText`, `EmptyLine`,
-    `TooFew`.
+    `TooFew`, `Exhausted`.
 
     >>> draw("4 1 6", ["Ada", "Barbara", "Chidi"])
     ['Ada', 'Barbara', 'Chidi']

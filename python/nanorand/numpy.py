@@ -4,6 +4,9 @@ NumPy is needed for this module and for nothing else of the package. A seed is w
 take, mixed by `numpy.random.SeedSequence` as there. `of` goes on where a generator of this package is, so that the
 words are those of every other language; which numbers NumPy makes of words is NumPy's.
 
+None of the classes is a vetted cryptographic generator: for keys, tokens and passwords, or where an adversary
+matters, take a vetted one.
+
 >>> import numpy
 >>> from nanorand import Pcg64
 >>> from nanorand.numpy import Pcg64Bits
@@ -137,6 +140,9 @@ class GeneratorBits(BitGenerator):
         """A bit generator that is so many jumps ahead, so that the words until there are not drawn again.
 
         A jump is 2^48 words of `WyRandBits`, 2^64 of `Pcg64Bits`, and 2^48 blocks of eight words of `StreamBits`.
+
+        Words a power of two apart are correlated. Those of `Pcg64Bits` that are an odd number of jumps apart have the
+        same lowest two bits, and more where the number is even. For many tasks take `of` and parts of an odd length.
 
         >>> Pcg64Bits(42).jumped(2).random_raw() == Pcg64Bits(42).jumped().jumped().random_raw()
         True

@@ -8,6 +8,13 @@ A whole number of at most 64 bits is a seed of `WyRandRandom`, one of 128 of `Pc
 or of bytes; of a negative or a longer number, as `hex` writes it after the byte 0xFF and `int `; of a
 float, as `float.hex` writes it after 0xFF and `float `. None is a seed from the operating system.
 
+A whole number that is a seed is the state itself, and is not mixed: `WyRandRandom` and `Pcg64Random`
+with neighbouring seeds, such as 0, 1, 2, .., draw correlated numbers. A text is mixed by the SHA-256:
+`Pcg64Random(f"run {number}")`.
+
+None of the classes is a vetted cryptographic generator: for keys, tokens and passwords, or where an
+adversary matters, take a vetted one.
+
 >>> from nanorand.randoms import WyRandRandom
 >>> rng = WyRandRandom(42)
 >>> rng.getrandbits(64), rng.randint(1, 6)
@@ -120,6 +127,8 @@ class GeneratorRandom(BaseRandom):
 class WyRandRandom(GeneratorRandom):
     """`WyRand` as `random.Random`. It is not cryptographically secure.
 
+    A whole number as seed is not mixed: generators with neighbouring seeds draw correlated numbers.
+
     >>> WyRandRandom(42).randbytes(4).hex()
     '34b4a9dd'
     """
@@ -131,6 +140,8 @@ class WyRandRandom(GeneratorRandom):
 class Pcg64Random(GeneratorRandom):
     """`Pcg64` as `random.Random`. It is not cryptographically secure.
 
+    A whole number as seed is not mixed: generators with neighbouring seeds draw correlated numbers.
+
     >>> Pcg64Random(0).randbytes(4).hex()
     '3f75823f'
     """
@@ -140,7 +151,7 @@ class Pcg64Random(GeneratorRandom):
 
 
 class ChaCha8Random(GeneratorRandom):
-    """`ChaCha8` as `random.Random`: each number takes a block.
+    """`ChaCha8` as `random.Random`: each number takes a block of 64 bytes, which `StreamRandom` does not.
 
     >>> ChaCha8Random(0).randbytes(4).hex()
     '3e00ef2f'
@@ -152,7 +163,7 @@ class ChaCha8Random(GeneratorRandom):
 
 
 class ChaCha12Random(GeneratorRandom):
-    """`ChaCha12` as `random.Random`: each number takes a block.
+    """`ChaCha12` as `random.Random`: each number takes a block of 64 bytes, which `StreamRandom` does not.
 
     >>> ChaCha12Random(0).randbytes(4).hex()
     '9bf49a6a'
@@ -164,7 +175,7 @@ class ChaCha12Random(GeneratorRandom):
 
 
 class ChaCha20Random(GeneratorRandom):
-    """`ChaCha20` as `random.Random`: each number takes a block.
+    """`ChaCha20` as `random.Random`: each number takes a block of 64 bytes, which `StreamRandom` does not.
 
     >>> ChaCha20Random(0).randbytes(4).hex()
     '76b8e0ad'

@@ -67,10 +67,10 @@ SENTENCES = {
         "`backup` returns this, and an `io::Error` of kind `Unsupported` becomes it."
     ),
     "Precondition: the type has a number below `n`. The only error is `Exhausted`, after 128 rejected"
-    " words. If 2^k numbers are below `n` (of an unsigned type: `n` is a power of two), there is none:"
-    " no word is rejected then.": (
-        "It returns `Empty` if the type has no number below `n`, and `Exhausted` if 128 words in a row"
-        " were rejected. If 2^k numbers are below `n` (of an unsigned type: `n` is a power of two), no"
+    " words; they stay consumed. If 2^k numbers are below `n` (of an unsigned type: `n` is a power of two), there is"
+    " none: no word is rejected then.": (
+        "It returns `Empty` if the type has no number below `n`, and draws nothing then. It returns `Exhausted` if 128"
+        " words in a row were rejected; they stay consumed. If 2^k numbers are below `n` (of an unsigned type: `n` is a power of two), no"
         " word is rejected."
     ),
     "Nothing is promised about the provided methods of `Read`.": "",

@@ -6,7 +6,14 @@
 //! `nanorand` 0.7.0.
 //!
 //! **`WyRand` and `Pcg64` are not cryptographically secure.** Never draw a key, a token or a password
-//! from them. `ChaCha` says what it is and is not for.
+//! from them. `ChaCha` and its streams are not vetted cryptographic generators either: no key is erased
+//! from memory, nothing reseeds itself, and nothing was audited. For keys, tokens and passwords, or
+//! where an adversary matters, take a vetted one.
+//!
+//! **A seed of `WyRand` or `Pcg64` is the state itself, and is not mixed.** Generators with neighbouring
+//! seeds, such as 0, 1, 2, .., draw correlated numbers. For many generators take [`Parts`] of one
+//! stream, or mixed seeds: numbers that another generator drew, or the first bytes of a SHA-256 of a
+//! name.
 //!
 //! A number:
 //!

@@ -74,7 +74,11 @@ pub trait Rng<const OUTPUT: usize>: Sized {
         T::random(self)
     }
 
-    /// Fills the slice with values, drawn one after another in the order of the items.
+    /// Fills the slice with values, drawn one after another in the order of the items, each by a call
+    /// of `generate`. An empty slice draws nothing.
+    ///
+    /// For bytes, call `fill_bytes`: it makes one request for the whole slice. `fill` makes a request
+    /// for each byte, so a plain generator draws a whole block for it.
     fn fill<T: RandomGen<Self, OUTPUT>>(&mut self, target: &mut [T]) {
         for item in target.iter_mut() {
             *item = self.generate();
@@ -91,7 +95,7 @@ pub trait Rng<const OUTPUT: usize>: Sized {
     /// # Errors
     ///
     /// For the types of the library `Empty` if the range has no number; nothing is drawn then.
-    /// `Exhausted` if 128 words in a row were rejected; they stay drawn.
+    /// `Exhausted` if 128 words in a row were rejected; they stay consumed.
     #[inline]
     fn generate_range<T: RandomRange<Self, OUTPUT> + Clone>(
         &mut self,
@@ -114,7 +118,7 @@ pub trait Rng<const OUTPUT: usize>: Sized {
     /// # Errors
     ///
     /// It returns `Exhausted` if 128 words in a row were rejected for one index. The swaps before that
-    /// stay, and so do all draws. An empty slice draws nothing.
+    /// stay, and the words stay consumed. An empty slice draws nothing.
     #[inline]
     fn shuffle<T>(&mut self, target: &mut [T]) -> Result<(), RangeError> {
         let count = target.len();
@@ -145,7 +149,8 @@ pub trait Rng<const OUTPUT: usize>: Sized {
     ///
     /// # Panics
     ///
-    /// Panics with the text of the error where `generate_range` returns one.
+    /// Panics with the text of the error where `generate_range` returns one. If 128 words in a
+    /// row were rejected, they stay consumed.
     #[inline]
     #[track_caller]
     fn range<T: RandomRange<Self, OUTPUT> + Clone>(&mut self, range: impl RangeBounds<T>) -> T {
@@ -159,7 +164,8 @@ pub trait Rng<const OUTPUT: usize>: Sized {
     ///
     /// # Panics
     ///
-    /// Panics with the text of the error where `shuffle` returns one: after 128 rejected words in a row.
+    /// Panics with the text of the error where `shuffle` returns one: after 128 rejected words in a
+    /// row. The swaps before that stay, and the words stay consumed.
     #[inline]
     #[track_caller]
     fn permute<T>(&mut self, items: &mut [T]) {
@@ -173,8 +179,8 @@ pub trait Rng<const OUTPUT: usize>: Sized {
     ///
     /// # Errors
     ///
-    /// It returns `Exhausted` if 128 words in a row were rejected for one index. The swaps before that
-    /// stay, and so do all draws.
+    /// It returns `Exhausted` if 128 words in a row were rejected for one index. The swaps before
+    /// that stay, and the words stay consumed. A `count` of 0 or an empty slice draws nothing.
     #[inline]
     fn partial_shuffle<T>(&mut self, items: &mut [T], count: usize) -> Result<(), RangeError> {
         shuffles::partial_shuffle(self, items, count)
@@ -184,8 +190,8 @@ pub trait Rng<const OUTPUT: usize>: Sized {
     ///
     /// # Errors
     ///
-    /// It returns `Empty` for an empty slice, and draws nothing then. It returns `Exhausted` if 128 words
-    /// in a row were rejected; they stay drawn.
+    /// It returns `Empty` for an empty slice, and draws nothing then. It returns `Exhausted` if 128
+    /// words in a row were rejected; they stay consumed.
     #[inline]
     fn choose<'a, T>(&mut self, items: &'a [T]) -> Result<&'a T, RangeError> {
         choices::choose(self, items)
@@ -195,19 +201,21 @@ pub trait Rng<const OUTPUT: usize>: Sized {
     ///
     /// # Errors
     ///
-    /// It returns `Empty` and `Exhausted` as `choose` does.
+    /// It returns `Empty` for an empty slice, and draws nothing then. It returns `Exhausted` if 128
+    /// words in a row were rejected; they stay consumed.
     #[inline]
     fn choose_mut<'a, T>(&mut self, items: &'a mut [T]) -> Result<&'a mut T, RangeError> {
         choices::choose_mut(self, items)
     }
 
     /// Chooses an item by its weight, and returns its index: `weights[i]` is the weight of item i.
+    /// The time is O(n) a draw for n weights: each call adds them all up.
     ///
     /// # Errors
     ///
-    /// It returns `NoWeight` if there are no weights or all of them are 0, `TooHeavy` if they add up to
-    /// 2^64 or more, and `Exhausted` if 128 words in a row were rejected. After any other error nothing
-    /// was drawn.
+    /// It returns `NoWeight` if there are no weights or all of them are 0, `TooHeavy` if they add up
+    /// to 2^64 or more, and `Exhausted` if 128 words in a row were rejected. After `Exhausted` the
+    /// 128 words stay consumed; after any other error nothing was drawn.
     #[inline]
     fn choose_weighted(&mut self, weights: &[u64]) -> Result<usize, WeightError> {
         choices::choose_weighted(self, weights)
@@ -217,20 +225,22 @@ pub trait Rng<const OUTPUT: usize>: Sized {
     ///
     /// # Errors
     ///
-    /// It returns `Empty` if `denominator` is 0, and draws nothing then. It returns `Exhausted` if 128
-    /// words in a row were rejected; they stay drawn.
+    /// It returns `Empty` if `denominator` is 0, and draws nothing then. It returns `Exhausted` if
+    /// 128 words in a row were rejected; they stay consumed.
     #[inline]
     fn ratio(&mut self, numerator: u64, denominator: u64) -> Result<bool, RangeError> {
         choices::ratio(self, numerator, denominator)
     }
 
-    /// Samples different numbers below `count`, one into each slot, as [`sample`](samples::sample) does.
-    /// The order of the slots is not random.
+    /// Samples different numbers below `count`, one into each slot, as [`sample`](samples::sample)
+    /// does. The order of the slots is not random. The time is O(k^2) for k slots, since each number
+    /// drawn is compared with the slots before it. Without slots nothing is drawn.
     ///
     /// # Errors
     ///
-    /// It returns `Exhausted` if 128 words in a row were rejected for one slot. The slots before it then
-    /// hold the numbers drawn so far, all other slots are as before, and all draws stay.
+    /// It returns `Exhausted` if 128 words in a row were rejected for one slot. The slots before it
+    /// then hold the numbers drawn so far, all other slots are as before, and the words stay
+    /// consumed.
     ///
     /// # Panics
     ///

@@ -14,6 +14,10 @@ use core::ops::Bound;
 /// With k slots, slot i takes a number t drawn from `0..=j`, where j is `count - k + i`. If a slot
 /// before it holds t already, it takes j.
 ///
+/// The time is O(k^2), since each number drawn is compared with the slots before it. For a large
+/// k, fill a slice with 0, 1, .. and call `shuffles::partial_shuffle`: it makes k steps, and needs
+/// memory for all `count` numbers.
+///
 /// Each set of k numbers is the sample for equally many sequences of draws. The order of the slots
 /// is not uniform: by the algorithm, the number `count - 1` can only be in the last slot. Shuffle
 /// the slots for a random order.
@@ -21,8 +25,8 @@ use core::ops::Bound;
 /// # Errors
 ///
 /// The only error is `Exhausted`: 128 words in a row were rejected for one slot. The slots before
-/// it then hold the numbers drawn so far, all other slots are as before, and all draws stay. A
-/// slice without slots draws nothing.
+/// it then hold the numbers drawn so far, all other slots are as before, and the words stay
+/// consumed. A slice without slots draws nothing.
 ///
 /// # Panics
 ///

@@ -56,7 +56,7 @@ pub fn apply_choices<T>(choices: &[usize], items: &mut [T]) {
 
 /// Writes to `out` the unique valid choices that turn the identity 0, 1, .. into `order`.
 ///
-/// Their old contents do not matter, and nothing is allocated.
+/// Their old contents do not matter, and nothing is allocated. The time is O(n^2) for n numbers.
 ///
 /// # Errors
 ///
@@ -122,14 +122,14 @@ fn place_from(items: &[usize], from: usize, wanted: usize) -> Option<usize> {
 /// Shuffles the slice as `Rng::shuffle` does, and records the choices that it draws.
 ///
 /// Its old contents are overwritten. Result, items and generator are those of `Rng::shuffle`. On
-/// success `choices` holds the drawn choices. Nothing is allocated.
+/// success `choices` holds the drawn choices. Nothing is allocated. An empty slice draws nothing.
 ///
 /// # Errors
 ///
-/// It returns `Exhausted` if 128 words in a row were rejected for one index. Then `choices` holds
-/// those drawn before the failure, and for each index from there on that index itself, which moves
-/// nothing. So the choices are valid in both cases, and `apply_choices` repeats with them what was
-/// done here.
+/// It returns `Exhausted` if 128 words in a row were rejected for one index. The swaps before that
+/// stay, and the words stay consumed. Then `choices` holds those drawn before the failure, and for
+/// each index from there on that index itself, which moves nothing. So the choices are valid in
+/// both cases, and `apply_choices` repeats with them what was done here.
 ///
 /// # Panics
 ///
@@ -179,7 +179,7 @@ pub fn shuffle_and_record<G: Rng<OUTPUT>, T, const OUTPUT: usize>(
 /// # Errors
 ///
 /// It returns `Exhausted` if 128 words in a row were rejected for one index. The swaps before that
-/// stay, and so do all draws. A `count` of 0 draws nothing.
+/// stay, and the words stay consumed. A `count` of 0 or an empty slice draws nothing.
 ///
 /// # Examples
 ///
@@ -216,7 +216,7 @@ pub fn partial_shuffle<G: Rng<OUTPUT>, T, const OUTPUT: usize>(
 /// # Errors
 ///
 /// It returns `Exhausted` if 128 words in a row were rejected for one index. The swaps before that
-/// stay, and so do all draws. An empty slice draws nothing.
+/// stay, and the words stay consumed. An empty slice draws nothing.
 ///
 /// # Examples
 ///

@@ -59,7 +59,8 @@ impl<G: Rng<OUTPUT>, const OUTPUT: usize> RandomGen<G, OUTPUT> for bool {
 
 /// Fills the slice by a closure: calls `draw` once for each item, in the order of the items.
 ///
-/// It is `Rng::fill` for draws that are no type of their own, as a range or a choice.
+/// It is `Rng::fill` for draws that are no type of their own, as a range or a choice. For an empty
+/// slice `draw` is not called.
 ///
 /// # Examples
 ///

@@ -9,7 +9,13 @@
 //! buffers and replays those of `nanorand_replay`. These two crates name no generator; what they
 //! have is passed on here under the same paths.
 //!
-//! `WyRand` and `Pcg64` are not cryptographically secure. `ChaCha` says what it is and is not for.
+//! `WyRand` and `Pcg64` are not cryptographically secure: never draw a key, a token or a password
+//! from them. `ChaCha` and its streams are not vetted cryptographic generators either: no key is
+//! erased from memory, and nothing reseeds itself. For keys, tokens and passwords, or where an
+//! adversary matters, take a vetted one.
+//!
+//! A seed of `WyRand` or `Pcg64` is the state itself: generators with neighbouring seeds draw
+//! correlated numbers. `new_seed` of each says what to do instead.
 #![tactic(auto)]
 
 pub mod crypto;

@@ -39,7 +39,7 @@ pub extern "C" fn nanorand_v1_chacha8_u64(state: &mut ChaChaState) -> u64
 }
 
 /// Fills the slice with the blocks from the counter on, by one request. The counter advances by the
-/// number of blocks that the slice takes, the last one counted whole.
+/// number of blocks that the slice takes, the last one counted whole. A length of 0 draws nothing.
 #[unsafe(no_mangle)]
 pub extern "C" fn nanorand_v1_chacha8_fill_bytes(state: &mut ChaChaState, buffer: &mut [u8])
     ensures bytes { let start = chacha_at state.old in
@@ -56,7 +56,7 @@ pub extern "C" fn nanorand_v1_chacha8_fill_bytes(state: &mut ChaChaState, buffer
 
 /// Draws a number from `first..=last`, by words of 32 bits, and returns a status: 0 if `number` was
 /// written, 1 if the range is empty, 2 if 128 words in a row were rejected. After 1 and 2 `number`
-/// is unchanged. After 1 nothing was drawn; after 2 the words stay drawn.
+/// is unchanged. After 1 nothing was drawn; after 2 the words stay consumed.
 #[unsafe(no_mangle)]
 pub extern "C" fn nanorand_v1_chacha8_range_u32(
     state: &mut ChaChaState,
@@ -151,7 +151,7 @@ pub extern "C" fn nanorand_v1_chacha8_range_usize(
 
 /// Shuffles the items: each, from the first on, is exchanged with one drawn from it and those after
 /// it. It returns 0, or 2 if 128 words in a row were rejected for one index; the exchanges before
-/// that stay.
+/// that stay, and the words stay consumed. A length of 0 draws nothing.
 #[unsafe(no_mangle)]
 pub extern "C" fn nanorand_v1_chacha8_shuffle(state: &mut ChaChaState, items: &mut [usize]) -> u8
     ensures status { let start = chacha_at state.old in
@@ -198,7 +198,9 @@ pub extern "C" fn nanorand_v1_chacha8_shuffle_full(
 /// Samples different numbers below `count`, one for each place, by Floyd's algorithm; each set of
 /// them is the sample for equally many lists of words, their order is not uniform. It returns 0, or
 /// 1 if there are more places than numbers (nothing is drawn or written), or 2 if 128 words in a
-/// row were rejected for one place; the places before it are then written, and the draws stay.
+/// row were rejected for one place; the places before it are then written, and the words stay
+/// consumed. A length of 0 draws nothing. The time is O(k^2) for k places, since each number drawn
+/// is compared with those before it.
 #[unsafe(no_mangle)]
 pub extern "C" fn nanorand_v1_chacha8_sample(
     state: &mut ChaChaState,

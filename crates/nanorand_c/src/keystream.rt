@@ -26,7 +26,7 @@ pub extern "C" fn nanorand_v1_keystream_u64(stream: &mut GroupStream) -> u64
     keystream::number(stream)
 }
 
-/// Fills the slice with the next bytes, by one request.
+/// Fills the slice with the next bytes, by one request. A length of 0 draws nothing.
 #[unsafe(no_mangle)]
 pub extern "C" fn nanorand_v1_keystream_fill_bytes(stream: &mut GroupStream, buffer: &mut [u8])
     ensures bytes { buffer.new ≡ by_groups.bytes (groups_at stream.old) (length buffer.old) }
@@ -39,7 +39,7 @@ pub extern "C" fn nanorand_v1_keystream_fill_bytes(stream: &mut GroupStream, buf
 
 /// Draws a number from `first..=last`, by words of 32 bits, and returns a status: 0 if `number` was
 /// written, 1 if the range is empty, 2 if 128 words in a row were rejected. After 1 and 2 `number`
-/// is unchanged. After 1 nothing was drawn; after 2 the words stay drawn.
+/// is unchanged. After 1 nothing was drawn; after 2 the words stay consumed.
 #[unsafe(no_mangle)]
 pub extern "C" fn nanorand_v1_keystream_range_u32(
     stream: &mut GroupStream,
@@ -138,7 +138,7 @@ pub extern "C" fn nanorand_v1_keystream_range_usize(
 
 /// Shuffles the items: each, from the first on, is exchanged with one drawn from it and those after
 /// it. It returns 0, or 2 if 128 words in a row were rejected for one index; the exchanges before
-/// that stay.
+/// that stay, and the words stay consumed. A length of 0 draws nothing.
 #[unsafe(no_mangle)]
 pub extern "C" fn nanorand_v1_keystream_shuffle(stream: &mut GroupStream, items: &mut [usize]) -> u8
     ensures status { let start = groups_at stream.old in
@@ -187,7 +187,9 @@ pub extern "C" fn nanorand_v1_keystream_shuffle_full(
 /// Samples different numbers below `count`, one for each place, by Floyd's algorithm; each set of
 /// them is the sample for equally many lists of words, their order is not uniform. It returns 0, or
 /// 1 if there are more places than numbers (nothing is drawn or written), or 2 if 128 words in a
-/// row were rejected for one place; the places before it are then written, and the draws stay.
+/// row were rejected for one place; the places before it are then written, and the words stay
+/// consumed. A length of 0 draws nothing. The time is O(k^2) for k places, since each number drawn
+/// is compared with those before it.
 #[unsafe(no_mangle)]
 pub extern "C" fn nanorand_v1_keystream_sample(
     stream: &mut GroupStream,

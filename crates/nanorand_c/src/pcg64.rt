@@ -24,7 +24,7 @@ pub extern "C" fn nanorand_v1_pcg64_u64(seed: &mut Wide) -> u64
     pcg64::number(seed)
 }
 
-/// Fills the slice with the next bytes, by one request.
+/// Fills the slice with the next bytes, by one request. A length of 0 draws nothing.
 #[unsafe(no_mangle)]
 pub extern "C" fn nanorand_v1_pcg64_fill_bytes(seed: &mut Wide, buffer: &mut [u8])
     ensures bytes { buffer.new ≡ pcg64_requests.bytes (at_seed seed.old) (length buffer.old) }
@@ -36,7 +36,7 @@ pub extern "C" fn nanorand_v1_pcg64_fill_bytes(seed: &mut Wide, buffer: &mut [u8
 
 /// Draws a number from `first..=last`, by words of 32 bits, and returns a status: 0 if `number` was
 /// written, 1 if the range is empty, 2 if 128 words in a row were rejected. After 1 and 2 `number`
-/// is unchanged. After 1 nothing was drawn; after 2 the words stay drawn.
+/// is unchanged. After 1 nothing was drawn; after 2 the words stay consumed.
 #[unsafe(no_mangle)]
 pub extern "C" fn nanorand_v1_pcg64_range_u32(
     seed: &mut Wide,
@@ -128,7 +128,7 @@ pub extern "C" fn nanorand_v1_pcg64_range_usize(
 
 /// Shuffles the items: each, from the first on, is exchanged with one drawn from it and those after
 /// it. It returns 0, or 2 if 128 words in a row were rejected for one index; the exchanges before
-/// that stay.
+/// that stay, and the words stay consumed. A length of 0 draws nothing.
 #[unsafe(no_mangle)]
 pub extern "C" fn nanorand_v1_pcg64_shuffle(seed: &mut Wide, items: &mut [usize]) -> u8
     ensures status { let start = at_seed seed.old in
@@ -168,7 +168,9 @@ pub extern "C" fn nanorand_v1_pcg64_shuffle_full(seed: &mut Wide, items: &mut [u
 /// Samples different numbers below `count`, one for each place, by Floyd's algorithm; each set of
 /// them is the sample for equally many lists of words, their order is not uniform. It returns 0, or
 /// 1 if there are more places than numbers (nothing is drawn or written), or 2 if 128 words in a
-/// row were rejected for one place; the places before it are then written, and the draws stay.
+/// row were rejected for one place; the places before it are then written, and the words stay
+/// consumed. A length of 0 draws nothing. The time is O(k^2) for k places, since each number drawn
+/// is compared with those before it.
 #[unsafe(no_mangle)]
 pub extern "C" fn nanorand_v1_pcg64_sample(
     seed: &mut Wide,

@@ -16,7 +16,10 @@ use nanorand_calls::calls::{
     part, range_i64, range_u32, range_u64, range_usize, sample, shuffle, shuffle_full,
 };
 
-/// The generator with this seed.
+/// The generator with this seed. The seed is the state itself, and is not mixed: generators with
+/// neighbouring seeds, such as 0, 1, 2, .., draw correlated numbers. For many generators take parts
+/// of one stream, or mixed seeds: numbers that another generator drew, or the first 8 bytes of a
+/// SHA-256 of a name.
 #[unsafe(no_mangle)]
 pub extern "C" fn nanorand_v1_wyrand_new_seed(seed: u64) -> WyRand
     ensures { result ≡ seed }
@@ -33,7 +36,7 @@ pub extern "C" fn nanorand_v1_wyrand_u64(rng: &mut WyRand) -> u64
     rng.generate()
 }
 
-/// Fills the slice with the next bytes, by one request.
+/// Fills the slice with the next bytes, by one request. A length of 0 draws nothing.
 #[unsafe(no_mangle)]
 pub extern "C" fn nanorand_v1_wyrand_fill_bytes(rng: &mut WyRand, buffer: &mut [u8])
     ensures bytes { buffer.new ≡ wyrand_requests.bytes rng.old (length buffer.old) }
@@ -44,7 +47,7 @@ pub extern "C" fn nanorand_v1_wyrand_fill_bytes(rng: &mut WyRand, buffer: &mut [
 
 /// Draws a number from `first..=last`, by words of 32 bits, and returns a status: 0 if `number` was
 /// written, 1 if the range is empty, 2 if 128 words in a row were rejected. After 1 and 2 `number`
-/// is unchanged. After 1 nothing was drawn; after 2 the words stay drawn.
+/// is unchanged. After 1 nothing was drawn; after 2 the words stay consumed.
 #[unsafe(no_mangle)]
 pub extern "C" fn nanorand_v1_wyrand_range_u32(
     rng: &mut WyRand,
@@ -124,7 +127,7 @@ pub extern "C" fn nanorand_v1_wyrand_range_usize(
 
 /// Shuffles the items: each, from the first on, is exchanged with one drawn from it and those after
 /// it. It returns 0, or 2 if 128 words in a row were rejected for one index; the exchanges before
-/// that stay.
+/// that stay, and the words stay consumed. A length of 0 draws nothing.
 #[unsafe(no_mangle)]
 pub extern "C" fn nanorand_v1_wyrand_shuffle(rng: &mut WyRand, items: &mut [usize]) -> u8
     ensures status { let shuffle = shuffled wyrand_requests from_itself rng.old items.old in
@@ -158,7 +161,9 @@ pub extern "C" fn nanorand_v1_wyrand_shuffle_full(rng: &mut WyRand, items: &mut 
 /// Samples different numbers below `count`, one for each place, by Floyd's algorithm; each set of
 /// them is the sample for equally many lists of words, their order is not uniform. It returns 0, or
 /// 1 if there are more places than numbers (nothing is drawn or written), or 2 if 128 words in a
-/// row were rejected for one place; the places before it are then written, and the draws stay.
+/// row were rejected for one place; the places before it are then written, and the words stay
+/// consumed. A length of 0 draws nothing. The time is O(k^2) for k places, since each number drawn
+/// is compared with those before it.
 #[unsafe(no_mangle)]
 pub extern "C" fn nanorand_v1_wyrand_sample(
     rng: &mut WyRand,

@@ -2,7 +2,8 @@
 ghost use Rattle.std.specs.Prelude.{◌≡◌};
 ghost use Rattle.nanorand_calls.specs.WideNumber.{wide_number};
 
-/// A 128-bit number, as its low and its high 64 bits.
+/// A 128-bit number, as its low and its high 64 bits. As a seed of Pcg64 it is the state itself,
+/// and is not mixed: generators with neighbouring seeds draw correlated numbers.
 #[derive(Clone, Copy)]
 #[repr(C)]
 pub struct Wide {

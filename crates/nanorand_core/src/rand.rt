@@ -66,7 +66,11 @@ pub trait Rng<const OUTPUT: usize>: Clone + Blocks<OUTPUT> {
         T::random(self)
     }
 
-    /// Fills the slice with values, drawn one after another in the order of the items.
+    /// Fills the slice with values, drawn one after another in the order of the items, each by a
+    /// call of `generate`. An empty slice draws nothing.
+    ///
+    /// For bytes, call `fill_bytes`: it makes one request for the whole slice. `fill` makes a
+    /// request for each byte, so a plain generator draws a whole block for it.
     fn fill<T: RandomGen<Self, OUTPUT> + Drop>(&mut self, target: &mut [T])
         ensures values { let count = length target.old in
             target.new ≡ values_from T.value T.state_after count self.old }
@@ -86,7 +90,7 @@ pub trait Rng<const OUTPUT: usize>: Clone + Blocks<OUTPUT> {
     /// Generation in an Interval", 2019).
     ///
     /// For these types it returns `Empty` if the range has no number, and draws nothing then. It
-    /// returns `Exhausted` if 128 words in a row were rejected; these stay drawn. A user's type
+    /// returns `Exhausted` if 128 words in a row were rejected; they stay consumed. A user's type
     /// defines when it returns each of the two.
     #[inline]
     fn generate_range<T: RandomRange<Self, OUTPUT>>(
@@ -109,7 +113,7 @@ pub trait Rng<const OUTPUT: usize>: Clone + Blocks<OUTPUT> {
     /// permutation of the indices 0, 1, .. is made by exactly one list of drawn indices.
     ///
     /// It returns `Exhausted` if 128 words in a row were rejected for one index. The swaps before
-    /// that stay, and so do all draws. An empty slice draws nothing.
+    /// that stay, and the words stay consumed. An empty slice draws nothing.
     fn shuffle<T>(&mut self, target: &mut [T]) -> Result<(), RangeError>
         ensures answer { result ≡ (shuffled requests from_itself self.old target.old).answer }
         ensures items { target.new ≡ (shuffled requests from_itself self.old target.old).items }

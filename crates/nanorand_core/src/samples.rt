@@ -16,14 +16,18 @@ use std::ops::Bound;
 /// slot i takes a number t drawn from `0..=j`, where j is `count - k + i`. If a slot before it
 /// holds t already, it takes j.
 ///
+/// The time is O(k^2), since each number drawn is compared with the slots before it. For a large k,
+/// fill a slice with 0, 1, .. and call `shuffles::partial_shuffle`: it makes k steps, and needs
+/// memory for all `count` numbers.
+///
 /// Precondition: there are at most `count` slots. Each set of k numbers is the sample for equally
 /// many sequences of draws (`laws::samples_are_fair`). The order of the slots is not uniform: by
 /// the algorithm, the number `count - 1` can only be in the last slot. Shuffle the slots for a
 /// random order.
 ///
 /// The only error is `Exhausted`: 128 words in a row were rejected for one slot. The slots before
-/// it then hold the numbers drawn so far, all other slots are as before, and all draws stay. A
-/// slice without slots draws nothing.
+/// it then hold the numbers drawn so far, all other slots are as before, and the words stay
+/// consumed. A slice without slots draws nothing.
 pub fn sample<G: Rng<OUTPUT>, const OUTPUT: usize>(
     rng: &mut G,
     count: usize,

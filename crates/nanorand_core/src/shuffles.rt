@@ -35,9 +35,9 @@ pub fn apply_choices<T>(choices: &[usize], items: &mut [T])
 /// Writes to `out` the unique valid choices that turn the identity 0, 1, .. into `order`.
 ///
 /// Precondition: `out` and `scratch` are as long as `order`. Their old contents do not matter, and
-/// nothing is allocated. It returns `NotArrangement` exactly if `order` is not a permutation of the
-/// numbers below its length; the contents of `out` are then unspecified. Those of `scratch` always
-/// are.
+/// nothing is allocated. The time is O(n^2) for n numbers. It returns `NotArrangement` exactly if
+/// `order` is not a permutation of the numbers below its length; the contents of `out` are then
+/// unspecified. Those of `scratch` always are.
 pub fn choices_of(
     order: &[usize],
     out: &mut [usize],
@@ -94,12 +94,12 @@ fn place_from(items: &[usize], from: usize, wanted: usize) -> Option<usize>
 ///
 /// Precondition: `choices` is as long as `target`; its old contents are overwritten. Result, items
 /// and generator are those of `Rng::shuffle`. On success `choices` holds the drawn choices. Nothing
-/// is allocated.
+/// is allocated. An empty slice draws nothing.
 ///
-/// It returns `Exhausted` if 128 words in a row were rejected for one index. Then `choices` holds
-/// those drawn before the failure, and for each index from there on that index itself, which moves
-/// nothing. So the choices are valid in both cases, and `apply_choices` repeats with them what was
-/// done here.
+/// It returns `Exhausted` if 128 words in a row were rejected for one index. The swaps before that
+/// stay, and the words stay consumed. Then `choices` holds those drawn before the failure, and for
+/// each index from there on that index itself, which moves nothing. So the choices are valid in
+/// both cases, and `apply_choices` repeats with them what was done here.
 pub fn shuffle_and_record<G: Rng<OUTPUT>, T, const OUTPUT: usize>(
     rng: &mut G,
     target: &mut [T],
@@ -136,8 +136,8 @@ pub fn shuffle_and_record<G: Rng<OUTPUT>, T, const OUTPUT: usize>(
 /// The first `count` items are then a selection from all items, in random order, and the other
 /// items follow. For each index below `count`, from 0 up, it swaps the item there with the one at
 /// an index drawn from that index and all later ones. It returns `Exhausted` if 128 words in a row
-/// were rejected for one index. The swaps before that stay, and so do all draws. A `count` of 0
-/// draws nothing.
+/// were rejected for one index. The swaps before that stay, and the words stay consumed. A `count`
+/// of 0 or an empty slice draws nothing.
 ///
 /// The law `partial_shuffles` says what it has in common with the whole shuffle.
 pub fn partial_shuffle<G: Rng<OUTPUT>, T, const OUTPUT: usize>(
@@ -174,7 +174,7 @@ pub fn partial_shuffle<G: Rng<OUTPUT>, T, const OUTPUT: usize>(
 /// It is not the shuffle of Fisher and Yates, whose partners come from the rest of the slice alone.
 /// It leaves a permutation of the items, but several lists of choices make the same permutation. It
 /// returns `Exhausted` if 128 words in a row were rejected for one index. The swaps before that
-/// stay, and so do all draws. An empty slice draws nothing.
+/// stay, and the words stay consumed. An empty slice draws nothing.
 pub fn shuffle_full<G: Rng<OUTPUT>, T, const OUTPUT: usize>(
     rng: &mut G,
     target: &mut [T],

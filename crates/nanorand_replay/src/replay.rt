@@ -83,7 +83,8 @@ pub enum Answer {
     Truth(bool),
     /// The range has no number, and nothing was drawn.
     Empty,
-    /// 128 words in a row were rejected, for a number or for one index of a shuffle.
+    /// 128 words in a row were rejected, for a number or for one index of a shuffle. They stay
+    /// consumed.
     Exhausted,
     /// The items were shuffled.
     Shuffled,

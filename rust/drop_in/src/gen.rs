@@ -22,7 +22,7 @@ pub trait RandomRange<G: Rng<OUTPUT>, const OUTPUT: usize>: RandomGen<G, OUTPUT>
     ///
     /// # Panics
     ///
-    /// Panics if the range contains no number, and if 128 words in a row were rejected.
+    /// Panics if the range contains no number, and if 128 words in a row were rejected; these stay consumed.
     #[track_caller]
     fn random_range<Bounds: RangeBounds<Self>>(rng: &mut G, range: Bounds) -> Self;
 }

@@ -4,6 +4,11 @@
 //! 0.7.0 does otherwise than it documents, this crate does what is documented; its README lists each such call.
 //!
 //! **`WyRand` and `Pcg64` are not cryptographically secure.** Never draw a key, a token or a password from them.
+//! `ChaCha` was not audited and is not a vetted cryptographic generator either: for these, or where an adversary
+//! matters, take a vetted one.
+//!
+//! **A seed of `WyRand` or `Pcg64` is the state itself, and is not mixed.** Generators with neighbouring seeds
+//! draw correlated numbers: `new_seed` says what to do.
 //!
 //! ```
 //! use nanorand::{Rng, WyRand};

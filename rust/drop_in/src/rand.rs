@@ -45,7 +45,8 @@ pub trait Rng<const OUTPUT: usize>: Clone {
         fill_by_blocks(&mut Lent(self), buffer.as_mut());
     }
 
-    /// Fills the items with values, drawn one after another.
+    /// Fills the items with values, drawn one after another. For bytes call `fill_bytes`: this draws a block for
+    /// each byte.
     #[inline]
     fn fill<T, Items>(&mut self, mut target: Items)
     where
@@ -61,8 +62,8 @@ pub trait Rng<const OUTPUT: usize>: Clone {
     ///
     /// # Panics
     ///
-    /// Panics if the range contains no number, and if 128 words in a row were rejected, which fewer than one list of
-    /// 128 words in 10^38 has.
+    /// Panics if the range contains no number, and if 128 words in a row were rejected, which happens with
+    /// probability below 10^-38. These words stay consumed.
     #[inline]
     #[track_caller]
     fn generate_range<T, Bounds>(&mut self, range: Bounds) -> T
@@ -80,7 +81,8 @@ pub trait Rng<const OUTPUT: usize>: Clone {
     ///
     /// # Panics
     ///
-    /// Panics if 128 words in a row were rejected for one index.
+    /// Panics if 128 words in a row were rejected for one index. The swaps before that stay, and the words stay
+    /// consumed.
     #[inline]
     #[track_caller]
     fn shuffle<T, Items: AsMut<[T]>>(&mut self, mut target: Items) {

@@ -50,7 +50,7 @@ pub trait Rng<const OUTPUT: usize>: Sized {
     /// # Errors
     ///
     /// For the types of the library `Empty` if the range has no number; nothing is drawn then.
-    /// `Exhausted` if 128 words in a row were rejected; they stay drawn.
+    /// `Exhausted` if 128 words in a row were rejected; they stay consumed.
     #[inline]
     fn generate_range<T: RandomRange<Self, OUTPUT> + Clone>(
         &mut self,
@@ -63,7 +63,8 @@ pub trait Rng<const OUTPUT: usize>: Sized {
     ///
     /// # Panics
     ///
-    /// Panics with the text of the error where `generate_range` returns one.
+    /// Panics with the text of the error where `generate_range` returns one. If 128 words in a
+    /// row were rejected, they stay consumed.
     #[inline]
     #[track_caller]
     fn range<T: RandomRange<Self, OUTPUT> + Clone>(&mut self, range: impl RangeBounds<T>) -> T {
@@ -77,7 +78,8 @@ pub trait Rng<const OUTPUT: usize>: Sized {
     ///
     /// # Panics
     ///
-    /// Panics with the text of the error where `shuffle` returns one: after 128 rejected words in a row.
+    /// Panics with the text of the error where `shuffle` returns one: after 128 rejected words in a
+    /// row. The swaps before that stay, and the words stay consumed.
     #[inline]
     #[track_caller]
     fn permute<T>(&mut self, items: &mut [T]) {
@@ -91,8 +93,8 @@ pub trait Rng<const OUTPUT: usize>: Sized {
     ///
     /// # Errors
     ///
-    /// It returns `Exhausted` if 128 words in a row were rejected for one index. The swaps before that
-    /// stay, and so do all draws.
+    /// It returns `Exhausted` if 128 words in a row were rejected for one index. The swaps before
+    /// that stay, and the words stay consumed. A `count` of 0 or an empty slice draws nothing.
     #[inline]
     fn partial_shuffle<T>(&mut self, items: &mut [T], count: usize) -> Result<(), RangeError> {
         shuffles::partial_shuffle(self, items, count)
@@ -102,8 +104,8 @@ pub trait Rng<const OUTPUT: usize>: Sized {
     ///
     /// # Errors
     ///
-    /// It returns `Empty` for an empty slice, and draws nothing then. It returns `Exhausted` if 128 words
-    /// in a row were rejected; they stay drawn.
+    /// It returns `Empty` for an empty slice, and draws nothing then. It returns `Exhausted` if 128
+    /// words in a row were rejected; they stay consumed.
     #[inline]
     fn choose<'a, T>(&mut self, items: &'a [T]) -> Result<&'a T, RangeError> {
         choices::choose(self, items)
@@ -113,19 +115,21 @@ pub trait Rng<const OUTPUT: usize>: Sized {
     ///
     /// # Errors
     ///
-    /// It returns `Empty` and `Exhausted` as `choose` does.
+    /// It returns `Empty` for an empty slice, and draws nothing then. It returns `Exhausted` if 128
+    /// words in a row were rejected; they stay consumed.
     #[inline]
     fn choose_mut<'a, T>(&mut self, items: &'a mut [T]) -> Result<&'a mut T, RangeError> {
         choices::choose_mut(self, items)
     }
 
     /// Chooses an item by its weight, and returns its index: `weights[i]` is the weight of item i.
+    /// The time is O(n) a draw for n weights: each call adds them all up.
     ///
     /// # Errors
     ///
-    /// It returns `NoWeight` if there are no weights or all of them are 0, `TooHeavy` if they add up to
-    /// 2^64 or more, and `Exhausted` if 128 words in a row were rejected. After any other error nothing
-    /// was drawn.
+    /// It returns `NoWeight` if there are no weights or all of them are 0, `TooHeavy` if they add up
+    /// to 2^64 or more, and `Exhausted` if 128 words in a row were rejected. After `Exhausted` the
+    /// 128 words stay consumed; after any other error nothing was drawn.
     #[inline]
     fn choose_weighted(&mut self, weights: &[u64]) -> Result<usize, WeightError> {
         choices::choose_weighted(self, weights)
@@ -135,20 +139,22 @@ pub trait Rng<const OUTPUT: usize>: Sized {
     ///
     /// # Errors
     ///
-    /// It returns `Empty` if `denominator` is 0, and draws nothing then. It returns `Exhausted` if 128
-    /// words in a row were rejected; they stay drawn.
+    /// It returns `Empty` if `denominator` is 0, and draws nothing then. It returns `Exhausted` if
+    /// 128 words in a row were rejected; they stay consumed.
     #[inline]
     fn ratio(&mut self, numerator: u64, denominator: u64) -> Result<bool, RangeError> {
         choices::ratio(self, numerator, denominator)
     }
 
-    /// Samples different numbers below `count`, one into each slot, as [`sample`](samples::sample) does.
-    /// The order of the slots is not random.
+    /// Samples different numbers below `count`, one into each slot, as [`sample`](samples::sample)
+    /// does. The order of the slots is not random. The time is O(k^2) for k slots, since each number
+    /// drawn is compared with the slots before it. Without slots nothing is drawn.
     ///
     /// # Errors
     ///
-    /// It returns `Exhausted` if 128 words in a row were rejected for one slot. The slots before it then
-    /// hold the numbers drawn so far, all other slots are as before, and all draws stay.
+    /// It returns `Exhausted` if 128 words in a row were rejected for one slot. The slots before it
+    /// then hold the numbers drawn so far, all other slots are as before, and the words stay
+    /// consumed.
     ///
     /// # Panics
     ///

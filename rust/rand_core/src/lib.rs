@@ -10,7 +10,12 @@
 //! assert_eq!(rng, Core::from_seed(rng.0.seed().to_le_bytes()));
 //! ```
 //!
-//! A generator of your own serves too. None is a `CryptoRng`.
+//! A generator of your own serves too. None is a `CryptoRng`: for keys, tokens and passwords, or
+//! where an adversary matters, take a vetted cryptographic generator.
+//!
+//! `from_seed` of `WyRand` and `Pcg64` takes the bytes as the state, and does not mix them:
+//! generators with neighbouring seeds draw correlated numbers. `seed_from_u64` mixes its number, as
+//! `rand_core` defines it.
 #![no_std]
 #![forbid(unsafe_code)]
 #![deny(missing_docs)]

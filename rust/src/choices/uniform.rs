@@ -14,9 +14,9 @@ use core::ops::Bound;
 ///
 /// # Errors
 ///
-/// It returns `Empty` if the type has no number below `n`, and `Exhausted` if 128 words in a row
-/// were rejected. If 2^k numbers are below `n` (of an unsigned type: `n` is a power of two), no
-/// word is rejected.
+/// It returns `Empty` if the type has no number below `n`, and draws nothing then. It returns
+/// `Exhausted` if 128 words in a row were rejected; they stay consumed. If 2^k numbers are below
+/// `n` (of an unsigned type: `n` is a power of two), no word is rejected.
 ///
 /// # Examples
 ///
@@ -40,7 +40,7 @@ pub fn below<T: Number, G: Rng<OUTPUT>, const OUTPUT: usize>(
 /// # Errors
 ///
 /// It returns `Empty` for an empty slice, and draws nothing then. It returns `Exhausted` if 128
-/// words in a row were rejected; they stay drawn.
+/// words in a row were rejected; they stay consumed.
 ///
 /// # Examples
 ///
@@ -70,7 +70,8 @@ pub fn choose<'a, T, G: Rng<OUTPUT>, const OUTPUT: usize>(
 ///
 /// # Errors
 ///
-/// It returns `Empty` and `Exhausted` as `choose` does.
+/// It returns `Empty` for an empty slice, and draws nothing then. It returns `Exhausted` if 128
+/// words in a row were rejected; they stay consumed.
 ///
 /// # Examples
 ///
@@ -99,7 +100,7 @@ pub fn choose_mut<'a, T, G: Rng<OUTPUT>, const OUTPUT: usize>(
 /// # Errors
 ///
 /// It returns `Empty` if `denominator` is 0, and draws nothing then. It returns `Exhausted` if 128
-/// words in a row were rejected; they stay drawn.
+/// words in a row were rejected; they stay consumed.
 ///
 /// # Examples
 ///

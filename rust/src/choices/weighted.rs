@@ -13,7 +13,7 @@ pub enum WeightError {
     NoWeight,
     /// The weights add up to 2^64 or more. Nothing was drawn.
     TooHeavy,
-    /// 128 words in a row were rejected. They stay drawn.
+    /// 128 words in a row were rejected. They stay consumed.
     Exhausted,
 }
 
@@ -35,11 +35,14 @@ impl std::error::Error for WeightError {}
 /// It draws a number below the sum of the weights, from words of 64 bits, at most 128 of them.
 /// Item i has `weights[i]` of these numbers, so an item of weight 0 is never chosen.
 ///
+/// The time is O(n) a draw for n weights: each call adds them all up, and looks for the item from
+/// the first one on.
+///
 /// # Errors
 ///
 /// It returns `NoWeight` if there are no weights or all of them are 0, `TooHeavy` if they add up
 /// to 2^64 or more, and `Exhausted` if 128 words in a row were rejected. After `Exhausted` exactly
-/// 128 words were drawn; after any other error, none.
+/// 128 words were drawn, and they stay consumed; after any other error, none was drawn.
 ///
 /// # Examples
 ///

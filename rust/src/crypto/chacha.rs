@@ -7,6 +7,9 @@
 //! A word of ChaCha has 32 bits. The state is a matrix of 4 by 4 words, row by row: four words of
 //! constants, eight of key, two of counter, two of nonce. Words are read and written least byte
 //! first.
+//!
+//! These functions erase no key from memory, and they were not audited. For encryption, or where an
+//! adversary matters, take a vetted implementation.
 
 mod block;
 mod eight_blocks;

@@ -9,7 +9,8 @@ use crate::{entropy::EntropyError, system};
 use std::io;
 
 impl WyRand {
-    /// A generator whose seed is these bytes, least byte first.
+    /// A generator whose seed is these bytes, least byte first. They are not mixed: see
+    /// [`new_seed`](Self::new_seed).
     #[inline]
     #[must_use]
     pub const fn from_seed(seed: [u8; 8]) -> Self {
@@ -31,7 +32,8 @@ impl WyRand {
 }
 
 impl Pcg64 {
-    /// A generator whose seed is these bytes, least byte first. `state` and `inc` are 0.
+    /// A generator whose seed is these bytes, least byte first. They are not mixed: see
+    /// [`new_seed`](Self::new_seed). `state` and `inc` are 0.
     #[inline]
     #[must_use]
     pub const fn from_seed(seed: [u8; 16]) -> Self {

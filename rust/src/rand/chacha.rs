@@ -15,13 +15,13 @@ use core::fmt;
 #[cfg(feature = "std")]
 use std::io::Read;
 
-/// ChaCha with 8 rounds, fewer than the standard's 20.
+/// ChaCha with 8 rounds, fewer than the standard's 20. Each number costs a block: see `ChaCha`.
 pub type ChaCha8 = ChaCha<8>;
 
-/// ChaCha with 12 rounds, fewer than the standard's 20.
+/// ChaCha with 12 rounds, fewer than the standard's 20. Each number costs a block: see `ChaCha`.
 pub type ChaCha12 = ChaCha<12>;
 
-/// ChaCha with the standard's 20 rounds.
+/// ChaCha with the standard's 20 rounds. Each number costs a block: see `ChaCha`.
 pub type ChaCha20 = ChaCha<20>;
 
 /// The keystream of the stream cipher ChaCha, with a 64-bit counter and a 64-bit nonce, after
@@ -31,12 +31,15 @@ pub type ChaCha20 = ChaCha<20>;
 /// 1 to the counter. After the block of the greatest counter, 2^64 - 1, the counter is 0 again,
 /// under the same key and nonce. It is a plain generator: each request starts a new block.
 ///
+/// So every number, a single byte too, costs a whole block. For many numbers take the stream, such
+/// as `ChaCha20Stream`: it drops no bytes, and computes eight blocks at once.
+///
 /// It is for long reproducible streams whose blocks can be reached by index. The cipher is fast
 /// and long-studied, and its stream is believed unpredictable while the key is secret. It is not a
 /// vetted cryptographic generator: nothing here reseeds on its own or erases keys from memory, and
-/// nothing was audited. Where an adversary matters, take one that is vetted. For encryption, never
-/// use a pair of key and nonce twice. `ChaCha8` and `ChaCha12` have fewer rounds than the
-/// standard's 20.
+/// nothing was audited. For keys, tokens and passwords, or where an adversary matters, take one
+/// that is vetted. For encryption, never use a pair of key and nonce twice. `ChaCha8` and
+/// `ChaCha12` have fewer rounds than the standard's 20.
 ///
 /// An odd `ROUNDS` does not compile.
 pub struct ChaCha<const ROUNDS: u8> {

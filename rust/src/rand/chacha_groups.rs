@@ -12,7 +12,9 @@ use core::fmt;
 /// A draw returns 512 bytes, and adds 8 to the counter. It is a plain generator: each request
 /// starts a new group and drops the rest of its last one. With a buffer, as `ChaCha20Stream`, it
 /// drops nothing: from a state with nothing buffered, it delivers what a buffered `ChaCha`
-/// delivers.
+/// delivers. Without one, every number costs eight blocks.
+///
+/// Like `ChaCha`, it is not a vetted cryptographic generator.
 ///
 /// An odd `ROUNDS` does not compile.
 pub struct ChaChaGroups<const ROUNDS: u8> {

@@ -9,15 +9,22 @@ use crate::rand::chacha_groups::ChaChaGroups;
 use crate::rand::Rng;
 
 /// The keystream of a ChaCha, as one unbroken stream of bytes that computes eight blocks at once.
+///
+/// Like `ChaCha`, it is not a vetted cryptographic generator: nothing here erases keys from memory
+/// or reseeds on its own, and nothing was audited. For keys, tokens and passwords, or where an
+/// adversary matters, take one that is vetted.
 pub type ChaChaStream<const ROUNDS: u8> = BufferedRng<ChaChaGroups<ROUNDS>, 512>;
 
-/// The stream of ChaCha with 8 rounds, fewer than the standard's 20.
+/// The stream of ChaCha with 8 rounds, fewer than the standard's 20. Not a vetted cryptographic
+/// generator: see `ChaChaStream`.
 pub type ChaCha8Stream = ChaChaStream<8>;
 
-/// The stream of ChaCha with 12 rounds, fewer than the standard's 20.
+/// The stream of ChaCha with 12 rounds, fewer than the standard's 20. Not a vetted cryptographic
+/// generator: see `ChaChaStream`.
 pub type ChaCha12Stream = ChaChaStream<12>;
 
-/// The stream of ChaCha with the standard's 20 rounds.
+/// The stream of ChaCha with the standard's 20 rounds. Not a vetted cryptographic generator: see
+/// `ChaChaStream`.
 pub type ChaCha20Stream = ChaChaStream<20>;
 
 /// The keystream of a key and a nonce: 2^70 bytes, in blocks of 64 bytes. The bytes are numbered

@@ -21,7 +21,8 @@ const MASK: u64 = 0xe703_7ed1_a0b4_28db;
 
 /// The generator wyrand of Wang Yi's wyhash (2019).
 ///
-/// Not cryptographically secure: its state can be recovered from its outputs.
+/// Not cryptographically secure: its state can be recovered from its outputs. Never draw a key, a
+/// token or a password from it.
 ///
 /// A draw adds a constant to the seed, modulo 2^64, and multiplies the new seed s by (s xor
 /// another constant). The word is the high half of this 128-bit product xor its low half. The
@@ -34,6 +35,10 @@ pub struct WyRand {
 
 impl WyRand {
     /// A generator with this seed.
+    ///
+    /// The seed is the state itself, and is not mixed. Generators with neighbouring seeds, such as 0,
+    /// 1, 2, .., draw correlated numbers. For many generators take parts of one stream (`part`), or
+    /// mixed seeds: numbers that another generator drew, or the first 8 bytes of a SHA-256 of a name.
     #[inline]
     #[must_use]
     pub const fn new_seed(seed: u64) -> Self {

@@ -19,7 +19,7 @@ use core::ops::Bound;
 pub enum RangeError {
     /// The range has no number. Nothing was drawn.
     Empty,
-    /// 128 words were drawn, and none named a number of the range. They stay drawn.
+    /// 128 words were drawn, and none named a number of the range. They stay consumed.
     Exhausted,
 }
 
@@ -62,10 +62,10 @@ pub trait RandomRange<G: Rng<OUTPUT>, const OUTPUT: usize>: RandomGen<G, OUTPUT>
     ///
     /// # Errors
     ///
-    /// It returns an error as the type defines. The library's types return `Exhausted` after 128 words
-    /// without a value, and `Empty` if the range has none; nothing is drawn then. A range of floats is
-    /// empty if a bound is infinite or NaN, if the low one is above the high one, or if both are equal
-    /// and one is excluded.
+    /// It returns an error as the type defines. The library's types return `Exhausted` after 128
+    /// words without a value; they stay consumed. They return `Empty` if the range has no value;
+    /// nothing is drawn then. A range of floats is empty if a bound is infinite or NaN, if the low
+    /// one is above the high one, or if both are equal and one is excluded.
     fn random_range(rng: &mut G, low: Bound<Self>, high: Bound<Self>) -> Result<Self, RangeError>;
 }
 
@@ -78,7 +78,7 @@ pub trait RandomRange<G: Rng<OUTPUT>, const OUTPUT: usize>: RandomGen<G, OUTPUT>
 /// # Errors
 ///
 /// It returns `Empty` if no number is admitted, and draws nothing then. It returns `Exhausted` if
-/// 128 words in a row were rejected; they stay drawn.
+/// 128 words in a row were rejected; they stay consumed.
 #[inline(always)]
 pub fn draw_number<T: Number, G: Rng<OUTPUT>, const OUTPUT: usize>(
     rng: &mut G,

@@ -117,7 +117,7 @@ fn remainder(others: u64, size: u64) -> u64 {
 /// Draws a number below `size`; each is named by equally many words of `bits` bits.
 ///
 /// Each word is one request, and the first word that names a number, as `pick_word` says, decides.
-/// It returns `None` if 128 words in a row were rejected; they stay drawn. A size that divides
+/// It returns `None` if 128 words in a row were rejected; they stay consumed. A size that divides
 /// 2^bits, such as a power of two, rejects no word.
 ///
 /// # Panics

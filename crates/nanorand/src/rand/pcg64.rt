@@ -35,7 +35,8 @@ const TERM: u128 = u128::wrapping_add(u128::wrapping_add(SQUARE, MULTIPLIER), 1)
 /// of Simple Fast Space-Efficient Statistically Good Algorithms for Random Number Generation"
 /// (2014).
 ///
-/// Not cryptographically secure: its state can be recovered from its outputs.
+/// Not cryptographically secure: its state can be recovered from its outputs. Never draw a key, a
+/// token or a password from it.
 ///
 /// A draw multiplies the seed by a constant and adds another, modulo 2^128. The word is the high
 /// half of the new seed xor its low half. The block is the word's eight bytes, least byte first. It
@@ -62,6 +63,12 @@ impl Model for Pcg64 {
 
 impl Pcg64 {
     /// A generator with this seed, before its first draw: `state` and `inc` are 0.
+    ///
+    /// The seed is the state itself, and is not mixed. Generators with neighbouring seeds, such as
+    /// 0, 1, 2, .., draw correlated numbers. Seeds that differ by a multiple of 2^k, for k above
+    /// 64, give streams whose words all agree in their low k - 64 bits. For many generators take
+    /// parts of one stream (`part`), or mixed seeds: numbers that another generator drew, or the
+    /// first 16 bytes of a SHA-256 of a name.
     #[inline]
     pub fn new_seed(seed: u128) -> Self
         ensures { result ≡ initial_generator seed }

@@ -17,8 +17,8 @@ use std::ops::Bound;
 /// from the type's least number on.
 ///
 /// Precondition: the type has a number below `n`. The only error is `Exhausted`, after 128 rejected
-/// words. If 2^k numbers are below `n` (of an unsigned type: `n` is a power of two), there is none:
-/// no word is rejected then.
+/// words; they stay consumed. If 2^k numbers are below `n` (of an unsigned type: `n` is a power of
+/// two), there is none: no word is rejected then.
 #[inline]
 pub fn below<T: Number, G: Rng<OUTPUT>, const OUTPUT: usize>(
     rng: &mut G,
@@ -43,7 +43,7 @@ pub fn below<T: Number, G: Rng<OUTPUT>, const OUTPUT: usize>(
 /// Chooses an item of the slice; each is chosen by equally many words.
 ///
 /// It returns `Empty` for an empty slice, and draws nothing then. It returns `Exhausted` if 128
-/// words in a row were rejected; they stay drawn.
+/// words in a row were rejected; they stay consumed.
 #[inline]
 pub fn choose<'a, T, G: Rng<OUTPUT>, const OUTPUT: usize>(
     rng: &mut G,
@@ -63,7 +63,8 @@ pub fn choose<'a, T, G: Rng<OUTPUT>, const OUTPUT: usize>(
 
 /// Chooses an item of the slice as `choose` does, and lends it for writing.
 ///
-/// It returns `Empty` and `Exhausted` as `choose` does.
+/// It returns `Empty` for an empty slice, and draws nothing then. It returns `Exhausted` if 128
+/// words in a row were rejected; they stay consumed.
 ///
 /// No contract can say yet what a slice is after an item was lent inside a `Result`. If a caller's
 /// proof needs that, draw the index: `let i = below(rng, items.len())?`, and write to `items[i]`.
@@ -89,7 +90,7 @@ pub fn choose_mut<'a, T, G: Rng<OUTPUT>, const OUTPUT: usize>(
 ///
 /// If `numerator` is `denominator` or more, it never returns false. It returns `Empty` if
 /// `denominator` is 0, and draws nothing then. It returns `Exhausted` if 128 words in a row were
-/// rejected; they stay drawn.
+/// rejected; they stay consumed.
 #[inline]
 pub fn ratio<G: Rng<OUTPUT>, const OUTPUT: usize>(
     rng: &mut G,

@@ -19,7 +19,7 @@ pub enum WeightError {
     #[error("the weights add up to 2^64 or more")]
     TooHeavy,
 
-    /// 128 words in a row were rejected. They stay drawn.
+    /// 128 words in a row were rejected. They stay consumed.
     #[error("128 words in a row were rejected")]
     Exhausted,
 }
@@ -29,9 +29,12 @@ pub enum WeightError {
 /// It draws a number below the sum of the weights, from words of 64 bits, at most 128 of them. Item
 /// i has `weights[i]` of these numbers, so an item of weight 0 is never chosen.
 ///
+/// The time is O(n) a draw for n weights: each call adds them all up, and looks for the item from
+/// the first one on.
+///
 /// It returns `NoWeight` if there are no weights or all of them are 0, `TooHeavy` if they add up to
 /// 2^64 or more, and `Exhausted` if 128 words in a row were rejected. After `Exhausted` exactly 128
-/// words were drawn; after any other error, none.
+/// words were drawn, and they stay consumed; after any other error, none was drawn.
 ///
 /// The law `weighted_choices_are_fair` counts the words that choose an item.
 pub fn choose_weighted<G: Rng<OUTPUT>, const OUTPUT: usize>(

@@ -24,7 +24,7 @@ pub enum RangeError {
     /// The range has no number. Nothing was drawn.
     #[error("the range contains no number")]
     Empty,
-    /// 128 words were drawn, and none named a number of the range. They stay drawn.
+    /// 128 words were drawn, and none named a number of the range. They stay consumed.
     #[error("128 words in a row were rejected")]
     Exhausted,
 }
@@ -47,8 +47,9 @@ pub trait RandomRange<G: Rng<OUTPUT>, const OUTPUT: usize>: RandomGen<G, OUTPUT>
 
     /// Draws a value between the bounds.
     ///
-    /// It returns an error as the type defines. The integer types return `Empty` if the range has no
-    /// number, and `Exhausted` if 128 words in a row were rejected.
+    /// It returns an error as the type defines. The integer types return `Empty` if the range has
+    /// no number, and draw nothing then. They return `Exhausted` if 128 words in a row were
+    /// rejected; they stay consumed.
     fn random_range(rng: &mut G, low: Bound<Self>, high: Bound<Self>) -> Result<Self, RangeError>
         ensures value { result ≡ (outcome rng.old low high).0 }
         ensures state { rng.new ≡ (outcome rng.old low high).1 }
@@ -60,7 +61,7 @@ pub trait RandomRange<G: Rng<OUTPUT>, const OUTPUT: usize>: RandomGen<G, OUTPUT>
 ///
 /// It draws at most 128 words of the type's width, each by one request, and the first word that
 /// names a number decides. It returns `Empty` if no number is admitted, and draws nothing then. It
-/// returns `Exhausted` if 128 words in a row were rejected; they stay drawn.
+/// returns `Exhausted` if 128 words in a row were rejected; they stay consumed.
 pub fn draw_number<T: Number, G: Rng<OUTPUT>, const OUTPUT: usize>(
     rng: &mut G,
     low: Bound<T>,

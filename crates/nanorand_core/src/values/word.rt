@@ -148,7 +148,7 @@ fn remainder(others: u64, size: u64) -> u64
 ///
 /// Preconditions: `bits` is 8, 16, 32 or 64, and `size` is from 1 to 2^bits. Each word is one
 /// request, and the first word that names a number, as `pick_word` says, decides. It returns `None`
-/// if 128 words in a row were rejected; they stay drawn. A size that divides 2^bits, such as a
+/// if 128 words in a row were rejected; they stay consumed. A size that divides 2^bits, such as a
 /// power of two, rejects no word.
 #[inline]
 pub fn draw_below<G: Rng<OUTPUT>, const OUTPUT: usize>(

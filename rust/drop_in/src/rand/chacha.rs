@@ -21,7 +21,11 @@ pub type ChaCha20 = ChaCha<20>;
 // The bytes that nanorand_proved computes side by side.
 const GROUP: usize = 256;
 
-/// The keystream of the stream cipher ChaCha, as [`nanorand_proved::ChaCha`] says. It was not audited.
+/// The keystream of the stream cipher ChaCha, as [`nanorand_proved::ChaCha`] says. It was not audited, and it is
+/// not a vetted cryptographic generator: for keys, tokens and passwords, or where an adversary matters, take a
+/// vetted one.
+///
+/// Each request begins a new block, so every number, a single byte too, costs a block of 64 bytes.
 ///
 /// With an odd number of rounds the first draw panics.
 #[derive(Clone)]

@@ -25,6 +25,10 @@ impl WyRand {
     }
 
     /// A generator with this seed.
+    ///
+    /// The seed is the state itself, and is not mixed. Generators with neighbouring seeds, such as 0, 1, 2, ..,
+    /// draw correlated numbers. For many generators take mixed seeds: numbers that another generator drew, or the
+    /// first 8 bytes of a SHA-256 of a name.
     #[inline]
     #[must_use]
     pub const fn new_seed(seed: u64) -> Self {

@@ -22,9 +22,9 @@ pub trait RandomRange<G: Rng<OUTPUT>, const OUTPUT: usize>: RandomGen<G, OUTPUT>
     ///
     /// # Errors
     ///
-    /// It returns an error as the type defines. The library's types return `Exhausted` after 128 words
-    /// without a value, and `Empty` if the range has none; nothing is drawn then. A range of floats is
-    /// empty if a bound is infinite or NaN, if the low one is above the high one, or if both are equal
-    /// and one is excluded.
+    /// It returns an error as the type defines. The library's types return `Exhausted` after 128
+    /// words without a value; they stay consumed. They return `Empty` if the range has no value;
+    /// nothing is drawn then. A range of floats is empty if a bound is infinite or NaN, if the low
+    /// one is above the high one, or if both are equal and one is excluded.
     fn random_range(rng: &mut G, low: Bound<Self>, high: Bound<Self>) -> Result<Self, RangeError>;
 }
