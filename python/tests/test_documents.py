@@ -1,4 +1,4 @@
-"""The README's and the docstrings' examples; every public thing has both a docstring and an example."""
+"""The READMEs' and the docstrings' examples; every public thing has both a docstring and an example."""
 
 import doctest
 import inspect
@@ -43,6 +43,9 @@ class Documents(unittest.TestCase):
         result = doctest.testfile(str(README), module_relative=False)
         self.assertEqual(result.failed, 0)
         self.assertGreater(result.attempted, 12)
+        result = doctest.testfile(str(README.parents[1] / "README.md"), module_relative=False)
+        self.assertEqual(result.failed, 0)
+        self.assertGreater(result.attempted, 4)
 
     def test_examples_of_the_docstrings(self):
         attempted = 0
