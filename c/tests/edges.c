@@ -64,6 +64,22 @@ static int all_are(const size_t *items, size_t length, size_t wanted)
     return 1;
 }
 
+/* Whether the places are different numbers below the count. */
+static int are_below(const size_t *places, size_t length, size_t count)
+{
+    for (size_t place = 0; place < length; place++) {
+        for (size_t other = 0; other < place; other++) {
+            if (places[place] == places[other]) {
+                return 0;
+            }
+        }
+        if (places[place] >= count) {
+            return 0;
+        }
+    }
+    return 1;
+}
+
 /* The tests of one generator. S is the type of its state, */
 #define TESTS(G, S)                                                                                \
     static void null_pointers_##G(S start)                                                         \
@@ -197,6 +213,22 @@ static int all_are(const size_t *items, size_t length, size_t wanted)
         check(#G, "each once", is_permutation(items, 1000));                                       \
     }                                                                                              \
                                                                                                    \
+    /* Of at least 2^3 numbers, and of many more. */                                               \
+    static void samples_##G(S start)                                                               \
+    {                                                                                              \
+        size_t places[3];                                                                          \
+        int holds = 1;                                                                             \
+        for (int power = 3; power < 64; power++) {                                                 \
+            const size_t count = (size_t)1 << power;                                               \
+            S state = start;                                                                       \
+            holds = holds && nanorand_##G##_sample(&state, count, places, 3) == NANORAND_OK        \
+                && are_below(places, 3, count)                                                     \
+                && nanorand_##G##_sample(&state, count | 1, places, 3) == NANORAND_OK              \
+                && are_below(places, 3, count | 1);                                                \
+        }                                                                                          \
+        check(#G, "three of any number", holds);                                                   \
+    }                                                                                              \
+                                                                                                   \
     static void all_##G(S start)                                                                   \
     {                                                                                              \
         null_pointers_##G(start);                                                                  \
@@ -205,6 +237,7 @@ static int all_are(const size_t *items, size_t length, size_t wanted)
         addresses_##G(start);                                                                      \
         lengths_##G(start);                                                                        \
         shuffles_##G(start);                                                                       \
+        samples_##G(start);                                                                        \
     }
 
 TESTS(wyrand, nanorand_wyrand)
@@ -259,6 +292,27 @@ static void parts_of_keystream(nanorand_keystream start)
     }
 }
 
+/* More buffered bytes than there can be count as the most of them. */
+static void too_many_buffered(nanorand_stream stream, nanorand_keystream keystream)
+{
+    int holds = 1;
+    for (int power = 10; power < 64; power++) {
+        for (uint64_t rest = 0; rest < 6; rest += 5) {
+            nanorand_stream whole = stream;
+            nanorand_keystream group = keystream;
+            stream.buffered = ((uint64_t)1 << power) + rest;
+            keystream.buffered = stream.buffered;
+            whole.buffered = 63;
+            group.buffered = 511;
+            holds = holds && nanorand_stream_u64(&stream) == nanorand_stream_u64(&whole)
+                && nanorand_keystream_u64(&keystream) == nanorand_keystream_u64(&group);
+            stream = whole;
+            keystream = group;
+        }
+    }
+    check("streams", "too many bytes buffered", holds);
+}
+
 static const uint8_t *text_of(const char *text)
 {
     return (const uint8_t *)text;
@@ -293,6 +347,9 @@ static void draws(void)
 {
     const uint8_t *seed = text_of("s");
     const uint8_t *no_text = text_of("\xff");
+    /* Each begins with its length: zeros, spaces, a byte order mark, ends of lines, a mark without a letter. */
+    const char *const seeds[] = {"1\0", "3\0\0\0", "1 ", "2  ", "3\xef\xbb\xbf", "1\n", "2\r\n", "1\t",
+                                 "2\xcc\x81", NULL};
     size_t places[3] = {7, 7, 7};
     check("lots", "no seed", nanorand_lots_draw(NULL, 0, places, 3, 1) == NANORAND_LOTS_BAD_SEED);
     check("lots", "no text", nanorand_lots_draw(no_text, 1, places, 3, 1) == NANORAND_LOTS_BAD_SEED);
@@ -304,6 +361,11 @@ static void draws(void)
         const size_t many = (size_t)1 << power;
         check("lots", "many more", nanorand_lots_draw(seed, 1, places, 3, many) == NANORAND_LOTS_TOO_FEW
                   && nanorand_lots_draw(seed, 1, places, 3, many | 1) == NANORAND_LOTS_TOO_FEW);
+    }
+    for (const char *const *odd = seeds; *odd != NULL; odd++) {
+        const uint8_t *text = text_of(*odd + 1);
+        const size_t length = (size_t)(**odd - '0');
+        check("lots", "an odd seed", nanorand_lots_draw(text, length, places, 3, 2) == NANORAND_OK);
     }
     check("lots", "none of none", nanorand_lots_draw(seed, 1, NULL, 0, 0) == NANORAND_OK);
     check("lots", "one of none", nanorand_lots_draw(seed, 1, NULL, 0, 1) == NANORAND_LOTS_TOO_FEW);
@@ -358,6 +420,7 @@ int main(void)
     parts_chacha20(stream.chacha);
     parts_of_keystream(keystream);
     one_keystream(stream, keystream);
+    too_many_buffered(stream, keystream);
     digests();
     lists();
     draws();

@@ -13,6 +13,7 @@ from makers import CHACHAS, CLASSES, KEY, NONCE, generators, refuses, views_of
 
 from nanorand import (
     ChaCha8,
+    ChaCha12,
     ChaCha20,
     EmptyRange,
     Exhausted,
@@ -232,7 +233,10 @@ class States(unittest.TestCase):
     def test_texts(self):
         self.assertEqual(repr(WyRand(42)), "WyRand(0x2a)")
         self.assertEqual(repr(Pcg64(2**64)), "Pcg64(0x10000000000000000)")
-        self.assertEqual(repr(ChaCha8(KEY, counter=7)), "<ChaCha8 counter=7>")
+        for counter in (0, 7, 2**31, 2**32, 2**63 - 1, 2**63, 2**64 - 1):
+            for kind in (ChaCha8, ChaCha12, ChaCha20):
+                self.assertEqual(repr(kind(KEY, counter=counter)), f"<{kind.__name__} counter={counter}>")
+            self.assertEqual(repr(Stream(KEY, counter=counter)), f"<Stream counter={counter} buffered=0>")
         self.assertEqual(repr(Stream(KEY, counter=7, rest=b"abc")), "<Stream counter=7 buffered=3>")
         self.assertEqual(eval(repr(Pcg64(99))), Pcg64(99))
 

@@ -63,6 +63,15 @@ class Lots(unittest.TestCase):
             self.assertEqual(lots.draw("seed", text), lots.draw("seed", lines))
             self.assertEqual(lots.draw("seed", bytearray(text)), lots.draw("seed", memoryview(text)))
 
+    def test_many_lines(self):
+        """More lines than 2^20, and than 2^21: each is an entrant."""
+        for count in (2**20 + 1, 2**21 + 1):
+            lines = [b"%d" % place for place in range(count)]
+            drawn = lots.draw("seed", b"\n".join(lines))
+            self.assertEqual(len(drawn), count)
+            self.assertEqual(set(drawn), set(lines))
+            self.assertEqual(drawn[:9], lots.draw("seed", lines, 9))
+
     def test_entrants_of_every_kind(self):
         for entrants in (NAMES, tuple(NAMES), range(12), [None] * 12, [[place] for place in range(12)]):
             drawn = lots.draw(SEED, entrants, 3)
@@ -70,7 +79,8 @@ class Lots(unittest.TestCase):
         self.assertEqual(NAMES[0], "Ada")
 
     def test_seeds_of_every_kind(self):
-        odd = ["\0", " ", "\U0010ffff", "\ufeffseed", " seed ", "seed\n", "seed\r\n", "\n", "e\u0301", "SEED", "ﬁ"]
+        odd = ["\0", "\0\0", " ", "\t", "\ufeff", "\ufeff\ufeff", "\u200b", "\U0010ffff", "\ufeffseed", " seed ",
+               "seed\n", "seed\r\n", "\n", "\r", "e\u0301", "SEED", "ﬁ", "x" * 100_000]
         for seed in ("seed", "Zürich, 1. März", *odd):
             text = seed.encode()
             wanted = lots.draw(seed, NAMES)

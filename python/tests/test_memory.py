@@ -9,6 +9,11 @@ import tracemalloc
 import unittest
 import weakref
 
+try:
+    import _testcapi
+except ImportError:
+    _testcapi = None
+
 from makers import CLASSES, KEY, NONCE, RANDOMS, generators
 
 from nanorand import Generator, Stream, WyRand, lots
@@ -56,6 +61,7 @@ WORDS, DOUBLES, READ_ONLY = array.array("Q", [0] * 9), array.array("d", [0] * 9)
 FAILS, REFUSES, REALS, WHOLES, OTHER = Fails(), Refuses(ITEMS), [1.5] * 9, [2] * 9, object()
 LATE = FailsLate(ITEMS)
 SHARED = [LIST, TUPLE, TEXT, BUFFER, WORDS, DOUBLES, READ_ONLY, FAILS, LATE, REFUSES, REALS, WHOLES, OTHER, BIG]
+SHARED += [KEY, NONCE]
 
 SUCCEED = {
     "u64": lambda rng: rng.u64(),
@@ -174,6 +180,12 @@ OF_LOTS = {
 }
 
 
+def octets_of(*things):
+    """The bytes that stand in the code of the functions among these."""
+    constants = [one for thing in things if hasattr(thing, "__code__") for one in thing.__code__.co_consts]
+    return [one for one in constants if isinstance(one, bytes)]
+
+
 def refused(call, *arguments):
     with contextlib.suppress(TypeError, ValueError, KeyError, RuntimeError, MemoryError, AttributeError, BufferError):
         call(*arguments)
@@ -191,7 +203,7 @@ class Leaks(unittest.TestCase):
 
         Python's own caches grow now and then: what is lost is lost in each of three rounds.
         """
-        watched = [*arguments, *map(type, arguments), *SHARED, *ITEMS]
+        watched = [*arguments, *map(type, arguments), *SHARED, *ITEMS, *octets_of(call, *arguments)]
         rounds = [self.grown(watched, call, arguments) for _ in range(3)]
         for growths in zip(*rounds):
             self.assertLess(min(growths), TIMES // 10)
@@ -288,6 +300,46 @@ class Leaks(unittest.TestCase):
                 del made
             gc.collect()
             self.assertEqual([one() for one in seen], [None] * 3)
+
+
+@unittest.skipIf(_testcapi is None, "this Python cannot refuse memory")
+class NoMemory(unittest.TestCase):
+    CALLS = {
+        "bytes": lambda rng: rng.bytes(100),
+        "choices": lambda rng: rng.choices(LIST, k=5),
+        "choices, whole weights": lambda rng: rng.choices(LIST, WHOLES, k=5),
+        "choices, weights": lambda rng: rng.choices(LIST, REALS, k=5),
+        "sample": lambda rng: rng.sample(LIST, 5),
+        "sample_below": lambda rng: rng.sample_below(10**6, 5),
+        "shuffle": lambda rng: rng.shuffle(ITEMS[:]),
+        "part": lambda rng: rng.part(1, 5),
+        "copy": lambda rng: rng.copy(),
+    }
+
+    def test_each_request_may_be_refused(self):
+        """Wherever memory is refused, the generator is as it was."""
+        for rng in generators():
+            for name, call in self.CALLS.items():
+                with self.subTest(kind=type(rng).__name__, name=name):
+                    before = rng.state
+                    refusals = sum(self.is_refused(call, rng, before, request) for request in range(40))
+                    self.assertGreater(refusals, 0)
+
+    def is_refused(self, call, rng, before, request):
+        """Whether the call fails if its request of this number is refused. Where it does not, the state is put back."""
+        _testcapi.set_nomemory(request, request + 1)
+        try:
+            call(rng)
+        except MemoryError:
+            failed = True
+        else:
+            failed = False
+        finally:
+            _testcapi.remove_mem_hooks()
+        if failed:
+            self.assertEqual(rng.state, before, request)
+        rng.state = before
+        return failed
 
 
 def resident():
