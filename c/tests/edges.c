@@ -24,7 +24,12 @@ HOLDS(lots_too_few, NANORAND_LOTS_TOO_FEW == 3);
 HOLDS(lots_empty_line, NANORAND_LOTS_EMPTY_LINE == 4);
 HOLDS(lots_exhausted, NANORAND_LOTS_EXHAUSTED == 8);
 
-enum { LARGE = (1 << 22) + 1, ITEMS = (1 << 18) + 3, OFFSETS = 16, SHORT = 200 };
+#ifdef FEW /* where what runs is counted, which takes long */
+enum { LARGE = (1 << 14) + 1, ITEMS = (1 << 10) + 3 };
+#else
+enum { LARGE = (1 << 22) + 1, ITEMS = (1 << 18) + 3 };
+#endif
+enum { OFFSETS = 16, SHORT = 200 };
 
 static unsigned passed = 0;
 static unsigned failed = 0;
