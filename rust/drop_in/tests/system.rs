@@ -51,6 +51,24 @@ fn bytes() {
     assert_eq!((entropy::rdseed(&mut bytes), bytes), (None, [7; 3]));
 }
 
+/// A read fills a slice of any length whole.
+#[cfg(feature = "std")]
+#[test]
+fn reads() {
+    use std::io::Read;
+
+    for length in [0, 1, 8, 9, 4096, 65_535, 65_536, 65_537, 1_000_003] {
+        let (mut reader, mut same) = (
+            BufferedRng::new(WyRand::new_seed(1)),
+            BufferedRng::new(WyRand::new_seed(1)),
+        );
+        let (mut bytes, mut wanted) = (vec![0; length], vec![0; length]);
+        assert_eq!(reader.read(&mut bytes).ok(), Some(length));
+        same.fill_bytes(&mut wanted);
+        assert!(bytes == wanted, "{length}");
+    }
+}
+
 /// All handles of a thread are one generator, and each thread has its own.
 #[cfg(feature = "tls")]
 #[test]
