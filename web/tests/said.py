@@ -151,11 +151,19 @@ def mark_up(counts: Counts, page: Page) -> None:
 
 
 def copies_that_fail(counts: Counts, page: Page) -> None:
+    """A button says for a while that nothing was copied, also to screen readers, and then what it said before."""
     page.tab("draw")
     page.browser.run("navigator.clipboard.writeText = () => Promise.reject(new Error());")
-    page.browser.run('document.getElementById("copy-record").click();')
-    time.sleep(0.5)
-    counts.same("a copy that failed", page.browser.label("#copy-record"), "Not copied: select the text")
+    heard = 'return document.getElementById("heard").textContent;'
+    said = "Not copied: select the text"
+    for button in ("copy-digest", "copy-record"):
+        label = page.browser.label(f"#{button}")
+        page.browser.run(f'document.getElementById("{button}").click();')
+        time.sleep(0.5)
+        counts.same(f"{button} that failed", [page.browser.label(f"#{button}"), page.browser.run(heard)], [said] * 2)
+        time.sleep(2.5)
+        counts.same(f"{button} afterwards", [page.browser.label(f"#{button}"), page.browser.run(heard)], [label, ""])
+
 
 
 def run(counts: Counts, page: Page, module: str) -> None:
