@@ -1,5 +1,6 @@
 """Lists as people have them: long ones that are pasted, lines that look alike, changes, letters that nobody sees."""
 
+import re
 import time
 
 from counts import Counts, sha256
@@ -99,16 +100,21 @@ def pastes(counts: Counts, page: Page) -> None:
     """What is pasted stands between what stood there; a short text is left to the browser."""
     page.load()
     counts.same("a short text", page.browser.run(PASTE, "Ada\n" * 20_000, None, None), True)
-    long = "Ada\r\n" * 30_000
+    for lines in ("Ada\r\n", "Ada\r", "Ada\n", "Ada\rBob\r\nCid\n"):
+        pasted_between(counts, page, lines * 30_000)
+    page.browser.run(PASTE.replace("given ?? window.text", "`${given}\\ud800`"), "a\n" * 60_000, None, None)
+    counts.case("half a character", "" if "Line 60001 has half" in page.facts()["list"] else page.facts()["list"])
+
+
+def pasted_between(counts: Counts, page: Page, long: str) -> None:
+    """A long text at both ends of a short one, within it, and in its place. Each end of a line is a line feed then."""
     for first, last, wanted in ((0, 0, "{}x\ny\n"), (2, 2, "x\n{}y\n"), (0, 4, "{}"), (4, 4, "x\ny\n{}")):
         page.paste("x\ny\n")
         page.browser.run(PASTE, long, first, last)
-        data = wanted.format(long.replace("\r\n", "\n")).encode()
-        counts.same(f"pasted from {first} to {last}", page.facts()["digest"], sha256(data))
+        data = wanted.format(re.sub("\r\n?", "\n", long)).encode()
+        counts.same(f"{long[:13]!r} pasted from {first} to {last}", page.facts()["digest"], sha256(data))
         name = page.browser.run("return document.getElementById('file-name').textContent;")
         counts.same("its name", name, f"Pasted text, {grouped(len(data))} bytes")
-    page.browser.run(PASTE.replace("given ?? window.text", "`${given}\\ud800`"), "a\n" * 60_000, None, None)
-    counts.case("half a character", "" if "Line 60001 has half" in page.facts()["list"] else page.facts()["list"])
 
 
 def alike(counts: Counts, page: Page) -> None:

@@ -4,7 +4,7 @@ import re
 import time
 from pathlib import Path
 
-from counts import UNSEEN, Counts
+from counts import ALL_UNSEEN, Counts
 from page import Page
 
 TOP = Path(__file__).resolve().parents[2]
@@ -55,7 +55,7 @@ def hints_on_bytes(counts: Counts, page: Page) -> None:
 
 def letters_that_nobody_sees(counts: Counts, page: Page) -> None:
     """Each is shown by its bytes, so that no two entrants look alike. Others are shown as they are."""
-    wanted = {f"a{letter}b": "a" + "".join(f"\\x{byte:02x}" for byte in letter.encode()) + "b" for letter in UNSEEN}
+    wanted = {f"a{letter}b": "a" + "".join(f"\\x{byte:02x}" for byte in letter.encode()) + "b" for letter in ALL_UNSEEN}
     wanted.update({entrant: entrant for entrant in ("a b", "é", "e\u0301", "漢字", "🎲", "\u2801")})
     page.open_file("".join(f"{entrant}\n" for entrant in wanted).encode())
     page.fill("seed", "all")

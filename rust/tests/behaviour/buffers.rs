@@ -7,7 +7,7 @@ use nanorand_proved::{
 };
 use std::cell::Cell;
 use std::fmt::Debug;
-use std::io::Read;
+use std::io::{ErrorKind, Read};
 use std::panic::{catch_unwind, AssertUnwindSafe};
 
 /// Runs a check for blocks of 1, 8, 64 and 512 bytes; the generators have the last three.
@@ -64,6 +64,10 @@ fn refuses_text<const SIZE: usize>() {
         let before = rng.clone();
         let mut text = String::from("as it was");
         assert_eq!(rng.read_to_string(&mut text), Err(TextRefused));
+        let error = Read::read_to_string(&mut rng, &mut text).expect_err("no text");
+        assert_eq!(error.kind(), ErrorKind::Other);
+        let cause = error.get_ref().expect("a cause");
+        assert!(cause.is::<TextRefused>());
         assert_eq!(text, "as it was");
         assert_eq!(rng, before);
     }

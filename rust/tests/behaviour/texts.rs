@@ -4,6 +4,7 @@ use crate::common::formats;
 use nanorand_proved::buffer::{RestTooLong, TextRefused};
 use nanorand_proved::choices::weighted::WeightError;
 use nanorand_proved::entropy::EntropyError;
+use nanorand_proved::rand::ChaChaGroups;
 use nanorand_proved::shuffles::NotArrangement;
 use nanorand_proved::{BufferedRng, PastPeriod, RangeError, Rng, WyRand};
 use nanorand_proved::{ChaCha, ChaCha12, ChaCha12Stream, ChaCha20, ChaCha8, Pcg64};
@@ -111,6 +112,41 @@ fn of_a_buffer() {
         assert_eq!(format!("{rng:?}"), text);
         let lines = format!("BufferedRng {{\n    inner: {inner},\n    buffered: {buffered},\n}}");
         assert_eq!(format!("{rng:#?}"), lines);
+    }
+}
+
+/// What deriving writes for a buffer: its numbers obey the options.
+mod derived {
+    use nanorand_proved::rand::ChaChaGroups;
+
+    #[derive(Debug)]
+    #[allow(dead_code)] // Debug alone reads the fields
+    pub struct BufferedRng<'a> {
+        pub inner: &'a ChaChaGroups<8>,
+        pub buffered: usize,
+    }
+}
+
+#[test]
+fn of_a_buffer_by_options() {
+    let mut rng = BufferedRng::new(ChaChaGroups::<8>::new_key([1; 32], [2; 8]));
+    for buffered in (0..512).rev() {
+        let _ = rng.generate::<u8>();
+        let inner = rng.inner();
+        let wanted = derived::BufferedRng { inner, buffered };
+        for (found, wanted) in [
+            (format!("{rng:04?}"), format!("{wanted:04?}")),
+            (format!("{rng:+?}"), format!("{wanted:+?}")),
+            (format!("{rng:x?}"), format!("{wanted:x?}")),
+            (format!("{rng:#X?}"), format!("{wanted:#X?}")),
+            (format!("{rng:*>5?}"), format!("{wanted:*>5?}")),
+        ] {
+            assert_eq!(found, wanted);
+        }
+        for precision in 0..5 {
+            let found = format!("{rng:#6.precision$?}");
+            assert_eq!(found, format!("{wanted:#6.precision$?}"));
+        }
     }
 }
 
