@@ -8,7 +8,7 @@ use lots::{draw_places, LotsError};
 use refusing::{refused_above, refused_after};
 use std::io::{Read, Result};
 
-/// Reads at most so many bytes at once.
+/// Gives at most this many bytes at each read.
 struct Slow<'a>(&'a [u8], usize);
 
 impl Read for Slow<'_> {
@@ -18,7 +18,7 @@ impl Read for Slow<'_> {
     }
 }
 
-/// The outcome after so many requests for memory, of a list that comes in pieces, and how much was written.
+/// The outcome after this many requests for memory, of a list that comes in pieces, and how much was written.
 fn run_after(requests: usize, piece: usize) -> (std::result::Result<(), LotsError>, usize) {
     let arguments = ["seed".to_string(), "all".to_string()];
     let list: Vec<u8> = (0..5000)
