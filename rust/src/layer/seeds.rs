@@ -9,7 +9,7 @@ use crate::{entropy::EntropyError, system};
 use std::io;
 
 impl WyRand {
-    /// A generator whose seed is these bytes, least byte first. They are not mixed: see
+    /// A generator whose seed is these bytes, little-endian. They are not mixed: see
     /// [`new_seed`](Self::new_seed).
     #[inline]
     #[must_use]
@@ -32,7 +32,7 @@ impl WyRand {
 }
 
 impl Pcg64 {
-    /// A generator whose seed is these bytes, least byte first. They are not mixed: see
+    /// A generator whose seed is these bytes, little-endian. They are not mixed: see
     /// [`new_seed`](Self::new_seed). `state` and `inc` are 0.
     #[inline]
     #[must_use]
