@@ -57,7 +57,8 @@ class GeneratorRandom(BaseRandom):
     def __init_subclass__(cls, **named: Any) -> None:
         """A class with a `getrandbits` of its own draws bytes by it, as those of `random.Random` do."""
         super().__init_subclass__(**named)
-        first = next(one for one in cls.__mro__ if {"getrandbits", "randbytes"} & vars(one).keys())
+        own = {"getrandbits", "randbytes"}
+        first = next(one for one in cls.__mro__ if own & vars(one).keys())  # pragma: no branch
         if "randbytes" not in vars(first):
             setattr(cls, "randbytes", random.Random.randbytes)
 

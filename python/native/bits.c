@@ -147,8 +147,8 @@ static PyObject *attach(PyObject *Py_UNUSED(module), PyObject *arguments)
         return NULL;
     }
     if (PyCapsule_SetContext(capsule, words) < 0 || PyCapsule_SetDestructor(capsule, free_capsule) < 0) {
-        free_words(words);
-        return NULL;
+        free_words(words); /* GCOVR_EXCL_LINE: a capsule that has a pointer takes both. */
+        return NULL; /* GCOVR_EXCL_LINE */
     }
     *bits = (BitGenerator){words, next_uint64, next_uint32, next_double, next_uint64};
     Py_RETURN_NONE;

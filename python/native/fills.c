@@ -18,7 +18,7 @@ static char format_of(const Py_buffer *view)
     if (format[0] != '\0' && strchr("@=<", format[0]) != NULL) {
         format++;
     }
-    return format[0] != '\0' && format[1] == '\0' ? format[0] : '\0';
+    return format[0] != '\0' && format[1] == '\0' ? format[0] : '\0'; /* GCOVR_EXCL_BR_LINE: none is empty. */
 }
 
 static int fits_formats(const Py_buffer *view, const char *formats)

@@ -304,8 +304,8 @@ class Numbers(unittest.TestCase):
             refuses(self, rng, EmptyRange, lambda rng: rng.below(0))
             refuses(self, rng, EmptyRange, lambda rng: rng.below(-1))
             refuses(self, rng, EmptyRange, lambda rng: rng.below(-(2**63)))
-            refuses(self, rng, OutOfBounds, lambda rng: rng.below(2**64 + 1))
-            refuses(self, rng, OutOfBounds, lambda rng: rng.below(-(2**63) - 1))
+            for end in (2**64 + 1, 2**65 - 1, 2**65, 2**65 + 2**64, 2**127, 2**128, 2**192, -(2**63) - 1, -(2**64)):
+                refuses(self, rng, OutOfBounds, lambda rng, end=end: rng.below(end))
 
     def test_ranges_between_types(self):
         """A range within both i64 and u64 is the same of both."""

@@ -5,7 +5,7 @@ import random
 import unittest
 
 from makers import views_of
-from nanorand import NanorandError, OutOfBounds, lots
+from nanorand import NanorandError, OutOfBounds, _native, lots
 from nanorand.errors import EmptyLine, EmptySeed, SeedNotText, TooFew
 
 NAMES = ["Ada", "Barbara", "Chidi", "Dmitri", "Elif", "Farid"]
@@ -136,6 +136,13 @@ class Lots(unittest.TestCase):
             lots.draw("seed", "abc")
         for error in (EmptySeed, SeedNotText, EmptyLine, TooFew):
             self.assertTrue(issubclass(error, NanorandError) and issubclass(error, ValueError))
+
+    def test_what_no_public_call_does(self):
+        for entrants, count, error in [(-1, 1, OutOfBounds), (2**64, 1, OutOfBounds), (12, -1, OutOfBounds),
+                                       (12, 2**64, OutOfBounds), ("12", 1, TypeError), (12, 1.0, TypeError)]:
+            self.assertRaises(error, _native.lots_places, b"seed", entrants, count)
+        self.assertRaises(TypeError, _native.lots_places, "seed", 12, 1)
+        self.assertRaises(TypeError, _native.lots_places, b"seed", 12)
 
     def test_texts_of_other_types(self):
         for text in ("abc", 5, None, [1, 2], 1.5):

@@ -1,8 +1,11 @@
 """References and memory: no call keeps or loses any, whether it succeeds or fails; and lists that change meanwhile."""
 
+import _imp
 import array
 import contextlib
+import copy
 import gc
+import importlib.util
 import pickle
 import sys
 import tracemalloc
@@ -16,7 +19,7 @@ except ImportError:
 
 from makers import CLASSES, KEY, NONCE, RANDOMS, generators
 
-from nanorand import Generator, Stream, WyRand, lots
+from nanorand import ChaCha8, Generator, NanorandError, Pcg64, Stream, WyRand, _native, lots
 from nanorand.randoms import WyRandRandom
 
 TIMES = 1000
@@ -49,6 +52,13 @@ class FailsLate(list):
         return super().__getitem__(place)
 
 
+class NoLength(list):
+    """A list that does not say how long it is."""
+
+    def __len__(self):
+        raise KeyError
+
+
 class Refuses(list):
     """A list that takes no items."""
 
@@ -58,10 +68,11 @@ class Refuses(list):
 
 LIST, TUPLE, TEXT, BUFFER = ITEMS, tuple(ITEMS), "text", bytearray(16)
 WORDS, DOUBLES, READ_ONLY = array.array("Q", [0] * 9), array.array("d", [0] * 9), memoryview(b"12345678")
+MANY = array.array("Q", range(600))
 FAILS, REFUSES, REALS, WHOLES, OTHER = Fails(), Refuses(ITEMS), [1.5] * 9, [2] * 9, object()
-LATE = FailsLate(ITEMS)
+LATE, NO_LENGTH = FailsLate(ITEMS), NoLength(ITEMS)
 SHARED = [LIST, TUPLE, TEXT, BUFFER, WORDS, DOUBLES, READ_ONLY, FAILS, LATE, REFUSES, REALS, WHOLES, OTHER, BIG]
-SHARED += [KEY, NONCE]
+SHARED += [KEY, NONCE, NO_LENGTH, MANY]
 
 SUCCEED = {
     "u64": lambda rng: rng.u64(),
@@ -108,23 +119,25 @@ FAIL = {
                 lambda rng: rng.range32(OTHER, 1)],
     "uniform": [lambda rng: rng.uniform(TEXT, TEXT), lambda rng: rng.uniform(OTHER, 1),
                 lambda rng: rng.uniform({1}, {2})],
-    "choice": [lambda rng: rng.choice([]), lambda rng: rng.choice(OTHER), lambda rng: rng.choice(FAILS)],
+    "choice": [lambda rng: rng.choice([]), lambda rng: rng.choice(OTHER), lambda rng: rng.choice(FAILS),
+               lambda rng: rng.choice(NO_LENGTH)],
     "choices": [lambda rng: rng.choices([]), lambda rng: rng.choices(LIST, WHOLES[1:]),
                 lambda rng: rng.choices(LIST, [0] * 9),
                 lambda rng: rng.choices(LIST, [-1] * 9), lambda rng: rng.choices(LIST, [-1.5] * 9),
-                lambda rng: rng.choices(FAILS),
+                lambda rng: rng.choices(FAILS), lambda rng: rng.choices(NO_LENGTH),
                 lambda rng: rng.choices(LIST, [OTHER] * 9), lambda rng: rng.choices(LIST, WHOLES, cum_weights=WHOLES),
                 lambda rng: rng.choices(LIST, [FAILS] * 9), lambda rng: rng.choices(LIST, OTHER),
                 lambda rng: rng.choices(LIST, k=BIG),
                 lambda rng: rng.choices(LIST, cum_weights=[3, 2] + WHOLES[2:]), lambda rng: rng.choices(LIST, k=2**62)],
     "sample": [lambda rng: rng.sample(LIST, 10), lambda rng: rng.sample(FAILS, 2), lambda rng: rng.sample(LATE, 9),
+               lambda rng: rng.sample(NO_LENGTH, 2),
                lambda rng: rng.sample(OTHER, 2),
                lambda rng: rng.sample(LIST, BIG), lambda rng: rng.sample_below(5, 1000),
                lambda rng: rng.sample_below(2**63, 2**62),
                lambda rng: rng.sample_below(BIG, 1)],
     "shuffle": [lambda rng: rng.shuffle(TUPLE), lambda rng: rng.shuffle(FAILS), lambda rng: rng.shuffle(REFUSES),
                 lambda rng: rng.shuffle(READ_ONLY), lambda rng: rng.shuffle_full(REFUSES),
-                lambda rng: rng.shuffle(LATE), lambda rng: rng.shuffle_full(LATE),
+                lambda rng: rng.shuffle(LATE), lambda rng: rng.shuffle_full(LATE), lambda rng: rng.shuffle(NO_LENGTH),
                 lambda rng: rng.shuffle(OTHER)],
     "fill": [lambda rng: rng.fill(READ_ONLY), lambda rng: rng.fill(DOUBLES), lambda rng: rng.fill(OTHER),
              lambda rng: rng.fill(memoryview(BUFFER)[::2]), lambda rng: rng.fill_range(BUFFER, 6, 1),
@@ -302,8 +315,10 @@ class Leaks(unittest.TestCase):
             self.assertEqual([one() for one in seen], [None] * 3)
 
 
-@unittest.skipIf(_testcapi is None, "this Python cannot refuse memory")
+@unittest.skipIf(_testcapi is None or sys.gettrace(), "this Python, or what traces it, cannot be refused memory")
 class NoMemory(unittest.TestCase):
+    """Each request for memory is refused, the first alone, then the second alone, and so on."""
+
     CALLS = {
         "bytes": lambda rng: rng.bytes(100),
         "choices": lambda rng: rng.choices(LIST, k=5),
@@ -316,30 +331,79 @@ class NoMemory(unittest.TestCase):
         "copy": lambda rng: rng.copy(),
     }
 
-    def test_each_request_may_be_refused(self):
-        """Wherever memory is refused, the generator is as it was."""
+    def test_the_generator_is_as_it_was(self):
         for rng in generators():
             for name, call in self.CALLS.items():
                 with self.subTest(kind=type(rng).__name__, name=name):
                     before = rng.state
-                    refusals = sum(self.is_refused(call, rng, before, request) for request in range(40))
+                    refusals = 0
+                    for request in range(40):
+                        if self.is_refused(request, call, rng):
+                            refusals += 1
+                            self.assertEqual(rng.state, before, request)
+                        rng.state = before
                     self.assertGreater(refusals, 0)
 
-    def is_refused(self, call, rng, before, request):
-        """Whether the call fails if its request of this number is refused. Where it does not, the state is put back."""
+    def is_refused(self, request, call, *arguments):
+        """Whether the call says that there is no memory, if its request of this number is refused."""
         _testcapi.set_nomemory(request, request + 1)
         try:
-            call(rng)
+            call(*arguments)
         except MemoryError:
-            failed = True
-        else:
-            failed = False
+            return True
+        except (NanorandError, TypeError):
+            return False
         finally:
             _testcapi.remove_mem_hooks()
-        if failed:
-            self.assertEqual(rng.state, before, request)
-        rng.state = before
-        return failed
+        return False
+
+    def test_nothing_is_kept(self):
+        """By calls without a line of Python's own, which keeps some references itself."""
+        for rng in (WyRand(1), Pcg64(1), ChaCha8(KEY), Stream(KEY)):
+            calls = [
+                *[(rng.u64,), (rng.random,), (rng.bytes, 100), (rng.below, 1000), (rng.below, 2**64), (rng.__repr__,)],
+                *[(rng.range, 1, 1000), (rng.range, -1000, 1000), (rng.range32, 1, 1000), (rng.randint, 1, 1000)],
+                *[(rng.uniform, 1, 2.5), (rng.uniform, WHOLES[0], BIG), (rng.choice, LIST), (rng.choice, WORDS)],
+                *[(rng.choices, LIST), (rng.choices, WORDS, WHOLES), (rng.choices, LIST, REALS), (rng.sample, LIST, 5)],
+                *[(rng.sample, WORDS, 5), (rng.sample_below, 10**6, 5), (rng.shuffle, LIST), (rng.shuffle, WORDS)],
+                *[(rng.shuffle_full, LIST), (rng.shuffle_full, WORDS), (rng.fill, WORDS), (rng.fill_random, DOUBLES)],
+                *[(rng.fill_range, WORDS, 1, 2**60), (rng.copy,), (rng.part, 2**60, 3), (type(rng).from_entropy,)],
+                *[(rng.__eq__, rng.copy()), (rng.__reduce__,), (type(rng).from_state, rng.state), (rng.below, OTHER)],
+                *[(rng.choice, ()), (rng.range, 5, 1), (rng.range, 1, BIG), (rng.sample, LIST, 10), (rng.fill, OTHER)],
+                *[(rng.choices, LIST, [-1] * 9), (rng.choices, LIST, WHOLES[1:]), (type(rng).from_state, b"short")],
+                *[(getattr, rng, name, None) for name in ("state", "seed", "key", "nonce", "counter", "rest")],
+                *[(getattr(rng, "jump", rng.copy),), (type(rng), KEY), (type(rng), 5), (type(rng), 2**100)],
+                *[(rng.copy().bytes, 100_000), (rng.shuffle, MANY), (rng.choice, MANY), (rng.sample, MANY, 300)],
+            ]
+            for call, *arguments in calls:
+                with self.subTest(call=call, arguments=arguments):
+                    self.keeps_nothing([rng, type(rng), *SHARED, *ITEMS, *arguments], call, arguments)
+
+    def test_a_module_that_is_loaded(self):
+        """Python's own making of a class may fail and not say why: a SystemError."""
+        spec = importlib.util.spec_from_file_location("nanorand._native", _native.__file__)
+        refusals = [self.is_refused(request, self.loads, importlib.util.module_from_spec(spec)) for request in range(500)]
+        self.assertGreater(sum(refusals), 100)
+        self.assertFalse(any(refusals[-50:]))
+
+    @staticmethod
+    def loads(module):
+        try:
+            _imp.exec_dynamic(module)
+        except SystemError:
+            raise MemoryError from None
+
+    def keeps_nothing(self, watched, call, arguments, times=20):
+        """Whichever request is refused, there are as many references to these things after it."""
+        request = granted = 0
+        while granted < 5:
+            before = list(map(sys.getrefcount, watched))
+            refusals = sum(self.is_refused(request, call, *arguments) for _ in range(times))
+            after = list(map(sys.getrefcount, watched))
+            for one, then, now in zip(watched, before, after):
+                self.assertLess(abs(now - then), times // 2, (request, type(one)))
+            granted = 0 if refusals else granted + 1
+            request += 1
 
 
 def resident():
@@ -461,7 +525,15 @@ class Changing(unittest.TestCase):
                      lambda rng: rng.shuffle([1, 2]), lambda rng: rng.shuffle(bytearray(2)),
                      lambda rng: rng.choice("ab"),
                      lambda rng: rng.sample("ab", 1), lambda rng: rng.choices("ab"), lambda rng: rng.uniform(1, 2),
-                     lambda rng: rng.range32(1, 2), lambda rng: rng.range(-1, 2), lambda rng: rng.bytes(5)]
+                     lambda rng: rng.range32(1, 2), lambda rng: rng.range(-1, 2), lambda rng: rng.bytes(5),
+                     lambda rng: rng.range(1, 2), lambda rng: rng.random(), lambda rng: rng.below(5),
+                     lambda rng: rng.below(2**64), lambda rng: rng.randint(1, 2), lambda rng: rng.sample_below(5, 2),
+                     lambda rng: rng.part(1, 2), lambda rng: rng.part(1, draws=0), lambda rng: copy.copy(rng),
+                     lambda rng: rng.fill_range(bytearray(5), 1, 6), lambda rng: rng.fill_random(DOUBLES)]
+            own = ("seed", "key", "nonce", "counter", "rest", "jump", "block")
+            calls += [lambda rng, name=name: getattr(rng, name) for name in own[:5] if hasattr(kind, name)]
+            calls += [lambda rng, name=name: getattr(rng, name)(*[1] * (name == "jump")) for name in own[5:]
+                      if hasattr(kind, name)]
             for call in calls:
                 with self.assertRaisesRegex(RuntimeError, "^Own has no state: its __init__ was not called$"):
                     call(Own())

@@ -17,8 +17,13 @@ from nanorand import ChaCha20, Pcg64, Stream, WyRand, _native, lots
 from nanorand.errors import ForeignState, NanorandError, OutOfBounds, WrongLength
 
 try:
+    import _testcapi
+except ImportError:
+    _testcapi = None
+
+try:
     import numpy
-    from numpy.random import SeedSequence
+    from numpy.random import BitGenerator, SeedSequence
 
     from nanorand.numpy import GeneratorBits, Pcg64Bits, StreamBits, WyRandBits
 except ImportError as error:
@@ -351,10 +356,33 @@ class Memory(unittest.TestCase):
             *[(lambda rng=rng: _native.restart(bits.capsule, rng, None), TypeError) for rng in (5, bits)],
             *[(lambda half=half: _native.restart(bits.capsule, WyRand(1), half), OutOfBounds) for half in (-1, 2**32)],
             (lambda: _native.restart(bits.capsule, WyRand(1), "1"), TypeError),
+            (lambda: _native.restart(bits.capsule, WyRand(1)), TypeError),
+            (lambda: _native.bounded("count", 5), TypeError),
         ]:
             self.assertRaises(error, call)
             self.assertEqual(bits.state, before)
         self.assertEqual(foreign.random_raw(), numpy.random.PCG64(1).random_raw())
+
+    @unittest.skipIf(_testcapi is None or sys.gettrace(), "this Python, or what traces it, cannot be refused memory")
+    def test_words_that_have_no_memory(self):
+        """The capsule has none then, and may be given some later."""
+        for start in STARTS:
+            made = type(bits_of(start)).__new__(type(bits_of(start)))
+            BitGenerator.__init__(made, 5)
+            capsule, refusals = made.capsule, 0
+            while True:
+                references = sys.getrefcount(start), sys.getrefcount(capsule)
+                _testcapi.set_nomemory(refusals, refusals + 1)
+                try:
+                    _native.attach(capsule, start)
+                    break
+                except MemoryError:
+                    refusals += 1
+                finally:
+                    _testcapi.remove_mem_hooks()
+                self.assertEqual((sys.getrefcount(start), sys.getrefcount(capsule)), references)
+            self.assertGreater(refusals, 1)
+            self.assertEqual(made.random_raw(), start.copy().u64())
 
     def test_a_generator_of_another_kind(self):
         for start in STARTS:

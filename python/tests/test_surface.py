@@ -9,6 +9,7 @@ import subprocess
 import sys
 import unittest
 from pathlib import Path
+from unittest import mock
 
 from makers import CHACHAS, CLASSES, KEY, NONCE, RANDOMS, generators, refuses
 
@@ -228,6 +229,23 @@ class Imports(unittest.TestCase):
         self.assertEqual(WyRand(42).range(1, 100), 69)
         self.assertRaises(OutOfBounds, WyRand, -1)
         self.assertEqual([kind(5).random() for kind in RANDOMS], [kind(5).generator.random() for kind in RANDOMS])
+
+    def test_an_import_that_fails(self):
+        """By an extension module that is not there, and by one that refuses the library: each is a LibraryRefused."""
+        class Finder:
+            @staticmethod
+            def find_spec(name, path=None, target=None):
+                if name == "nanorand._native":
+                    from nanorand.errors import LibraryRefused
+                    raise LibraryRefused("another version") if refuses else ImportError("no such file")
+
+        for refuses, text in (False, "the extension module cannot be loaded: no such file"), (True, "another version"):
+            with mock.patch.dict(sys.modules), mock.patch.object(sys, "meta_path", [Finder, *sys.meta_path]):
+                for name in [name for name in sys.modules if name.partition(".")[0] == "nanorand"]:
+                    del sys.modules[name]
+                with self.assertRaises(ImportError) as caught:
+                    import nanorand  # noqa: F401
+            self.assertEqual((type(caught.exception).__name__, str(caught.exception)), ("LibraryRefused", text))
 
     def test_an_import_does_nothing_else(self):
         code = "import random; state = random.getstate(); import nanorand; assert state == random.getstate()"
