@@ -73,7 +73,10 @@ function otherOfPage(record, { otherModule, words, otherWords }) {
   ];
 }
 
-/** @param {import("./record.js").Record} record @returns {string[]} */
+/**
+ * What differs, or why the record's draw is refused. Throws if the draw itself fails.
+ * @param {import("./record.js").Record} record @returns {string[]}
+ */
 function differencesOf(module, list, record) {
   const digest = hex(module.digest(list));
   if (digest !== record.list) {
@@ -90,6 +93,7 @@ function differencesOf(module, list, record) {
     ].filter(Boolean);
   } catch (error) {
     const refusal = Refusal.of(error);
+    if (refusal.field === "page") throw refusal;
     return [refusal.words];
   }
 }

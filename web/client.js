@@ -4,51 +4,61 @@ import { Refusal } from "./refusal.js";
 
 export class Client {
   #worker;
+  #tell;
   #open = new Map();
   #last = 0;
-  /** Why the worker is lost, empty while it works. */
-  #lost = "";
+  /** Why the worker is of no use, null while it works. @type {?Refusal} */
+  #lost = null;
 
-  /** @param {string} code the worker's JavaScript @param {(progress: string) => void} tell */
+  /**
+   * @param {string} code the worker's JavaScript
+   * @param {(progress: string) => void} tell is given no text once nothing is left to do
+   */
   constructor(code, tell) {
     const address = URL.createObjectURL(new Blob([code], { type: "text/javascript" }));
+    this.#tell = tell;
     this.#worker = new Worker(address);
-    this.#worker.onmessage = ({ data }) => this.#receive(data, tell);
+    this.#worker.onmessage = ({ data }) => this.#receive(data);
     this.#worker.onerror = (event) => this.#fail(event.message || "the worker cannot start");
   }
 
   /**
-   * @param {"start"|"list"|"draw"|"check"} task @param {Object} data
+   * @param {"start"|"list"|"tidy"|"draw"|"check"} task @param {Object} data
    * @returns {Promise<Object>} refused with a Refusal
    */
   ask(task, data) {
+    if (this.#lost) return Promise.reject(this.#lost);
     this.#last += 1;
     const number = this.#last;
     return new Promise((resolve, reject) => {
-      this.#open.set(number, { resolve, reject });
-      if (this.#lost) this.#fail(this.#lost);
-      else this.#worker.postMessage({ number, task, data });
+      this.#open.set(number, { task, resolve, reject });
+      this.#worker.postMessage({ number, task, data });
     });
   }
 
-  #receive({ number, progress, answer, refusal }, tell) {
+  #receive({ number, progress, answer, refusal }) {
     if (progress) {
-      tell(progress);
+      this.#tell(progress);
       return;
     }
-    const task = this.#open.get(number);
+    const asked = this.#open.get(number);
     this.#open.delete(number);
-    if (this.#open.size === 0) tell("");
-    if (refusal) task?.reject(new Refusal(refusal.reason, refusal.values));
-    else task?.resolve(answer);
+    if (this.#open.size === 0) this.#tell("");
+    if (refusal) this.#refuse(asked, new Refusal(refusal.reason, refusal.values));
+    else asked?.resolve(answer);
+  }
+
+  /** A worker that cannot start can do nothing else. */
+  #refuse(asked, refusal) {
+    if (asked?.task === "start") this.#lost = refusal;
+    asked?.reject(refusal);
   }
 
   /** The worker is lost: whatever was asked of it fails. */
   #fail(reason) {
-    this.#lost = reason;
-    for (const { reject } of this.#open.values()) {
-      reject(new Refusal("the module failed", { reason }));
-    }
+    this.#lost = new Refusal("the module failed", { reason });
+    for (const { reject } of this.#open.values()) reject(this.#lost);
     this.#open.clear();
+    this.#tell("");
   }
 }

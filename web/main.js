@@ -152,6 +152,8 @@ function pasteLong(event) {
     part("close-file").focus();
   } catch (error) {
     clearTimeout(state.pending);
+    state.pending = 0;
+    state.sent = Promise.resolve(false);
     refuse(error);
   }
 }

@@ -147,14 +147,17 @@ function readLine(lines, index, [, name, read, joint]) {
   }
 }
 
-/** A line of an entrant, and the place of the line after it: a long one may be folded. */
-function readEntrant(lines, index, number) {
+/**
+ * A line of an entrant, and the place of the line after it. A long one may be folded, into lines
+ * that end before the line `end`.
+ */
+function readEntrant(lines, index, number, end) {
   const start = `${number}: `;
   const line = lines[index] ?? "";
   let text = line.startsWith(start) ? line.slice(start.length) : "";
   let next = index + 1;
   let isFolded = line === start.trim() || line.startsWith(start) && line.length >= FOLDED;
-  while (isFolded && goesOn(lines[next])) {
+  while (isFolded && goesOn(lines[next]) && lines[next] !== end) {
     text += (text && " ") + lines[next];
     isFolded = lines[next].length >= FOLDED;
     next += 1;
@@ -169,14 +172,14 @@ function readEntrant(lines, index, number) {
 /** The entrants named, which end the record. */
 function readNamed(lines, first, drawn) {
   const named = [];
+  const rest = drawn > NAMED ? `and ${drawn - NAMED} more` : null;
   let at = first;
   for (let number = 1; number <= Math.min(drawn, NAMED); number += 1) {
-    const { entrant, next } = readEntrant(lines, at, number);
+    const { entrant, next } = readEntrant(lines, at, number, number === NAMED ? rest : null);
     named.push(entrant);
     at = next;
   }
-  if (drawn > NAMED) {
-    const rest = `and ${drawn - NAMED} more`;
+  if (rest !== null) {
     if (lines[at] !== rest) throw new RecordError(at + 1, `“${rest}” is missing.`);
     at += 1;
   }

@@ -34,7 +34,8 @@ const CHANGES = {
 };
 
 /**
- * The list after a change, and how many lines it removed or made shorter.
+ * The list after a change, and how many lines it removed or made shorter. A last line without a
+ * line feed stays so, unless it is empty: without one it would be no line.
  * @param {Uint8Array} list @param {"empty"|"trim"|"unique"} change
  * @returns {{list: Uint8Array, changed: number}}
  */
@@ -46,6 +47,6 @@ export function tidied(list, change) {
     : before.length - after.length;
   if (changed === 0) return { list, changed };
   const text = resultOf(after);
-  const isOpen = list[list.length - 1] !== LINE_FEED;
+  const isOpen = list[list.length - 1] !== LINE_FEED && after[after.length - 1]?.length > 0;
   return { list: isOpen ? text.slice(0, -1) : text, changed };
 }

@@ -58,6 +58,8 @@ TIDY = {
     ("unique", b"a\nb\na\na\nc\n"): (b"a\nb\nc\n", 2), ("unique", b"b\na\nb"): (b"b\na", 1),
     ("unique", b"\xff\n\xfe\n\xff\n"): (b"\xff\n\xfe\n", 1), ("unique", b"a\nA\na \n"): (b"a\nA\na \n", 0),
     ("unique", b"\x81\n\xc2\x81\n\x81\n"): (b"\x81\n\xc2\x81\n", 1),
+    ("unique", b"a\n\na"): (b"a\n\n", 1), ("unique", b"\n\n\na"): (b"\na", 2), ("trim", b"a\n "): (b"a\n\n", 1),
+    ("trim", b"\t"): (b"\n", 1), ("trim", b" \na"): (b"\na", 1), ("empty", b"\na\n\n"): (b"a\n", 2),
 }
 # What stands in a list, and how the page shows it.
 SHOWN = {
@@ -104,6 +106,10 @@ def pastes(counts: Counts, page: Page) -> None:
         pasted_between(counts, page, lines * 30_000)
     page.browser.run(PASTE.replace("given ?? window.text", "`${given}\\ud800`"), "a\n" * 60_000, None, None)
     counts.case("half a character", "" if "Line 60001 has half" in page.facts()["list"] else page.facts()["list"])
+    page.fill("seed", "all")
+    shown = page.draw()
+    counts.same("nothing is drawn", (shown["record"], shown["title"], shown["digest"]), ("", "", ""))
+    counts.case("why not", "" if "Line 60001 has half" in shown["list"] else shown["list"])
 
 
 def pasted_between(counts: Counts, page: Page, long: str) -> None:

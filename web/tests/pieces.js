@@ -66,6 +66,45 @@ function folds() {
   }
 }
 
+/** The last entrant that a record names may be folded: the number of those that are left is not of it. */
+function restOfLong() {
+  for (const length of [1, 43, 44, 50, 200]) {
+    for (const left of [1, 5, 10 ** 6]) {
+      const named = Array.from({ length: NAMED }, (_, place) => utf8(`${place} ${"x".repeat(length)}`));
+      const record = writeRecord({ ...RECORD, entrants: 10 ** 7, drawn: NAMED + left, named });
+      const wanted = named.map(textOf);
+      same(`${left} more than ${NAMED} of ${length} letters`, namedIn(record), wanted);
+      same("a line below", namedIn(`${record}Yours\n`), wanted);
+      const folded = record.replace(`and ${left} more`, `y\nand ${left} more`);
+      if (length >= 50) same("a fold", namedIn(folded), [...wanted.slice(0, -1), `${wanted[NAMED - 1]} y`]);
+    }
+  }
+}
+
+/** A check whose own draw fails says so, and not that the record differs. */
+function failedChecks() {
+  const list = utf8("Ada\nBob\n");
+  const sum = new Uint8Array(32).fill(7);
+  const record = { ...RECORD, entrants: 2, list: hex(sum) };
+  const maker = { version: record.version, module: record.module, otherModule: "", words: "", otherWords: "" };
+  const module = { digest: () => sum, count: () => 2, draw: () => [0n] };
+  for (const [error, wanted] of [[new RangeError("long"), ["no memory", {}]],
+    [new WebAssembly.RuntimeError("trap"), ["the module failed", { reason: "RuntimeError: trap" }]],
+    [new Refusal("words were rejected"), ["words were rejected", {}]]]) {
+    for (const call of ["count", "draw", "digest"]) {
+      const failing = { ...module, [call]: () => { throw error; } };
+      try {
+        same(`${call} that fails`, check(failing, maker, list, writeRecord(record)).outcome, "an error");
+      } catch (thrown) {
+        same(`${call} that fails`, refusalOf(thrown), wanted);
+      }
+    }
+  }
+  const few = { ...record, drawn: 3, named: [utf8("Ada"), utf8("Bob"), utf8("Cid")] };
+  same("more than there are", check(module, maker, list, writeRecord(few)).findings,
+    ["The list has 2 entrants, and 3 are asked for."]);
+}
+
 /** Spaces and tabs at the ends of lines are told, whether the list is text or not. */
 function spaces() {
   for (const line of [[97], [0xff], [0xc3, 0xa9], [0xc3]]) {
@@ -126,21 +165,37 @@ async function clients() {
       const failed = ["the module failed", { reason }];
       worker.onerror({ message });
       same("answers", await Promise.all(answers), [["line is empty", { line: 3 }], "counted", failed, failed]);
-      same("progress", told.slice(0, 1), ["Counting"]);
+      same("progress", told, ["Counting", ""]);
       for (const task of ["list", "draw", "check", "draw"]) {
         const waiting = new Promise((resolve) => setTimeout(resolve, 1000, "no answer"));
         const after = await Promise.race([ended(client.ask(task, {})), waiting]);
         same(`a ${task} after its worker was lost`, after, failed);
       }
     }
+    await cannotStart(workers);
   } finally {
     window.Worker = real;
   }
 }
 
+/** Whatever is asked of a worker that could not start is refused for the same reason. */
+async function cannotStart(workers) {
+  const client = new Client("", () => {});
+  const worker = workers[workers.length - 1];
+  const started = ended(client.ask("start", {}));
+  worker.onmessage({ data: { number: 1, refusal: { reason: "no WebAssembly", values: {} } } });
+  same("a start", await started, ["no WebAssembly", {}]);
+  for (const task of ["list", "tidy", "draw", "check"]) {
+    same(`a ${task} without a start`, await ended(client.ask(task, {})), ["no WebAssembly", {}]);
+  }
+  same("what is sent", worker.sent.length, 1);
+}
+
 errors();
 versions();
 folds();
+restOfLong();
+failedChecks();
 spaces();
 endings();
 return clients().then(() => cases);

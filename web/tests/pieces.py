@@ -7,7 +7,7 @@ from counts import Counts
 from glue import build
 from page import Page
 
-SCRIPTS = ("record", "list", "module", "client")
+SCRIPTS = ("record", "list", "module", "client", "check")
 # Letters that Unicode has no name for, or one that says less.
 NAMES = {
     0x00: "null", 0x09: "tab", 0x0d: "carriage return", 0x7f: "delete", 0x2800: "empty Braille pattern",
