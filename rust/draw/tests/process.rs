@@ -4,7 +4,7 @@
 #[path = "../../program/tests/common/process.rs"]
 mod process;
 
-use process::shell;
+use process::{by_each_name, shell};
 
 /// Ends with the status of the commands and what they wrote to each stream. `$draw` draws a number.
 fn ends(commands: &str, status: i32, out: &str, err: &str) {
@@ -22,6 +22,16 @@ fn arguments() {
     ends("$draw u9", 2, "", "draw: bad word 6\n");
     ends("\"$0\"", 2, "", "draw: bad word 1\n");
     ends("$draw \"$(printf '\\377')\"", 3, "", "draw: no memory\n");
+}
+
+#[test]
+fn names() {
+    let program = env!("CARGO_BIN_EXE_draw");
+    let words = ["wyrand", "d29b42879be2895f", "plain", "0", "u64"];
+    let number = (0, "16646288086500911322\n".into(), String::new());
+    by_each_name(program, &words, &number);
+    let bad = (2, String::new(), "draw: bad word 1\n".into());
+    by_each_name(program, &[], &bad);
 }
 
 #[test]

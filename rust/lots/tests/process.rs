@@ -4,7 +4,7 @@
 #[path = "../../program/tests/common/process.rs"]
 mod process;
 
-use process::shell;
+use process::{by_each_name, shell};
 
 /// Ends with the status of the commands and what they wrote to each stream.
 fn ends(commands: &str, status: i32, out: &str, err: &str) {
@@ -46,6 +46,14 @@ fn refusals() {
         "",
         "lots: line 2 is empty\n",
     );
+}
+
+#[test]
+fn names() {
+    let program = env!("CARGO_BIN_EXE_lots");
+    by_each_name(program, &["seed", "0"], &(0, String::new(), String::new()));
+    let few = "lots: 0 entrants, 1 asked for\n";
+    by_each_name(program, &["seed", "1"], &(3, String::new(), few.into()));
 }
 
 #[test]
