@@ -311,7 +311,9 @@ class Randoms(unittest.TestCase):
                 refuses(self, rng.generator, TypeError, lambda _, bits=bits: rng.getrandbits(bits))
                 refuses(self, rng.generator, TypeError, lambda _, bits=bits: rng.randbytes(bits))
             refuses(self, rng.generator, OutOfBounds, lambda _: rng.randbytes(-1))
-            refuses(self, rng.generator, MemoryError, lambda _: rng.getrandbits(2**62))
+            for bits in (2**62, 2**63 - 1, 2**63, *range(2**64 - 70, 2**64)):
+                refuses(self, rng.generator, MemoryError, lambda _, bits=bits: rng.getrandbits(bits))
+            refuses(self, rng.generator, OutOfBounds, lambda _: rng.getrandbits(2**64))
 
     def test_python_s_own_refusals(self):
         for kind in RANDOMS:

@@ -38,6 +38,10 @@ Blob.prototype.arrayBuffer = function () {
 };
 """
 LARGE = "\n".join(str(number) for number in range(60_000)) + "\n"
+TIDIED = """
+const said = document.getElementById("tidied");
+return said.checkVisibility() ? said.textContent : "";
+"""
 # In milliseconds: longer than the pause after typing, and than the slow file takes.
 LATEST = 1500
 
@@ -101,6 +105,27 @@ def checks_of_older_records(counts: Counts, page: Page) -> None:
         counts.same(f"a late outcome, {field}", page.shown()["outcome"], "")
 
 
+def lists_changed_while_tidied(counts: Counts, page: Page) -> None:
+    """A list that is changed while equal lines are removed from it stays as it was changed."""
+    page.load()
+    page.browser.run(SET)
+    for name, change in (("typed", 'put("list-text", "later\\n");'), ("emptied", 'put("list-text", "");')):
+        page.paste(LARGE + LARGE)
+        page.facts()
+        page.browser.run(f'document.getElementById("tidy-unique").click(); {change}')
+        idle(page)
+        text = page.browser.run('return document.getElementById("list-text").value;')
+        counts.same(f"{name} while it is tidied", text, "later\n" if name == "typed" else "")
+        counts.same(f"what is said, {name}", page.browser.run(TIDIED), "")
+    page.open_file((LARGE + LARGE).encode())
+    page.facts()
+    page.browser.run('document.getElementById("tidy-unique").click();')
+    page.open_file(b"another\n")
+    counts.same("a file opened while one is tidied", last_digest(page, sha256(b"another\n")), sha256(b"another\n"))
+    page.paste("x\n")
+    counts.same("a text after it", last_digest(page, sha256(b"x\n")), sha256(b"x\n"))
+
+
 def errors_that_are_over(counts: Counts, page: Page) -> None:
     """A refusal goes at the next draw, also where another field has done away with its cause."""
     page.load()
@@ -129,4 +154,5 @@ def run(counts: Counts, page: Page) -> None:
     facts_of_older_lists(counts, page)
     files_read_late(counts, page)
     checks_of_older_records(counts, page)
+    lists_changed_while_tidied(counts, page)
     errors_that_are_over(counts, page)

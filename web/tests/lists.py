@@ -41,6 +41,8 @@ ALIKE = {
     f"x\n{NFD}\n{NFC.upper()}\n": [f"{ONE} but for small and capital letters: look at line 3."],
     "Ada\nAda \n": [f"{SPACED}: look at line 2.", f"{ONE} but for the spaces at its ends: look at line 2."],
     "\tada\nx\nAda\n": ["1 line begins or ends with a space", f"{ONE} but for small and capital letters: look at line 3."],
+    "a\nA\nb\nb\na\n": ["2 of the lines equal an earlier line: look at line 4.",
+                      f"{ONE} but for small and capital letters: look at line 2."],
     "Ada\nAda\nada\n": [f"{ONE}: look at line 2. ", f"{ONE} but for small and capital letters: look at line 3."],
     "Ada\nx\n \n": [f"{SPACED}: look at line 3.", "Line 3 is an entrant of spaces alone."],
     "\t\nx\n  \n": ["2 lines begin or end with a space or a tab, which belongs to the entrant: look at line 1.",

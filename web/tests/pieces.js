@@ -81,6 +81,65 @@ function restOfLong() {
   }
 }
 
+/** A text of a record with one character more, less or another is refused, or says something else. */
+function otherTexts() {
+  const drawn = { ...RECORD, seed: "4 1 6", entrants: 12, drawn: 3, named: ["Ada", "x".repeat(60), "1: a\\b"].map(utf8) };
+  const record = writeRecord(drawn);
+  const read = (text) => {
+    try {
+      return JSON.stringify(readRecord(text));
+    } catch (error) {
+      if (!(error instanceof RecordError)) throw error;
+      return error.message;
+    }
+  };
+  // What a mail program may do to a line: spaces at its end, marks of a quotation, folds.
+  const plain = (text) => text.replace(/^>[> ]*/gm, "").replace(/[ \t\r]+$/gm, "").replace(/[ \n]+/g, "");
+  const wanted = read(record);
+  const [title, ...rest] = record.split("\n");
+  const start = title.length + 1;
+  const taken = [];
+  for (let place = 0; place < start + rest.join("\n").trimEnd().length; place += 1) {
+    for (const letter of ["", " ", ":", "0", "9", "x", "\"", "\\"]) {
+      for (const end of [place, place + 1]) {
+        const text = record.slice(0, place) + letter + record.slice(end);
+        if (plain(text) !== plain(record) && read(text) === wanted) taken.push([place, letter, end]);
+      }
+    }
+  }
+  same("other texts that are taken for the record", taken, []);
+  for (const [, name] of LINES) {
+    for (const colon of [":", " : ", ":  ", ": : ", "  ", " ", ";"]) {
+      const text = record.replace(`${name}: `, `${name}${colon}`);
+      same(`${name}${colon}`, [read(text) === wanted, colon], [false, colon]);
+    }
+  }
+}
+
+/** In lists of a few words, the lines that are like an earlier one are those that a plain search finds. */
+function alikes() {
+  const forms = [(line) => line, (line) => line.replace(/^[\t ]+|[\t ]+$/g, ""), (line) => line.normalize("NFC"),
+    (line) => line.toLowerCase().normalize("NFC")];
+  const formed = (line, index) => forms.slice(0, index + 1).reduce((text, of) => of(text), line);
+  const searched = (lines) => {
+    const found = forms.map(() => [0, Infinity]);
+    lines.forEach((line, place) => {
+      const index = forms.findIndex((_, form) =>
+        lines.slice(0, place).some((other) => formed(other, form) === formed(line, form)));
+      if (index >= 0) found[index] = [found[index][0] + 1, Math.min(found[index][1], place + 1)];
+    });
+    return found;
+  };
+  const words = ["a", "A", " a", "\u00e9", "e\u0301", "E\u0301\t"];
+  const differ = [];
+  for (let number = 0; number < words.length ** 5; number += 1) {
+    const lines = Array.from({ length: 5 }, (_, place) => words[Math.floor(number / words.length ** place) % words.length]);
+    const found = alikeIn(lines, true).map(({ count, line }) => [count, line]);
+    if (String(found) !== String(searched(lines))) differ.push(lines);
+  }
+  same("lines alike", differ.slice(0, 3), []);
+}
+
 /** A check whose own draw fails says so, and not that the record differs. */
 function failedChecks() {
   const list = utf8("Ada\nBob\n");
@@ -195,6 +254,8 @@ errors();
 versions();
 folds();
 restOfLong();
+otherTexts();
+alikes();
 failedChecks();
 spaces();
 endings();

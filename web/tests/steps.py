@@ -152,6 +152,11 @@ def files_dropped(counts: Counts, page: Page) -> None:
     page.browser.run("document.getElementById('check').click();")
     page.browser.wait("return !document.getElementById('outcome').hidden;")
     counts.same("a record dropped", page.shown()["outcome"], "agrees")
+    for text in (record.replace("drawn: 3", "drawn: 2"), "", record):
+        page.browser.run(DROP, "check-text", "record.txt", text)
+        page.browser.wait("return document.getElementById('check-text').value === arguments[0];", text)
+        counts.same("no outcome of the record before", page.shown()["outcome"], "")
+        page.check(record)
 
 
 def sheets(document: bytes) -> int:
