@@ -215,6 +215,22 @@ fn fills_with_20_rounds() {
 }
 
 #[test]
+fn fills_with_other_rounds() {
+    let mut words = Words::new();
+    for length in [0, 1, 64, 255, 256, 257, 511, 512, 513, 768, 1100, 2048] {
+        check_fill(generator::<0>(&mut words), length);
+        check_fill(generator::<2>(&mut words), length);
+        check_fill(generator::<4>(&mut words), length);
+        check_fill(generator::<6>(&mut words), length);
+        check_fill(generator::<10>(&mut words), length);
+        check_fill(generator::<14>(&mut words), length);
+        check_fill(generator::<16>(&mut words), length);
+        check_fill(generator::<252>(&mut words), length);
+        check_fill(generator::<254>(&mut words), length);
+    }
+}
+
+#[test]
 fn fills_of_every_length() {
     let mut words = Words::new();
     for length in 0..=2000 {

@@ -51,6 +51,8 @@ fn deliver_alike<const ROUNDS: u8>(index: u64) {
 #[test]
 fn streams_deliver_what_buffers_deliver() {
     for index in [0, 0xffff_fffb, u64::MAX - 2, u64::MAX] {
+        deliver_alike::<2>(index);
+        deliver_alike::<6>(index);
         deliver_alike::<8>(index);
         deliver_alike::<12>(index);
         deliver_alike::<20>(index);

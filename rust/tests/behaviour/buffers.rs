@@ -244,6 +244,40 @@ fn a_buffer_in_a_buffer() {
     for_each_size!(buffers_a_buffer);
 }
 
+/// A generator whose blocks come by `rand` alone.
+struct ByRand<const SIZE: usize>(Rising<SIZE>);
+
+impl<const SIZE: usize> Rng<SIZE> for ByRand<SIZE> {
+    fn rand(&mut self) -> [u8; SIZE] {
+        self.0.rand()
+    }
+
+    fn fill_bytes(&mut self, _: &mut [u8]) {
+        panic!("a buffer draws its blocks by `rand`");
+    }
+}
+
+/// The buffer takes the fewest blocks that cover a request, each by the inner `rand`.
+fn draws_by_rand<const SIZE: usize>() {
+    let lengths = [0, 1, 2, SIZE - 1, SIZE, SIZE + 1, 3 * SIZE, 7 * SIZE / 2];
+    for taken in lengths {
+        for length in lengths {
+            let mut rng = BufferedRng::new(ByRand::<SIZE>(Rising::new()));
+            let (mut first, mut second) = (vec![0; taken], vec![0; length]);
+            rng.fill_bytes(&mut first);
+            rng.read_exact(&mut second).expect("no error");
+            assert_eq!([first, second].concat(), bytes(0, taken + length));
+            let blocks = (taken + length + SIZE - 1) / SIZE;
+            assert_eq!(rng.inner().0.drawn(), u64::try_from(blocks).unwrap());
+        }
+    }
+}
+
+#[test]
+fn blocks_are_drawn_by_rand() {
+    for_each_size!(draws_by_rand);
+}
+
 /// Any two requests give what one request of both lengths gives, and the same buffer.
 fn goes_on<G: Rng<OUTPUT> + Clone + PartialEq + Debug, const OUTPUT: usize>(fresh: &G) {
     for first in 0..2 * OUTPUT + 2 {

@@ -194,6 +194,35 @@ fn requests_give_the_blocks() {
     }
 }
 
+/// Blocks of more bytes than 16 bits count, of which a request may leave a part.
+#[test]
+fn blocks_of_any_size() {
+    fn check<const SIZE: usize>() {
+        let fresh = Rising::<SIZE>::new();
+        let stream = stream_of(fresh.clone(), 4 * SIZE);
+        for length in [
+            255,
+            256,
+            SIZE - 1,
+            SIZE,
+            SIZE + 1,
+            65_535,
+            65_536,
+            65_537,
+            4 * SIZE / 3,
+        ] {
+            check_length(&fresh, &stream, length.min(4 * SIZE / 3));
+        }
+    }
+    check::<255>();
+    check::<256>();
+    check::<257>();
+    check::<65_535>();
+    check::<65_536>();
+    check::<65_537>();
+    check::<100_000>();
+}
+
 /// The values of every type are read from the bytes of one request.
 fn check_values<G: Rng<OUTPUT> + Clone, const OUTPUT: usize>(fresh: &G) {
     fn drawn<T: RandomGen<G, OUTPUT>, G: Rng<OUTPUT> + Clone, const OUTPUT: usize>(fresh: &G) -> T {

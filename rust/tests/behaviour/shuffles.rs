@@ -1,7 +1,9 @@
 //! `fill`, `shuffle`, `shuffle_full` and `partial_shuffle`.
 
 use crate::common::{rising, zeros, Constant, Script, Steps, Waste};
+use nanorand_proved::choices::{choose, choose_mut};
 use nanorand_proved::shuffles::{partial_shuffle, shuffle_full};
+use nanorand_proved::values::pick_word;
 use nanorand_proved::{BufferedRng, ChaCha8, Pcg64, RangeError, Rng, WyRand};
 
 const LETTERS: [char; 3] = ['a', 'b', 'c'];
@@ -97,6 +99,58 @@ fn refused_at_each_step() {
                 assert_eq!(answer, Ok(()), "{words} {count}");
                 assert_eq!(script.drawn(), count, "{words} {count}");
             }
+        }
+    }
+}
+
+/// What so many steps answer if each word is this one, and how many words they take.
+#[cfg(target_pointer_width = "64")]
+fn by_equal_words(word: u64, items: usize, count: usize) -> (Result<(), RangeError>, usize) {
+    let left = |step| u128::try_from(items - step).expect("a number of items");
+    match (0..count).find(|step| pick_word(left(*step), 64, word).is_none()) {
+        Some(step) => (EXHAUSTED, step + 128),
+        None => (Ok(()), count),
+    }
+}
+
+/// A slice of items without a size may have as many as a `usize` counts.
+#[test]
+#[cfg(target_pointer_width = "64")]
+fn more_items_than_32_bits_count() {
+    for items in [
+        u32::MAX as usize,
+        1 << 32,
+        (1 << 32) + 1,
+        1 << 40,
+        usize::MAX,
+    ] {
+        let mut nothing = vec![(); items];
+        for byte in [0, 1, 127, 128, 255] {
+            let word = u64::from_le_bytes([byte; 8]);
+            for count in 0..4 {
+                let mut rng = Constant::new(byte);
+                let answer = partial_shuffle(&mut rng, &mut nothing, count);
+                let drawn = usize::try_from(rng.drawn()).expect("a few words");
+                assert_eq!(
+                    (answer, drawn),
+                    by_equal_words(word, items, count),
+                    "{items} {byte}"
+                );
+            }
+            let (mut rng, mut same) = (Constant::new(byte), Constant::new(byte));
+            let (answer, drawn) = by_equal_words(word, items, 1);
+            assert_eq!(
+                choose(&mut rng, &nothing).map(|()| ()),
+                answer,
+                "{items} {byte}"
+            );
+            assert_eq!(
+                choose_mut(&mut same, &mut nothing).map(|()| ()),
+                answer,
+                "{items} {byte}"
+            );
+            assert_eq!(usize::try_from(rng.drawn()), Ok(drawn), "{items} {byte}");
+            assert_eq!(rng, same, "{items} {byte}");
         }
     }
 }
