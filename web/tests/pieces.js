@@ -29,6 +29,27 @@ function errors() {
   }
 }
 
+/** Each status of an export that a draw or a count may return, as the page tells it. */
+function statuses() {
+  const refusedBy = (call) => {
+    try {
+      return call();
+    } catch (error) {
+      return refusalOf(error);
+    }
+  };
+  for (let status = 1; status < 12; status += 1) {
+    const memory = { buffer: new ArrayBuffer(65536), grow() { this.buffer = new ArrayBuffer(131072); } };
+    const exports = { memory, nanorand_v1_lots_count: () => status, nanorand_v1_lots_draw: () => status };
+    const module = new Module({ exports }, 64);
+    const failed = (name) => ["the module failed", { reason: `status ${status} of ${name}` }];
+    same(`a count of status ${status}`, refusedBy(() => module.count(utf8("a\n"))),
+      status === 4 ? ["line is empty", { line: "0" }] : failed("count"));
+    same(`a draw of status ${status}`, refusedBy(() => module.draw(utf8("a"), 1, 1)),
+      status === 8 ? ["words were rejected", {}] : failed("draw"));
+  }
+}
+
 const RECORD = {
   seed: "a seed", list: "0".repeat(64), entrants: 9, drawn: 1, version: "1.0.0", module: "1".repeat(64),
   result: "2".repeat(64), named: [utf8("Ada")],
@@ -251,6 +272,7 @@ async function cannotStart(workers) {
 }
 
 errors();
+statuses();
 versions();
 folds();
 restOfLong();

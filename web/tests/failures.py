@@ -1,0 +1,180 @@
+"""What goes wrong beside the page: a module that fails, memory that is missing, a worker that is lost, files that
+cannot be read, and what is dropped that is no file."""
+
+from typing import Any, Dict, Tuple
+
+from counts import Counts, sha256
+from page import Page
+
+LIST = "Ada\nBarbara\nChidi\n"
+# In place of the worker, what `refused` has for a task is its answer.
+REFUSED = """
+window.refused = {};
+window.lost = null;
+const post = Worker.prototype.postMessage;
+Worker.prototype.postMessage = function (message) {
+  const refusal = window.refused[message.task];
+  window.lost ??= () => this.onerror({ message: "it stopped" });
+  if (refusal) queueMicrotask(() => this.onmessage({ data: { number: message.number, refusal } }));
+  else post.call(this, message);
+};
+"""
+SET = "window.refused = { [arguments[0]]: { reason: arguments[1], values: arguments[2] } };"
+FIELDS = ("page", "list", "seed", "count")
+FAILED = "The module failed, and nothing is drawn: it stopped"
+# Each refusal that no input leads to, or that another test leads to, with where it stands and what it says.
+REFUSALS: "Dict[str, Tuple[Dict[str, Any], str, str]]" = {
+    "no memory": ({}, "page", "The browser gives no memory for a list of this size."),
+    "the module failed": ({"reason": "it stopped"}, "page", FAILED),
+    "words were rejected": (
+        {}, "page", "128 words in a row were rejected. Nothing is drawn. This was never seen."),
+    "line is empty": ({"line": "7"}, "list", "Line 7 is empty. Each line of the list must have an entrant."),
+    "too few entrants": ({"entrants": 5, "count": "9"}, "count", "The list has 5 entrants, and 9 are asked for."),
+    "seed is empty": ({}, "seed", "The seed is empty. Type at least one character."),
+}
+DROP_TEXT = """
+const data = new DataTransfer();
+data.setData("text/plain", "dropped");
+return ["dragover", "drop"].map((kind) => {
+  const event = new DragEvent(kind, { dataTransfer: data, bubbles: true, cancelable: true });
+  document.getElementById(arguments[0]).dispatchEvent(event);
+  return event.defaultPrevented;
+});
+"""
+
+
+def errors(page: Page) -> Dict[str, str]:
+    shown = page.shown()
+    return {field: shown[field] for field in FIELDS if shown[field]}
+
+
+def filled(page: Page) -> None:
+    page.paste(LIST)
+    page.fill("seed", "all")
+
+
+def draws_again(counts: Counts, page: Page, name: str) -> None:
+    """Once the cause is gone, so is what was said of it."""
+    page.browser.run("window.refused = {};")
+    page.paste(LIST + "Dmitri\n")
+    page.facts()
+    shown = page.draw()
+    counts.same(f"{name}: later", (len(shown["drawn"]), errors(page)), (4, {}))
+
+
+def draws(counts: Counts, page: Page) -> None:
+    for reason, (values, field, words) in REFUSALS.items():
+        page.load()
+        page.browser.run(REFUSED)
+        filled(page)
+        counts.same(f"{reason}: before", len(page.draw()["drawn"]), 3)
+        page.browser.run(SET, "draw", reason, values)
+        shown = page.draw()
+        counts.same(f"a draw, {reason}", (errors(page), shown["record"], shown["title"]), ({field: words}, "", ""))
+        draws_again(counts, page, f"a draw, {reason}")
+
+
+def checks(counts: Counts, page: Page) -> None:
+    for reason, (values, field, words) in REFUSALS.items():
+        page.load()
+        page.browser.run(REFUSED)
+        filled(page)
+        record = page.draw()["record"]
+        counts.same(f"{reason}: before", page.check(record)["outcome"], "agrees")
+        page.browser.run(SET, "check", reason, values)
+        counts.same(f"a check, {reason}", page.check(record)["outcome"], "")
+        page.tab("draw")
+        counts.same(f"a check, {reason}: what is said", errors(page), {field: words})
+        page.browser.run("window.refused = {};")
+        counts.same(f"a check, {reason}: again", page.check(record)["outcome"], "agrees")
+
+
+def lists(counts: Counts, page: Page) -> None:
+    for reason in ("no memory", "the module failed", "line is empty"):
+        values, field, words = REFUSALS[reason]
+        page.load()
+        page.browser.run(REFUSED)
+        page.browser.run(SET, "list", reason, values)
+        filled(page)
+        found = page.facts()
+        counts.same(f"a list, {reason}", (errors(page), found["digest"], found["entrants"]), ({field: words}, "", ""))
+        shown = page.draw()
+        counts.same(f"a list, {reason}: a draw", (shown["record"], shown["title"]), ("", ""))
+        counts.same(f"a list, {reason}: a check", page.check("no record")["outcome"], "")
+        draws_again(counts, page, f"a list, {reason}")
+    page.load()
+    record = "nanorand public draw 1\n"
+    page.paste("a\n\n")
+    counts.same("a check by a bad list", page.check(record)["outcome"], "")
+    counts.same("its focus", page.browser.run("return document.activeElement.id;"), "list-text")
+
+
+def changes(counts: Counts, page: Page) -> None:
+    """Equal lines that cannot be removed."""
+    page.load()
+    page.browser.run(REFUSED)
+    page.paste(LIST + LIST)
+    digest = page.facts()["digest"]
+    page.browser.run(SET, "tidy", "no memory", {})
+    page.browser.run("document.getElementById('tidy-unique').click();")
+    page.browser.wait("return !document.getElementById('page-error').hidden;")
+    found = page.shown()
+    counts.same("a change that fails", (found["page"], found["digest"]), (REFUSALS["no memory"][2], digest))
+    text = page.browser.run("return document.getElementById('list-text').value;")
+    counts.same("the list after it", text, LIST + LIST)
+
+
+def lost_workers(counts: Counts, page: Page) -> None:
+    """Whatever is asked for after it is refused, and nothing of before is left as if it were new."""
+    page.load()
+    page.browser.run(REFUSED)
+    filled(page)
+    page.draw()
+    page.browser.run("window.lost();")
+    for count in ("2", "all", "x"):
+        page.fill("seed", count)
+        shown = page.draw()
+        counts.same(f"a draw of {count} without a worker", (errors(page), shown["record"], shown["title"]),
+                    ({"page": FAILED}, "", ""))
+    counts.same("a check without a worker", page.check("no record")["outcome"], "")
+    page.tab("draw")
+    page.paste("other\n")
+    page.browser.wait("return !document.getElementById('page-error').hidden;")
+    found = page.shown()
+    counts.same("a list without a worker", (errors(page), found["digest"]), ({"page": FAILED}, ""))
+    counts.same("no progress", page.browser.run("return document.getElementById('progress').hidden;"), True)
+
+
+def files(counts: Counts, page: Page) -> None:
+    page.load()
+    page.paste(LIST)
+    digest = page.facts()["digest"]
+    page.browser.run("document.getElementById('list-file').dispatchEvent(new Event('change'));")
+    counts.same("no file is chosen", page.facts()["digest"], digest)
+    for target in ("list-text", "check-text", "panel"):
+        left = page.browser.run(DROP_TEXT, target)
+        counts.same(f"a text dropped on {target}", (left, page.facts()["digest"]), ([False, False], digest))
+    page.browser.run("""window.read = Blob.prototype.arrayBuffer;
+        Blob.prototype.arrayBuffer = () => Promise.reject(new Error("gone"));""")
+    page.open_file(b"Max\n")
+    found = page.facts()
+    counts.same("a file that cannot be read", (errors(page), found["digest"]), ({"list": "The file cannot be read."}, ""))
+    page.fill("seed", "all")
+    counts.same("its draw", page.draw()["record"], "")
+    page.browser.run("Blob.prototype.arrayBuffer = window.read;")
+    page.open_file(b"Max\n")
+    counts.same("the next file", (page.facts()["digest"], errors(page)), (sha256(b"Max\n"), {}))
+
+
+def prints(counts: Counts, page: Page) -> None:
+    page.load()
+    page.browser.run("window.printed = 0; window.print = () => { window.printed += 1; };")
+    filled(page)
+    page.draw()
+    page.browser.run("document.getElementById('print').click();")
+    counts.same("print", page.browser.run("return window.printed;"), 1)
+
+
+def run(counts: Counts, page: Page) -> None:
+    for part in (draws, checks, lists, changes, lost_workers, files, prints):
+        part(counts, page)
