@@ -38,7 +38,8 @@ static int add_real(PyObject *weight, int summed, double *sum)
         return -1;
     }
     double next = summed ? number : *sum + number;
-    if (!isfinite(next) || next < *sum) {
+    int falls = summed ? next < *sum : number < 0.0;
+    if (!isfinite(next) || falls) {
         raise_text("OutOfBounds", "the weight %R leaves no finite sum above that before it", weight);
         return -1;
     }

@@ -137,6 +137,9 @@ class Choices(unittest.TestCase):
     def test_weights_out_of_bounds(self):
         lists = [[1, -1], [-1, 5], [2**64, 0], [LAST, 1], [2**63, 2**63], [-(10**5000), 1], [1, 2, -0.5], [-1.0, 5]]
         lists += [[1.0, math.nan], [math.inf, 1], [-math.inf, 1], [1e308, 1e308], [math.nan, math.nan], [0.5, -0.6]]
+        # A weight below 0 beside one so great that the sum does not change.
+        lists += [[great, less] for great in (1.0, 1e16, 1e17, 1e300, 1.7e308) for less in (-5e-324, -1e-20, -1.0)]
+        lists += [[less, great] for great in (1.0, 1e300) for less in (-5e-324, -1.0)]
         sums = [[5, 3], [1, 2**64], [-1, 5], [1.0, 0.5], [1.0, math.nan], [1.0, math.inf], [-1.0, 1]]
         for rng in generators():
             for weights in lists:
