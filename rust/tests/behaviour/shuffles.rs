@@ -140,12 +140,12 @@ fn more_items_than_32_bits_count() {
             let (mut rng, mut same) = (Constant::new(byte), Constant::new(byte));
             let (answer, drawn) = by_equal_words(word, items, 1);
             assert_eq!(
-                choose(&mut rng, &nothing).map(|()| ()),
+                choose(&mut rng, &nothing).copied(),
                 answer,
                 "{items} {byte}"
             );
             assert_eq!(
-                choose_mut(&mut same, &mut nothing).map(|()| ()),
+                choose_mut(&mut same, &mut nothing).copied(),
                 answer,
                 "{items} {byte}"
             );
