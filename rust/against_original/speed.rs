@@ -2,6 +2,8 @@
 //! `fastrand` where they are there: `rust/bench FOLDER` builds and starts it. Prints the times of this build, or,
 //! as `speed table FILE..`, the table of the builds whose times the files have.
 
+#[path = "../benches/parts/least.rs"]
+mod least;
 #[path = "../benches/parts/mixing.rs"]
 mod mixing;
 #[path = "../benches/parts/row.rs"]

@@ -1,32 +1,8 @@
 //! The table: of each row the least and the median of the builds.
 
+use crate::least::read;
 use crate::row::Times;
 use std::error::Error;
-use std::fs;
-
-impl Times {
-    // Keeps the less of both times of each library.
-    fn lower(&mut self, other: &Times) {
-        self.here = self.here.min(other.here);
-        self.original = self.original.min(other.original);
-        for ((_, least), (_, time)) in self.peers.iter_mut().zip(&other.peers) {
-            *least = least.min(*time);
-        }
-    }
-}
-
-// The times of one build: of each row the least of its runs, which the file has one after another.
-fn read(path: &str) -> Result<Vec<Times>, Box<dyn Error>> {
-    let mut rows: Vec<Times> = Vec::new();
-    for line in fs::read_to_string(path)?.lines() {
-        let row: Times = line.parse()?;
-        match rows.iter_mut().find(|known| known.name == row.name) {
-            Some(known) => known.lower(&row),
-            None => rows.push(row),
-        }
-    }
-    Ok(rows)
-}
 
 // The least of the builds' times, and their median.
 fn figures(builds: &[Vec<Times>], time: impl Fn(&Vec<Times>) -> f64) -> [f64; 2] {

@@ -1,0 +1,29 @@
+//! The times that files have.
+
+use crate::row::Times;
+use std::error::Error;
+use std::fs;
+
+impl Times {
+    /// Keeps the less of both times of each library.
+    pub fn lower(&mut self, other: &Times) {
+        self.here = self.here.min(other.here);
+        self.original = self.original.min(other.original);
+        for ((_, least), (_, time)) in self.peers.iter_mut().zip(&other.peers) {
+            *least = least.min(*time);
+        }
+    }
+}
+
+/// The times of one build: of each row the least of its runs, which the file has one after another.
+pub fn read(path: &str) -> Result<Vec<Times>, Box<dyn Error>> {
+    let mut rows: Vec<Times> = Vec::new();
+    for line in fs::read_to_string(path)?.lines() {
+        let row: Times = line.parse()?;
+        match rows.iter_mut().find(|known| known.name == row.name) {
+            Some(known) => known.lower(&row),
+            None => rows.push(row),
+        }
+    }
+    Ok(rows)
+}
