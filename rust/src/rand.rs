@@ -69,7 +69,7 @@ pub trait Rng<const OUTPUT: usize>: Sized {
     }
 
     /// Draws a value, as [`RandomGen`] says for the type.
-    #[inline]
+    #[inline(always)]
     fn generate<T: RandomGen<Self, OUTPUT>>(&mut self) -> T {
         T::random(self)
     }
@@ -326,11 +326,13 @@ pub(crate) fn draw_partner<G: Rng<OUTPUT>, const OUTPUT: usize>(
 /// It is the `fill_bytes` of a plain generator, which starts each request on a new block. `WyRand`
 /// and `Pcg64` use it, `ChaCha` uses it for the bytes after the last whole group of four blocks,
 /// and a user's generator may.
+#[inline(always)]
 pub fn fill_by_blocks<G: Rng<OUTPUT>, const OUTPUT: usize>(rng: &mut G, buffer: &mut [u8]) {
     let () = crate::layer::BlockLength::<OUTPUT>::POSITIVE;
 
     let mut filled = 0;
-    while OUTPUT <= buffer.len() - filled {
+    // This test is the one that the slice needs, so LLVM drops the slice's own.
+    while filled + OUTPUT <= buffer.len() {
         let block = rng.rand();
         buffer[filled..filled + OUTPUT].copy_from_slice(&block);
         filled += OUTPUT;

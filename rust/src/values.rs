@@ -51,7 +51,7 @@ pub trait RandomGen<G: Rng<OUTPUT>, const OUTPUT: usize> {
 
 /// Takes one byte, and is true if it is below 128.
 impl<G: Rng<OUTPUT>, const OUTPUT: usize> RandomGen<G, OUTPUT> for bool {
-    #[inline]
+    #[inline(always)]
     fn random(rng: &mut G) -> bool {
         u8::from_le_bytes(next_bytes(rng)) < 128
     }
@@ -80,7 +80,7 @@ pub fn fill_with<G, T, F: FnMut(&mut G) -> T>(rng: &mut G, target: &mut [T], mut
 }
 
 // The next `SIZE` bytes, by one request.
-#[inline]
+#[inline(always)]
 fn next_bytes<G: Rng<OUTPUT>, const SIZE: usize, const OUTPUT: usize>(rng: &mut G) -> [u8; SIZE] {
     let mut bytes = [0; SIZE];
     rng.fill_bytes(&mut bytes);

@@ -196,12 +196,14 @@ pub(crate) fn draw_partner<G: Rng<OUTPUT>, const OUTPUT: usize>(
 /// It is the `fill_bytes` of a plain generator, which starts each request on a new block. `WyRand`
 /// and `Pcg64` use it, `ChaCha` uses it for the bytes after the last whole group of four blocks,
 /// and a user's generator may.
+#[inline]
 pub fn fill_by_blocks<G: Blocks<OUTPUT>, const OUTPUT: usize>(rng: &mut G, buffer: &mut [u8])
     ensures bytes { buffer.new ≡ taken G.block G.step rng.old (length buffer.old) }
     ensures state { rng.new ≡ plain_after G.step OUTPUT rng.old (length buffer.old) }
 {
     let mut filled = 0;
-    while OUTPUT <= buffer.len() - filled {
+    // This test is the one that the slice needs, so LLVM drops the slice's own.
+    while filled + OUTPUT <= buffer.len() {
         let block = rng.rand();
         buffer[filled..filled + OUTPUT].copy_from_slice(&block);
         filled += OUTPUT;

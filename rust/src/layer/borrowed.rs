@@ -1,6 +1,7 @@
 //! A borrowed generator is a generator: `f(&mut rng)` where `f` takes any `Rng`.
 
 use crate::rand::{Rng, SeedableRng};
+use crate::values::RangeError;
 
 /// Each call is made on the generator that is borrowed.
 impl<R: Rng<OUTPUT>, const OUTPUT: usize> Rng<OUTPUT> for &mut R {
@@ -12,6 +13,11 @@ impl<R: Rng<OUTPUT>, const OUTPUT: usize> Rng<OUTPUT> for &mut R {
     #[inline]
     fn fill_bytes(&mut self, buffer: &mut [u8]) {
         (**self).fill_bytes(buffer);
+    }
+
+    #[inline]
+    fn shuffle<T>(&mut self, target: &mut [T]) -> Result<(), RangeError> {
+        (**self).shuffle(target)
     }
 }
 

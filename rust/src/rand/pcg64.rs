@@ -156,7 +156,7 @@ impl fmt::Display for Pcg64 {
 }
 
 impl Rng<8> for Pcg64 {
-    #[inline]
+    #[inline(always)]
     fn rand(&mut self) -> [u8; 8] {
         self.inc = self.seed.wrapping_mul(2).wrapping_add(1);
         self.seed = self.seed.wrapping_mul(FACTOR).wrapping_add(TERM);
@@ -164,7 +164,7 @@ impl Rng<8> for Pcg64 {
         folded(self.seed).to_le_bytes()
     }
 
-    #[inline]
+    #[inline(always)]
     fn fill_bytes(&mut self, buffer: &mut [u8]) {
         fill_by_blocks(self, buffer)
     }

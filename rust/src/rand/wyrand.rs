@@ -8,6 +8,8 @@ use crate::entropy::{system, EntropyError};
 use crate::parts::{draws_before, Parts, PastPeriod};
 use crate::rand::halves::folded;
 use crate::rand::{fill_by_blocks, Rng, SeedableRng};
+use crate::values::word::pick_word;
+use crate::values::RangeError;
 use core::fmt;
 #[cfg(feature = "std")]
 use std::io::Read;
@@ -111,15 +113,23 @@ impl fmt::Display for WyRand {
 }
 
 impl Rng<8> for WyRand {
-    #[inline]
+    #[inline(always)]
     fn rand(&mut self) -> [u8; 8] {
         self.seed = self.seed.wrapping_add(INCREMENT);
         word(self.seed).to_le_bytes()
     }
 
-    #[inline]
+    #[inline(always)]
     fn fill_bytes(&mut self, buffer: &mut [u8]) {
         fill_by_blocks(self, buffer)
+    }
+
+    // On a copy of the seed, which stays in a register, and is stored once at the end.
+    #[inline]
+    fn shuffle<T>(&mut self, target: &mut [T]) -> Result<(), RangeError> {
+        let (answer, seed) = shuffle_from(self.seed, target);
+        self.seed = seed;
+        answer
     }
 }
 
@@ -143,8 +153,54 @@ impl SeedableRng<8, 8> for WyRand {
 }
 
 // The word of the seed that a draw leaves.
-#[inline]
+#[inline(always)]
 fn word(seed: u64) -> u64 {
     let product = u128::from(seed) * u128::from(seed ^ MASK);
     folded(product)
+}
+
+// The shuffle from a seed, and the seed that it leaves.
+#[inline]
+fn shuffle_from<T>(seed: u64, target: &mut [T]) -> (Result<(), RangeError>, u64) {
+    let mut now = seed;
+    let count = target.len();
+    for place in 0..count {
+        let (ahead, after) = below(now, (count - place) as u64);
+        now = after;
+        match ahead {
+            Some(ahead) => target.swap(place, place + ahead as usize),
+            None => return (Err(RangeError::Exhausted), now),
+        }
+    }
+    (Ok(()), now)
+}
+
+// A number below `left`, drawn from a seed, and the seed that the draw leaves.
+#[inline]
+fn below(seed: u64, left: u64) -> (Option<u64>, u64) {
+    let after = seed.wrapping_add(INCREMENT);
+    let product = u128::from(word(after)) * u128::from(left);
+    // Fewer than `left` words are rejected, so a low half of at least `left` is accepted as it is.
+    let low = (product % (1 << 64)) as u64;
+    if low >= left {
+        (Some((product >> 64) as u64), after)
+    } else {
+        searched(after, left)
+    }
+}
+
+// The same, by each word in turn, from the seed after the first draw: the caller's loop then keeps one
+// seed alone.
+#[cold]
+#[inline(never)]
+fn searched(after: u64, left: u64) -> (Option<u64>, u64) {
+    let mut now = after.wrapping_sub(INCREMENT);
+    let mut number = None;
+    let mut drawn = 0usize;
+    while number.is_none() & (drawn < 128) {
+        now = now.wrapping_add(INCREMENT);
+        number = pick_word(u128::from(left), 64, word(now));
+        drawn += 1;
+    }
+    (number, now)
 }

@@ -8,7 +8,7 @@ use super::{next_bytes, RandomGen};
 use crate::rand::Rng;
 
 impl<G: Rng<OUTPUT>, const OUTPUT: usize> RandomGen<G, OUTPUT> for u8 {
-    #[inline]
+    #[inline(always)]
     fn random(rng: &mut G) -> u8 {
         u8::from_le_bytes(next_bytes(rng))
     }
@@ -20,35 +20,35 @@ impl<G: Rng<OUTPUT>, const OUTPUT: usize> RandomGen<G, OUTPUT> for u8 {
 }
 
 impl<G: Rng<OUTPUT>, const OUTPUT: usize> RandomGen<G, OUTPUT> for u16 {
-    #[inline]
+    #[inline(always)]
     fn random(rng: &mut G) -> u16 {
         u16::from_le_bytes(next_bytes(rng))
     }
 }
 
 impl<G: Rng<OUTPUT>, const OUTPUT: usize> RandomGen<G, OUTPUT> for u32 {
-    #[inline]
+    #[inline(always)]
     fn random(rng: &mut G) -> u32 {
         u32::from_le_bytes(next_bytes(rng))
     }
 }
 
 impl<G: Rng<OUTPUT>, const OUTPUT: usize> RandomGen<G, OUTPUT> for u64 {
-    #[inline]
+    #[inline(always)]
     fn random(rng: &mut G) -> u64 {
         u64::from_le_bytes(next_bytes(rng))
     }
 }
 
 impl<G: Rng<OUTPUT>, const OUTPUT: usize> RandomGen<G, OUTPUT> for u128 {
-    #[inline]
+    #[inline(always)]
     fn random(rng: &mut G) -> u128 {
         u128::from_le_bytes(next_bytes(rng))
     }
 }
 
 impl<G: Rng<OUTPUT>, const OUTPUT: usize> RandomGen<G, OUTPUT> for usize {
-    #[inline]
+    #[inline(always)]
     fn random(rng: &mut G) -> usize {
         u64::from_le_bytes(next_bytes(rng)) as usize
     }

@@ -107,9 +107,19 @@ pub(crate) fn rejected(size: u64, bits: u32) -> u64 {
     }
 }
 
-// Few words need the division, so it is kept out of line, outside the loop that draws.
+// No fewer than the words that are rejected, without a division: a low half of at least that many is
+// accepted as it is. Of a size above half it is their number, so that a draw has one test that no
+// processor foresees.
+#[inline(always)]
+fn most_rejected(size: u64, bits: u32) -> u64 {
+    let others = ((1u128 << bits) - u128::from(size)) as u64;
+    others.min(size)
+}
+
+// Few words need the division, so it is kept apart from the path that draws. It is no call: LLVM must
+// take one of another crate to unwind, and would then store the state of a generator before each.
 #[cold]
-#[inline(never)]
+#[inline]
 fn remainder(others: u64, size: u64) -> u64 {
     others % size
 }
@@ -142,8 +152,8 @@ pub fn draw_below<G: Rng<OUTPUT>, const OUTPUT: usize>(
     }
     let size = size as u64;
     let mut product = product_of(size, bits, first);
-    // Fewer than `size` words are rejected, so a low half of at least `size` is accepted as it is.
-    if !low_is_below(product, size, bits) {
+    let limit = most_rejected(size, bits);
+    if !low_is_below(product, limit, bits) {
         return Some(high_of(product, bits));
     }
     let rejects = rejected(size, bits);

@@ -213,7 +213,7 @@ impl Blocks<8> for Pcg64 {
 
     ghost step = { next };
 
-    #[inline]
+    #[inline(always)]
     fn rand(&mut self) -> [u8; 8] {
         self.inc = self.seed.wrapping_mul(2).wrapping_add(1);
         self.seed = self.seed.wrapping_mul(FACTOR).wrapping_add(TERM);
@@ -231,7 +231,7 @@ impl Blocks<8> for Pcg64 {
 impl Rng<8> for Pcg64 {
     ghost requests = { pcg64_requests };
 
-    #[inline]
+    #[inline(always)]
     fn fill_bytes(&mut self, buffer: &mut [u8]) {
         fill_by_blocks(self, buffer)
     }

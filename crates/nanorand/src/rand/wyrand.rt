@@ -1,19 +1,25 @@
 //! WyRand: a 64-bit seed, and a 64-bit word per draw.
-ghost use Rattle.std.specs.Prelude.{◌≡◌, ◌==◌, ◌↔◌, length, ◌⊎◌, ⊤, refl, Some, IfOk, IfErr, OnErr, IsOk, IsTrue, codes, ℕ, ◌+◌, ◌*◌, ◌<◌, ◌≤◌, ◌^◌};
+ghost use Rattle.std.specs.Prelude.{◌≡◌, ◌==◌, ◌↔◌, ◌-◌, ◌%◌, length, IsPermutation, OnOk, IfSome, ◌⊎◌, ⊤, refl, Some, IfOk, IfErr, OnErr, IsOk, IsTrue, codes, ℕ, ◌+◌, ◌*◌, ◌<◌, ◌≤◌, ◌^◌};
 ghost use Rattle.std.specs.Cmp.Rules.{comparing};
 ghost use Rattle.std.proofs.Common.{rules};
 ghost use Rattle.nanorand.specs.generators.Entropy.{HasFewer, IsMadeOf, TakesFewer};
 ghost use Rattle.nanorand.specs.generators.DebugTexts.{wyrand_debug};
+ghost use Rattle.nanorand_core.specs.shuffles.Arrangements.{IsValid};
+ghost use Rattle.nanorand_core.specs.shuffles.Shuffles.{from_itself, shuffled};
+ghost use Rattle.nanorand_core.specs.values.Draws.{after_words, drawn_below, word_limit};
+ghost use Rattle.nanorand_core.specs.declared.values.range.RangeError.TheVariants.{Exhausted};
 ghost use Rattle.nanorand_core.specs.values.Values.{number_of};
 ghost use Rattle.nanorand.specs.support.OnwardLemmas.{onward_8};
 ghost use Rattle.nanorand.specs.generators.Parts.{ComesAgain, NothingTwice, after_draws, part_at};
-ghost use Rattle.nanorand.specs.generators.WyRand.{next_seed, wyrand_block, word, seed_after, wyrand_after, wyrand_requests};
+ghost use Rattle.nanorand.specs.generators.WyRand.{increment, next_seed, wyrand_block, word, seed_after, wyrand_after, wyrand_requests};
 ghost use Rattle.nanorand.specs.declared.entropy.EntropyError.TheVariants.{Short, Fault};
 
 use crate::entropy::{EntropyError, system};
 use crate::parts::{Parts, PastPeriod, draws_before};
 use crate::rand::halves::folded;
 use nanorand_core::rand::{Blocks, Rng, SeedableRng, fill_by_blocks};
+use nanorand_core::values::RangeError;
+use nanorand_core::values::word::pick_word;
 use std::alloc::AllocError;
 use std::fmt;
 use std::io::Read;
@@ -167,7 +173,7 @@ impl Blocks<8> for WyRand {
 
     ghost step = { next_seed };
 
-    #[inline]
+    #[inline(always)]
     fn rand(&mut self) -> [u8; 8] {
         self.seed = self.seed.wrapping_add(INCREMENT);
         word(self.seed).to_le_bytes()
@@ -183,9 +189,17 @@ impl Blocks<8> for WyRand {
 impl Rng<8> for WyRand {
     ghost requests = { wyrand_requests };
 
-    #[inline]
+    #[inline(always)]
     fn fill_bytes(&mut self, buffer: &mut [u8]) {
         fill_by_blocks(self, buffer)
+    }
+
+    // On a copy of the seed, which stays in a register, and is stored once at the end.
+    #[inline]
+    fn shuffle<T>(&mut self, target: &mut [T]) -> Result<(), RangeError> {
+        let (answer, seed) = shuffle_from(self.seed, target);
+        self.seed = seed;
+        answer
     }
 
     ghost delivers = { λ _ _. refl };
@@ -231,10 +245,80 @@ impl SeedableRng<8, 8> for WyRand {
 }
 
 // The word of the seed that a draw leaves.
-#[inline]
+#[inline(always)]
 fn word(seed: u64) -> u64
     ensures { result ≡ word seed }
 {
     let product = u128::from(seed) * u128::from(seed ^ MASK);
     folded(product)
+}
+
+// The shuffle from a seed, and the seed that it leaves.
+#[inline]
+fn shuffle_from<T>(seed: u64, target: &mut [T]) -> (Result<(), RangeError>, u64)
+    ensures answer { result.0 ≡ (shuffled wyrand_requests from_itself seed target.old).answer }
+    ensures items { target.new ≡ (shuffled wyrand_requests from_itself seed target.old).items }
+    ensures state { result.1 ≡ (shuffled wyrand_requests from_itself seed target.old).state }
+    ensures arrangement { IsPermutation target.old target.new }
+    ensures refusal { IfErr result.0 (λ refusal. refusal ≡ Exhausted) }
+    ensures whole { let shuffle = shuffled wyrand_requests from_itself seed target.old in
+        OnOk result.0 (length shuffle.choices ≡ length target.old) }
+    ensures valid { let shuffle = shuffled wyrand_requests from_itself seed target.old in
+        OnOk result.0 (IsValid shuffle.choices) }
+    ensures words { (n : ℕ) × (n ≤ word_limit * length target.old)
+        × (result.1 ≡ after_words wyrand_requests 64 n seed) }
+{
+    let mut now = seed;
+    let count = target.len();
+    for place in 0..count {
+        let (ahead, after) = below(now, (count - place) as u64);
+        now = after;
+        match ahead {
+            Some(ahead) => target.swap(place, place + ahead as usize),
+            None => return (Err(RangeError::Exhausted), now),
+        }
+    }
+    (Ok(()), now)
+}
+
+// A number below `left`, drawn from a seed, and the seed that the draw leaves.
+#[inline]
+fn below(seed: u64, left: u64) -> (Option<u64>, u64)
+    requires { 1 ≤ left }
+    ensures below { IfSome result.0 (λ number. number < left) }
+    ensures number { result.0 ≡ (drawn_below wyrand_requests 64 left seed).number }
+    ensures state { result.1 ≡ (drawn_below wyrand_requests 64 left seed).state }
+{
+    let after = seed.wrapping_add(INCREMENT);
+    let product = u128::from(word(after)) * u128::from(left);
+    // Fewer than `left` words are rejected, so a low half of at least `left` is accepted as it is.
+    let low = (product % (1 << 64)) as u64;
+    if low >= left {
+        (Some((product >> 64) as u64), after)
+    } else {
+        searched(after, left)
+    }
+}
+
+// The same, by each word in turn, from the seed after the first draw: the caller's loop then keeps one
+// seed alone.
+#[cold]
+#[inline(never)]
+fn searched(after: u64, left: u64) -> (Option<u64>, u64)
+    requires { 1 ≤ left }
+    ensures below { IfSome result.0 (λ number. number < left) }
+    ensures number { let seed = (after + (2 ^ 64 - increment)) % 2 ^ 64 in
+        result.0 ≡ (drawn_below wyrand_requests 64 left seed).number }
+    ensures state { let seed = (after + (2 ^ 64 - increment)) % 2 ^ 64 in
+        result.1 ≡ (drawn_below wyrand_requests 64 left seed).state }
+{
+    let mut now = after.wrapping_sub(INCREMENT);
+    let mut number = None;
+    let mut drawn = 0usize;
+    'words: while number.is_none() & (drawn < 128) {
+        now = now.wrapping_add(INCREMENT);
+        number = pick_word(u128::from(left), 64, word(now));
+        drawn += 1;
+    }
+    (number, now)
 }

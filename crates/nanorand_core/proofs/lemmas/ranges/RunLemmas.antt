@@ -204,6 +204,13 @@ judged-high bits size product some high =
     let kept = le-ltb (product % 2 ^ bits) (rejected bits size) (omega (arith, fewer, ltb-false _ _ high)) in
     rw kept refl
 
+-- so is one whose low part is at least a number that no fewer than all rejected words reach
+pub judged-past : (bits size limit product : ℕ) → rejected bits size ≤ limit → nat_lt (product % 2 ^ bits) limit ≡ false
+    → judged bits size product ≡ Some (product / 2 ^ bits)
+judged-past bits size limit product most high =
+    let kept = le-ltb (product % 2 ^ bits) (rejected bits size) (omega (arith, most, ltb-false _ _ high)) in
+    rw kept refl
+
 pub judged-is_some : (bits size product : ℕ) → is_some (judged bits size product) ≡ not (nat_lt (product % 2 ^ bits) (rejected bits size))
 judged-is_some bits size product =
     elim (cases_Bool (nat_lt (product % 2 ^ bits) (rejected bits size))) [

@@ -3,8 +3,8 @@ use Rattle.nanorand_core.specs.generators.Blocks.{taken, plain_after}
 use Rattle.nanorand_core.proofs.rand.fill_by_blocks.Given as goal
 
 -- the bytes so far and those of a request for the rest are those of the whole request
-abbrev pub invariant-loop-buffer : goal.invariant-loop-buffer
-invariant-loop-buffer g l =
+abbrev pub invariant-loop-filled : goal.invariant-loop-filled
+invariant-loop-filled g l =
     let block = g.G.Blocks.block in
     let step = g.G.Blocks.step in
     record {
@@ -13,5 +13,5 @@ invariant-loop-buffer g l =
       state : plain_after step g.row.OUTPUT l.rng (length l.buffer - l.filled) ≡ plain_after step g.row.OUTPUT l.fn.rng (length l.buffer);
     }
 
-abbrev pub decreases-loop-buffer : goal.decreases-loop-buffer
-decreases-loop-buffer g l = length l.initial.buffer - l.filled
+abbrev pub decreases-loop-filled : goal.decreases-loop-filled
+decreases-loop-filled g l = length l.initial.buffer - l.filled

@@ -3,7 +3,7 @@ use Rattle.std.proofs.lemmas.Nat.{one_shl}
 use Rattle.nanorand_core.specs.values.Runs.{named}
 use Rattle.nanorand_core.specs.values.Draws.{word_limit, after_word}
 use Rattle.nanorand_core.specs.values.Draws.{next_word as word_of}
-use Rattle.nanorand_core.proofs.lemmas.ranges.RunLemmas.{names-itself, judged, named-judged, judged-low, judged-high, judged-is_some}
+use Rattle.nanorand_core.proofs.lemmas.ranges.RunLemmas.{names-itself, judged, named-judged, judged-low, judged-past, judged-is_some}
 use Rattle.nanorand_core.proofs.lemmas.ranges.DrawLemmas.{Ended, first_word, next_word, last_word, counted_words}
 use Rattle.nanorand_core.proofs.values.word.draw_below.Invariants.{limit}
 use Rattle.nanorand_core.proofs.values.word.draw_below.Given as Given
@@ -25,12 +25,13 @@ returns-then-size-bits-clause-state g c =
     rw c.draw_word-first.ensures.state
     (first_word _ _ word_limit _ _ _ _ _ (omega arith) c.draw_word-first.ensures.value (whole g c)).1.state
 
--- a low half that is not below the size accepts the first word
+-- a low half that is not below the limit accepts the first word
 accepted : (g : Given.Over) (c : goal.After-high_of g) → named c.args.bits c.args.size c.draw_word-first.result ≡ Some c.high_of.result
 accepted g c =
-    let high : nat_lt (c.product_of-product.result % 2 ^ c.args.bits) c.args.size ≡ false =
+    let high : nat_lt (c.product_of-product.result % 2 ^ c.args.bits) c.most_rejected-limit.result ≡ false =
     sym c.low_is_below.ensures ∙ c.if-not-low_is_below.true in
-    let is = judged-high c.args.bits c.args.size c.product_of-product.result (omega arith) high in
+    let most = c.most_rejected-limit.ensures.reaches in
+    let is = judged-past c.args.bits c.args.size c.most_rejected-limit.result c.product_of-product.result most high in
     named-judged _ _ _ (omega arith) c.draw_word-first.ensures.fits ∙ (rw (c.high_of.ensures, ← c.product_of-product.ensures.value) is)
 
 pub returns-then-not-low_is_below-clause-number : goal.returns-then-not-low_is_below-clause-number
