@@ -9,7 +9,7 @@ pub mod laws;
 pub mod rand;
 pub mod samples;
 pub mod shuffles;
-mod swap;
+pub mod swap;
 pub mod values;
 
 pub use rand::{Blocks, Rng, SeedableRng};

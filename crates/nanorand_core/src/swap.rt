@@ -4,10 +4,10 @@ ghost use Rattle.std.specs.List.{swap};
 
 /// Swaps the items at two indices, which may be equal.
 ///
-/// A shuffle asks for equal indices at random, and std's `swap` tests for them: in short slices its
-/// branch is often predicted wrongly, which costs more than the swap. Here both items are read, and
-/// both are written, in any case.
-pub(crate) fn swap<T>(items: &mut [T], a: usize, b: usize)
+/// Both indices are below the length. A shuffle asks for equal indices at random, and std's `swap`
+/// tests for them: in short slices its branch is often predicted wrongly, which costs more than the
+/// swap. Here both items are read, and both are written, in any case.
+pub fn swap<T>(items: &mut [T], a: usize, b: usize)
     requires { (a < length items.old) × (b < length items.old) }
     ensures { items.new ≡ swap items.old a b }
 {

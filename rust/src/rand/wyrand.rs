@@ -8,6 +8,7 @@ use crate::entropy::{system, EntropyError};
 use crate::parts::{draws_before, Parts, PastPeriod};
 use crate::rand::halves::folded;
 use crate::rand::{fill_by_blocks, Rng, SeedableRng};
+use crate::swap::swap;
 use crate::values::word::pick_word;
 use crate::values::RangeError;
 use core::fmt;
@@ -168,7 +169,7 @@ fn shuffle_from<T>(seed: u64, target: &mut [T]) -> (Result<(), RangeError>, u64)
         let (ahead, after) = below(now, (count - place) as u64);
         now = after;
         match ahead {
-            Some(ahead) => target.swap(place, place + ahead as usize),
+            Some(ahead) => swap(target, place, place + ahead as usize),
             None => return (Err(RangeError::Exhausted), now),
         }
     }

@@ -18,6 +18,7 @@ use crate::entropy::{EntropyError, system};
 use crate::parts::{Parts, PastPeriod, draws_before};
 use crate::rand::halves::folded;
 use nanorand_core::rand::{Blocks, Rng, SeedableRng, fill_by_blocks};
+use nanorand_core::swap::swap;
 use nanorand_core::values::RangeError;
 use nanorand_core::values::word::pick_word;
 use std::alloc::AllocError;
@@ -274,7 +275,7 @@ fn shuffle_from<T>(seed: u64, target: &mut [T]) -> (Result<(), RangeError>, u64)
         let (ahead, after) = below(now, (count - place) as u64);
         now = after;
         match ahead {
-            Some(ahead) => target.swap(place, place + ahead as usize),
+            Some(ahead) => swap(target, place, place + ahead as usize),
             None => return (Err(RangeError::Exhausted), now),
         }
     }

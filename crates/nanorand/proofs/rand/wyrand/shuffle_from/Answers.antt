@@ -38,7 +38,7 @@ loop-place-preserved g c =
     c.in-Some.ahead below (sym c.in-Some.is ∙ c.below-ahead.ensures.number) in
     let state = partner-state wyrand_requests size c.loop-place.place c.loop-place.now c.loop-place-test.true (omega arith)
     c.below-ahead.result.1 c.below-ahead.ensures.state in
-    rw (state, c.swap.ensures.after) (shuffling-step c.loop-place.invariant c.loop-place-test.true partner)
+    rw (state, c.swap.ensures) (shuffling-step c.loop-place.invariant c.loop-place-test.true partner)
 
 pub returns : goal.returns
 returns g c =
