@@ -2,6 +2,7 @@
 
 import _imp
 import array
+import collections
 import contextlib
 import copy
 import gc
@@ -71,8 +72,11 @@ WORDS, DOUBLES, READ_ONLY = array.array("Q", [0] * 9), array.array("d", [0] * 9)
 MANY = array.array("Q", range(600))
 FAILS, REFUSES, REALS, WHOLES, OTHER = Fails(), Refuses(ITEMS), [1.5] * 9, [2] * 9, object()
 LATE, NO_LENGTH = FailsLate(ITEMS), NoLength(ITEMS)
+# Sequences that are no plain list, of items that can be written to.
+ROWS = [[1], {"a": 1}, bytearray(5), array.array("Q", [7]), [2], Refuses()]
+OF_ROWS = [collections.deque(ROWS), collections.UserList(ROWS), type("Own", (list,), {})(ROWS)]
 SHARED = [LIST, TUPLE, TEXT, BUFFER, WORDS, DOUBLES, READ_ONLY, FAILS, LATE, REFUSES, REALS, WHOLES, OTHER, BIG]
-SHARED += [KEY, NONCE, NO_LENGTH, MANY]
+SHARED += [KEY, NONCE, NO_LENGTH, MANY, *ROWS, *OF_ROWS]
 
 SUCCEED = {
     "u64": lambda rng: rng.u64(),
@@ -89,6 +93,8 @@ SUCCEED = {
     "sample_below": lambda rng: rng.sample_below(10**6, 5),
     "shuffle": lambda rng: (rng.shuffle(LIST), rng.shuffle(BUFFER), rng.shuffle(WORDS)),
     "shuffle_full": lambda rng: (rng.shuffle_full(LIST), rng.shuffle_full(BUFFER)),
+    "shuffles of rows": lambda rng: [(rng.shuffle(rows), rng.shuffle_full(rows)) for rows in OF_ROWS],
+    "rows": lambda rng: [(rng.choice(rows), rng.choices(rows, k=5), rng.sample(rows, 3)) for rows in OF_ROWS],
     "fill": lambda rng: (rng.fill(BUFFER), rng.fill(WORDS)),
     "fill_range": lambda rng: (rng.fill_range(BUFFER, 1, 6), rng.fill_range(WORDS, 1, 2**60)),
     "fill_random": lambda rng: rng.fill_random(DOUBLES),

@@ -139,6 +139,33 @@ fn a_sought_stream_goes_on_from_that_byte() {
     }
 }
 
+/// Whatever was buffered before, and of whichever stream, a seek leaves the one state of its byte.
+#[test]
+fn a_seek_forgets_what_was_buffered() {
+    let at = |index| ChaCha8Stream::at_block(KEY, NONCE, index);
+    let mut reseeded = ChaCha8Stream::new_key([9; 32], [9; 8]);
+    reseeded.fill_bytes(&mut [0; 700]);
+    reseeded.reseed(
+        [KEY.to_vec(), NONCE.to_vec()]
+            .concat()
+            .try_into()
+            .expect("a seed"),
+    );
+    let mut drawn = at(1);
+    drawn.fill_bytes(&mut [0; 5]);
+    let lent = BufferedRng::with_rest(at(8).inner().clone(), &[7; 300]).expect("a part of a block");
+    for start in [reseeded, drawn, lent, at(0), at(3)] {
+        for byte in (0..1100).chain([1 << 20, (1 << 70) - 1]) {
+            let (mut sought, mut fresh) = (start.clone(), at(0));
+            sought.seek(byte);
+            fresh.seek(byte);
+            assert_eq!(sought, fresh, "{byte}");
+            assert_eq!(sought.buffered(), fresh.buffered(), "{byte}");
+            assert_eq!(sought.generate::<u64>(), fresh.generate::<u64>(), "{byte}");
+        }
+    }
+}
+
 #[test]
 fn the_first_byte_follows_the_last() {
     let mut stream = ChaCha20Stream::new_key(KEY, NONCE);

@@ -71,6 +71,10 @@ def draws(counts: Counts, page: Page) -> None:
         page.browser.run(SET, "draw", reason, values)
         shown = page.draw()
         counts.same(f"a draw, {reason}", (errors(page), shown["record"], shown["title"]), ({field: words}, "", ""))
+        page.browser.run("window.refused = {};")
+        # What is said of a list stays until it is another.
+        left = {field: words} if field == "list" else {}
+        counts.same(f"a draw, {reason}: again", (len(page.draw()["drawn"]), errors(page)), (3, left))
         draws_again(counts, page, f"a draw, {reason}")
 
 

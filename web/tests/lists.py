@@ -153,6 +153,9 @@ def tidied(counts: Counts, page: Page) -> None:
             shown = page.facts()
             digest = "" if shown["list"] else sha256(after)
             counts.same(f"{change} of {before!r}, {way}", (found, shown["digest"]), (said, digest))
+            if way == "file":
+                name = page.browser.run("return document.getElementById('file-name').textContent;")
+                counts.same(f"{change} of {before!r}: the size", name.split(", ")[1], f"{len(after)} bytes")
             if way == "pasted":
                 text = page.browser.run("return document.getElementById('list-text').value;")
                 counts.same(f"{change} of {before!r}: the field", text, after.decode())

@@ -87,6 +87,43 @@ function folds() {
   }
 }
 
+/** A line goes on with whatever follows it but the beginning of another line of a record. */
+function continuations() {
+  const words = "x".repeat(60);
+  for (const next of ["12:30 by the exchange", "3:1", "7:", ":", ": x", "1 : x", "a: b", "seed:", "seeds: 1", "-1: x",
+    "and 5 more", "1.: x", "drawn", "entrants 9"]) {
+    const seed = `${words} ${next}`;
+    const record = writeRecord({ ...RECORD, seed, named: [utf8(seed)] });
+    const folded = record.replace(new RegExp(`${words} `, "g"), `${words}\n`);
+    const read = readRecord(folded);
+    same(`a fold before ${next}`, [read.seed, ...read.named.map(textOf)], [seed, seed]);
+  }
+}
+
+/** What the page says of a module that cannot be made: that there are none, or what went wrong. */
+async function starts() {
+  const [real, validate] = [WebAssembly.instantiate, WebAssembly.validate];
+  const { CompileError, LinkError, RuntimeError } = WebAssembly;
+  try {
+    for (const error of [new CompileError("a"), new EvalError("b"), new RangeError("c"), new RuntimeError("d"),
+      new LinkError("e"), new TypeError("f"), new Error("g")]) {
+      WebAssembly.instantiate = async () => { throw error; };
+      const found = await Module.from(new Uint8Array(8), 64).then(() => "made", refusalOf);
+      const isForbidden = error instanceof CompileError || error instanceof EvalError;
+      same(`a module that fails by ${error}`, found, isForbidden ? ["no WebAssembly", {}] : refusalOf(error));
+    }
+    for (const [has, bits] of [[true, 64], [false, 32]]) {
+      const asked = [];
+      WebAssembly.validate = (code) => asked.push(Array.from(code)) > 0 && has;
+      same(`bits where 64 are there: ${has}`, bitsOfBrowser(), bits);
+      // A module with one memory, whose limits have the flag of 64-bit addresses.
+      same("what is asked for", asked, [[0, 97, 115, 109, 1, 0, 0, 0, 5, 3, 1, 4, 1]]);
+    }
+  } finally {
+    [WebAssembly.instantiate, WebAssembly.validate] = [real, validate];
+  }
+}
+
 /** The last entrant that a record names may be folded: the number of those that are left is not of it. */
 function restOfLong() {
   for (const length of [1, 43, 44, 50, 200]) {
@@ -275,10 +312,11 @@ errors();
 statuses();
 versions();
 folds();
+continuations();
 restOfLong();
 otherTexts();
 alikes();
 failedChecks();
 spaces();
 endings();
-return clients().then(() => cases);
+return clients().then(starts).then(() => cases);

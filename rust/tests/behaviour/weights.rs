@@ -73,6 +73,29 @@ fn refused_sums_draw_nothing() {
     assert_eq!(rng.drawn(), 0);
 }
 
+/// Sums that are too great by however much, also where the low 64 bits of the sum are no less than each weight.
+#[test]
+fn sums_of_great_weights() {
+    let great = [0, 1, HALF - 1, HALF, HALF + 1, u64::MAX - 1, u64::MAX];
+    for number in 0..great.len().pow(5) {
+        let digits = (0..5_u32).map(|place| number / great.len().pow(place) % great.len());
+        let weights: Vec<u64> = digits.map(|digit| great[digit]).collect();
+        let sum: u128 = weights.iter().map(|weight| u128::from(*weight)).sum();
+        let mut rng = Constant::new(77);
+        let refusal = choose_weighted(&mut rng, &weights).err();
+        if sum == 0 || sum > u128::from(u64::MAX) {
+            let due = if sum == 0 {
+                WeightError::NoWeight
+            } else {
+                WeightError::TooHeavy
+            };
+            assert_eq!((refusal, rng.drawn()), (Some(due), 0), "{weights:?}");
+        } else {
+            assert_eq!(refusal, None, "{weights:?}");
+        }
+    }
+}
+
 #[test]
 fn the_last_of_128_words_may_decide() {
     let weights = [0, 1, 2];
