@@ -1,6 +1,6 @@
 //! Choices by weight.
 
-use crate::common::{zeros, ByteScript, Script, Steps, Waste};
+use crate::common::{zeros, ByteScript, Constant, Script, Steps, Waste};
 use nanorand_proved::choices::choose_weighted;
 use nanorand_proved::choices::weighted::WeightError;
 use nanorand_proved::{BufferedRng, ChaCha8, Pcg64, Rng, WyRand};
@@ -81,18 +81,18 @@ fn sums_of_great_weights() {
         let digits = (0..5_u32).map(|place| number / great.len().pow(place) % great.len());
         let weights: Vec<u64> = digits.map(|digit| great[digit]).collect();
         let sum: u128 = weights.iter().map(|weight| u128::from(*weight)).sum();
-        let mut rng = Constant::new(77);
+        let mut rng = zeros();
         let refusal = choose_weighted(&mut rng, &weights).err();
-        if sum == 0 || sum > u128::from(u64::MAX) {
-            let due = if sum == 0 {
-                WeightError::NoWeight
-            } else {
-                WeightError::TooHeavy
-            };
-            assert_eq!((refusal, rng.drawn()), (Some(due), 0), "{weights:?}");
-        } else {
-            assert_eq!(refusal, None, "{weights:?}");
-        }
+        let due = match sum {
+            0 => Some(WeightError::NoWeight),
+            _ if sum >= 1 << 64 => Some(WeightError::TooHeavy),
+            // Zeros draw the least number of each sum that divides the words, and are rejected for every other.
+            _ => (!sum.is_power_of_two()).then_some(WeightError::Exhausted),
+        };
+        assert_eq!(refusal, due, "{weights:?}");
+        let words = [1, 128][usize::from(due == Some(WeightError::Exhausted))];
+        let drawn = if sum == 0 || sum >= 1 << 64 { 0 } else { words };
+        assert_eq!(rng.drawn(), drawn, "{weights:?}");
     }
 }
 
