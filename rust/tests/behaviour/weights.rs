@@ -1,6 +1,6 @@
 //! Choices by weight.
 
-use crate::common::{zeros, ByteScript, Constant, Script, Steps, Waste};
+use crate::common::{zeros, ByteScript, Script, Steps, Waste};
 use nanorand_proved::choices::choose_weighted;
 use nanorand_proved::choices::weighted::WeightError;
 use nanorand_proved::{BufferedRng, ChaCha8, Pcg64, Rng, WyRand};
@@ -90,8 +90,11 @@ fn sums_of_great_weights() {
             _ => (!sum.is_power_of_two()).then_some(WeightError::Exhausted),
         };
         assert_eq!(refusal, due, "{weights:?}");
-        let words = [1, 128][usize::from(due == Some(WeightError::Exhausted))];
-        let drawn = if sum == 0 || sum >= 1 << 64 { 0 } else { words };
+        let drawn = match due {
+            None => 1,
+            Some(WeightError::Exhausted) => 128,
+            Some(_) => 0,
+        };
         assert_eq!(rng.drawn(), drawn, "{weights:?}");
     }
 }
