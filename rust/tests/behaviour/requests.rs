@@ -7,6 +7,7 @@ use nanorand_proved::{
 };
 use std::fmt::Debug;
 use std::io::Read;
+use std::thread;
 
 /// The value of each type by bytes that are all equal: signed types are in two's complement.
 #[test]
@@ -214,13 +215,18 @@ fn blocks_of_any_size() {
             check_length(&fresh, &stream, length.min(4 * SIZE / 3));
         }
     }
-    check::<255>();
-    check::<256>();
-    check::<257>();
-    check::<65_535>();
-    check::<65_536>();
-    check::<65_537>();
-    check::<100_000>();
+    fn checks() {
+        check::<255>();
+        check::<256>();
+        check::<257>();
+        check::<65_535>();
+        check::<65_536>();
+        check::<65_537>();
+        check::<100_000>();
+    }
+    // Blocks are moved by value, some of them in each call.
+    let thread = thread::Builder::new().stack_size(1 << 26).spawn(checks);
+    thread.expect("a thread").join().expect("all checks pass");
 }
 
 /// The values of every type are read from the bytes of one request.
