@@ -113,46 +113,38 @@ fn by_equal_words(word: u64, items: usize, count: usize) -> (Result<(), RangeErr
     }
 }
 
+/// Draws from so many items without a size, by each of a few words.
+#[cfg(target_pointer_width = "64")]
+fn draws_from<const ITEMS: usize>() {
+    let mut nothing = [(); ITEMS];
+    for byte in [0, 1, 127, 128, 255] {
+        let word = u64::from_le_bytes([byte; 8]);
+        for count in 0..4 {
+            let mut rng = Constant::new(byte);
+            let answer = partial_shuffle(&mut rng, &mut nothing, count);
+            let drawn = usize::try_from(rng.drawn()).expect("a few words");
+            let wanted = by_equal_words(word, ITEMS, count);
+            assert_eq!((answer, drawn), wanted, "{ITEMS} {byte}");
+        }
+        let (mut rng, mut same) = (Constant::new(byte), Constant::new(byte));
+        let (answer, drawn) = by_equal_words(word, ITEMS, 1);
+        assert_eq!(choose(&mut rng, &nothing).copied(), answer, "{ITEMS}");
+        let lent = choose_mut(&mut same, &mut nothing).copied();
+        assert_eq!(lent, answer, "{ITEMS} {byte}");
+        assert_eq!(usize::try_from(rng.drawn()), Ok(drawn), "{ITEMS} {byte}");
+        assert_eq!(rng, same, "{ITEMS} {byte}");
+    }
+}
+
 /// A slice of items without a size may have as many as a `usize` counts.
 #[test]
 #[cfg(target_pointer_width = "64")]
 fn more_items_than_32_bits_count() {
-    for items in [
-        u32::MAX as usize,
-        1 << 32,
-        (1 << 32) + 1,
-        1 << 40,
-        usize::MAX,
-    ] {
-        let mut nothing = vec![(); items];
-        for byte in [0, 1, 127, 128, 255] {
-            let word = u64::from_le_bytes([byte; 8]);
-            for count in 0..4 {
-                let mut rng = Constant::new(byte);
-                let answer = partial_shuffle(&mut rng, &mut nothing, count);
-                let drawn = usize::try_from(rng.drawn()).expect("a few words");
-                assert_eq!(
-                    (answer, drawn),
-                    by_equal_words(word, items, count),
-                    "{items} {byte}"
-                );
-            }
-            let (mut rng, mut same) = (Constant::new(byte), Constant::new(byte));
-            let (answer, drawn) = by_equal_words(word, items, 1);
-            assert_eq!(
-                choose(&mut rng, &nothing).copied(),
-                answer,
-                "{items} {byte}"
-            );
-            assert_eq!(
-                choose_mut(&mut same, &mut nothing).copied(),
-                answer,
-                "{items} {byte}"
-            );
-            assert_eq!(usize::try_from(rng.drawn()), Ok(drawn), "{items} {byte}");
-            assert_eq!(rng, same, "{items} {byte}");
-        }
-    }
+    draws_from::<0xffff_ffff>();
+    draws_from::<0x1_0000_0000>();
+    draws_from::<0x1_0000_0001>();
+    draws_from::<0x100_0000_0000>();
+    draws_from::<{ usize::MAX }>();
 }
 
 /// The steps one by one: each draws a partner from its index to the last one.
