@@ -19,7 +19,10 @@ export class Client {
     this.#tell = tell;
     this.#worker = new Worker(address);
     this.#worker.onmessage = ({ data }) => this.#receive(data);
-    this.#worker.onerror = (event) => this.#fail(event.message || "the worker cannot start");
+    this.#worker.onerror = (event) => {
+      const reason = event.message || "the worker cannot start";
+      this.stop(new Refusal("the module failed", { reason }));
+    };
   }
 
   /**
@@ -31,9 +34,17 @@ export class Client {
     this.#last += 1;
     const number = this.#last;
     return new Promise((resolve, reject) => {
-      this.#open.set(number, { task, resolve, reject });
       this.#worker.postMessage({ number, task, data });
+      this.#open.set(number, { resolve, reject });
     });
+  }
+
+  /** Refuses whatever is asked, now and from now on. @param {Refusal} refusal */
+  stop(refusal) {
+    this.#lost = refusal;
+    for (const { reject } of this.#open.values()) reject(refusal);
+    this.#open.clear();
+    this.#tell("");
   }
 
   #receive({ number, progress, answer, refusal }) {
@@ -44,21 +55,7 @@ export class Client {
     const asked = this.#open.get(number);
     this.#open.delete(number);
     if (this.#open.size === 0) this.#tell("");
-    if (refusal) this.#refuse(asked, new Refusal(refusal.reason, refusal.values));
+    if (refusal) asked?.reject(new Refusal(refusal.reason, refusal.values));
     else asked?.resolve(answer);
-  }
-
-  /** A worker that cannot start can do nothing else. */
-  #refuse(asked, refusal) {
-    if (asked?.task === "start") this.#lost = refusal;
-    asked?.reject(refusal);
-  }
-
-  /** The worker is lost: whatever was asked of it fails. */
-  #fail(reason) {
-    this.#lost = new Refusal("the module failed", { reason });
-    for (const { reject } of this.#open.values()) reject(this.#lost);
-    this.#open.clear();
-    this.#tell("");
   }
 }

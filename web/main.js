@@ -169,8 +169,9 @@ async function tidy(change) {
     const answer = await client.ask("tidy", { list, change });
     if (listTurn !== state.listTurn) return;
     if (answer.changed > 0) replaceList(answer.list);
+    const { listTurn: tidiedTurn } = state;
     await listSent();
-    say("tidied", tidyWords(change, answer.changed));
+    if (tidiedTurn === state.listTurn) say("tidied", tidyWords(change, answer.changed));
   } catch (error) {
     if (listTurn === state.listTurn) refuse(error);
   }
@@ -282,7 +283,7 @@ async function checkNow() {
   }
 }
 
-/** Says which module runs, or why none does. */
+/** Says which module runs, or why none does, which is then the answer to whatever else is asked. */
 async function start() {
   try {
     const bits = bitsOfBrowser();
@@ -294,6 +295,7 @@ async function start() {
     listChanged(0);
     seedChanged();
   } catch (error) {
+    client.stop(Refusal.of(error));
     refuse(error);
   }
 }

@@ -1,5 +1,6 @@
 """Browsers of other years: without 64-bit memory the second module draws the same, without WebAssembly nothing does."""
 
+import time
 from pathlib import Path
 from typing import Dict, Type
 from urllib.parse import urlparse
@@ -24,6 +25,11 @@ def without_modules(counts: Counts, page: Page, name: str) -> None:
     page.load()
     shown = page.shown()
     counts.same(name, [shown[field] for field in ("page", "list", "seed", "count")], [WORDS, "", "", ""])
+    page.paste("a\nb\n")
+    page.fill("seed", "all")
+    time.sleep(1)
+    shown = page.shown()
+    counts.same(f"{name}: after a list", [shown[field] for field in ("page", "list", "digest")], [WORDS, "", ""])
     for button in ("draw", "check"):
         disabled = page.browser.run("return document.getElementById(arguments[0]).disabled;", button)
         counts.same(f"{name}: no {button}", disabled, True)

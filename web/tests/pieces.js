@@ -289,23 +289,41 @@ async function clients() {
         same(`a ${task} after its worker was lost`, after, failed);
       }
     }
-    await cannotStart(workers);
+    await stopped(workers);
+    await unsent(workers);
   } finally {
     window.Worker = real;
   }
 }
 
-/** Whatever is asked of a worker that could not start is refused for the same reason. */
-async function cannotStart(workers) {
-  const client = new Client("", () => {});
+/** Whatever is asked of a client that was stopped is refused for the same reason, as is what was asked before. */
+async function stopped(workers) {
+  const told = [];
+  const client = new Client("", (progress) => told.push(progress));
   const worker = workers[workers.length - 1];
-  const started = ended(client.ask("start", {}));
-  worker.onmessage({ data: { number: 1, refusal: { reason: "no WebAssembly", values: {} } } });
-  same("a start", await started, ["no WebAssembly", {}]);
+  const asked = ended(client.ask("start", {}));
+  worker.onmessage({ data: { number: 1, progress: "Starting" } });
+  client.stop(new Refusal("no WebAssembly"));
+  same("a start", await asked, ["no WebAssembly", {}]);
   for (const task of ["list", "tidy", "draw", "check"]) {
     same(`a ${task} without a start`, await ended(client.ask(task, {})), ["no WebAssembly", {}]);
   }
-  same("what is sent", worker.sent.length, 1);
+  same("what is sent", [worker.sent.length, told], [1, ["Starting", ""]]);
+}
+
+/** A message that cannot be sent is refused, and leaves nothing to wait for. */
+async function unsent(workers) {
+  const told = [];
+  const client = new Client("", (progress) => told.push(progress));
+  const worker = workers[workers.length - 1];
+  const send = worker.postMessage;
+  worker.postMessage = () => { throw new RangeError("too long"); };
+  same("a list that is too long", refusalOf(await client.ask("list", {}).catch((error) => error)), ["no memory", {}]);
+  worker.postMessage = send;
+  const asked = ended(client.ask("draw", {}));
+  worker.onmessage({ data: { number: 2, progress: "Drawing" } });
+  worker.onmessage({ data: { number: 2, answer: "drawn" } });
+  same("a draw after it", [await asked, told], ["drawn", ["Drawing", ""]]);
 }
 
 errors();
