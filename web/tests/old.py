@@ -1,5 +1,7 @@
 """Browsers of other years: without 64-bit memory the second module draws the same, without WebAssembly nothing does."""
 
+import base64
+import re
 import time
 from pathlib import Path
 from typing import Dict, Type
@@ -15,21 +17,23 @@ from page import Page
 WORDS = ("This browser cannot draw: it has no WebAssembly, or it is switched off. Open the page in a newer browser: "
          "Chrome, Edge or Chromium from version 97 on, Firefox from version 90 on, Safari from version 16 on. Or use "
          "the Python code below, which draws the same.")
+FAILED = "The module failed, and nothing is drawn: TypeError: "
 MAKER = "Version 1.0.0, module SHA-256 {}, for 32-bit memory: the same source, its proof erased"
 OTHER = ("The record was made by this page's other module, for 64-bit memory, proved. "
          "Here runs the one for 32-bit memory: the same source, its proof erased.")
 
 
-def without_modules(counts: Counts, page: Page, name: str) -> None:
-    """The page says what to do, and does nothing else."""
+def without_modules(counts: Counts, page: Page, name: str, words: str = WORDS) -> None:
+    """The page says what went wrong, and does nothing else."""
     page.load()
     shown = page.shown()
-    counts.same(name, [shown[field] for field in ("page", "list", "seed", "count")], [WORDS, "", "", ""])
+    said = shown["page"] if shown["page"].startswith(words) else words
+    counts.same(name, [shown[field] for field in ("page", "list", "seed", "count")], [said, "", "", ""])
     page.paste("a\nb\n")
     page.fill("seed", "all")
     time.sleep(1)
     shown = page.shown()
-    counts.same(f"{name}: after a list", [shown[field] for field in ("page", "list", "digest")], [WORDS, "", ""])
+    counts.same(f"{name}: after a list", [shown[field] for field in ("page", "list", "digest")], [said, "", ""])
     for button in ("draw", "check"):
         disabled = page.browser.run("return document.getElementById(arguments[0]).disabled;", button)
         counts.same(f"{name}: no {button}", disabled, True)
@@ -54,10 +58,24 @@ def strict_copy(address: str, folder: Path) -> str:
     return (folder / "strict.html").as_uri()
 
 
+def empty_copy(address: str, folder: Path) -> str:
+    """A page whose modules have nothing, so that they compile and do not start."""
+    page = Path(url2pathname(urlparse(address).path)).read_text(encoding="utf-8")
+    empty = base64.b64encode(b"\0asm\1\0\0\0").decode()
+    page = re.sub(r'(<script type="text/plain" id="module(?:32)?">)[^<]*', rf"\g<1>{empty}", page)
+    (folder / "empty.html").write_text(page, encoding="utf-8")
+    return (folder / "empty.html").as_uri()
+
+
 def run(counts: Counts, kind: Type[Browser], address: str, folder: Path, program: str, digests: Dict[int, str]) -> None:
-    strict = strict_copy(address, folder)
+    strict, empty = strict_copy(address, folder), empty_copy(address, folder)
+
+    def without_any(page: Page) -> None:
+        without_modules(counts, Page(page.browser, strict, folder), "no module is allowed")
+        without_modules(counts, Page(page.browser, empty, folder), "empty modules", FAILED)
+
     tries = {
-        "": lambda page: without_modules(counts, Page(page.browser, strict, folder), "no module is allowed"),
+        "": without_any,
         "WebAssembly": lambda page: without_modules(counts, page, "no WebAssembly"),
         "memory64": lambda page: with_module32(counts, page, program, digests),
     }

@@ -3,7 +3,9 @@
 use crate::common::{rising, zeros, Constant, Steps};
 use nanorand_proved::choices::{self, WeightError};
 use nanorand_proved::RangeError::{Empty, Exhausted};
-use nanorand_proved::{samples, shuffles, ChaCha8, Pcg64, Rng, WyRand};
+use nanorand_proved::{
+    chacha_stream, samples, shuffles, BufferedRng, ChaCha8, Pcg64, RandomGen, Rng, WyRand,
+};
 use std::cell::RefCell;
 use std::fmt::Debug;
 use std::panic::{catch_unwind, set_hook, take_hook, AssertUnwindSafe};
@@ -160,14 +162,34 @@ fn iterators_draw_what_is_asked_for() {
     assert_eq!(steps.drawn(), 2);
 }
 
-/// Values that are passed over are drawn.
+/// Values that are passed over are drawn, of each size and by plain and buffered generators.
 #[test]
 fn iterators_draw_what_is_passed_over() {
-    for passed in 0..70 {
-        let (mut steps, mut wanted) = (Steps::new(), Steps::new());
-        let values: Vec<u16> = (0..=passed).map(|_| wanted.generate()).collect();
-        let next = steps.generate_iter::<u16>().nth(passed);
-        assert_eq!(next.as_ref(), values.last());
-        assert_eq!(steps, wanted, "{passed}");
+    fn passes_over<T, R, const OUTPUT: usize>(fresh: &R)
+    where
+        T: RandomGen<R, OUTPUT> + Debug + PartialEq,
+        R: Rng<OUTPUT> + Clone + Debug + PartialEq,
+    {
+        for passed in 0..70 {
+            let (mut rng, mut wanted) = (fresh.clone(), fresh.clone());
+            let values: Vec<T> = (0..=passed).map(|_| wanted.generate()).collect();
+            assert_eq!(rng.generate_iter().nth(passed).as_ref(), values.last());
+            assert_eq!(rng, wanted, "{passed}");
+        }
     }
+    fn of_each_size<R, const OUTPUT: usize>(fresh: &R)
+    where
+        R: Rng<OUTPUT> + Clone + Debug + PartialEq,
+    {
+        passes_over::<u8, R, OUTPUT>(fresh);
+        passes_over::<u16, R, OUTPUT>(fresh);
+        passes_over::<u64, R, OUTPUT>(fresh);
+        passes_over::<u128, R, OUTPUT>(fresh);
+        passes_over::<[u8; 100], R, OUTPUT>(fresh);
+    }
+    of_each_size(&Steps::new());
+    of_each_size(&BufferedRng::new(Steps::new()));
+    of_each_size(&Pcg64::new_seed(42));
+    of_each_size(&ChaCha8::new_key([1; 32], [2; 8]));
+    of_each_size(&chacha_stream::<8>([1; 32], [2; 8]));
 }

@@ -75,3 +75,32 @@ fn fills_of_dice() {
     // The words 0 and 128 are rejected.
     assert_eq!(dice, [Die(1); 4]);
 }
+
+/// A generator with a shuffle of its own, which needs no word.
+struct Reverses(Steps);
+
+impl Rng<8> for Reverses {
+    fn rand(&mut self) -> [u8; 8] {
+        self.0.rand()
+    }
+
+    fn shuffle<T>(&mut self, target: &mut [T]) -> Result<(), RangeError> {
+        target.reverse();
+        Ok(())
+    }
+}
+
+/// Whoever borrows a generator shuffles as its owner does.
+#[test]
+fn a_shuffle_of_its_own() {
+    fn shuffled<R: Rng<8>>(mut rng: R) -> [u8; 4] {
+        let mut numbers = [1, 2, 3, 4];
+        rng.shuffle(&mut numbers).expect("no word is drawn");
+        numbers
+    }
+    let mut rng = Reverses(Steps::new());
+    assert_eq!(shuffled(&mut rng), [4, 3, 2, 1]);
+    assert_eq!(shuffled(&mut &mut rng), [4, 3, 2, 1]);
+    assert_eq!(rng.0.drawn(), 0);
+    assert_eq!(shuffled(rng), [4, 3, 2, 1]);
+}
