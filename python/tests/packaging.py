@@ -141,6 +141,10 @@ class Tools(unittest.TestCase):
             ("linux-x86_64", ["memcpy@GLIBC_2.17"], manylinux),
             ("linux-x86_64", ["memcpy@GLIBC_2.14", "exp@GLIBC_2.29"], "linux_x86_64"),
             ("linux-x86_64", ["x@GLIBC_3.0"], "linux_x86_64"),
+            ("linux-x86_64", ["x@GLIBC_2.4", "y@GLIBC_2.34"], "linux_x86_64"),
+            ("linux-x86_64", ["x@GLIBC_2.34", "y@GLIBC_2.9"], "linux_x86_64"),
+            ("linux-x86_64", ["x@GLIBC_2.100"], "linux_x86_64"),
+            ("linux-x86_64", ["x@GLIBC_2.3", "y@GLIBC_2.17", "z@GLIBC_2.9"], manylinux),
             ("linux-aarch64", ["memcpy@GLIBC_2.17"], "linux_aarch64"),
             ("macosx-11.0-arm64", [], "macosx_11_0_arm64"),
         ]
