@@ -84,7 +84,8 @@ class Lots(unittest.TestCase):
         for seed in ("seed", "Zürich, 1. März", *odd):
             text = seed.encode()
             wanted = lots.draw(seed, NAMES)
-            for same in (text, bytearray(text), memoryview(text)):
+            shown = type("Shown", (str,), {"__str__": lambda self: "another"})
+            for same in (text, bytearray(text), memoryview(text), shown(seed)):
                 self.assertEqual(lots.draw(same, NAMES), wanted)
 
     def test_refusals(self):

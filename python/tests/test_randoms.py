@@ -161,6 +161,18 @@ class Randoms(unittest.TestCase):
                 seen.add(made.state)
             self.assertEqual(len(seen), 8 + len(seeds))
 
+    def test_seeds_of_subclasses(self):
+        """What counts is the text, the number or the bytes, however they show themselves."""
+        def shown(base):
+            says = {name: lambda self, *_: "another" for name in ("__str__", "__repr__", "__format__")}
+            return type("Shown", (base,), says)
+
+        for kind in RANDOMS:
+            for seed in ("red", "", "7", 7, -7, 2**300, 1.5, -0.0, b"red", bytearray(b"red")):
+                same = shown(type(seed))(seed)
+                self.assertEqual(kind(same).generator, kind(seed).generator, seed)
+                self.assertEqual(str(same), "another")
+
     def test_seeds_by_their_index(self):
         class Index:
             def __index__(self):
