@@ -113,7 +113,7 @@ fn by_equal_words(word: u64, items: usize, count: usize) -> (Result<(), RangeErr
     }
 }
 
-/// Draws from so many items without a size, by each of a few words.
+/// Draws from a slice of `ITEMS` items without a size, by words of equal bytes.
 #[cfg(target_pointer_width = "64")]
 fn draws_from<const ITEMS: usize>() {
     let mut nothing = [(); ITEMS];
