@@ -1,8 +1,10 @@
 pub mod ranges
 pub mod shuffles
 pub mod SampleLemmas
+pub mod ReservoirLemmas
 pub mod FairSampleLemmas
 pub mod FairSetLemmas
+pub mod FairReservoirLemmas
 pub mod ShareLemmas
 pub mod FillLemmas
 pub mod ValueLemmas

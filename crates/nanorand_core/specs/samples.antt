@@ -1,2 +1,3 @@
 -- Samples without repetition.
 pub mod Samples
+pub mod Reservoir

@@ -4,3 +4,4 @@ pub mod BlockLemmas
 pub mod BoundLemmas
 pub mod NumberOrderLemmas
 pub mod IterateLemmas
+pub mod Chains

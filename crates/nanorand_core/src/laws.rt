@@ -8,6 +8,7 @@ ghost use Rattle.std.specs.declared.ops.Bound.TheVariants.{Included, Excluded};
 ghost use Rattle.nanorand_core.specs.choices.Uniform.{IndicesAreFair, RatiosAreFair};
 ghost use Rattle.nanorand_core.specs.shuffles.Arrangements.{CorrespondsOneToOne, HoldEquallyOften, HoldsEachOnce, IsArrangement};
 ghost use Rattle.nanorand_core.specs.samples.Samples.{NumbersAreFair, SetsAreFair};
+ghost use Rattle.nanorand_core.specs.samples.Reservoir.{ItemsAreFair, ItemSetsAreFair};
 ghost use Rattle.nanorand_core.specs.values.Range.{unsigned_number, unsigned_range, signed_number};
 ghost use Rattle.nanorand_core.specs.values.RangeLimits.{KeepsLimits};
 ghost use Rattle.nanorand_core.specs.values.Draws.{after_word, unsigned_outcome, signed_outcome};
@@ -107,6 +108,19 @@ pub fn choices_and_arrangements()
 pub fn samples_are_fair()
     ensures numbers { NumbersAreFair }
     ensures sets { SetsAreFair }
+{}
+
+/// A sample of `samples::reservoir` prefers no item and no set of items.
+///
+/// The samples are counted over all sequences of draws. With k slots and `count` items, a sequence
+/// has one draw from each of `0..=k`, `0..=k + 1`, .., `0..=count - 1`. By `fairness` each number of a
+/// range has equally many words.
+///
+/// `items`: each item is in the same fraction of the samples, k divided by the count. `sets`: each
+/// set of k items is the sample for equally many sequences, 1 * 2 * .. * (`count - k`) of them.
+pub fn reservoirs_are_fair()
+    ensures items { ItemsAreFair }
+    ensures sets { ItemSetsAreFair }
 {}
 
 /// A partial shuffle is the beginning of the whole shuffle, over every generator.

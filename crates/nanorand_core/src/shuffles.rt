@@ -16,6 +16,16 @@ use thiserror::Error;
 #[error("the list is no arrangement")]
 pub struct NotArrangement;
 
+/// Writes the identity to the slice: 0, 1, .., one number into each slot, as the cards of a deck in
+/// order, or the places of a list.
+pub fn identity(slots: &mut [usize])
+    ensures { slots.new ≡ rising (length slots.old) }
+{
+    for (place, slot) in slots.iter_mut().enumerate() {
+        *slot = place;
+    }
+}
+
 /// Applies stored choices: for each index i, from 0 up, swaps the items at i and `choices[i]`.
 ///
 /// Preconditions: there is one choice for each item, and the choice of index i is i or a later
@@ -53,7 +63,7 @@ pub fn choices_of(
     ensures exact { OnOk result (IsArrangement order.now) }
     ensures refused { OnErr result (¬ IsArrangement order.now) }
 {
-    write_places(scratch);
+    identity(scratch);
     for (place, wanted) in order.iter().enumerate() {
         match place_from(scratch, place, *wanted) {
             Some(choice) => {
@@ -64,15 +74,6 @@ pub fn choices_of(
         }
     }
     Ok(())
-}
-
-// Writes the identity 0, 1, .. to the slice.
-fn write_places(slots: &mut [usize])
-    ensures { slots.new ≡ rising (length slots.old) }
-{
-    for (place, slot) in slots.iter_mut().enumerate() {
-        *slot = place;
-    }
 }
 
 // An index from `from` up whose item is `wanted`.
@@ -120,7 +121,7 @@ pub fn shuffle_and_record<G: Rng<OUTPUT>, T, const OUTPUT: usize>(
     ensures words { (n : ℕ) × (n ≤ word_limit * length target.old)
         × (rng.new ≡ after_words G.requests 64 n rng.old) }
 {
-    write_places(choices);
+    identity(choices);
     let count = target.len();
     for place in 0..count {
         let partner = draw_partner(rng, place, count)?;

@@ -9,5 +9,6 @@ pub mod TurnCounts
 pub mod TurnSwaps
 pub mod EvenLists
 pub mod SampleLists
+pub mod ReservoirLists
 pub mod deals
 pub mod streams

@@ -4,3 +4,4 @@ pub mod InTurn
 pub mod Deals
 pub mod FullShuffles
 pub mod Samples
+pub mod Reservoirs

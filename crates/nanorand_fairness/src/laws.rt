@@ -8,10 +8,11 @@ ghost use Rattle.nanorand_fairness.specs.InTurn.{NumbersInTurnAreFair, Rejection
 ghost use Rattle.nanorand_fairness.specs.Deals.{DealsAreFair, ShufflesAreFair, NoDealIsPreferred, PartsAreEqual, SharesAreEqual, ShufflesDrawInTurn};
 ghost use Rattle.nanorand_fairness.specs.FullShuffles.{OrdersCannotShare, OrdersAreUnequal, ThreeItemsPreferOrders, WordsPreferOrders};
 ghost use Rattle.nanorand_fairness.specs.Samples.{NoSetIsPreferred, SampledSetsAreFair, SamplesDrawInTurn};
+ghost use Rattle.nanorand_fairness.specs.Reservoirs.{NoItemSetIsPreferred, ReservoirsDrawInTurn, SampledItemSetsAreFair, SampledItemsAreFair};
 
 use nanorand_core::Rng;
 use nanorand_core::laws::{
-    choices_are_fair, fairness, samples_are_fair, weighted_choices_are_fair,
+    choices_are_fair, fairness, reservoirs_are_fair, samples_are_fair, weighted_choices_are_fair,
 };
 
 /// How many words a bounded draw takes, for words of N = 8, 16, 32 and 64 bits and every size from 1
@@ -146,4 +147,27 @@ pub fn sampled_sets_are_fair()
 /// it.
 pub fn samples_draw_in_turn<G: Rng<OUTPUT>, const OUTPUT: usize>()
     ensures { SamplesDrawInTurn G.requests }
+{}
+
+/// A sample of `samples::reservoir` prefers no item and no set of items.
+///
+/// It is of k of n items, where n is not known before. `items`: of the lists of m words that draw a
+/// whole sample, rejected words included, exactly k of every n have a given item in the sample.
+/// `sets`: each set of k items is sampled by equally many lists of n - k words, (n - k)! times the
+/// product of floor(2^64 / size) for the sizes of the draws. `rejections`: of all lists of m words,
+/// rejected ones included, any two sets are sampled by equally many.
+pub fn reservoir_words_are_fair()
+    ensures items { SampledItemsAreFair }
+    ensures sets { SampledItemSetsAreFair }
+    ensures rejections { NoItemSetIsPreferred }
+{
+    numbers_in_turn_are_fair();
+    reservoirs_are_fair();
+}
+
+/// The items that `samples::reservoir` keeps are those by the numbers that the generator's words draw
+/// in turn, over every generator. So what `reservoir_words_are_fair` says of lists of words is said
+/// of it.
+pub fn reservoirs_draw_in_turn<G: Rng<OUTPUT>, const OUTPUT: usize>()
+    ensures { ReservoirsDrawInTurn G.requests }
 {}

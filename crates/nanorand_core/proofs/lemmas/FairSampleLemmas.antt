@@ -33,7 +33,7 @@ module _ (f : ℕ → ℕ) (test : ℕ → Bool) (K A B : ℕ) where
       ]
 
 -- the same sum where each term is as large
-sum_same : (f : ℕ → ℕ) (K w first n : ℕ) → ((d : ℕ) → first ≤ d → d < first + n → f d * K ≡ w) → sum_by f (range_with_len first n) * K ≡ n * w
+pub sum_same : (f : ℕ → ℕ) (K w first n : ℕ) → ((d : ℕ) → first ≤ d → d < first + n → f d * K ≡ w) → sum_by f (range_with_len first n) * K ≡ n * w
 sum_same f K w first n each =
     let none = count_by-none (λ (d : ℕ). false) (λ d. refl) (range_with_len first n) in
     let rows = sum_split f (λ (d : ℕ). false) K 0 w first n (λ d from to is. absurd (false≢true is)) (λ d from to is. each d from to) in
@@ -114,7 +114,7 @@ sampling_none last = record {
 }
 
 -- how many sequences of draws there are
-abbrev total : ℕ → ℕ → ℕ
+abbrev pub total : ℕ → ℕ → ℕ
 total last zero = 1
 total last (suc left) = (last + 1) * total (last + 1) left
 

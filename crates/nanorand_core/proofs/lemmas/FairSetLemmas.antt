@@ -10,7 +10,7 @@ use Rattle.nanorand_core.specs.samples.Samples.{SetsAreFair, factorial, holds, j
 use Rattle.nanorand_core.proofs.lemmas.ranges.CountLemmas.{count_by-add}
 use Rattle.nanorand_core.proofs.lemmas.FairSampleLemmas.{Sampling, sampling_more, sampling_none, count-held, count_by-more, sum_split}
 
-some_factorial : (n : ℕ) → 1 ≤ factorial n
+pub some_factorial : (n : ℕ) → 1 ≤ factorial n
 some_factorial zero = omega arith
 some_factorial (suc n) =
     let rest = some_factorial n in

@@ -1,12 +1,16 @@
 -- Samples without repetition, by Floyd's algorithm: different numbers below a count, in the order in
 -- which they join the sample.
-use Rattle.std.specs.Prelude.{◌≡◌, ℕ, zero, suc, ◌+◌, ◌-◌, ◌*◌, ◌<◌, ◌≤◌, ◌==◌, Bool, true, List, [], ◌∷◌, ◌++◌, Result}
+use Rattle.std.specs.Prelude.{◌≡◌, ◌≢◌, ℕ, zero, suc, ◌+◌, ◌-◌, ◌*◌, ◌<◌, ◌≤◌, ◌==◌, Bool, true, List, [], ◌∷◌, ◌++◌, Result, length, take}
 use Rattle.std.specs.Prelude.{Ok, Err, sum_by, count_by, if◌then◌else◌}
-use Rattle.std.specs.List.{list_any, list_all, range_with_len}
+use Rattle.std.specs.List.{All, AllPairs, list_any, list_all, range_with_len}
 use Rattle.std.specs.declared.ops.Bound.TheVariants.{Included}
 use Rattle.nanorand_core.specs.generators.Blocks.{Requests}
 use Rattle.nanorand_core.specs.values.Draws.{unsigned_outcome}
 use Rattle.nanorand_core.specs.declared.values.range.RangeError.{RangeError}
+
+-- Different numbers below a limit.
+abbrev pub DifferentBelow : ℕ → List ℕ → Type 0
+DifferentBelow limit numbers = All (λ number. number < limit) numbers × AllPairs (λ number other. number ≢ other) numbers
 
 -- Whether the list holds the number.
 abbrev pub holds : ℕ → List ℕ → Bool
@@ -47,6 +51,11 @@ module _ {G : Type 0} (requests : Requests G) where
   -- A sample of `size` of the numbers below `count`. The last draw is from all of them.
   abbrev pub sampled : ℕ → ℕ → G → Sample G
   sampled size count g = sampled_from (count - size) size g []
+
+  -- A sample into so many places as the list has, of which the first `filled` stand.
+  abbrev pub extended : ℕ → G → List ℕ → ℕ → Sample G
+  extended count g places filled =
+      sampled_from (count - length places + filled) (length places - filled) g (take filled places)
 
 -- How many sequences of draws lead from a sample to one that passes a test. A sequence has `left`
 -- draws. The first is any number up to `last`, and each later one has one number more to choose from.

@@ -1,12 +1,13 @@
 -- Bounds that admit a number admit one of the type's ranks. Nobody has to believe this file: it is
 -- in specs/ only because laws of impls cite its lemmas.
-use Rattle.std.specs.Prelude.{◌≡◌, ℕ, ℤ, ◌+◌, ◌-◌, ◌*◌, ◌^◌, ◌<◌, ◌≤◌, ◌<ℤ◌, ◌≤ℤ◌, ◌-ℤ◌, true, nat_le, nat_lt, int_le, int_lt, pos, refl}
+use Rattle.std.specs.Prelude.{◌≡◌, ℕ, ℤ, ◌+◌, ◌-◌, ◌*◌, ◌^◌, ◌<◌, ◌≤◌, ◌<ℤ◌, ◌≤ℤ◌, ◌-ℤ◌, true, nat_le, nat_lt, int_le, int_lt, pos, negsuc, refl}
+use Rattle.std.specs.Int.{int_gap}
 use Rattle.std.specs.declared.ops.Bound.{Bound}
 use Rattle.std.specs.declared.ops.Bound.TheVariants.{Included, Excluded, Unbounded}
 use Rattle.std.proofs.Common.{arith, sym}
 use Rattle.std.proofs.lemmas.Bool.{le-leb, leb-true, lt-ltb, ltb-true}
 use Rattle.std.proofs.lemmas.Int.{ints}
-use Rattle.nanorand_core.specs.values.Range.{is_above, is_below, unsigned_number, signed_number, Admits, IfBound}
+use Rattle.nanorand_core.specs.values.Range.{is_above, is_below, unsigned_number, signed_number, signed_rank, Admits, IfBound}
 use Rattle.nanorand_core.specs.values.Range.{IsNumber, HasUnsigned, HasSigned, unsigned_first, unsigned_end}
 use Rattle.nanorand_core.specs.values.Range.{signed_first, signed_end}
 
@@ -102,3 +103,17 @@ signed_has_number bits half low high k fits admits =
     let first : signed_first bits low ≤ℤ x = signed_first_below bits low x (omega (arith, ints)) admits.0 in
     let end : x <ℤ signed_end bits high = signed_before_end bits high x (omega (arith, ints, fits, half)) admits.1 in
     omega (arith, ints, first, end)
+
+-- the gap is the difference, and the rank of the number of rank k is k
+gap-is : (x y : ℤ) → x ≤ℤ y → pos (int_gap x y) ≡ y -ℤ x
+gap-is (pos a) (pos b) rises = grind (arith, ints)
+gap-is (pos a) (negsuc b) rises = grind (arith, ints)
+gap-is (negsuc a) (pos b) rises = grind (arith, ints)
+gap-is (negsuc a) (negsuc b) rises = grind (arith, ints)
+
+pub signed_ranked : (bits k : ℕ) → k < 2 ^ bits → signed_rank bits (signed_number bits k) ≡ k
+signed_ranked bits k fits =
+    let least : ℤ = pos 0 -ℤ pos (2 ^ (bits - 1)) in
+    let number : ℤ = signed_number bits k in
+    let gap : pos (signed_rank bits number) ≡ number -ℤ least = gap-is least number (grind (arith, ints)) in
+    omega (arith, ints, gap)

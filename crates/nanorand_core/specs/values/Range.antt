@@ -1,5 +1,6 @@
 -- A range: the numbers of a type that lie within both bounds, in increasing order.
 use Rattle.std.specs.Prelude.{◌≡◌, ℕ, ◌+◌, ◌-◌, ◌^◌, ◌<◌, ◌&&◌, Bool, true, List, map, filter, ℤ, pos, ◌+ℤ◌, ◌-ℤ◌, ◌<ℤ◌, nat_le, nat_lt, int_le, int_lt}
+use Rattle.std.specs.Int.{int_gap}
 use Rattle.std.specs.List.{range_with_len}
 use Rattle.std.specs.declared.ops.Bound.{Bound}
 use Rattle.std.specs.declared.ops.Bound.TheVariants.{Included, Excluded, Unbounded}
@@ -34,6 +35,31 @@ unsigned_number k = k
 -- The number of rank k of a signed type of `bits` bits: rank 0 is -2^(bits - 1).
 abbrev pub signed_number : ℕ → ℕ → ℤ
 signed_number bits k = pos k -ℤ pos (2 ^ (bits - 1))
+
+-- The rank of a number of an unsigned type: the number itself.
+abbrev pub unsigned_rank : ℕ → ℕ
+unsigned_rank number = number
+
+-- The rank of a number of a signed type of `bits` bits: how far it is above the least.
+abbrev pub signed_rank : ℕ → ℤ → ℕ
+signed_rank bits number = int_gap (pos 0 -ℤ pos (2 ^ (bits - 1))) number
+
+module _ {T : Type 0} (rank : T → ℕ) where
+  -- The rank of the least number that a low bound admits.
+  abbrev pub first_rank : Bound T → ℕ
+  first_rank (Included b) = rank b
+  first_rank (Excluded b) = rank b + 1
+  first_rank Unbounded = 0
+
+  -- The rank after that of the greatest number that a high bound admits, of a type of `bits` bits.
+  abbrev pub end_rank : ℕ → Bound T → ℕ
+  end_rank bits (Included b) = rank b + 1
+  end_rank bits (Excluded b) = rank b
+  end_rank bits Unbounded = 2 ^ bits
+
+  -- How many numbers two bounds admit.
+  abbrev pub range_size : ℕ → Bound T → Bound T → ℕ
+  range_size bits low high = end_rank bits high - first_rank low
 
 -- The range of the unsigned type of `bits` bits.
 abbrev pub unsigned_range : ℕ → Bound ℕ → Bound ℕ → List ℕ

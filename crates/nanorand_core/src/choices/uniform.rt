@@ -1,15 +1,16 @@
 //! Choices of which each has equally many words.
-ghost use Rattle.std.specs.Prelude.{◌≡◌, ℕ, ◌^◌, ◌<◌, ◌≤◌, [], true, false, length, slice_get, nat_lt, Some, Ok, Err, IsOk, IsOkAnd, IfOk, IfErr, MatchResult};
-ghost use Rattle.std.specs.declared.ops.Bound.TheVariants.{Excluded, Unbounded};
+ghost use Rattle.std.specs.Prelude.{◌≡◌, ℕ, ◌+◌, ◌-◌, ◌/◌, ◌^◌, ◌<◌, ◌≤◌, [], true, false, length, slice_get, nat_lt, Some, Ok, Err, IsOk, IsOkAnd, IfOk, IfErr, MatchResult};
+ghost use Rattle.std.specs.declared.ops.Bound.TheVariants.{Excluded, Included, Unbounded};
 ghost use Rattle.nanorand_core.specs.values.Range.{range_within};
 ghost use Rattle.nanorand_core.specs.values.Runs.{rejected};
-ghost use Rattle.nanorand_core.specs.values.Draws.{word_limit, after_words, range_outcome};
+ghost use Rattle.nanorand_core.specs.values.Draws.{word_limit, after_word, after_words, drawn_below, next_word, range_outcome};
 ghost use Rattle.nanorand_core.specs.choices.Uniform.{index_drawn};
 ghost use Rattle.nanorand_core.specs.declared.values.range.RangeError.TheVariants.{Empty, Exhausted};
 
 use crate::rand::Rng;
 use crate::values::number::Number;
 use crate::values::range::draw_number;
+use crate::values::word::draw_word;
 use crate::values::{RandomRange, RangeError};
 use std::ops::Bound;
 
@@ -34,10 +35,64 @@ pub fn below<T: Number, G: Rng<OUTPUT>, const OUTPUT: usize>(
     ensures power { (k : ℕ) → k < T.BITS → n ≡ T.number (2 ^ k) → IsOk result }
     ensures divisor { (size : ℕ) → n ≡ T.number size → 0 < size
         → rejected T.BITS size ≡ 0 → IsOk result }
+    ensures unrefused { rejected T.BITS (T.rank n) ≡ 0 → IsOk result }
     ensures words { (m : ℕ) × (m ≤ word_limit)
         × (rng.new ≡ after_words G.requests T.BITS m rng.old) }
 {
     draw_number(rng, Bound::Unbounded, Bound::Excluded(n))
+}
+
+/// Draws a number from `low..=high`, as a die's from `1..=6`; each is produced by equally many
+/// words.
+///
+/// Precondition: `low` is at most `high`. The only error is `Exhausted`, after 128 rejected words;
+/// they stay consumed. If 2^k numbers are between the two, there is none.
+#[inline]
+pub fn between<T: Number, G: Rng<OUTPUT>, const OUTPUT: usize>(
+    rng: &mut G,
+    low: T,
+    high: T,
+) -> Result<T, RangeError>
+    requires { T.has_number (Included low) (Included high) }
+    ensures value { let within = range_within T.le T.lt T.BITS T.number in
+        let numbers = within (Included low) (Included high) in
+        result ≡ (range_outcome G.requests T.BITS numbers rng.old).0 }
+    ensures state { let within = range_within T.le T.lt T.BITS T.number in
+        let numbers = within (Included low) (Included high) in
+        rng.new ≡ (range_outcome G.requests T.BITS numbers rng.old).1 }
+    ensures low { IfOk result (λ number. T.le low number ≡ true) }
+    ensures high { IfOk result (λ number. T.le number high ≡ true) }
+    ensures refusal { IfErr result (λ refusal. refusal ≡ Exhausted) }
+    ensures unrefused { rejected T.BITS (T.rank high + 1 - T.rank low) ≡ 0 → IsOk result }
+    ensures words { (m : ℕ) × (m ≤ word_limit)
+        × (rng.new ≡ after_words G.requests T.BITS m rng.old) }
+    ensures exhausted { result ≡ Err Exhausted
+        → rng.new ≡ after_words G.requests T.BITS word_limit rng.old }
+{
+    draw_number(rng, Bound::Included(low), Bound::Included(high))
+}
+
+/// Draws a number below 2^`count`: of an unsigned type one of 0, 1, .., 2^`count` - 1, and of a
+/// signed type one of so many from the type's least number on.
+///
+/// It is never refused: it draws one word of the type's width, and takes its top `count` bits.
+/// `values::word::draw_below` of 2^`count` draws the same.
+///
+/// Precondition: `count` is at most the type's width.
+#[inline]
+pub fn bits<T: Number, G: Rng<OUTPUT>, const OUTPUT: usize>(rng: &mut G, count: u32) -> T
+    requires { count ≤ T.BITS }
+    ensures value { let word = next_word G.requests T.BITS rng.old in
+        result ≡ T.number (word / 2 ^ (T.BITS - count)) }
+    ensures state { rng.new ≡ after_word G.requests T.BITS rng.old }
+    ensures below { T.rank result < 2 ^ count }
+    ensures drawn { let draw = drawn_below G.requests T.BITS (2 ^ count) rng.old in
+        draw.number ≡ Some (T.rank result) }
+    ensures left { rng.new ≡ (drawn_below G.requests T.BITS (2 ^ count) rng.old).state }
+{
+    let word = draw_word(rng, T::BITS);
+    // Of 0 bits the shift is the whole width, which a `u64` does not take.
+    T::at_place((u128::from(word) >> (T::BITS - count)) as u64)
 }
 
 /// Chooses an item of the slice; each is chosen by equally many words.
@@ -54,6 +109,7 @@ pub fn choose<'a, T, G: Rng<OUTPUT>, const OUTPUT: usize>(
         (λ refusal. result ≡ Err refusal) }
     ensures state { rng.new ≡ (index_drawn G.requests (length items.now) rng.old).1 }
     ensures refusal { 0 < length items.now → IfErr result (λ refusal. refusal ≡ Exhausted) }
+    ensures unrefused { 0 < length items.now → rejected 64 (length items.now) ≡ 0 → IsOk result }
     ensures empty { result ≡ Err Empty → rng.new ≡ rng.old }
     ensures words { (m : ℕ) × (m ≤ word_limit) × (rng.new ≡ after_words G.requests 64 m rng.old) }
 {
@@ -78,6 +134,7 @@ pub fn choose_mut<'a, T, G: Rng<OUTPUT>, const OUTPUT: usize>(
         (λ refusal. result ≡ Err refusal) }
     ensures state { rng.new ≡ (index_drawn G.requests (length items.old) rng.old).1 }
     ensures refusal { 0 < length items.old → IfErr result (λ refusal. refusal ≡ Exhausted) }
+    ensures unrefused { 0 < length items.old → rejected 64 (length items.old) ≡ 0 → IsOk result }
     ensures empty { result ≡ Err Empty → rng.new ≡ rng.old }
     ensures words { (m : ℕ) × (m ≤ word_limit) × (rng.new ≡ after_words G.requests 64 m rng.old) }
 {
@@ -103,6 +160,7 @@ pub fn ratio<G: Rng<OUTPUT>, const OUTPUT: usize>(
     ensures always { denominator ≤ numerator → IfOk result (λ truth. truth ≡ true) }
     ensures never { numerator ≡ 0 → IfOk result (λ truth. truth ≡ false) }
     ensures refusal { 0 < denominator → IfErr result (λ refusal. refusal ≡ Exhausted) }
+    ensures unrefused { 0 < denominator → rejected 64 denominator ≡ 0 → IsOk result }
     ensures empty { result ≡ Err Empty → rng.new ≡ rng.old }
     ensures words { (m : ℕ) × (m ≤ word_limit) × (rng.new ≡ after_words G.requests 64 m rng.old) }
 {

@@ -20,6 +20,9 @@ pub trait Number: Copy + Drop {
     // The number of a rank.
     ghost number: { ℕ → Self };
 
+    // The rank of a number.
+    ghost rank: { Self → ℕ };
+
     ghost le: { Self → Self → Bool };
 
     ghost lt: { Self → Self → Bool };
@@ -38,6 +41,8 @@ pub trait Number: Copy + Drop {
         ensures { result ≡ number place };
 
     ghost width: { IsWordWidth BITS };
+
+    ghost ranked: { (k : ℕ) → k < 2 ^ BITS → rank (number k) ≡ k };
 
     // The numbers are ordered as their ranks are.
     ghost le_rises: { (j k : ℕ) → le (number j) (number k) ≡ nat_le j k };

@@ -1,7 +1,7 @@
 //! Numbers between two bounds.
-ghost use Rattle.std.specs.Prelude.{◌≡◌, ℕ, ◌^◌, ◌<◌, ◌≤◌, true, Result, Err, IfOk, IfErr, length, nat_le, nat_lt};
+ghost use Rattle.std.specs.Prelude.{◌≡◌, ℕ, ◌^◌, ◌<◌, ◌≤◌, true, Result, Err, IfOk, IfErr, IsOk, length, nat_le, nat_lt};
 ghost use Rattle.std.specs.declared.ops.Bound.{Bound};
-ghost use Rattle.nanorand_core.specs.values.Range.{is_above, is_below, range_within, Admits, IfBound, IsNumber};
+ghost use Rattle.nanorand_core.specs.values.Range.{end_rank, first_rank, is_above, is_below, range_size, range_within, Admits, IfBound, IsNumber};
 ghost use Rattle.nanorand_core.specs.values.Runs.{rejected};
 ghost use Rattle.nanorand_core.specs.values.Draws.{word_limit, after_words, range_outcome};
 ghost use Rattle.nanorand_core.specs.declared.values.range.RangeError.{RangeError};
@@ -83,6 +83,8 @@ pub fn draw_number<T: Number, G: Rng<OUTPUT>, const OUTPUT: usize>(
         → rng.new ≡ after_words G.requests T.BITS word_limit rng.old }
     ensures divisor { let numbers = range_within T.le T.lt T.BITS T.number low high in
         rejected T.BITS (length numbers) ≡ 0 → IfErr result (λ refusal. refusal ≡ Empty) }
+    ensures unrefused { let size = range_size T.rank T.BITS low high in
+        T.has_number low high → rejected T.BITS size ≡ 0 → IsOk result }
 {
     let first = first_place(low);
     let end = end_place(high);
@@ -100,6 +102,7 @@ fn first_place<T: Number>(low: Bound<T>) -> u128
     ensures admits { (k : ℕ) → is_above T.le T.lt low (T.number k) ≡ nat_le result k }
     ensures within { result ≤ 2 ^ T.BITS }
     ensures number { IfBound low (IsNumber T.BITS T.number) }
+    ensures rank { result ≡ first_rank T.rank low }
 {
     match low {
         Bound::Included(number) => u128::from(number.place()),
@@ -114,6 +117,7 @@ fn end_place<T: Number>(high: Bound<T>) -> u128
         → is_below T.le T.lt high (T.number k) ≡ nat_lt k result }
     ensures within { result ≤ 2 ^ T.BITS }
     ensures number { IfBound high (IsNumber T.BITS T.number) }
+    ensures rank { result ≡ end_rank T.rank T.BITS high }
 {
     match high {
         Bound::Included(number) => u128::from(number.place()) + 1,

@@ -206,7 +206,7 @@ pub fn draw_below<G: Rng<OUTPUT>, const OUTPUT: usize>(
 }
 
 // The next word of `bits` bits, by one request.
-fn draw_word<G: Rng<OUTPUT>, const OUTPUT: usize>(rng: &mut G, bits: u32) -> u64
+pub(crate) fn draw_word<G: Rng<OUTPUT>, const OUTPUT: usize>(rng: &mut G, bits: u32) -> u64
     requires width { IsWordWidth bits }
     ensures value { result ≡ next_word G.requests bits rng.old }
     ensures fits { result < 2 ^ bits }

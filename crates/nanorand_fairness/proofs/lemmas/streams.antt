@@ -4,3 +4,4 @@ pub mod Ranges
 pub mod Outcomes
 pub mod Shuffles
 pub mod Samples
+pub mod Reservoirs

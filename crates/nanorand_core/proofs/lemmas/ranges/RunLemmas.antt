@@ -3,8 +3,8 @@ use Rattle.std.proofs.Common.{if◌then◌else◌, nat_lt, is_some, ◌≡◌, �
 use Rattle.std.proofs.Common.{Some, None, MatchOption, find, refl, sym, ◌∙◌, ap, inl, inr, arith}
 use Rattle.std.specs.List.{range_with_len}
 use Rattle.std.proofs.lemmas.Bool.{cases_lt, cases_Bool, and_parts, and_from, ltb-true, ltb-false, leb-true, lt-ltb, le-ltb, le-leb, false_from_ne_true}
-use Rattle.std.proofs.lemmas.Nat.{mul-le, pow_pos, div-add-mod', div_below, mod_below, div-mul-add, mod-mul-add}
-use Rattle.std.proofs.Math.Nat.{add-mod_right, mod_self}
+use Rattle.std.proofs.lemmas.Nat.{mul-le, pow-add, pow_pos, div-add-mod', div_below, mod_below, div-mul-add, mod-mul-add}
+use Rattle.std.proofs.Math.Nat.{add-mod_right, mod_self, mul-mod_left, mul-div-mul_right}
 use Rattle.nanorand_core.specs.values.Runs.{IsWordWidth, Names, named, is_in_run, quota, rejected}
 use mathlib.Core.Bool.{not}
 use Rattle.nanorand_core.proofs.lemmas.ranges.CeilingLemmas.{ceil_le, le_ceil, lt_ceil_add, ceil_add_lt}
@@ -217,3 +217,18 @@ judged-is_some bits size product =
       | inl low ↦ rw low refl
       | inr kept ↦ rw kept refl
     ]
+
+-- a power of two divides the number of words, and each word names its top bits
+pub power-divides : (bits k : ℕ) → k ≤ bits → rejected bits (2 ^ k) ≡ 0
+power-divides bits k within =
+    let sum : bits ≡ bits - k + k = omega (arith, within) in
+    let split : 2 ^ bits ≡ 2 ^ (bits - k) * 2 ^ k = ap (λ (n : ℕ). 2 ^ n) sum ∙ pow-add 2 (bits - k) k in
+    ap (λ (n : ℕ). n % 2 ^ k) split ∙ mul-mod_left (2 ^ (bits - k)) (2 ^ k)
+
+pub named-power : (bits k word : ℕ) → k ≤ bits → word < 2 ^ bits → named bits (2 ^ k) word ≡ Some (word / 2 ^ (bits - k))
+named-power bits k word within fits =
+    let sum : bits ≡ bits - k + k = omega (arith, within) in
+    let split : 2 ^ bits ≡ 2 ^ (bits - k) * 2 ^ k = ap (λ (n : ℕ). 2 ^ n) sum ∙ pow-add 2 (bits - k) k in
+    let top = ap (λ (n : ℕ). word * 2 ^ k / n) split ∙ mul-div-mul_right word (2 ^ (bits - k)) (pow_pos k) in
+    let none = power-divides bits k within in
+    picks bits (2 ^ k) word (pow_pos k) fits (omega (arith, none)) ∙ ap Some top

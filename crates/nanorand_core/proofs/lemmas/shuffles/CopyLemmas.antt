@@ -24,7 +24,7 @@ copies-other : (number x : ℕ) (xs : List ℕ) → ((x ≡ number) → ⊥) →
 copies-other number x xs differ = copies-cons number x xs ∙ rw (ne_eqb x number differ) omega arith
 
 -- a number below a, or at least a + n, does not occur in the n numbers from a on
-copies-outside : (number a n : ℕ) → (number < a) ⊎ (a + n ≤ number) → copies number (range_with_len a n) ≡ 0
+pub copies-outside : (number a n : ℕ) → (number < a) ⊎ (a + n ≤ number) → copies number (range_with_len a n) ≡ 0
 copies-outside number a zero outside = refl
 copies-outside number a (suc n) outside =
     elim outside [

@@ -6,8 +6,8 @@ use Rattle.nanorand_core.proofs.shuffles.choices_of.Goals as goal
 
 pub loop-place-init : goal.loop-place-init
 loop-place-init c =
-    choosing_start c.args.order.now c.args.out.now c.write_places.new.slots
-    (c.write_places.ensures ∙ ap rising (omega arith))
+    choosing_start c.args.order.now c.args.out.now c.identity.new.slots
+    (c.identity.ensures ∙ ap rising (omega arith))
 
 pub returns-in-None-clause-refused : goal.returns-in-None-clause-refused
 returns-in-None-clause-refused c =

@@ -11,8 +11,8 @@ loop-place-init g c =
     let requests = g.G.Rng.requests in
     record {
       shuffling = shuffling-start requests from_itself (length c.args.target.now) c.args.target.now c.args.rng.now (omega arith);
-      recorded = recorded-start requests c.args.target.now c.args.rng.now c.write_places.new.slots
-          (c.write_places.ensures ∙ ap rising (omega arith));
+      recorded = recorded-start requests c.args.target.now c.args.rng.now c.identity.new.slots
+          (c.identity.ensures ∙ ap rising (omega arith));
     }
 
 pub returns-in_err-partner : goal.returns-in_err-partner

@@ -1,7 +1,7 @@
 //! The signed types: rank 0 is the least number, -2^(BITS - 1).
 ghost use Rattle.std.specs.Prelude.{int_le, int_lt, refl};
-ghost use Rattle.nanorand_core.specs.values.Range.{signed_number, HasSigned};
-ghost use Rattle.nanorand_core.specs.support.BoundLemmas.{signed_has_number, signed_has_place};
+ghost use Rattle.nanorand_core.specs.values.Range.{signed_number, signed_rank, HasSigned};
+ghost use Rattle.nanorand_core.specs.support.BoundLemmas.{signed_has_number, signed_has_place, signed_ranked};
 ghost use Rattle.nanorand_core.specs.support.NumberOrderLemmas.{width_8, width_16, width_32, width_64, int_le-signed, int_lt-signed};
 
 use super::Number;
@@ -13,6 +13,8 @@ impl Number for i8 {
 
     ghost number = { signed_number 8 };
 
+    ghost rank = { signed_rank 8 };
+
     ghost le = { int_le };
 
     ghost lt = { int_lt };
@@ -20,6 +22,8 @@ impl Number for i8 {
     ghost has_number = { HasSigned 8 };
 
     ghost width = { width_8 };
+
+    ghost ranked = { signed_ranked 8 };
 
     ghost le_rises = { int_le-signed 8 };
 
@@ -47,6 +51,8 @@ impl Number for i16 {
 
     ghost number = { signed_number 16 };
 
+    ghost rank = { signed_rank 16 };
+
     ghost le = { int_le };
 
     ghost lt = { int_lt };
@@ -54,6 +60,8 @@ impl Number for i16 {
     ghost has_number = { HasSigned 16 };
 
     ghost width = { width_16 };
+
+    ghost ranked = { signed_ranked 16 };
 
     ghost le_rises = { int_le-signed 16 };
 
@@ -81,6 +89,8 @@ impl Number for i32 {
 
     ghost number = { signed_number 32 };
 
+    ghost rank = { signed_rank 32 };
+
     ghost le = { int_le };
 
     ghost lt = { int_lt };
@@ -88,6 +98,8 @@ impl Number for i32 {
     ghost has_number = { HasSigned 32 };
 
     ghost width = { width_32 };
+
+    ghost ranked = { signed_ranked 32 };
 
     ghost le_rises = { int_le-signed 32 };
 
@@ -115,6 +127,8 @@ impl Number for i64 {
 
     ghost number = { signed_number 64 };
 
+    ghost rank = { signed_rank 64 };
+
     ghost le = { int_le };
 
     ghost lt = { int_lt };
@@ -122,6 +136,8 @@ impl Number for i64 {
     ghost has_number = { HasSigned 64 };
 
     ghost width = { width_64 };
+
+    ghost ranked = { signed_ranked 64 };
 
     ghost le_rises = { int_le-signed 64 };
 
@@ -149,6 +165,8 @@ impl Number for isize {
 
     ghost number = { signed_number 64 };
 
+    ghost rank = { signed_rank 64 };
+
     ghost le = { int_le };
 
     ghost lt = { int_lt };
@@ -156,6 +174,8 @@ impl Number for isize {
     ghost has_number = { HasSigned 64 };
 
     ghost width = { width_64 };
+
+    ghost ranked = { signed_ranked 64 };
 
     ghost le_rises = { int_le-signed 64 };
 

@@ -1,6 +1,6 @@
 //! The unsigned types: the rank of a number is the number itself.
 ghost use Rattle.std.specs.Prelude.{nat_le, nat_lt, refl};
-ghost use Rattle.nanorand_core.specs.values.Range.{unsigned_number, HasUnsigned};
+ghost use Rattle.nanorand_core.specs.values.Range.{unsigned_number, unsigned_rank, HasUnsigned};
 ghost use Rattle.nanorand_core.specs.support.BoundLemmas.{unsigned_has_number, unsigned_has_place};
 ghost use Rattle.nanorand_core.specs.support.NumberOrderLemmas.{width_8, width_16, width_32, width_64};
 
@@ -13,6 +13,8 @@ impl Number for u8 {
 
     ghost number = { unsigned_number };
 
+    ghost rank = { unsigned_rank };
+
     ghost le = { nat_le };
 
     ghost lt = { nat_lt };
@@ -20,6 +22,8 @@ impl Number for u8 {
     ghost has_number = { HasUnsigned 8 };
 
     ghost width = { width_8 };
+
+    ghost ranked = { λ k fits. refl };
 
     ghost le_rises = { λ j k. refl };
 
@@ -47,6 +51,8 @@ impl Number for u16 {
 
     ghost number = { unsigned_number };
 
+    ghost rank = { unsigned_rank };
+
     ghost le = { nat_le };
 
     ghost lt = { nat_lt };
@@ -54,6 +60,8 @@ impl Number for u16 {
     ghost has_number = { HasUnsigned 16 };
 
     ghost width = { width_16 };
+
+    ghost ranked = { λ k fits. refl };
 
     ghost le_rises = { λ j k. refl };
 
@@ -81,6 +89,8 @@ impl Number for u32 {
 
     ghost number = { unsigned_number };
 
+    ghost rank = { unsigned_rank };
+
     ghost le = { nat_le };
 
     ghost lt = { nat_lt };
@@ -88,6 +98,8 @@ impl Number for u32 {
     ghost has_number = { HasUnsigned 32 };
 
     ghost width = { width_32 };
+
+    ghost ranked = { λ k fits. refl };
 
     ghost le_rises = { λ j k. refl };
 
@@ -115,6 +127,8 @@ impl Number for u64 {
 
     ghost number = { unsigned_number };
 
+    ghost rank = { unsigned_rank };
+
     ghost le = { nat_le };
 
     ghost lt = { nat_lt };
@@ -122,6 +136,8 @@ impl Number for u64 {
     ghost has_number = { HasUnsigned 64 };
 
     ghost width = { width_64 };
+
+    ghost ranked = { λ k fits. refl };
 
     ghost le_rises = { λ j k. refl };
 
@@ -149,6 +165,8 @@ impl Number for usize {
 
     ghost number = { unsigned_number };
 
+    ghost rank = { unsigned_rank };
+
     ghost le = { nat_le };
 
     ghost lt = { nat_lt };
@@ -156,6 +174,8 @@ impl Number for usize {
     ghost has_number = { HasUnsigned 64 };
 
     ghost width = { width_64 };
+
+    ghost ranked = { λ k fits. refl };
 
     ghost le_rises = { λ j k. refl };
 

@@ -12,13 +12,13 @@ use Rattle.nanorand_fairness.proofs.lemmas.streams.Ranges.{numbers_up_to}
 use Rattle.nanorand_fairness.proofs.lemmas.streams.Outcomes.{outcome_by}
 
 module _ {G : Type 0} (requests : Requests G) where
-  abbrev words : ℕ → G → List ℕ
+  abbrev pub words : ℕ → G → List ℕ
   words n g = words_from (next_word requests 64) (after_word requests 64) n g
 
-  abbrev draw : ℕ → G → Draw G
+  abbrev pub draw : ℕ → G → Draw G
   draw last g = drawn_below requests 64 (last + 1) g
 
-  outcome : (last : ℕ) (g : G) → last < 2 ^ 64
+  pub outcome : (last : ℕ) (g : G) → last < 2 ^ 64
       → number_up_to requests last g ≡ (by_word (draw last g).number (λ k. Ok (0 + k)) (Err Exhausted), (draw last g).state)
   unfolding number_up_to
   outcome last g fits = outcome_by requests 64 0 (last + 1) _ g (omega arith) (numbers_up_to 64 last fits)
@@ -29,7 +29,7 @@ module _ {G : Type 0} (requests : Requests G) where
       ≡ sample_by last (numbers_from 64 (range_with_len (last + 1) left) word_limit (words n g)) sample
 
   -- the first of them
-  abbrev First : ℕ → ℕ → ℕ → G → Type 0
+  abbrev pub First : ℕ → ℕ → ℕ → G → Type 0
   First left last n g =
       DrawsFirst (next_word requests 64) (after_word requests 64) 64 (last + 1) (range_with_len (last + 1 + 1) left) (word_limit * left) word_limit n g
 

@@ -1,15 +1,15 @@
-use Rattle.std.proofs.Common.{◌≡◌, ℕ, ◌+◌, ◌-◌, ◌*◌, ◌%◌, ◌^◌, ◌≤◌, Result, Ok, Err, length, refl, sym, ◌∙◌, ap, arith, Bool, true}
+use Rattle.std.proofs.Common.{◌≡◌, ℕ, ◌-◌, ◌^◌, ◌≤◌, Result, Ok, Err, length, refl, sym, ◌∙◌, ap, arith, Bool, true}
 use Rattle.std.specs.Result.{IfOk, IfErr, IsOk}
 use Rattle.std.specs.declared.ops.Bound.TheVariants.{Excluded, Unbounded}
 use Rattle.std.proofs.lemmas.Bool.{le-leb}
-use Rattle.std.proofs.lemmas.Nat.{pow-add, pow_pos}
+use Rattle.std.proofs.lemmas.Nat.{pow_pos}
 use Rattle.std.proofs.lemmas.Nat.Gcd.{dvd_of_mod-eq-zero, le_of_dvd}
-use Rattle.std.proofs.Math.Nat.{mul-mod_left}
 use Rattle.nanorand_core.specs.values.Range.{Admits}
 use Rattle.nanorand_core.specs.values.Runs.{rejected}
 use Rattle.nanorand_core.specs.declared.values.range.RangeError.{RangeError}
 use Rattle.nanorand_core.specs.declared.values.range.RangeError.TheVariants.{Empty, Exhausted}
 use Rattle.nanorand_core.proofs.lemmas.ranges.RangeLemmas.{range-places, range-count}
+use Rattle.nanorand_core.proofs.lemmas.ranges.RunLemmas.{power-divides}
 use Rattle.nanorand_core.proofs.choices.uniform.below.Goals as goal
 
 -- a draw that is refused by neither name is not refused
@@ -29,11 +29,7 @@ returns-clause-divisor g c size is some divides =
 
 pub returns-clause-power : goal.returns-clause-power
 returns-clause-power g c k low is =
-    let bits = g.T.Number.BITS in
-    let split : 2 ^ bits ≡ 2 ^ (bits - k) * 2 ^ k = (let sum : bits
-    ≡ bits - k + k = omega (arith, low) in ap (λ (n : ℕ). 2 ^ n) sum) ∙ pow-add 2 (bits - k) k in
-    let divides = ap (λ (n : ℕ). n % 2 ^ k) split ∙ mul-mod_left (2 ^ (bits - k)) (2 ^ k) in
-    returns-clause-divisor g c (2 ^ k) is (pow_pos k) divides
+    returns-clause-divisor g c (2 ^ k) is (pow_pos k) (power-divides g.T.Number.BITS k (omega (arith, low)))
 
 -- what both bounds admit is below the upper one
 admitted-below : {T : Type 0} (le lt : T → T → Bool) (n : T) (result : Result T RangeError)
@@ -55,3 +51,8 @@ returns-clause-refusal g c = c.draw_number.ensures.refusal c.requires
 
 pub returns-clause-words : goal.returns-clause-words
 returns-clause-words g c = c.draw_number.ensures.words
+
+pub returns-clause-unrefused : goal.returns-clause-unrefused
+returns-clause-unrefused g c none =
+    let size : g.T.Number.rank c.args.n - 0 ≡ g.T.Number.rank c.args.n = omega arith in
+    c.draw_number.ensures.unrefused c.requires (ap (λ (n : ℕ). rejected g.T.Number.BITS n) size ∙ none)

@@ -101,3 +101,14 @@ returns-in-Some-clause-some g c = λ k fits low high. tt
 
 pub returns-in-None-clause-exhausted : goal.returns-in-None-clause-exhausted
 returns-in-None-clause-exhausted g c = λ _. rw (← c.BITS.ensures) c.in-None.ensures.exhausted
+
+pub returns-then-end-first-clause-unrefused : goal.returns-then-end-first-clause-unrefused
+returns-then-end-first-clause-unrefused g c has none =
+    let clash = returns-then-end-first-clause-refusal g c has in absurd cc
+
+pub returns-in-Some-clause-unrefused : goal.returns-in-Some-clause-unrefused
+returns-in-Some-clause-unrefused g c = λ has none. refl
+
+pub returns-in-None-clause-unrefused : goal.returns-in-None-clause-unrefused
+returns-in-None-clause-unrefused g c has none =
+    let found = c.in-None.ensures.divisor (rw (c.BITS.ensures, c.first_place-first.ensures.rank, c.end_place-end.ensures.rank) none) in cc

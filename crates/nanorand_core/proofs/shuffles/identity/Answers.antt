@@ -2,7 +2,7 @@ use Rattle.std.proofs.Common.{length, ◌∙◌, arith}
 use Rattle.std.proofs.lemmas.List.{map-id}
 use Rattle.std.proofs.lemmas.List.FromFn.{fill_by_all}
 use Rattle.nanorand_core.specs.shuffles.Arrangements.{rising}
-use Rattle.nanorand_core.proofs.shuffles.write_places.Goals as goal
+use Rattle.nanorand_core.proofs.shuffles.identity.Goals as goal
 
 pub returns : goal.returns
 returns c =

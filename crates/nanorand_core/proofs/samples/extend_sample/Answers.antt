@@ -4,7 +4,7 @@ use Rattle.std.proofs.lemmas.Result.{err_from_is_err_and}
 use Rattle.nanorand_core.specs.values.Draws.{after_word, word_limit}
 use Rattle.nanorand_core.specs.samples.Samples.{Sample, joining}
 use Rattle.nanorand_core.proofs.lemmas.SampleLemmas.{joined_below, joined_apart, sampling_goes_on, sampling_ends, slots_filled, slots_left, words_more}
-use Rattle.nanorand_core.proofs.samples.sample.Goals as goal
+use Rattle.nanorand_core.proofs.samples.extend_sample.Goals as goal
 
 pub returns-in_err-drawn : goal.returns-in_err-drawn
 returns-in_err-drawn g c =
@@ -14,14 +14,14 @@ returns-in_err-drawn g c =
     let kept = err_from_is_err_and c.from_residual.result c.from_residual.ensures.1 in
     let ended = sampling_ends g.G.Rng.requests (c.args.count - size) slot size c.loop-slot.rng _ (take slot c.loop-slot.places) _
     (omega arith) so_far.sampling c.in_err-drawn.ensures.state _ c.in_err-drawn.ensures.value in
-    let more = words_more (after_word g.G.Rng.requests 64) word_limit slot _ _ _ so_far.words c.draw_up_to.ensures.words in
+    let more = words_more (after_word g.G.Rng.requests 64) word_limit (slot - c.args.filled) _ _ _ so_far.words
+    c.draw_up_to.ensures.words in
     rw (kept.1, kept.2) (record {
       answer = ap (λ (s : Sample _). s.answer) ended;
       places = slots_filled slot c.loop-slot.places c.args.places.now _ (omega arith) (sym (ap (λ (s : Sample _). s.numbers) ended)) so_far.rest;
       state = ap (λ (s : Sample _). s.state) ended;
       whole = tt;
-      below = tt;
-      apart = tt;
+      different = λ _. tt;
       refusal = c.in_err-drawn.ensures.refusal;
       words = (more.0, omega (arith, more.1), more.2);
     })
@@ -36,16 +36,20 @@ loop-slot-preserved g c =
     let drawn = c.in_ok-drawn.drawn in
     let sample = take slot places in
     let within : slot < length places = omega arith in
-    let more = words_more (after_word g.G.Rng.requests 64) word_limit slot _ _ _ so_far.words c.draw_up_to.ensures.words in
+    let more = words_more (after_word g.G.Rng.requests 64) word_limit (slot - c.args.filled) _ _ _ so_far.words
+    c.draw_up_to.ensures.words in
     let later : first + (slot + 1) ≡ first + slot + 1 = omega arith in
     rw (take_more_set places slot c.joining-number.result within, c.joining-number.ensures)
     (record {
       sampling = sampling_goes_on g.G.Rng.requests first slot size c.loop-slot.rng _ sample _
           (omega arith) so_far.sampling c.in_ok-drawn.ensures.state drawn c.in_ok-drawn.ensures.value;
       rest = slots_left slot (joining (first + slot) drawn sample) places c.args.places.now so_far.rest;
-      below = rw later (joined_below (first + slot) drawn sample so_far.below c.in_ok-drawn.ensures.within);
-      apart = joined_apart (first + slot) drawn sample so_far.below so_far.apart;
+      different = λ start. let so_far_different = so_far.different start in (
+        rw later (joined_below (first + slot) drawn sample so_far_different.0 c.in_ok-drawn.ensures.within),
+        joined_apart (first + slot) drawn sample so_far_different.0 so_far_different.1,
+      );
       words = (more.0, omega (arith, more.1), more.2);
+      chained = rw c.joining-number.ensures at c.link.ensures.chained;
     })
 
 pub returns : goal.returns
@@ -65,8 +69,7 @@ returns g c =
       places = slots_filled slot places c.args.places.now _ (omega arith) numbers so_far.rest;
       state = ap (λ (s : Sample _). s.state) ended;
       whole = sym all ∙ sym numbers;
-      below = rw (all, end) at so_far.below;
-      apart = rw all at so_far.apart;
+      different = rw (all, end) at so_far.different;
       refusal = tt;
       words = rw done at so_far.words;
     }

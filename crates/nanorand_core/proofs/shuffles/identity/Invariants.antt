@@ -1,5 +1,5 @@
 use Rattle.std.proofs.Common.{◌≡◌, ℕ, ◌<◌, get_or}
-use Rattle.nanorand_core.proofs.shuffles.write_places.Given as goal
+use Rattle.nanorand_core.proofs.shuffles.identity.Given as goal
 
 -- the indices so far are written
 abbrev pub invariant-loop-place : goal.invariant-loop-place
