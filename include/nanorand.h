@@ -16,9 +16,10 @@
  * from memory, and nothing was audited. For keys, tokens and passwords, or where an adversary matters, take a
  * vetted one.
  *
- * The seed of WyRand and of Pcg64 is the state itself, and is not mixed. Generators with neighbouring seeds,
- * such as 0, 1, 2, .., draw correlated numbers. For many generators take parts of one stream, or mixed seeds:
- * numbers that another generator drew, or the first bytes of a SHA-256 of a name (nanorand_lots_digest).
+ * seed_from_u64 makes a state of any number, also a small one, and mixes it. The seed that stands in the state
+ * of WyRand and of Pcg64 is the state itself: set to neighbouring numbers, such as 0, 1, 2, .., two generators
+ * draw correlated numbers. For many generators take parts of one stream, or mixed seeds: numbers that another
+ * generator drew, or the first bytes of a SHA-256 of a name (nanorand_lots_digest).
  */
 #ifndef NANORAND_H
 #define NANORAND_H
@@ -49,6 +50,7 @@
  * The symbols of this version. Programs write the names on the left; a program built with the header of
  * another version links to other symbols, so that both can stand in one program.
  */
+#define nanorand_wyrand_seed_from_u64 nanorand_v1_wyrand_seed_from_u64
 #define nanorand_wyrand_new_seed nanorand_v1_wyrand_new_seed
 #define nanorand_wyrand_u64 nanorand_v1_wyrand_u64
 #define nanorand_wyrand_fill_bytes nanorand_v1_wyrand_fill_bytes
@@ -59,8 +61,10 @@
 #define nanorand_wyrand_shuffle nanorand_v1_wyrand_shuffle
 #define nanorand_wyrand_shuffle_full nanorand_v1_wyrand_shuffle_full
 #define nanorand_wyrand_sample nanorand_v1_wyrand_sample
+#define nanorand_wyrand_extend_sample nanorand_v1_wyrand_extend_sample
 #define nanorand_wyrand_jump nanorand_v1_wyrand_jump
 #define nanorand_wyrand_part nanorand_v1_wyrand_part
+#define nanorand_pcg64_seed_from_u64 nanorand_v1_pcg64_seed_from_u64
 #define nanorand_pcg64_u64 nanorand_v1_pcg64_u64
 #define nanorand_pcg64_fill_bytes nanorand_v1_pcg64_fill_bytes
 #define nanorand_pcg64_range_u32 nanorand_v1_pcg64_range_u32
@@ -70,8 +74,10 @@
 #define nanorand_pcg64_shuffle nanorand_v1_pcg64_shuffle
 #define nanorand_pcg64_shuffle_full nanorand_v1_pcg64_shuffle_full
 #define nanorand_pcg64_sample nanorand_v1_pcg64_sample
+#define nanorand_pcg64_extend_sample nanorand_v1_pcg64_extend_sample
 #define nanorand_pcg64_jump nanorand_v1_pcg64_jump
 #define nanorand_pcg64_part nanorand_v1_pcg64_part
+#define nanorand_chacha8_seed_from_u64 nanorand_v1_chacha8_seed_from_u64
 #define nanorand_chacha8_block nanorand_v1_chacha8_block
 #define nanorand_chacha8_u64 nanorand_v1_chacha8_u64
 #define nanorand_chacha8_fill_bytes nanorand_v1_chacha8_fill_bytes
@@ -82,7 +88,9 @@
 #define nanorand_chacha8_shuffle nanorand_v1_chacha8_shuffle
 #define nanorand_chacha8_shuffle_full nanorand_v1_chacha8_shuffle_full
 #define nanorand_chacha8_sample nanorand_v1_chacha8_sample
+#define nanorand_chacha8_extend_sample nanorand_v1_chacha8_extend_sample
 #define nanorand_chacha8_part nanorand_v1_chacha8_part
+#define nanorand_chacha12_seed_from_u64 nanorand_v1_chacha12_seed_from_u64
 #define nanorand_chacha12_block nanorand_v1_chacha12_block
 #define nanorand_chacha12_u64 nanorand_v1_chacha12_u64
 #define nanorand_chacha12_fill_bytes nanorand_v1_chacha12_fill_bytes
@@ -93,7 +101,9 @@
 #define nanorand_chacha12_shuffle nanorand_v1_chacha12_shuffle
 #define nanorand_chacha12_shuffle_full nanorand_v1_chacha12_shuffle_full
 #define nanorand_chacha12_sample nanorand_v1_chacha12_sample
+#define nanorand_chacha12_extend_sample nanorand_v1_chacha12_extend_sample
 #define nanorand_chacha12_part nanorand_v1_chacha12_part
+#define nanorand_chacha20_seed_from_u64 nanorand_v1_chacha20_seed_from_u64
 #define nanorand_chacha20_block nanorand_v1_chacha20_block
 #define nanorand_chacha20_u64 nanorand_v1_chacha20_u64
 #define nanorand_chacha20_fill_bytes nanorand_v1_chacha20_fill_bytes
@@ -104,7 +114,9 @@
 #define nanorand_chacha20_shuffle nanorand_v1_chacha20_shuffle
 #define nanorand_chacha20_shuffle_full nanorand_v1_chacha20_shuffle_full
 #define nanorand_chacha20_sample nanorand_v1_chacha20_sample
+#define nanorand_chacha20_extend_sample nanorand_v1_chacha20_extend_sample
 #define nanorand_chacha20_part nanorand_v1_chacha20_part
+#define nanorand_stream_seed_from_u64 nanorand_v1_stream_seed_from_u64
 #define nanorand_stream_u64 nanorand_v1_stream_u64
 #define nanorand_stream_fill_bytes nanorand_v1_stream_fill_bytes
 #define nanorand_stream_range_u32 nanorand_v1_stream_range_u32
@@ -114,6 +126,8 @@
 #define nanorand_stream_shuffle nanorand_v1_stream_shuffle
 #define nanorand_stream_shuffle_full nanorand_v1_stream_shuffle_full
 #define nanorand_stream_sample nanorand_v1_stream_sample
+#define nanorand_stream_extend_sample nanorand_v1_stream_extend_sample
+#define nanorand_keystream_seed_from_u64 nanorand_v1_keystream_seed_from_u64
 #define nanorand_keystream_u64 nanorand_v1_keystream_u64
 #define nanorand_keystream_fill_bytes nanorand_v1_keystream_fill_bytes
 #define nanorand_keystream_range_u32 nanorand_v1_keystream_range_u32
@@ -123,6 +137,7 @@
 #define nanorand_keystream_shuffle nanorand_v1_keystream_shuffle
 #define nanorand_keystream_shuffle_full nanorand_v1_keystream_shuffle_full
 #define nanorand_keystream_sample nanorand_v1_keystream_sample
+#define nanorand_keystream_extend_sample nanorand_v1_keystream_extend_sample
 #define nanorand_keystream_part nanorand_v1_keystream_part
 #define nanorand_lots_digest nanorand_v1_lots_digest
 #define nanorand_lots_count nanorand_v1_lots_count
@@ -195,6 +210,12 @@ typedef struct nanorand_v1_keystream {
  * `..` stands for the name of a generator: wyrand, pcg64, chacha8, chacha12, chacha20, stream or
  * keystream. stream has no part.
  *
+ * nanorand_.._seed_from_u64: Makes the state from a number, which may be small: 0, 1, 2, .., a
+ * port, a year. Its seed is what SplitMix64 draws from the number (Guy Steele, Doug Lea and
+ * Christine Flood, 2014, in Sebastiano Vigna's constants), each word little-endian; of ChaCha it is
+ * the key and then the nonce, the counter is 0, and a stream has nothing buffered. Different
+ * numbers give different states.
+ *
  * nanorand_.._u64: Draws a number of 64 bits: the next 8 bytes, least byte first.
  *
  * nanorand_.._fill_bytes: Fills `buffer` with the next bytes, by one request. A length of 0 draws
@@ -229,6 +250,16 @@ typedef struct nanorand_v1_keystream {
  * and the words stay consumed. A length of 0 draws nothing. The time is O(k^2) for k places, since
  * each number drawn is compared with those before it.
  *
+ * nanorand_.._extend_sample: Goes on with a sample whose first `filled` places stand, by a table
+ * that the caller lends: in expected time O(k) for k places. With `filled` 0 it is a whole sample,
+ * and leaves the same as `sample`. The table's length and items change nothing but the time: with
+ * 3k items a number drawn is compared with at most one place on average, with k or fewer with all
+ * of them. It must not overlap the places, and what it then holds means nothing. To draw a long
+ * sample in pieces, give the first places of it, and a count that is less by the number of the
+ * missing ones; then go on. It returns 0, or 1 if there are more places than numbers or fewer than
+ * `filled` (nothing is drawn or written), or 2 if 128 words in a row were rejected for one place;
+ * the places before it are then written, and the words stay consumed.
+ *
  * nanorand_.._part: Moves to the beginning of part `index`, counted from 0, of parts of so many
  * draws: `index * draws` draws further on, where a draw is what a `uint64_t` takes. Parts of one
  * length that are cut from copies of one state do not overlap, if no task draws more than `draws`
@@ -238,11 +269,13 @@ typedef struct nanorand_v1_keystream {
 
 /* ---- WyRand: 64 bits of state, the fastest. Not cryptographically secure. ---- */
 
+void nanorand_wyrand_seed_from_u64(nanorand_wyrand *rng, uint64_t number) NANORAND_NOT_NULL((1));
+
 /*
  * The generator with this seed. The seed is the state itself, and is not mixed: generators with
- * neighbouring seeds, such as 0, 1, 2, .., draw correlated numbers. For many generators take parts
- * of one stream, or mixed seeds: numbers that another generator drew, or the first 8 bytes of a
- * SHA-256 of a name.
+ * neighbouring seeds, such as 0, 1, 2, .., draw correlated numbers; for such numbers take
+ * seed_from_u64. For many generators take parts of one stream, or mixed seeds: numbers that another
+ * generator drew, or the first 8 bytes of a SHA-256 of a name.
  */
 nanorand_wyrand nanorand_wyrand_new_seed(uint64_t seed);
 
@@ -268,6 +301,10 @@ uint8_t nanorand_wyrand_shuffle_full(
 uint8_t nanorand_wyrand_sample(
     nanorand_wyrand *rng, size_t count, size_t *places, size_t length)
     NANORAND_NOT_NULL((1)) NANORAND_USE_STATUS;
+uint8_t nanorand_wyrand_extend_sample(
+    nanorand_wyrand *rng, size_t count, size_t *places, size_t places_length, size_t filled,
+    size_t *table, size_t length)
+    NANORAND_NOT_NULL((1)) NANORAND_USE_STATUS;
 
 /* Advances by so many draws, in one step. */
 void nanorand_wyrand_jump(nanorand_wyrand *rng, uint64_t draws) NANORAND_NOT_NULL((1));
@@ -278,6 +315,7 @@ uint8_t nanorand_wyrand_part(
 
 /* ---- Pcg64: a seed of 128 bits. Not cryptographically secure. ---- */
 
+void nanorand_pcg64_seed_from_u64(nanorand_pcg64 *seed, uint64_t number) NANORAND_NOT_NULL((1));
 uint64_t nanorand_pcg64_u64(nanorand_pcg64 *seed) NANORAND_NOT_NULL((1));
 void nanorand_pcg64_fill_bytes(
     nanorand_pcg64 *seed, uint8_t *buffer, size_t length) NANORAND_NOT_NULL((1));
@@ -300,6 +338,10 @@ uint8_t nanorand_pcg64_shuffle_full(
 uint8_t nanorand_pcg64_sample(
     nanorand_pcg64 *seed, size_t count, size_t *places, size_t length)
     NANORAND_NOT_NULL((1)) NANORAND_USE_STATUS;
+uint8_t nanorand_pcg64_extend_sample(
+    nanorand_pcg64 *seed, size_t count, size_t *places, size_t places_length, size_t filled,
+    size_t *table, size_t length)
+    NANORAND_NOT_NULL((1)) NANORAND_USE_STATUS;
 
 /* Advances by so many draws, in at most 128 steps and one draw. */
 void nanorand_pcg64_jump(
@@ -310,6 +352,8 @@ uint8_t nanorand_pcg64_part(
     NANORAND_NOT_NULL((1)) NANORAND_USE_STATUS;
 
 /* ---- ChaCha with 8 rounds. Each call begins a new block, also for a number: fill many bytes at once. ---- */
+
+void nanorand_chacha8_seed_from_u64(nanorand_chacha *state, uint64_t number) NANORAND_NOT_NULL((1));
 
 /* Writes the block at the counter, and adds 1 to the counter. */
 void nanorand_chacha8_block(nanorand_chacha *state, uint8_t out[64]) NANORAND_NOT_NULL((1, 2));
@@ -344,11 +388,18 @@ uint8_t nanorand_chacha8_shuffle_full(
 uint8_t nanorand_chacha8_sample(
     nanorand_chacha *state, size_t count, size_t *places, size_t length)
     NANORAND_NOT_NULL((1)) NANORAND_USE_STATUS;
+uint8_t nanorand_chacha8_extend_sample(
+    nanorand_chacha *state, size_t count, size_t *places, size_t places_length, size_t filled,
+    size_t *table, size_t length)
+    NANORAND_NOT_NULL((1)) NANORAND_USE_STATUS;
 uint8_t nanorand_chacha8_part(
     nanorand_chacha *state, uint64_t index, uint64_t draws)
     NANORAND_NOT_NULL((1)) NANORAND_USE_STATUS;
 
 /* ---- ChaCha with 12 rounds. Each call begins a new block, also for a number: fill many bytes at once. ---- */
+
+void nanorand_chacha12_seed_from_u64(
+    nanorand_chacha *state, uint64_t number) NANORAND_NOT_NULL((1));
 
 /* Writes the block at the counter, and adds 1 to the counter. */
 void nanorand_chacha12_block(nanorand_chacha *state, uint8_t out[64]) NANORAND_NOT_NULL((1, 2));
@@ -383,11 +434,18 @@ uint8_t nanorand_chacha12_shuffle_full(
 uint8_t nanorand_chacha12_sample(
     nanorand_chacha *state, size_t count, size_t *places, size_t length)
     NANORAND_NOT_NULL((1)) NANORAND_USE_STATUS;
+uint8_t nanorand_chacha12_extend_sample(
+    nanorand_chacha *state, size_t count, size_t *places, size_t places_length, size_t filled,
+    size_t *table, size_t length)
+    NANORAND_NOT_NULL((1)) NANORAND_USE_STATUS;
 uint8_t nanorand_chacha12_part(
     nanorand_chacha *state, uint64_t index, uint64_t draws)
     NANORAND_NOT_NULL((1)) NANORAND_USE_STATUS;
 
 /* ---- ChaCha with 20 rounds. Each call begins a new block, also for a number: for many, take keystream. ---- */
+
+void nanorand_chacha20_seed_from_u64(
+    nanorand_chacha *state, uint64_t number) NANORAND_NOT_NULL((1));
 
 /* Writes the block at the counter, and adds 1 to the counter. */
 void nanorand_chacha20_block(nanorand_chacha *state, uint8_t out[64]) NANORAND_NOT_NULL((1, 2));
@@ -422,12 +480,17 @@ uint8_t nanorand_chacha20_shuffle_full(
 uint8_t nanorand_chacha20_sample(
     nanorand_chacha *state, size_t count, size_t *places, size_t length)
     NANORAND_NOT_NULL((1)) NANORAND_USE_STATUS;
+uint8_t nanorand_chacha20_extend_sample(
+    nanorand_chacha *state, size_t count, size_t *places, size_t places_length, size_t filled,
+    size_t *table, size_t length)
+    NANORAND_NOT_NULL((1)) NANORAND_USE_STATUS;
 uint8_t nanorand_chacha20_part(
     nanorand_chacha *state, uint64_t index, uint64_t draws)
     NANORAND_NOT_NULL((1)) NANORAND_USE_STATUS;
 
 /* ---- The keystream of ChaCha with 20 rounds, without a gap between calls. ---- */
 
+void nanorand_stream_seed_from_u64(nanorand_stream *stream, uint64_t number) NANORAND_NOT_NULL((1));
 uint64_t nanorand_stream_u64(nanorand_stream *stream) NANORAND_NOT_NULL((1));
 void nanorand_stream_fill_bytes(
     nanorand_stream *stream, uint8_t *buffer, size_t length) NANORAND_NOT_NULL((1));
@@ -452,9 +515,15 @@ uint8_t nanorand_stream_shuffle_full(
 uint8_t nanorand_stream_sample(
     nanorand_stream *stream, size_t count, size_t *places, size_t length)
     NANORAND_NOT_NULL((1)) NANORAND_USE_STATUS;
+uint8_t nanorand_stream_extend_sample(
+    nanorand_stream *stream, size_t count, size_t *places, size_t places_length, size_t filled,
+    size_t *table, size_t length)
+    NANORAND_NOT_NULL((1)) NANORAND_USE_STATUS;
 
 /* ---- The same keystream, eight blocks at once: the one to take where speed counts. ---- */
 
+void nanorand_keystream_seed_from_u64(
+    nanorand_keystream *stream, uint64_t number) NANORAND_NOT_NULL((1));
 uint64_t nanorand_keystream_u64(nanorand_keystream *stream) NANORAND_NOT_NULL((1));
 void nanorand_keystream_fill_bytes(
     nanorand_keystream *stream, uint8_t *buffer, size_t length) NANORAND_NOT_NULL((1));
@@ -478,6 +547,10 @@ uint8_t nanorand_keystream_shuffle_full(
     NANORAND_NOT_NULL((1)) NANORAND_USE_STATUS;
 uint8_t nanorand_keystream_sample(
     nanorand_keystream *stream, size_t count, size_t *places, size_t length)
+    NANORAND_NOT_NULL((1)) NANORAND_USE_STATUS;
+uint8_t nanorand_keystream_extend_sample(
+    nanorand_keystream *stream, size_t count, size_t *places, size_t places_length, size_t filled,
+    size_t *table, size_t length)
     NANORAND_NOT_NULL((1)) NANORAND_USE_STATUS;
 uint8_t nanorand_keystream_part(
     nanorand_keystream *stream, uint64_t index, uint64_t draws)

@@ -13,7 +13,8 @@ static const char *const names[ENTRANTS] = {
 
 static int shuffle_deck(void)
 {
-    nanorand_pcg64 rng = {2026, 0};
+    nanorand_pcg64 rng;
+    nanorand_pcg64_seed_from_u64(&rng, 2026);
     size_t cards[CARDS];
     for (size_t place = 0; place < CARDS; place++) {
         cards[place] = place;
@@ -31,7 +32,8 @@ static int shuffle_deck(void)
 
 static int throw_die(void)
 {
-    nanorand_wyrand rng = nanorand_wyrand_new_seed(42);
+    nanorand_wyrand rng;
+    nanorand_wyrand_seed_from_u64(&rng, 42);
     printf("die:");
     for (int count = 0; count < THROWS; count++) {
         uint32_t pips;

@@ -17,6 +17,7 @@ static uint8_t bytes[MOST + 16];
 static uint8_t *const odd_bytes = bytes + 1;
 static size_t items[MOST + 2];
 static size_t *const inner_items = items + 1;
+static size_t table[MOST]; /* What a sample is drawn with: begins with what the last one left. */
 
 static void check(unsigned row, const char *call, int holds)
 {

@@ -25,11 +25,20 @@ HOLDS(lots_empty_line, NANORAND_LOTS_EMPTY_LINE == 4);
 HOLDS(lots_exhausted, NANORAND_LOTS_EXHAUSTED == 8);
 
 #ifdef FEW /* where what runs is counted, which takes long */
-enum { LARGE = (1 << 14) + 1, ITEMS = (1 << 10) + 3 };
+enum { LARGE = (1 << 14) + 1, ITEMS = (1 << 10) + 3, GREATEST = (1 << 17) + 1 };
 #else
-enum { LARGE = (1 << 22) + 1, ITEMS = (1 << 18) + 3 };
+enum { LARGE = (1 << 22) + 1, ITEMS = (1 << 18) + 3, GREATEST = (1 << 21) + 1 };
 #endif
 enum { OFFSETS = 16, SHORT = 200 };
+
+/* About powers of 2 and of 10, in blocks of 64 or not. */
+static const size_t great_sizes[] = {
+    4095,   4096,    4097,    9999,    10000,   10001,   32767,   32768,   32769,
+    65472,  65535,   65536,   65537,   65600,   99999,   100000,  100001,  100032,
+    131071, 131072,  131073,  200001,  262143,  262145,  524287,  524288,  524289,
+    999999, 1000000, 1000001, 1048575, 1048576, 1048577, 2097151, 2097152, 2097153,
+    SIZE_MAX,
+};
 
 static unsigned passed = 0;
 static unsigned failed = 0;
@@ -96,6 +105,7 @@ static int are_below(const size_t *places, size_t length, size_t count)
         check(#G, "no items of all", nanorand_##G##_shuffle_full(&state, NULL, 0) == NANORAND_OK); \
         check(#G, "no places", nanorand_##G##_sample(&state, 5, NULL, 0) == NANORAND_OK);          \
         check(#G, "none of none", nanorand_##G##_sample(&state, 0, NULL, 0) == NANORAND_OK);       \
+        check(#G, "no table", nanorand_##G##_extend_sample(&state, 5, NULL, 0, 0, NULL, 0) == 0);  \
         check(#G, "nothing is drawn", memcmp(&state, &start, sizeof state) == 0);                  \
     }                                                                                              \
                                                                                                    \
@@ -107,11 +117,22 @@ static int are_below(const size_t *places, size_t length, size_t count)
         int64_t sign = 7;                                                                          \
         size_t place = 7;                                                                          \
         size_t places[3] = {7, 7, 7};                                                              \
+        size_t table[9] = {7, 7, 7, 7, 7, 7, 7, 7, 7};                                             \
         check(#G, "u32", nanorand_##G##_range_u32(&state, 5, 4, &narrow) == NANORAND_EMPTY);       \
         check(#G, "u64", nanorand_##G##_range_u64(&state, UINT64_MAX, 0, &wide) == NANORAND_EMPTY);\
         check(#G, "i64", nanorand_##G##_range_i64(&state, 1, -1, &sign) == NANORAND_EMPTY);        \
         check(#G, "usize", nanorand_##G##_range_usize(&state, 1, 0, &place) == NANORAND_EMPTY);    \
         check(#G, "sample", nanorand_##G##_sample(&state, 2, places, 3) == NANORAND_EMPTY);        \
+        check(#G, "more places",                                                                   \
+              nanorand_##G##_extend_sample(&state, 2, places, 3, 0, table, 9) == NANORAND_EMPTY);  \
+        check(#G, "no numbers",                               \
+              nanorand_##G##_extend_sample(&state, 0, places, 3, 3, table, 9) == NANORAND_EMPTY);  \
+        check(#G, "fewer than stand",                                                              \
+              nanorand_##G##_extend_sample(&state, 9, places, 3, 4, table, 9) == NANORAND_EMPTY);  \
+        check(#G, "the greatest filled",                                                           \
+              nanorand_##G##_extend_sample(&state, 9, places, 3, SIZE_MAX, table, 9)               \
+              == NANORAND_EMPTY);                                                                  \
+        check(#G, "the table stays", all_are(table, 9, 7));                                        \
         check(#G, "numbers stay", narrow == 7 && wide == 7 && sign == 7 && place == 7);            \
         check(#G, "places stay", all_are(places, 3, 7));                                           \
         check(#G, "state stays", memcmp(&state, &start, sizeof state) == 0);                       \
@@ -180,6 +201,27 @@ static int are_below(const size_t *places, size_t length, size_t count)
         check(#G, "a large fill", memcmp(whole, pieces, LARGE) == 0 && whole[LARGE] == 0xee);      \
     }                                                                                              \
                                                                                                    \
+    /* One fill of each great size, the same bytes in pieces of 64, and what comes next. */        \
+    static void sizes_##G(S start)                                                                 \
+    {                                                                                              \
+        static uint8_t whole[GREATEST + 1], pieces[GREATEST];                                      \
+        size_t place = 0;                                                                          \
+        S other = start;                                                                           \
+        for (const size_t *size = great_sizes; *size <= GREATEST; size++) {                        \
+            S state = start;                                                                       \
+            S last;                                                                                \
+            for (; place + 64 <= *size; place += 64) {                                             \
+                nanorand_##G##_fill_bytes(&other, pieces + place, 64);                             \
+            }                                                                                      \
+            last = other;                                                                          \
+            nanorand_##G##_fill_bytes(&last, pieces + place, *size - place);                       \
+            whole[*size] = 0xee;                                                                   \
+            nanorand_##G##_fill_bytes(&state, whole, *size);                                       \
+            check(#G, "a great size", memcmp(whole, pieces, *size) == 0 && whole[*size] == 0xee);  \
+            check(#G, "what comes next", nanorand_##G##_u64(&state) == nanorand_##G##_u64(&last)); \
+        }                                                                                          \
+    }                                                                                              \
+                                                                                                   \
     /* Swaps each item with a drawn one: of all items, or of those not before it. */               \
     static int exchange_##G(S *state, size_t *items, int full)                                     \
     {                                                                                              \
@@ -234,6 +276,35 @@ static int are_below(const size_t *places, size_t length, size_t count)
         check(#G, "three of any number", holds);                                                   \
     }                                                                                              \
                                                                                                    \
+    /* A sample by a table, in pieces of all sizes, over what the table held. */                   \
+    static int draw_in_pieces_##G(S *state, size_t count, size_t *places, size_t length)           \
+    {                                                                                              \
+        static size_t table[3 * ITEMS];                                                            \
+        size_t filled = 0;                                                                         \
+        int holds = 1;                                                                             \
+        while (filled < length) {                                                                  \
+            size_t next = 2 * filled + 1 < length ? 2 * filled + 1 : length;                       \
+            holds = holds && nanorand_##G##_extend_sample(state, count - (length - next), places,  \
+                next, filled, table, 3 * next) == NANORAND_OK;                                     \
+            filled = next;                                                                         \
+        }                                                                                          \
+        return holds;                                                                              \
+    }                                                                                              \
+                                                                                                   \
+    static void tables_##G(S start)                                                                \
+    {                                                                                              \
+        static size_t places[ITEMS], others[ITEMS];                                                \
+        for (size_t count = 1000; count < 100000; count = 3 * count + 1) {                         \
+            S state = start, other = start;                                                        \
+            int holds = nanorand_##G##_sample(&state, count, places, 1000) == NANORAND_OK;         \
+            check(#G, "pieces", holds && draw_in_pieces_##G(&other, count, others, 1000));         \
+            check(#G, "the sample", memcmp(places, others, 1000 * sizeof *places) == 0);           \
+            check(#G, "its state", memcmp(&state, &other, sizeof state) == 0);                     \
+        }                                                                                          \
+        check(#G, "all of many", draw_in_pieces_##G(&start, ITEMS, places, ITEMS));                \
+        check(#G, "each of them once", is_permutation(places, ITEMS));                             \
+    }                                                                                              \
+                                                                                                   \
     static void all_##G(S start)                                                                   \
     {                                                                                              \
         null_pointers_##G(start);                                                                  \
@@ -241,8 +312,10 @@ static int are_below(const size_t *places, size_t length, size_t count)
         ranges_##G(start);                                                                         \
         addresses_##G(start);                                                                      \
         lengths_##G(start);                                                                        \
+        sizes_##G(start);                                                                          \
         shuffles_##G(start);                                                                       \
         samples_##G(start);                                                                        \
+        tables_##G(start);                                                                         \
     }
 
 TESTS(wyrand, nanorand_wyrand)

@@ -56,6 +56,17 @@ static uint8_t *placed(int at_end, size_t size)
             holds = holds && nanorand_##G##_shuffle_full(&state, items, length) == 0;              \
         }                                                                                          \
         check(#G ": items", holds);                                                                \
+        for (length = 0; length < 40; length++) {                                                  \
+            static size_t places[40], same[40];                                                    \
+            S state = start, other = start;                                                        \
+            size_t room = 3 * length / 2;                                                          \
+            size_t *table = (size_t *)(void *)placed(at_end, room * sizeof *table);                \
+            holds = holds && nanorand_##G##_sample(&other, 60, same, length) == 0;                 \
+            holds = holds && nanorand_##G##_extend_sample(&state, 60, places, length, 0, table,    \
+                                                          room) == 0                               \
+                && memcmp(places, same, length * sizeof *same) == 0;                               \
+        }                                                                                          \
+        check(#G ": a table", holds);                                                              \
         {                                                                                          \
             S *state = (S *)(void *)placed(at_end, sizeof start);                                  \
             uint64_t number = 7;                                                                   \
@@ -127,7 +138,7 @@ static void lots(int at_end)
     static void make_call_##G(nanorand_##G *state, int call, uint64_t out[4])                      \
     {                                                                                              \
         uint32_t narrow = 7;                                                                       \
-        size_t place = 7, items[3] = {1, 2, 3};                                                    \
+        size_t place = 7, items[3] = {1, 2, 3}, table[9] = {0};                                    \
         int64_t number = 7;                                                                        \
         switch (call) {                                                                            \
         case 0: out[0] = nanorand_##G##_u64(state); break;                                         \
@@ -142,6 +153,8 @@ static void lots(int at_end)
         case 9: out[3] = nanorand_##G##_shuffle_full(state, items, 3); break;                      \
         case 10: out[3] = nanorand_##G##_sample(state, 1000, items, 3); break;                     \
         case 11: out[3] = nanorand_##G##_sample(state, 2, items, 3); break;                        \
+        case 12: out[3] = nanorand_##G##_extend_sample(state, 1000, items, 3, 1, table, 9); break; \
+        case 13: out[3] = nanorand_##G##_extend_sample(state, 2, items, 3, 1, table, 9); break;    \
         }                                                                                          \
         out[1] += narrow + place + (uint64_t)number;                                               \
         out[2] += items[0] + 1000 * items[1] + 1000000 * items[2];                                 \
@@ -154,7 +167,7 @@ CALLS(keystream)
 #define TOO_MANY_BUFFERED(G, MOST)                                                                 \
     static void too_many_buffered_##G(uint64_t buffered)                                           \
     {                                                                                              \
-        for (int call = 0; call < 12; call++) {                                                    \
+        for (int call = 0; call < 14; call++) {                                                    \
             nanorand_##G state, other;                                                             \
             uint64_t some[4] = {0}, same[4] = {0};                                                 \
             memset(&state, 0x5a, sizeof state);                                                    \

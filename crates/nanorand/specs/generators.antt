@@ -8,5 +8,6 @@ pub mod ChaChaGroups
 pub mod Pcg64
 pub mod Frequencies
 pub mod Entropy
+pub mod SplitMix
 pub mod DebugTexts
 pub mod Parts

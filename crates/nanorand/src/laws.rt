@@ -14,11 +14,12 @@ ghost use Rattle.nanorand_replay.specs.replay.Unbroken.{taken_all};
 ghost use Rattle.nanorand.specs.generators.ChaChaGroups.{DeliverAlike, chacha_group, group_requests, next_group, stream_position, stream_requests};
 ghost use Rattle.nanorand.specs.generators.Frequencies.{SomeWordNeverComes, pcg64_word_count, pcg64_words_that, wyrand_seeds_with, wyrand_word_count};
 ghost use Rattle.nanorand.specs.generators.Halves.{folded};
-ghost use Rattle.nanorand.specs.generators.ChaCha.{counter, key_of, nonce_of, advanced, next_state, chacha_after, chacha_block, chacha_requests};
+ghost use Rattle.nanorand.specs.generators.ChaCha.{counter, key_of, nonce_of, seeded_state, advanced, next_state, chacha_after, chacha_block, chacha_requests};
 ghost use Rattle.nanorand.specs.generators.ChaChaRounds.{IsMatrix, RoundsAreInjective};
 ghost use Rattle.nanorand.specs.generators.Parts.{ComesAgain, NothingTwice, PartsAreApart, after_draws, left_in_turn, numbers, numbers_of_part, on_a_copy, part_at, results_after, results_in_turn};
 ghost use Rattle.nanorand.specs.generators.Pcg64.{pcg64_requests};
 ghost use Rattle.nanorand.specs.generators.Pcg64 as pcg64;
+ghost use Rattle.nanorand.specs.generators.SplitMix.{mixed, seed_from, split_mix_next};
 ghost use Rattle.nanorand.specs.generators.WyRand.{wyrand_requests};
 ghost use Rattle.nanorand.specs.generators.WyRand as wyrand;
 
@@ -26,13 +27,14 @@ use crate::parts::Parts;
 use crate::rand::{Blocks, ChaCha, ChaChaGroups, Pcg64, Rng, WyRand};
 pub use nanorand_core::laws::{
     choices_and_arrangements, choices_are_fair, fairness, partial_shuffles,
-    permutations_by_counting, range_limits, ranges_are_fair, samples_are_fair, values_join,
-    weighted_choices_are_fair, whole_blocks,
+    permutations_by_counting, range_limits, ranges_are_fair, reservoirs_are_fair, samples_are_fair,
+    values_join, weighted_choices_are_fair, whole_blocks,
 };
 pub use nanorand_fairness::laws::{
     draws_by_words, fairness_with_rejections, full_shuffles_prefer_orders,
-    numbers_in_turn_are_fair, sampled_sets_are_fair, samples_draw_in_turn, shuffles_are_fair,
-    shuffles_draw_in_turn, words_of_a_draw,
+    numbers_in_turn_are_fair, reservoir_words_are_fair, reservoirs_draw_in_turn,
+    sampled_sets_are_fair, samples_draw_in_turn, shuffles_are_fair, shuffles_draw_in_turn,
+    words_of_a_draw,
 };
 use nanorand_replay::buffer::BufferedRng;
 pub use nanorand_replay::laws::{equal_buffers, fresh_delivery, replays_join, unbroken_delivery};
@@ -197,6 +199,22 @@ pub fn streams_deliver_chacha<const ROUNDS: u8>()
     fresh_delivery::<ChaChaGroups<ROUNDS>, 512>();
     fresh_delivery::<ChaCha<ROUNDS>, 64>();
 }
+
+/// Different numbers below 2^64 give different seeds.
+///
+/// `words`: the first words that SplitMix64 draws from them differ. `wyrand`, `pcg64`, `chacha`: so
+/// the states that `seed_from_u64` makes of them differ.
+pub fn seeds_differ()
+    ensures words { (m n : ℕ) → m < 2 ^ 64 → n < 2 ^ 64
+        → mixed (split_mix_next m) ≡ mixed (split_mix_next n) → m ≡ n }
+    ensures wyrand { (m n : ℕ) → m < 2 ^ 64 → n < 2 ^ 64
+        → number_of (seed_from 8 m) ≡ number_of (seed_from 8 n) → m ≡ n }
+    ensures pcg64 { (m n : ℕ) → m < 2 ^ 64 → n < 2 ^ 64
+        → pcg64.seeded_generator (seed_from 16 m) ≡ pcg64.seeded_generator (seed_from 16 n)
+        → m ≡ n }
+    ensures chacha { (m n : ℕ) → m < 2 ^ 64 → n < 2 ^ 64
+        → seeded_state (seed_from 40 m) ≡ seeded_state (seed_from 40 n) → m ≡ n }
+{}
 
 /// Parts of equal length are the stream, cut.
 ///

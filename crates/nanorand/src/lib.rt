@@ -14,8 +14,9 @@
 //! erased from memory, and nothing reseeds itself. For keys, tokens and passwords, or where an
 //! adversary matters, take a vetted one.
 //!
-//! A seed of `WyRand` or `Pcg64` is the state itself: generators with neighbouring seeds draw
-//! correlated numbers. `new_seed` of each says what to do instead.
+//! `seed_from_u64` makes a generator of any number, as 0, 1, 2, ..; it mixes the number. The seed
+//! that `new_seed` of `WyRand` or `Pcg64` takes is the state itself: generators with neighbouring
+//! seeds draw correlated numbers.
 #![tactic(auto)]
 
 pub mod crypto;
@@ -31,7 +32,7 @@ pub use rand::chacha::{ChaCha, ChaCha8, ChaCha12, ChaCha20};
 pub use rand::chacha_groups::ChaChaGroups;
 pub use rand::keystream::{
     ChaCha8Stream, ChaCha12Stream, ChaCha20Stream, ChaChaStream, Keystream, chacha_stream,
-    chacha_stream_at,
+    chacha_stream_at, chacha_stream_from_u64,
 };
 pub use rand::pcg64::Pcg64;
 pub use rand::wyrand::WyRand;

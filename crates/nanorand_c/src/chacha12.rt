@@ -1,19 +1,33 @@
 //! ChaCha with 12 rounds, fewer than the standard has. Each request begins a new block.
-ghost use Rattle.std.specs.Prelude.{◌≡◌, ◌≢◌, ◌<◌, ◌≤◌, ◌≤ℤ◌, All, IsPermutation, length, ◌+◌, ◌%◌, ◌^◌, ℕ, ◌*◌};
+ghost use Rattle.std.specs.Prelude.{◌≡◌, ◌≢◌, ◌<◌, ◌≤◌, ◌≤ℤ◌, ◌+◌, ◌%◌, ◌^◌, ◌*◌, ◌-◌};
+ghost use Rattle.std.specs.Prelude.{All, IsPermutation, length, ℕ, take};
 ghost use Rattle.std.specs.List.{AllPairs};
 ghost use Rattle.nanorand_core.specs.values.Draws.{after_words};
 ghost use Rattle.nanorand_core.specs.shuffles.Shuffles.{from_all, from_itself, shuffled};
 ghost use Rattle.nanorand_core.specs.values.Values.{number_of};
 ghost use Rattle.std.specs.Int.{div_ceil};
-ghost use Rattle.nanorand.specs.generators.ChaCha.{chacha_block, chacha_requests, next_state};
+ghost use Rattle.nanorand.specs.generators.ChaCha.{chacha_block, chacha_requests, next_state, seeded_state};
+ghost use Rattle.nanorand.specs.generators.SplitMix.{seed_from};
 ghost use Rattle.nanorand_calls.specs.Between.{between, between_signed};
 ghost use Rattle.nanorand_calls.specs.ChaChaStates.{chacha_at};
 ghost use Rattle.nanorand_calls.specs.Parts.{parting};
-ghost use Rattle.nanorand_calls.specs.Sampling.{sampling};
+ghost use Rattle.nanorand_core.specs.samples.Samples.{DifferentBelow};
+ghost use Rattle.nanorand_calls.specs.Sampling.{extending, sampling};
 ghost use Rattle.nanorand_calls.specs.Status.{drawn_or, status};
 ghost use Rattle.nanorand_calls.specs.Words.{IsAfterAtMost};
 
 use nanorand_calls::chacha::{self, ChaChaState};
+
+/// Makes the state from a number, which may be small: 0, 1, 2, .., a port, a year. Its seed is what
+/// SplitMix64 draws from the number (Guy Steele, Doug Lea and Christine Flood, 2014, in Sebastiano
+/// Vigna's constants), each word little-endian; of ChaCha it is the key and then the nonce, the
+/// counter is 0, and a stream has nothing buffered. Different numbers give different states.
+#[unsafe(no_mangle)]
+pub extern "C" fn nanorand_v1_chacha12_seed_from_u64(state: &mut ChaChaState, number: u64)
+    ensures { chacha_at state.new ≡ seeded_state (seed_from 40 number) }
+{
+    chacha::seed_from_u64::<12>(state, number);
+}
 
 /// Writes the block at the counter, and adds 1 to the counter.
 #[unsafe(no_mangle)]
@@ -223,6 +237,42 @@ pub extern "C" fn nanorand_v1_chacha12_sample(
     ensures apart { result ≡ 0 → AllPairs (λ number other. number ≢ other) places.new }
 {
     chacha::sample::<12>(state, count, places)
+}
+
+/// Goes on with a sample whose first `filled` places stand, by a table that the caller lends: in
+/// expected time O(k) for k places. With `filled` 0 it is a whole sample, and leaves the same as
+/// `sample`. The table's length and items change nothing but the time: with 3k items a number drawn is
+/// compared with at most one place on average, with k or fewer with all of them. It must not overlap
+/// the places, and what it then holds means nothing. To draw a long sample in pieces, give the first
+/// places of it, and a count that is less by the number of the missing ones; then go on. It returns 0,
+/// or 1 if there are more places than numbers or fewer than `filled` (nothing is drawn or written), or
+/// 2 if 128 words in a row were rejected for one place; the places before it are then written, and the
+/// words stay consumed.
+#[unsafe(no_mangle)]
+pub extern "C" fn nanorand_v1_chacha12_extend_sample(
+    state: &mut ChaChaState,
+    count: usize,
+    places: &mut [usize],
+    filled: usize,
+    table: &mut [usize],
+) -> u8
+    ensures status { let start = chacha_at state.old in
+        let sampling = extending (chacha_requests 12) count start places.old filled in
+        result ≡ sampling.status }
+    ensures places { let start = chacha_at state.old in
+        let sampling = extending (chacha_requests 12) count start places.old filled in
+        places.new ≡ sampling.places }
+    ensures state { let start = chacha_at state.old in
+        let sample = extending (chacha_requests 12) count start places.old filled in
+        chacha_at state.new ≡ sample.state }
+    ensures words { let start = chacha_at state.old in
+        let after = λ (n : ℕ). after_words (chacha_requests 12) 64 n start in
+        IsAfterAtMost (128 * length places.old) after (chacha_at state.new) }
+    ensures different { let limit = count - length places.old + filled in
+        DifferentBelow limit (take filled places.old)
+        → result ≡ 0 → DifferentBelow count places.new }
+{
+    chacha::extend_sample::<12>(state, count, places, filled, table)
 }
 
 /// Moves to the beginning of part `index`, counted from 0, of parts of so many draws: `index *

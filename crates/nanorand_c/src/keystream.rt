@@ -2,19 +2,34 @@
 //!
 //! From equal states with nothing buffered it delivers what `Stream` delivers, by the law
 //! `nanorand::laws::streams_deliver_chacha`.
-ghost use Rattle.std.specs.Prelude.{◌≡◌, ◌≢◌, ◌<◌, ◌≤◌, ◌≤ℤ◌, All, IsPermutation, length, ◌^◌, ℕ, ◌*◌};
+ghost use Rattle.std.specs.Prelude.{◌≡◌, ◌≢◌, ◌<◌, ◌≤◌, ◌≤ℤ◌, ◌^◌, ◌*◌, ◌+◌, ◌-◌, All, IsPermutation, length, ℕ, take};
 ghost use Rattle.std.specs.List.{AllPairs};
 ghost use Rattle.nanorand_core.specs.values.Draws.{after_words};
 ghost use Rattle.nanorand_core.specs.shuffles.Shuffles.{from_all, from_itself, shuffled};
 ghost use Rattle.nanorand_core.specs.values.Values.{number_of};
+ghost use Rattle.nanorand.specs.generators.ChaCha.{seeded_state};
+ghost use Rattle.nanorand.specs.generators.SplitMix.{seed_from};
 ghost use Rattle.nanorand_calls.specs.Between.{between, between_signed};
-ghost use Rattle.nanorand_calls.specs.ChaChaStates.{groups_at, by_groups};
+ghost use Rattle.nanorand_calls.specs.ChaChaStates.{fresh_stream, groups_at, by_groups};
 ghost use Rattle.nanorand_calls.specs.Parts.{parting};
-ghost use Rattle.nanorand_calls.specs.Sampling.{sampling};
+ghost use Rattle.nanorand_core.specs.samples.Samples.{DifferentBelow};
+ghost use Rattle.nanorand_calls.specs.Sampling.{extending, sampling};
 ghost use Rattle.nanorand_calls.specs.Status.{drawn_or, status};
 ghost use Rattle.nanorand_calls.specs.Words.{IsAfterAtMost};
 
 use nanorand_calls::keystream::{self, GroupStream};
+
+/// Makes the state from a number, which may be small: 0, 1, 2, .., a port, a year. Its seed is what
+/// SplitMix64 draws from the number (Guy Steele, Doug Lea and Christine Flood, 2014, in Sebastiano
+/// Vigna's constants), each word little-endian; of ChaCha it is the key and then the nonce, the
+/// counter is 0, and a stream has nothing buffered. Different numbers give different states.
+#[unsafe(no_mangle)]
+pub extern "C" fn nanorand_v1_keystream_seed_from_u64(stream: &mut GroupStream, number: u64)
+    ensures state { groups_at stream.new ≡ fresh_stream (seeded_state (seed_from 40 number)) }
+    ensures buffered { stream.new.buffered ≡ 0 }
+{
+    keystream::seed_from_u64(stream, number);
+}
 
 /// Draws a number of 64 bits: the next 8 bytes, least byte first.
 #[unsafe(no_mangle)]
@@ -212,6 +227,43 @@ pub extern "C" fn nanorand_v1_keystream_sample(
     ensures buffered { stream.new.buffered < 512 }
 {
     keystream::sample(stream, count, places)
+}
+
+/// Goes on with a sample whose first `filled` places stand, by a table that the caller lends: in
+/// expected time O(k) for k places. With `filled` 0 it is a whole sample, and leaves the same as
+/// `sample`. The table's length and items change nothing but the time: with 3k items a number drawn is
+/// compared with at most one place on average, with k or fewer with all of them. It must not overlap
+/// the places, and what it then holds means nothing. To draw a long sample in pieces, give the first
+/// places of it, and a count that is less by the number of the missing ones; then go on. It returns 0,
+/// or 1 if there are more places than numbers or fewer than `filled` (nothing is drawn or written), or
+/// 2 if 128 words in a row were rejected for one place; the places before it are then written, and the
+/// words stay consumed.
+#[unsafe(no_mangle)]
+pub extern "C" fn nanorand_v1_keystream_extend_sample(
+    stream: &mut GroupStream,
+    count: usize,
+    places: &mut [usize],
+    filled: usize,
+    table: &mut [usize],
+) -> u8
+    ensures status { let start = groups_at stream.old in
+        let sampling = extending by_groups count start places.old filled in
+        result ≡ sampling.status }
+    ensures places { let start = groups_at stream.old in
+        let sampling = extending by_groups count start places.old filled in
+        places.new ≡ sampling.places }
+    ensures state { let start = groups_at stream.old in
+        let sample = extending by_groups count start places.old filled in
+        groups_at stream.new ≡ sample.state }
+    ensures words { let start = groups_at stream.old in
+        let after = λ (n : ℕ). after_words by_groups 64 n start in
+        IsAfterAtMost (128 * length places.old) after (groups_at stream.new) }
+    ensures different { let limit = count - length places.old + filled in
+        DifferentBelow limit (take filled places.old)
+        → result ≡ 0 → DifferentBelow count places.new }
+    ensures buffered { stream.new.buffered < 512 }
+{
+    keystream::extend_sample(stream, count, places, filled, table)
 }
 
 /// Moves to the beginning of part `index`, counted from 0, of parts of so many draws: `index *

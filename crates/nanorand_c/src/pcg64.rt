@@ -1,19 +1,32 @@
 //! Pcg64. Its seed is the caller's memory, and each draw advances it. Not cryptographically secure.
-ghost use Rattle.std.specs.Prelude.{◌≡◌, ◌≢◌, ◌<◌, ◌≤◌, ◌≤ℤ◌, All, IsPermutation, length, ◌^◌, ℕ, ◌*◌};
+ghost use Rattle.std.specs.Prelude.{◌≡◌, ◌≢◌, ◌<◌, ◌≤◌, ◌≤ℤ◌, ◌^◌, ◌*◌, ◌+◌, ◌-◌, All, IsPermutation, length, ℕ, take};
 ghost use Rattle.std.specs.List.{AllPairs};
 ghost use Rattle.nanorand_core.specs.values.Draws.{after_words};
 ghost use Rattle.nanorand_core.specs.shuffles.Shuffles.{from_all, from_itself, shuffled};
 ghost use Rattle.nanorand_core.specs.values.Values.{number_of};
-ghost use Rattle.nanorand.specs.generators.Pcg64.{pcg64_requests, seed_after};
+ghost use Rattle.nanorand.specs.generators.Pcg64.{pcg64_requests, seed_after, seeded_generator};
+ghost use Rattle.nanorand.specs.generators.SplitMix.{seed_from};
 ghost use Rattle.nanorand_calls.specs.Between.{between, between_signed};
 ghost use Rattle.nanorand_calls.specs.Parts.{parting};
-ghost use Rattle.nanorand_calls.specs.Sampling.{sampling};
+ghost use Rattle.nanorand_core.specs.samples.Samples.{DifferentBelow};
+ghost use Rattle.nanorand_calls.specs.Sampling.{extending, sampling};
 ghost use Rattle.nanorand_calls.specs.Status.{drawn_or, status};
 ghost use Rattle.nanorand_calls.specs.Words.{IsAfterAtMost};
 ghost use Rattle.nanorand_calls.specs.WideNumber.{at_seed, wide_number};
 
 use nanorand_calls::pcg64;
 use nanorand_calls::wide::Wide;
+
+/// Makes the state from a number, which may be small: 0, 1, 2, .., a port, a year. Its seed is what
+/// SplitMix64 draws from the number (Guy Steele, Doug Lea and Christine Flood, 2014, in Sebastiano
+/// Vigna's constants), each word little-endian; of ChaCha it is the key and then the nonce, the
+/// counter is 0, and a stream has nothing buffered. Different numbers give different states.
+#[unsafe(no_mangle)]
+pub extern "C" fn nanorand_v1_pcg64_seed_from_u64(seed: &mut Wide, number: u64)
+    ensures { at_seed seed.new ≡ seeded_generator (seed_from 16 number) }
+{
+    pcg64::seed_from_u64(seed, number);
+}
 
 /// Draws a number of 64 bits: the next 8 bytes, least byte first.
 #[unsafe(no_mangle)]
@@ -190,6 +203,42 @@ pub extern "C" fn nanorand_v1_pcg64_sample(
     ensures apart { result ≡ 0 → AllPairs (λ number other. number ≢ other) places.new }
 {
     pcg64::sample(seed, count, places)
+}
+
+/// Goes on with a sample whose first `filled` places stand, by a table that the caller lends: in
+/// expected time O(k) for k places. With `filled` 0 it is a whole sample, and leaves the same as
+/// `sample`. The table's length and items change nothing but the time: with 3k items a number drawn is
+/// compared with at most one place on average, with k or fewer with all of them. It must not overlap
+/// the places, and what it then holds means nothing. To draw a long sample in pieces, give the first
+/// places of it, and a count that is less by the number of the missing ones; then go on. It returns 0,
+/// or 1 if there are more places than numbers or fewer than `filled` (nothing is drawn or written), or
+/// 2 if 128 words in a row were rejected for one place; the places before it are then written, and the
+/// words stay consumed.
+#[unsafe(no_mangle)]
+pub extern "C" fn nanorand_v1_pcg64_extend_sample(
+    seed: &mut Wide,
+    count: usize,
+    places: &mut [usize],
+    filled: usize,
+    table: &mut [usize],
+) -> u8
+    ensures status { let start = at_seed seed.old in
+        let sampling = extending pcg64_requests count start places.old filled in
+        result ≡ sampling.status }
+    ensures places { let start = at_seed seed.old in
+        let sampling = extending pcg64_requests count start places.old filled in
+        places.new ≡ sampling.places }
+    ensures seed { let start = at_seed seed.old in
+        let sample = extending pcg64_requests count start places.old filled in
+        wide_number seed.new ≡ sample.state.seed }
+    ensures words { let start = at_seed seed.old in
+        let after = λ (n : ℕ). (after_words pcg64_requests 64 n start).seed in
+        IsAfterAtMost (128 * length places.old) after (wide_number seed.new) }
+    ensures different { let limit = count - length places.old + filled in
+        DifferentBelow limit (take filled places.old)
+        → result ≡ 0 → DifferentBelow count places.new }
+{
+    pcg64::extend_sample(seed, count, places, filled, table)
 }
 
 /// Advances by so many draws, in at most 128 steps and one draw.

@@ -1,23 +1,38 @@
 //! WyRand. The generator itself is the caller's memory. Not cryptographically secure.
-ghost use Rattle.std.specs.Prelude.{◌≡◌, ◌≢◌, ◌<◌, ◌≤◌, ◌≤ℤ◌, All, IsPermutation, length, ◌^◌, ℕ, ◌*◌};
+ghost use Rattle.std.specs.Prelude.{◌≡◌, ◌≢◌, ◌<◌, ◌≤◌, ◌≤ℤ◌, ◌^◌, ◌*◌, ◌+◌, ◌-◌, All, IsPermutation, length, ℕ, take};
 ghost use Rattle.std.specs.List.{AllPairs};
 ghost use Rattle.nanorand_core.specs.values.Draws.{after_words};
 ghost use Rattle.nanorand_core.specs.shuffles.Shuffles.{from_all, from_itself, shuffled};
 ghost use Rattle.nanorand_core.specs.values.Values.{number_of};
+ghost use Rattle.nanorand.specs.generators.SplitMix.{seed_from};
 ghost use Rattle.nanorand.specs.generators.WyRand.{seed_after, wyrand_requests};
 ghost use Rattle.nanorand_calls.specs.Between.{between, between_signed};
 ghost use Rattle.nanorand_calls.specs.Parts.{parting};
-ghost use Rattle.nanorand_calls.specs.Sampling.{sampling};
+ghost use Rattle.nanorand_core.specs.samples.Samples.{DifferentBelow};
+ghost use Rattle.nanorand_calls.specs.Sampling.{extending, sampling};
 ghost use Rattle.nanorand_calls.specs.Status.{drawn_or, status};
 ghost use Rattle.nanorand_calls.specs.Words.{IsAfterAtMost};
 
 use nanorand::{Rng, WyRand};
 use nanorand_calls::calls::{
-    part, range_i64, range_u32, range_u64, range_usize, sample, shuffle, shuffle_full,
+    extend_sample, part, range_i64, range_u32, range_u64, range_usize, sample, shuffle,
+    shuffle_full,
 };
 
+/// Makes the state from a number, which may be small: 0, 1, 2, .., a port, a year. Its seed is what
+/// SplitMix64 draws from the number (Guy Steele, Doug Lea and Christine Flood, 2014, in Sebastiano
+/// Vigna's constants), each word little-endian; of ChaCha it is the key and then the nonce, the
+/// counter is 0, and a stream has nothing buffered. Different numbers give different states.
+#[unsafe(no_mangle)]
+pub extern "C" fn nanorand_v1_wyrand_seed_from_u64(rng: &mut WyRand, number: u64)
+    ensures { rng.new ≡ number_of (seed_from 8 number) }
+{
+    *rng = WyRand::seed_from_u64(number);
+}
+
 /// The generator with this seed. The seed is the state itself, and is not mixed: generators with
-/// neighbouring seeds, such as 0, 1, 2, .., draw correlated numbers. For many generators take parts
+/// neighbouring seeds, such as 0, 1, 2, .., draw correlated numbers; for such numbers take
+/// seed_from_u64. For many generators take parts
 /// of one stream, or mixed seeds: numbers that another generator drew, or the first 8 bytes of a
 /// SHA-256 of a name.
 #[unsafe(no_mangle)]
@@ -181,6 +196,37 @@ pub extern "C" fn nanorand_v1_wyrand_sample(
     ensures apart { result ≡ 0 → AllPairs (λ number other. number ≢ other) places.new }
 {
     sample(rng, count, places)
+}
+
+/// Goes on with a sample whose first `filled` places stand, by a table that the caller lends: in
+/// expected time O(k) for k places. With `filled` 0 it is a whole sample, and leaves the same as
+/// `sample`. The table's length and items change nothing but the time: with 3k items a number drawn is
+/// compared with at most one place on average, with k or fewer with all of them. It must not overlap
+/// the places, and what it then holds means nothing. To draw a long sample in pieces, give the first
+/// places of it, and a count that is less by the number of the missing ones; then go on. It returns 0,
+/// or 1 if there are more places than numbers or fewer than `filled` (nothing is drawn or written), or
+/// 2 if 128 words in a row were rejected for one place; the places before it are then written, and the
+/// words stay consumed.
+#[unsafe(no_mangle)]
+pub extern "C" fn nanorand_v1_wyrand_extend_sample(
+    rng: &mut WyRand,
+    count: usize,
+    places: &mut [usize],
+    filled: usize,
+    table: &mut [usize],
+) -> u8
+    ensures status { let sampling = extending wyrand_requests count rng.old places.old filled in
+        result ≡ sampling.status }
+    ensures places { let sampling = extending wyrand_requests count rng.old places.old filled in
+        places.new ≡ sampling.places }
+    ensures state { rng.new ≡ (extending wyrand_requests count rng.old places.old filled).state }
+    ensures words { let after = λ (n : ℕ). after_words wyrand_requests 64 n rng.old in
+        IsAfterAtMost (128 * length places.old) after rng.new }
+    ensures different { let limit = count - length places.old + filled in
+        DifferentBelow limit (take filled places.old)
+        → result ≡ 0 → DifferentBelow count places.new }
+{
+    extend_sample(rng, count, places, filled, table)
 }
 
 /// Advances by so many draws, in one step.

@@ -1,5 +1,5 @@
 -- The states of ChaCha and of its streams, as they lie in the caller's memory.
-use Rattle.std.specs.Prelude.{ℕ, ◌-◌, List, drop, min}
+use Rattle.std.specs.Prelude.{ℕ, ◌-◌, List, [], drop, min}
 use Rattle.nanorand_core.specs.generators.Blocks.{Requests}
 use Rattle.nanorand_replay.specs.generators.Buffered.{Buffered, buffer_of, buffered}
 use Rattle.nanorand.specs.generators.ChaCha.{chacha_block, next_state, state_at}
@@ -11,6 +11,10 @@ use Rattle.nanorand_calls.specs.declared.stream.Stream.{Stream}
 -- The state of this key and nonce, at this counter.
 abbrev pub chacha_at : ChaChaState → List ℕ
 chacha_at state = state_at state.key state.nonce state.counter
+
+-- A stream at the first byte of a state's next block: nothing is buffered.
+abbrev pub fresh_stream : List ℕ → Buffered (List ℕ)
+fresh_stream state = buffer_of [] state
 
 -- The stream whose buffered bytes are the last ones of the block. At most 63 are buffered.
 abbrev pub stream_at : Stream → Buffered (List ℕ)

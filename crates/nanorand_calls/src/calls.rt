@@ -1,11 +1,12 @@
 //! The calls of every generator that lies in memory as the library has it.
-ghost use Rattle.std.specs.Prelude.{◌≡◌, ◌≢◌, ◌<◌, ◌≤◌, ◌≤ℤ◌, All, IsPermutation, ℕ, ◌*◌, length};
+ghost use Rattle.std.specs.Prelude.{◌≡◌, ◌≢◌, ◌<◌, ◌≤◌, ◌≤ℤ◌, ◌*◌, ◌+◌, ◌-◌, All, IsPermutation, ℕ, length, take};
 ghost use Rattle.std.specs.List.{AllPairs};
 ghost use Rattle.nanorand_core.specs.values.Draws.{after_words};
 ghost use Rattle.nanorand_core.specs.shuffles.Shuffles.{from_all, from_itself, shuffled};
 ghost use Rattle.nanorand_calls.specs.Between.{between, between_signed};
 ghost use Rattle.nanorand_calls.specs.Parts.{parting};
-ghost use Rattle.nanorand_calls.specs.Sampling.{sampling};
+ghost use Rattle.nanorand_core.specs.samples.Samples.{DifferentBelow};
+ghost use Rattle.nanorand_calls.specs.Sampling.{extending, sampling};
 ghost use Rattle.nanorand_calls.specs.Status.{drawn_or, status};
 ghost use Rattle.nanorand_calls.specs.Words.{IsAfterAtMost};
 
@@ -136,6 +137,32 @@ pub fn sample<G: Rng<OUTPUT>, const OUTPUT: usize>(
         return 1;
     }
     let outcome = samples::sample(rng, count, places);
+    status(&outcome)
+}
+
+/// Goes on with a sample whose first `filled` places stand, as `samples::extend_sample` does, with a
+/// table that the caller lends. Returns the status 0, 1 or 2: 1, with nothing drawn, if there are more
+/// places than numbers, or fewer than `filled`.
+pub fn extend_sample<G: Rng<OUTPUT>, const OUTPUT: usize>(
+    rng: &mut G,
+    count: usize,
+    places: &mut [usize],
+    filled: usize,
+    table: &mut [usize],
+) -> u8
+    ensures status { result ≡ (extending G.requests count rng.old places.old filled).status }
+    ensures places { places.new ≡ (extending G.requests count rng.old places.old filled).places }
+    ensures state { rng.new ≡ (extending G.requests count rng.old places.old filled).state }
+    ensures words { let after = λ (n : ℕ). after_words G.requests 64 n rng.old in
+        IsAfterAtMost (128 * length places.old) after rng.new }
+    ensures different { let limit = count - length places.old + filled in
+        DifferentBelow limit (take filled places.old)
+        → result ≡ 0 → DifferentBelow count places.new }
+{
+    if count < places.len() || places.len() < filled {
+        return 1;
+    }
+    let outcome = samples::extend_sample(rng, count, places, filled, table);
     status(&outcome)
 }
 

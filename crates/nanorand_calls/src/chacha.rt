@@ -2,18 +2,21 @@
 //! new block.
 //!
 //! `nanorand::ChaCha` says what it is and is not for.
-ghost use Rattle.std.specs.Prelude.{◌≡◌, ℕ, ◌+◌, ◌%◌, ◌^◌, length, ◌≢◌, ◌<◌, ◌≤◌, ◌≤ℤ◌, All, IsPermutation, ◌*◌};
+ghost use Rattle.std.specs.Prelude.{◌≡◌, ◌+◌, ◌%◌, ◌^◌, ◌≢◌, ◌<◌, ◌≤◌, ◌≤ℤ◌, ◌*◌, ◌-◌};
+ghost use Rattle.std.specs.Prelude.{ℕ, length, All, IsPermutation, take};
 ghost use Rattle.std.specs.Fn.{iterate};
 ghost use Rattle.std.specs.Int.{div_ceil};
 ghost use Rattle.nanorand_core.specs.values.Values.{number_of};
-ghost use Rattle.nanorand.specs.generators.ChaCha.{chacha_block, chacha_requests, counter, key_of, next_state, nonce_of};
+ghost use Rattle.nanorand.specs.generators.ChaCha.{chacha_block, chacha_requests, counter, key_of, next_state, nonce_of, seeded_state};
+ghost use Rattle.nanorand.specs.generators.SplitMix.{seed_from};
 ghost use Rattle.nanorand_calls.specs.ChaChaStates.{chacha_at};
 ghost use Rattle.std.specs.List.{AllPairs};
 ghost use Rattle.nanorand_core.specs.values.Draws.{after_words};
 ghost use Rattle.nanorand_core.specs.shuffles.Shuffles.{from_all, from_itself, shuffled};
 ghost use Rattle.nanorand_calls.specs.Between.{between, between_signed};
 ghost use Rattle.nanorand_calls.specs.Parts.{parting};
-ghost use Rattle.nanorand_calls.specs.Sampling.{sampling};
+ghost use Rattle.nanorand_core.specs.samples.Samples.{DifferentBelow};
+ghost use Rattle.nanorand_calls.specs.Sampling.{extending, sampling};
 ghost use Rattle.nanorand_calls.specs.Status.{drawn_or, status};
 ghost use Rattle.nanorand_calls.specs.Words.{IsAfterAtMost};
 
@@ -55,6 +58,14 @@ pub(crate) fn store<const ROUNDS: u8>(state: &mut ChaChaState, rng: &ChaCha<ROUN
         nonce: rng.nonce(),
         counter: rng.counter(),
     };
+}
+
+/// Makes key and nonce from a number, as `ChaCha::seed_from_u64` does. The counter is 0.
+pub fn seed_from_u64<const ROUNDS: u8>(state: &mut ChaChaState, number: u64)
+    requires { ROUNDS % 2 ≡ 0 }
+    ensures { chacha_at state.new ≡ seeded_state (seed_from 40 number) }
+{
+    store(state, &ChaCha::<ROUNDS>::seed_from_u64(number));
 }
 
 /// Writes the block at the counter, and adds 1 to the counter.
@@ -284,6 +295,39 @@ pub fn sample<const ROUNDS: u8>(state: &mut ChaChaState, count: usize, places: &
 {
     let mut rng = loaded::<ROUNDS>(state);
     let status = calls::sample(&mut rng, count, places);
+    store(state, &rng);
+    status
+}
+
+/// Goes on with a sample whose first `filled` places stand, as `samples::extend_sample` does, with a
+/// table that the caller lends. Returns the status 0, 1 or 2: 1, with nothing drawn, if there are more
+/// places than numbers, or fewer than `filled`.
+pub fn extend_sample<const ROUNDS: u8>(
+    state: &mut ChaChaState,
+    count: usize,
+    places: &mut [usize],
+    filled: usize,
+    table: &mut [usize],
+) -> u8
+    requires { ROUNDS % 2 ≡ 0 }
+    ensures status { let start = chacha_at state.old in
+        let sampling = extending (chacha_requests ROUNDS) count start places.old filled in
+        result ≡ sampling.status }
+    ensures places { let start = chacha_at state.old in
+        let sampling = extending (chacha_requests ROUNDS) count start places.old filled in
+        places.new ≡ sampling.places }
+    ensures state { let start = chacha_at state.old in
+        let sample = extending (chacha_requests ROUNDS) count start places.old filled in
+        chacha_at state.new ≡ sample.state }
+    ensures words { let start = chacha_at state.old in
+        let after = λ (n : ℕ). after_words (chacha_requests ROUNDS) 64 n start in
+        IsAfterAtMost (128 * length places.old) after (chacha_at state.new) }
+    ensures different { let limit = count - length places.old + filled in
+        DifferentBelow limit (take filled places.old)
+        → result ≡ 0 → DifferentBelow count places.new }
+{
+    let mut rng = loaded::<ROUNDS>(state);
+    let status = calls::extend_sample(&mut rng, count, places, filled, table);
     store(state, &rng);
     status
 }

@@ -2,21 +2,24 @@
 //!
 //! From equal states with nothing buffered it delivers what `Stream` delivers, by the law
 //! `nanorand::laws::streams_deliver_chacha`.
-ghost use Rattle.std.specs.Prelude.{◌≡◌, ◌≢◌, ◌<◌, ◌≤◌, ◌≤ℤ◌, All, IsPermutation, length, ◌^◌, ℕ, ◌*◌};
+ghost use Rattle.std.specs.Prelude.{◌≡◌, ◌≢◌, ◌<◌, ◌≤◌, ◌≤ℤ◌, ◌^◌, ◌*◌, ◌+◌, ◌-◌, All, IsPermutation, length, ℕ, take};
 ghost use Rattle.std.specs.Bool.{OnFalse, OnTrue};
 ghost use Rattle.std.specs.List.{AllPairs};
 ghost use Rattle.nanorand_core.specs.values.Draws.{after_words};
 ghost use Rattle.nanorand_core.specs.shuffles.Shuffles.{from_all, from_itself, shuffled};
 ghost use Rattle.nanorand_core.specs.values.Values.{number_of};
+ghost use Rattle.nanorand.specs.generators.ChaCha.{seeded_state};
+ghost use Rattle.nanorand.specs.generators.SplitMix.{seed_from};
 ghost use Rattle.nanorand_calls.specs.Between.{between, between_signed};
-ghost use Rattle.nanorand_calls.specs.ChaChaStates.{groups_at, by_groups};
+ghost use Rattle.nanorand_calls.specs.ChaChaStates.{fresh_stream, groups_at, by_groups};
 ghost use Rattle.nanorand_calls.specs.Parts.{parting};
-ghost use Rattle.nanorand_calls.specs.Sampling.{sampling};
+ghost use Rattle.nanorand_core.specs.samples.Samples.{DifferentBelow};
+ghost use Rattle.nanorand_calls.specs.Sampling.{extending, sampling};
 ghost use Rattle.nanorand_calls.specs.Status.{drawn_or, status};
 ghost use Rattle.nanorand_calls.specs.Words.{IsAfterAtMost};
 
 use crate::calls;
-use crate::chacha::ChaChaState;
+use crate::chacha::{self, ChaChaState};
 use nanorand::{BufferedRng, ChaCha20Stream, ChaChaGroups, Rng};
 
 /// A stream that computes eight blocks at once: its generator, and a group of blocks whose last
@@ -78,6 +81,15 @@ fn served(stream: &mut GroupStream, buffer: &mut [u8]) -> bool
     buffer.copy_from_slice(&group[start..start + length]);
     stream.buffered = (buffered - length) as u64;
     true
+}
+
+/// Makes key and nonce from a number, as `Keystream::seed_from_u64` does. Nothing is buffered.
+pub fn seed_from_u64(stream: &mut GroupStream, number: u64)
+    ensures state { groups_at stream.new ≡ fresh_stream (seeded_state (seed_from 40 number)) }
+    ensures buffered { stream.new.buffered ≡ 0 }
+{
+    chacha::seed_from_u64::<20>(&mut stream.chacha, number);
+    stream.buffered = 0;
 }
 
 /// Draws a number of 64 bits: the next 8 bytes, little-endian.
@@ -258,6 +270,39 @@ pub fn sample(stream: &mut GroupStream, count: usize, places: &mut [usize]) -> u
 {
     let mut rng = loaded(stream);
     let status = calls::sample(&mut rng, count, places);
+    store(stream, &rng);
+    status
+}
+
+/// Goes on with a sample whose first `filled` places stand, as `samples::extend_sample` does, with a
+/// table that the caller lends. Returns the status 0, 1 or 2: 1, with nothing drawn, if there are more
+/// places than numbers, or fewer than `filled`.
+pub fn extend_sample(
+    stream: &mut GroupStream,
+    count: usize,
+    places: &mut [usize],
+    filled: usize,
+    table: &mut [usize],
+) -> u8
+    ensures status { let start = groups_at stream.old in
+        let sampling = extending by_groups count start places.old filled in
+        result ≡ sampling.status }
+    ensures places { let start = groups_at stream.old in
+        let sampling = extending by_groups count start places.old filled in
+        places.new ≡ sampling.places }
+    ensures state { let start = groups_at stream.old in
+        let sample = extending by_groups count start places.old filled in
+        groups_at stream.new ≡ sample.state }
+    ensures words { let start = groups_at stream.old in
+        let after = λ (n : ℕ). after_words by_groups 64 n start in
+        IsAfterAtMost (128 * length places.old) after (groups_at stream.new) }
+    ensures different { let limit = count - length places.old + filled in
+        DifferentBelow limit (take filled places.old)
+        → result ≡ 0 → DifferentBelow count places.new }
+    ensures buffered { stream.new.buffered < 512 }
+{
+    let mut rng = loaded(stream);
+    let status = calls::extend_sample(&mut rng, count, places, filled, table);
     store(stream, &rng);
     status
 }

@@ -1,13 +1,15 @@
 //! The calls of `Pcg64`, whose seed is the caller's memory. Not cryptographically secure.
-ghost use Rattle.std.specs.Prelude.{◌≡◌, ◌≢◌, ◌<◌, ◌≤◌, ◌≤ℤ◌, All, IsPermutation, length, ◌^◌, ℕ, ◌*◌};
+ghost use Rattle.std.specs.Prelude.{◌≡◌, ◌≢◌, ◌<◌, ◌≤◌, ◌≤ℤ◌, ◌^◌, ◌*◌, ◌+◌, ◌-◌, All, IsPermutation, length, ℕ, take};
 ghost use Rattle.std.specs.List.{AllPairs};
 ghost use Rattle.nanorand_core.specs.values.Draws.{after_words};
 ghost use Rattle.nanorand_core.specs.shuffles.Shuffles.{from_all, from_itself, shuffled};
 ghost use Rattle.nanorand_core.specs.values.Values.{number_of};
-ghost use Rattle.nanorand.specs.generators.Pcg64.{pcg64_requests, seed_after};
+ghost use Rattle.nanorand.specs.generators.Pcg64.{pcg64_requests, seed_after, seeded_generator};
+ghost use Rattle.nanorand.specs.generators.SplitMix.{seed_from};
 ghost use Rattle.nanorand_calls.specs.Between.{between, between_signed};
 ghost use Rattle.nanorand_calls.specs.Parts.{parting};
-ghost use Rattle.nanorand_calls.specs.Sampling.{sampling};
+ghost use Rattle.nanorand_core.specs.samples.Samples.{DifferentBelow};
+ghost use Rattle.nanorand_calls.specs.Sampling.{extending, sampling};
 ghost use Rattle.nanorand_calls.specs.Status.{drawn_or, status};
 ghost use Rattle.nanorand_calls.specs.Words.{IsAfterAtMost};
 ghost use Rattle.nanorand_calls.specs.WideNumber.{at_seed, wide_number};
@@ -16,6 +18,13 @@ use crate::calls;
 use crate::wide::{Wide, joined, split};
 use nanorand::laws::pcg64_cycles;
 use nanorand::{Pcg64, Rng};
+
+/// Seeds from a number, as `Pcg64::seed_from_u64` does.
+pub fn seed_from_u64(seed: &mut Wide, number: u64)
+    ensures { at_seed seed.new ≡ seeded_generator (seed_from 16 number) }
+{
+    *seed = split(Pcg64::seed_from_u64(number).seed());
+}
 
 /// Draws a number of 64 bits: the next 8 bytes, little-endian.
 pub fn number(seed: &mut Wide) -> u64
@@ -175,6 +184,38 @@ pub fn sample(seed: &mut Wide, count: usize, places: &mut [usize]) -> u8
 {
     let mut rng = Pcg64::new_seed(joined(seed));
     let status = calls::sample(&mut rng, count, places);
+    *seed = split(rng.seed());
+    status
+}
+
+/// Goes on with a sample whose first `filled` places stand, as `samples::extend_sample` does, with a
+/// table that the caller lends. Returns the status 0, 1 or 2: 1, with nothing drawn, if there are more
+/// places than numbers, or fewer than `filled`.
+pub fn extend_sample(
+    seed: &mut Wide,
+    count: usize,
+    places: &mut [usize],
+    filled: usize,
+    table: &mut [usize],
+) -> u8
+    ensures status { let start = at_seed seed.old in
+        let sampling = extending pcg64_requests count start places.old filled in
+        result ≡ sampling.status }
+    ensures places { let start = at_seed seed.old in
+        let sampling = extending pcg64_requests count start places.old filled in
+        places.new ≡ sampling.places }
+    ensures seed { let start = at_seed seed.old in
+        let sample = extending pcg64_requests count start places.old filled in
+        wide_number seed.new ≡ sample.state.seed }
+    ensures words { let start = at_seed seed.old in
+        let after = λ (n : ℕ). (after_words pcg64_requests 64 n start).seed in
+        IsAfterAtMost (128 * length places.old) after (wide_number seed.new) }
+    ensures different { let limit = count - length places.old + filled in
+        DifferentBelow limit (take filled places.old)
+        → result ≡ 0 → DifferentBelow count places.new }
+{
+    let mut rng = Pcg64::new_seed(joined(seed));
+    let status = calls::extend_sample(&mut rng, count, places, filled, table);
     *seed = split(rng.seed());
     status
 }

@@ -1,13 +1,16 @@
 //! The keystream of ChaCha with 20 rounds without a gap: a generator that buffers the bytes that a
 //! request leaves over.
-ghost use Rattle.std.specs.Prelude.{◌≡◌, ◌≢◌, ◌<◌, ◌≤◌, ◌≤ℤ◌, All, IsPermutation, length, ℕ, ◌*◌};
+ghost use Rattle.std.specs.Prelude.{◌≡◌, ◌≢◌, ◌<◌, ◌≤◌, ◌≤ℤ◌, ◌*◌, ◌+◌, ◌-◌, All, IsPermutation, length, ℕ, take};
 ghost use Rattle.std.specs.List.{AllPairs};
 ghost use Rattle.nanorand_core.specs.values.Draws.{after_words};
 ghost use Rattle.nanorand_core.specs.shuffles.Shuffles.{from_all, from_itself, shuffled};
 ghost use Rattle.nanorand_core.specs.values.Values.{number_of};
+ghost use Rattle.nanorand.specs.generators.ChaCha.{seeded_state};
+ghost use Rattle.nanorand.specs.generators.SplitMix.{seed_from};
 ghost use Rattle.nanorand_calls.specs.Between.{between, between_signed};
-ghost use Rattle.nanorand_calls.specs.ChaChaStates.{stream_at, stream_requests};
-ghost use Rattle.nanorand_calls.specs.Sampling.{sampling};
+ghost use Rattle.nanorand_calls.specs.ChaChaStates.{fresh_stream, stream_at, stream_requests};
+ghost use Rattle.nanorand_core.specs.samples.Samples.{DifferentBelow};
+ghost use Rattle.nanorand_calls.specs.Sampling.{extending, sampling};
 ghost use Rattle.nanorand_calls.specs.Status.{drawn_or, status};
 ghost use Rattle.nanorand_calls.specs.Words.{IsAfterAtMost};
 
@@ -43,6 +46,15 @@ fn store(stream: &mut Stream, rng: &BufferedRng<ChaCha20, 64>)
     block[64 - rest.len()..].copy_from_slice(rest);
     stream.buffered = rest.len() as u64;
     chacha::store(&mut stream.chacha, rng.inner());
+}
+
+/// Makes key and nonce from a number, as `Keystream::seed_from_u64` does. Nothing is buffered.
+pub fn seed_from_u64(stream: &mut Stream, number: u64)
+    ensures state { stream_at stream.new ≡ fresh_stream (seeded_state (seed_from 40 number)) }
+    ensures buffered { stream.new.buffered ≡ 0 }
+{
+    chacha::seed_from_u64::<20>(&mut stream.chacha, number);
+    stream.buffered = 0;
 }
 
 /// Draws a number of 64 bits: the next 8 bytes, little-endian.
@@ -221,6 +233,39 @@ pub fn sample(stream: &mut Stream, count: usize, places: &mut [usize]) -> u8
 {
     let mut rng = loaded(stream);
     let status = calls::sample(&mut rng, count, places);
+    store(stream, &rng);
+    status
+}
+
+/// Goes on with a sample whose first `filled` places stand, as `samples::extend_sample` does, with a
+/// table that the caller lends. Returns the status 0, 1 or 2: 1, with nothing drawn, if there are more
+/// places than numbers, or fewer than `filled`.
+pub fn extend_sample(
+    stream: &mut Stream,
+    count: usize,
+    places: &mut [usize],
+    filled: usize,
+    table: &mut [usize],
+) -> u8
+    ensures status { let start = stream_at stream.old in
+        let sampling = extending stream_requests count start places.old filled in
+        result ≡ sampling.status }
+    ensures places { let start = stream_at stream.old in
+        let sampling = extending stream_requests count start places.old filled in
+        places.new ≡ sampling.places }
+    ensures state { let start = stream_at stream.old in
+        let sample = extending stream_requests count start places.old filled in
+        stream_at stream.new ≡ sample.state }
+    ensures words { let start = stream_at stream.old in
+        let after = λ (n : ℕ). after_words stream_requests 64 n start in
+        IsAfterAtMost (128 * length places.old) after (stream_at stream.new) }
+    ensures different { let limit = count - length places.old + filled in
+        DifferentBelow limit (take filled places.old)
+        → result ≡ 0 → DifferentBelow count places.new }
+    ensures buffered { stream.new.buffered < 64 }
+{
+    let mut rng = loaded(stream);
+    let status = calls::extend_sample(&mut rng, count, places, filled, table);
     store(stream, &rng);
     status
 }

@@ -1,4 +1,5 @@
 pub mod HexadecimalLemmas
+pub mod MixLemmas
 pub mod SeedLemmas
 pub mod WordLemmas
 pub mod StreamLemmas

@@ -9,6 +9,7 @@ ghost use Rattle.nanorand.specs.generators.ChaCha.{constants, initial_state, see
 ghost use Rattle.nanorand.specs.generators.ChaChaRounds.{IsMatrix};
 ghost use Rattle.nanorand.specs.support.ChaChaDrawLemmas.{length-chacha_block};
 ghost use Rattle.nanorand.specs.generators.Entropy.{HasFewer, IsMadeOf, TakesFewer};
+ghost use Rattle.nanorand.specs.generators.SplitMix.{seed_from};
 ghost use Rattle.nanorand.specs.generators.DebugTexts.{chacha_debug};
 ghost use Rattle.nanorand.specs.support.OnwardLemmas.{onward_64};
 ghost use Rattle.nanorand.specs.generators.Parts.{ComesAgain, NothingTwice, after_draws, part_at};
@@ -20,6 +21,7 @@ use crate::crypto::chacha::{
 };
 use crate::entropy::{EntropyError, system};
 use crate::parts::{Parts, PastPeriod, draws_before};
+use crate::rand::split_mix::seed_from;
 use nanorand_core::rand::{Blocks, Rng, SeedableRng, fill_by_blocks};
 use std::alloc::AllocError;
 use std::fmt;
@@ -95,6 +97,22 @@ impl<const ROUNDS: u8> ChaCha<ROUNDS> {
         let mut state = chacha_init(key, nonce);
         set_counter(&mut state, index);
         ChaCha { state }
+    }
+
+    /// A generator whose key and nonce are made from a number, which may be small: 0, 1, 2, .., a
+    /// port, a year. Different numbers give different states (`laws::seeds_differ`). The counter is
+    /// 0. Precondition: `ROUNDS` is even.
+    ///
+    /// The 40 bytes of key and nonce are the first five words that SplitMix64 draws from the number
+    /// (Guy Steele, Doug Lea and Christine Flood, 2014, in Sebastiano Vigna's constants),
+    /// little-endian. There are only 2^64 such keys: they keep no secret.
+    pub fn seed_from_u64(number: u64) -> Self
+        requires { ROUNDS % 2 ≡ 0 }
+        ensures state { result ≡ seeded_state (seed_from 40 number) }
+        ensures matrix { IsMatrix result }
+    {
+        let (key, nonce) = split_seed(&seed_from(number));
+        ChaCha::new_key(key, nonce)
     }
 
     /// A generator made of the reader's next 40 bytes, with the counter 0: the first 32 are the key
@@ -368,8 +386,9 @@ impl<const ROUNDS: u8> SeedableRng<40, 64> for ChaCha<ROUNDS> {
     }
 }
 
+// The key and the nonce of a seed.
 #[inline]
-fn split_seed(seed: &[u8; 40]) -> ([u8; 32], [u8; 8])
+pub(crate) fn split_seed(seed: &[u8; 40]) -> ([u8; 32], [u8; 8])
     ensures key { result.0 ≡ take 32 seed.now }
     ensures nonce { result.1 ≡ drop 32 seed.now }
 {

@@ -1,7 +1,8 @@
 //! Seekable streams of ChaCha.
-ghost use Rattle.std.specs.Prelude.{◌≡◌, ◌↔◌, ℕ, List, ◌+◌, ◌*◌, ◌%◌, ◌^◌, ◌<◌, ◌≤◌, [], ◌++◌, length, IfOk, IsOk};
+ghost use Rattle.std.specs.Prelude.{◌≡◌, ◌↔◌, ℕ, List, ◌+◌, ◌*◌, ◌%◌, ◌^◌, ◌<◌, ◌≤◌, [], ◌++◌, drop, length, take, IfOk, IsOk};
 ghost use Rattle.nanorand_replay.specs.generators.Buffered.{buffer_of};
-ghost use Rattle.nanorand.specs.generators.ChaCha.{initial_state, state_at};
+ghost use Rattle.nanorand.specs.generators.ChaCha.{initial_state, seeded_state, state_at};
+ghost use Rattle.nanorand.specs.generators.SplitMix.{seed_from};
 ghost use Rattle.nanorand.specs.generators.ChaChaRounds.{IsMatrix};
 ghost use Rattle.nanorand.specs.generators.ChaChaGroups.{stream_position, stream_requests, stream_start};
 ghost use Rattle.nanorand.specs.support.ChaChaGroupLemmas.{stream_bytes_join, stream_restarts, stream_starts, stream_states_join, stream_stays};
@@ -9,7 +10,9 @@ ghost use Rattle.nanorand.specs.support.OnwardLemmas.{onward_stream};
 ghost use Rattle.nanorand.specs.generators.Parts.{ComesAgain, NothingTwice, after_draws, part_at};
 
 use crate::parts::{Parts, PastPeriod, draws_before};
+use crate::rand::chacha::split_seed;
 use crate::rand::chacha_groups::ChaChaGroups;
+use crate::rand::split_mix::seed_from;
 use nanorand_core::rand::Rng;
 use nanorand_replay::buffer::BufferedRng;
 
@@ -65,6 +68,19 @@ pub trait Keystream<const OUTPUT: usize>: Rng<OUTPUT> {
         ensures position { position result ≡ index * 64 }
         ensures bytes { (n : ℕ) → let sought = Self.requests.after (at key nonce 0) (index * 64) in
             Self.requests.bytes result n ≡ Self.requests.bytes sought n };
+
+    /// The stream whose key and nonce are made from a number, which may be small, at its byte 0:
+    /// they are 40 bytes that SplitMix64 draws, as `ChaCha::seed_from_u64` says. There are only
+    /// 2^64 such keys: they keep no secret. For ChaCha the number of rounds is even.
+    fn seed_from_u64(number: u64) -> Self
+        requires { can_start }
+        ensures state { let seed = seed_from 40 number in
+            result ≡ at (take 32 seed) (drop 32 seed) 0 }
+        ensures position { position result ≡ 0 }
+    {
+        let (key, nonce) = split_seed(&seed_from(number));
+        Self::new_key(key, nonce)
+    }
 
     /// Goes to this byte, forward or back. Byte 2^70 is byte 0 again. Buffered bytes are dropped.
     ///
@@ -124,6 +140,17 @@ pub fn chacha_stream_at<const ROUNDS: u8>(
     ensures position { stream_position result ≡ index * 64 }
 {
     Keystream::at_block(key, nonce, index)
+}
+
+/// The stream of a number, which may be small, at its byte 0, as `Keystream::seed_from_u64` makes
+/// it. A call needs no import of that trait. Precondition: `ROUNDS` is even.
+pub fn chacha_stream_from_u64<const ROUNDS: u8>(number: u64) -> ChaChaStream<ROUNDS>
+    requires { ROUNDS % 2 ≡ 0 }
+    ensures state { result ≡ buffer_of [] (seeded_state (seed_from 40 number)) }
+    ensures position { stream_position result ≡ 0 }
+{
+    let (key, nonce) = split_seed(&seed_from(number));
+    chacha_stream(key, nonce)
 }
 
 impl<const ROUNDS: u8> Keystream<512> for BufferedRng<ChaChaGroups<ROUNDS>, 512> {

@@ -4,6 +4,7 @@ ghost use Rattle.std.specs.Cmp.Rules.{comparing};
 ghost use Rattle.std.proofs.Common.{rules};
 ghost use Rattle.nanorand.specs.generators.Entropy.{HasFewer, IsMadeOf, TakesFewer};
 ghost use Rattle.nanorand.specs.generators.Pcg64.{seeded_generator, next, pcg64_after, pcg64_block, reseeded, same_generator, seed_after, SameCycle, initial_generator, pcg64_requests};
+ghost use Rattle.nanorand.specs.generators.SplitMix.{seed_from};
 ghost use Rattle.nanorand.specs.generators.DebugTexts.{pcg64_debug};
 ghost use Rattle.nanorand.specs.support.OnwardLemmas.{onward_8};
 ghost use Rattle.nanorand.specs.generators.Parts.{ComesAgain, NothingTwice, after_draws, part_at};
@@ -13,6 +14,7 @@ use crate::entropy::{EntropyError, system};
 use crate::parts::{Parts, PastPeriod, draws_before};
 use crate::rand::halves::folded;
 use crate::rand::hexadecimal::Hexadecimal;
+use crate::rand::split_mix::seed_from;
 use nanorand_core::rand::{Blocks, Rng, SeedableRng, fill_by_blocks};
 use std::alloc::AllocError;
 use std::fmt;
@@ -62,13 +64,27 @@ impl Model for Pcg64 {
 }
 
 impl Pcg64 {
-    /// A generator with this seed, before its first draw: `state` and `inc` are 0.
+    /// A generator whose seed is made from a number, which may be small: 0, 1, 2, .., a port, a
+    /// year. Different numbers give different seeds (`laws::seeds_differ`).
     ///
-    /// The seed is the state itself, and is not mixed. Generators with neighbouring seeds, such as
-    /// 0, 1, 2, .., draw correlated numbers. Seeds that differ by a multiple of 2^k, for k above
-    /// 64, give streams whose words all agree in their low k - 64 bits. For many generators take
-    /// parts of one stream (`part`), or mixed seeds: numbers that another generator drew, or the
-    /// first 16 bytes of a SHA-256 of a name.
+    /// The seed's 16 bytes are the first two words that SplitMix64 draws from the number (Guy
+    /// Steele, Doug Lea and Christine Flood, 2014, in Sebastiano Vigna's constants), little-endian.
+    /// `state` and `inc` are 0.
+    #[inline]
+    pub fn seed_from_u64(number: u64) -> Self
+        ensures { result ≡ seeded_generator (seed_from 16 number) }
+    {
+        Pcg64::new_seed(u128::from_le_bytes(seed_from(number)))
+    }
+
+    /// A generator with this seed, which is the state itself, and is not mixed. Before the first
+    /// draw `state` and `inc` are 0.
+    ///
+    /// Generators with neighbouring seeds, such as 0, 1, 2, .., draw correlated numbers: for such
+    /// numbers take `seed_from_u64`. Seeds that differ by a multiple of 2^k, for k above 64, give
+    /// streams whose words all agree in their low k - 64 bits. For many generators take parts of
+    /// one stream (`part`), or mixed seeds: numbers that another generator drew, or the first 16
+    /// bytes of a SHA-256 of a name.
     #[inline]
     pub fn new_seed(seed: u128) -> Self
         ensures { result ≡ initial_generator seed }

@@ -11,12 +11,13 @@ ghost use Rattle.nanorand_core.specs.declared.values.range.RangeError.TheVariant
 ghost use Rattle.nanorand_core.specs.values.Values.{number_of};
 ghost use Rattle.nanorand.specs.support.OnwardLemmas.{onward_8};
 ghost use Rattle.nanorand.specs.generators.Parts.{ComesAgain, NothingTwice, after_draws, part_at};
+ghost use Rattle.nanorand.specs.generators.SplitMix.{seed_from};
 ghost use Rattle.nanorand.specs.generators.WyRand.{increment, next_seed, wyrand_block, word, seed_after, wyrand_after, wyrand_requests};
 ghost use Rattle.nanorand.specs.declared.entropy.EntropyError.TheVariants.{Short, Fault};
 
 use crate::entropy::{EntropyError, system};
 use crate::parts::{Parts, PastPeriod, draws_before};
-use crate::rand::halves::folded;
+use crate::rand::split_mix::seed_from;
 use nanorand_core::rand::{Blocks, Rng, SeedableRng, fill_by_blocks};
 use nanorand_core::swap::swap;
 use nanorand_core::values::RangeError;
@@ -59,11 +60,23 @@ impl Model for WyRand {
 }
 
 impl WyRand {
-    /// A generator with this seed.
+    /// A generator whose seed is made from a number, which may be small: 0, 1, 2, .., a port, a
+    /// year. Different numbers give different seeds (`laws::seeds_differ`).
     ///
-    /// The seed is the state itself, and is not mixed. Generators with neighbouring seeds, such as
-    /// 0, 1, 2, .., draw correlated numbers. For many generators take parts of one stream (`part`),
-    /// or mixed seeds: numbers that another generator drew, or the first 8 bytes of a SHA-256 of a
+    /// The seed is the first word that SplitMix64 draws from the number (Guy Steele, Doug Lea and
+    /// Christine Flood, 2014, in Sebastiano Vigna's constants).
+    #[inline]
+    pub fn seed_from_u64(number: u64) -> Self
+        ensures { result ≡ number_of (seed_from 8 number) }
+    {
+        WyRand::new_seed(u64::from_le_bytes(seed_from(number)))
+    }
+
+    /// A generator with this seed, which is the state itself, and is not mixed.
+    ///
+    /// Generators with neighbouring seeds, such as 0, 1, 2, .., draw correlated numbers: for such
+    /// numbers take `seed_from_u64`. For many generators take parts of one stream (`part`), or
+    /// mixed seeds: numbers that another generator drew, or the first 8 bytes of a SHA-256 of a
     /// name.
     #[inline]
     pub fn new_seed(seed: u64) -> Self
@@ -245,13 +258,16 @@ impl SeedableRng<8, 8> for WyRand {
     }
 }
 
-// The word of the seed that a draw leaves.
+// The word of the seed that a draw leaves: the product's high half xor its low half. The low half is a
+// product of its own, so that LLVM draws one word after another: two in a vector take twice as long.
 #[inline(always)]
 fn word(seed: u64) -> u64
     ensures { result ≡ word seed }
 {
-    let product = u128::from(seed) * u128::from(seed ^ MASK);
-    folded(product)
+    let mask = seed ^ MASK;
+    let low = seed.wrapping_mul(mask);
+    let product = u128::from(seed) * u128::from(mask);
+    ((product - u128::from(low)) >> 64) as u64 ^ low
 }
 
 // The shuffle from a seed, and the seed that it leaves.

@@ -1,10 +1,15 @@
-use Rattle.std.proofs.Common.{◌*◌, ◌^◌, ◌<◌, lit<}
+use Rattle.std.specs.Prelude.{ℕ, bit_xor}
+use Rattle.std.proofs.Common.{◌*◌, ◌^◌, ◌<◌, arith, lit<}
 use Rattle.std.proofs.lemmas.Nat.{mul-lt, xor_lt}
 use Rattle.nanorand.proofs.rand.wyrand.word.Goals as goal
 
 -- a product of two words has 128 bits
-product_below : (c : goal.After-from-2) → c.from.result * c.from-2.result < 2 ^ 64 * 2 ^ 64
-product_below c = rw (c.from.ensures, c.from-2.ensures) (mul-lt c.args.seed _ (2 ^ 64) (2 ^ 64) c.ranges.seed.fits (xor_lt 64 _ _ c.ranges.seed.fits (lit< tt)))
+product_below : (seed : ℕ) → seed < 2 ^ 64 → seed * bit_xor seed 0xe7037ed1a0b428db < 2 ^ 64 * 2 ^ 64
+product_below seed fits = mul-lt seed _ (2 ^ 64) (2 ^ 64) fits (xor_lt 64 _ _ fits (lit< tt))
 
 pub overflow_mul-product : goal.overflow_mul-product
-overflow_mul-product c = record { fits = product_below c }
+overflow_mul-product c = record { fits = rw (c.from.ensures, c.from-2.ensures) (product_below c.args.seed c.ranges.seed.fits) }
+
+-- less than that, divided by 2 ^ 64, is a word
+pub overflow_cast-result : goal.overflow_cast-result
+overflow_cast-result c = record { fits = rw (c.from.ensures, c.from-2.ensures) (omega (arith, product_below c.args.seed c.ranges.seed.fits)) }
