@@ -1,5 +1,6 @@
 pub mod Pcg64Words
 pub mod WyRandWords
+pub mod SeedsOfNumbers
 pub mod Cycles
 pub mod Parts
 pub mod ChaChaBlocks

@@ -6,3 +6,4 @@ pub mod ShuffledItems
 pub mod ShufflePartners
 pub mod WeightedChoices
 pub mod SampledNumbers
+pub mod Reservoirs

@@ -8,7 +8,9 @@ use Rattle.nanorand_fairness.specs.InTurn.{number_lists_that, swapped_in_turn, s
 use Rattle.std.specs.List.{list_any}
 use Rattle.nanorand_fairness.specs.Deals.{choices_by, deal_sizes, dealt, deals_of}
 use Rattle.nanorand_fairness.specs.FullShuffles.{choices_making}
+use Rattle.nanorand_core.specs.samples.Samples.{holds}
 use Rattle.nanorand_fairness.specs.Samples.{sample_by, sample_sizes}
+use Rattle.nanorand_fairness.specs.Reservoirs.{later_sizes, reservoir_by}
 
 -- a number below 3, then one below 2: the byte 0 names none below 3, the last byte is not drawn
 abbrev bytes : List ℕ
@@ -150,6 +152,23 @@ sample_of_three = refl
 
 sizes_of_a_sample : sample_sizes 3 5 ≡ 3 ∷ 4 ∷ 5 ∷ []
 sizes_of_a_sample = refl
+
+-- Three of five: item 3 replaces item 1, and item 4 draws no slot.
+reservoir_of_three : reservoir_by 3 (1 ∷ 4 ∷ []) ≡ 0 ∷ 3 ∷ 2 ∷ []
+reservoir_of_three = refl
+
+sizes_of_a_reservoir : later_sizes 3 5 ≡ 4 ∷ 5 ∷ []
+sizes_of_a_reservoir = refl
+
+-- One of three: of lists of two words of two bits each item is in the sample by four of twelve, and
+-- of three words, of which some are rejected, by 20 of 60.
+reservoirs_of_words : map (λ item. word_lists_that 2 2 (later_sizes 1 3) (λ slots. holds item (reservoir_by 1 slots))) (0 ∷ 1 ∷ 2 ∷ 3 ∷ []) ≡ 4 ∷ 4 ∷ 4 ∷ 0 ∷ []
+unfolding named sum_over_lists
+reservoirs_of_words = refl
+
+reservoirs_with_rejections : map (λ item. word_lists_that 2 3 (later_sizes 1 3) (λ slots. holds item (reservoir_by 1 slots))) (0 ∷ 1 ∷ 2 ∷ []) ≡ 20 ∷ 20 ∷ 20 ∷ []
+unfolding named sum_over_lists
+reservoirs_with_rejections = refl
 
 -- Below 3 the byte 0 is rejected and the byte 9 decides; of 0 alone all is taken.
 taken_to_the_deciding_word : words_taken 8 3 (0 ∷ 9 ∷ 7 ∷ []) ≡ 2

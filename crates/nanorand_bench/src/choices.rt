@@ -8,7 +8,7 @@ pub extern "C" fn nanorand_bench_choose(seed: u64, items: &mut [u64], count: u64
     let mut all = 0u64;
     for _ in 0..count {
         if let Ok(item) = choices::choose(&mut rng, items) {
-            all = all.rotate_left(1) ^ *item;
+            all = all.rotate_left(1).wrapping_add(*item);
         }
     }
     all
@@ -24,7 +24,7 @@ pub extern "C" fn nanorand_bench_choose_weighted(
     let mut all = 0u64;
     for _ in 0..count {
         if let Ok(place) = choices::choose_weighted(&mut rng, weights) {
-            all = all.rotate_left(1) ^ place as u64;
+            all = all.rotate_left(1).wrapping_add(place as u64);
         }
     }
     all

@@ -11,7 +11,7 @@ pub extern "C" fn nanorand_bench_pcg64_jump(seed: u64, count: u64) -> u64 {
         let high = u128::from(rng.generate::<u64>()) << 64;
         let draws = high + u128::from(rng.generate::<u64>());
         rng.jump(draws);
-        all = all.rotate_left(1) ^ rng.generate::<u64>();
+        all = all.rotate_left(1).wrapping_add(rng.generate::<u64>());
     }
     all
 }
@@ -25,7 +25,7 @@ pub extern "C" fn nanorand_bench_pcg64_distance(seed: u64, count: u64) -> u64 {
     let mut all = 0u64;
     for _ in 0..count {
         let draws = rng.distance(&far).unwrap_or(0);
-        all = all.rotate_left(1) ^ (draws % (1 << 64)) as u64;
+        all = all.rotate_left(1).wrapping_add((draws % (1 << 64)) as u64);
         rng.generate::<u64>();
     }
     all

@@ -12,7 +12,7 @@ pub extern "C" fn nanorand_bench_kit_pcg64_u64(seed: u64, count: u64) -> u64 {
     let mut rng = Pcg64::new(u128::from(seed), 1);
     let mut all = 0u64;
     for _ in 0..count {
-        all = all.rotate_left(1) ^ rng.next_u64();
+        all = all.rotate_left(1).wrapping_add(rng.next_u64());
     }
     all
 }
@@ -22,7 +22,9 @@ pub extern "C" fn nanorand_bench_kit_pcg64_u8(seed: u64, count: u64) -> u64 {
     let mut rng = Pcg64::new(u128::from(seed), 1);
     let mut all = 0u64;
     for _ in 0..count {
-        all = all.rotate_left(1) ^ u64::from(rng.random::<u8>());
+        all = all
+            .rotate_left(1)
+            .wrapping_add(u64::from(rng.random::<u8>()));
     }
     all
 }
@@ -32,7 +34,9 @@ pub extern "C" fn nanorand_bench_kit_chacha20_u8(seed: u8, count: u64) -> u64 {
     let mut rng = ChaCha20Rng::from_seed([seed; 32]);
     let mut all = 0u64;
     for _ in 0..count {
-        all = all.rotate_left(1) ^ u64::from(rng.random::<u8>());
+        all = all
+            .rotate_left(1)
+            .wrapping_add(u64::from(rng.random::<u8>()));
     }
     all
 }
@@ -44,7 +48,7 @@ pub extern "C" fn nanorand_bench_kit_chacha8_blocks(seed: u8, count: u64) -> u64
     let mut block = [0; 64];
     for _ in 0..count {
         rng.fill_bytes(&mut block);
-        all = all.rotate_left(1) ^ mixed(&block);
+        all = all.rotate_left(1).wrapping_add(mixed(&block));
     }
     all
 }
@@ -56,7 +60,7 @@ pub extern "C" fn nanorand_bench_kit_chacha12_blocks(seed: u8, count: u64) -> u6
     let mut block = [0; 64];
     for _ in 0..count {
         rng.fill_bytes(&mut block);
-        all = all.rotate_left(1) ^ mixed(&block);
+        all = all.rotate_left(1).wrapping_add(mixed(&block));
     }
     all
 }
@@ -68,7 +72,7 @@ pub extern "C" fn nanorand_bench_kit_chacha20_blocks(seed: u8, count: u64) -> u6
     let mut block = [0; 64];
     for _ in 0..count {
         rng.fill_bytes(&mut block);
-        all = all.rotate_left(1) ^ mixed(&block);
+        all = all.rotate_left(1).wrapping_add(mixed(&block));
     }
     all
 }
@@ -95,7 +99,9 @@ pub extern "C" fn nanorand_bench_kit_range_u8(seed: u64, size: u8, count: u64) -
     let mut all = 0u64;
     for _ in 0..count {
         if size > 0 {
-            all = all.rotate_left(1) ^ u64::from(rng.random_range(0..size));
+            all = all
+                .rotate_left(1)
+                .wrapping_add(u64::from(rng.random_range(0..size)));
         }
     }
     all
@@ -107,7 +113,9 @@ pub extern "C" fn nanorand_bench_kit_range_u32(seed: u64, size: u32, count: u64)
     let mut all = 0u64;
     for _ in 0..count {
         if size > 0 {
-            all = all.rotate_left(1) ^ u64::from(rng.random_range(0..size));
+            all = all
+                .rotate_left(1)
+                .wrapping_add(u64::from(rng.random_range(0..size)));
         }
     }
     all
@@ -119,7 +127,7 @@ pub extern "C" fn nanorand_bench_kit_range_u64(seed: u64, size: u64, count: u64)
     let mut all = 0u64;
     for _ in 0..count {
         if size > 0 {
-            all = all.rotate_left(1) ^ rng.random_range(0..size);
+            all = all.rotate_left(1).wrapping_add(rng.random_range(0..size));
         }
     }
     all
@@ -140,7 +148,7 @@ pub extern "C" fn nanorand_bench_kit_choose(seed: u64, items: &mut [u64], count:
     let mut all = 0u64;
     for _ in 0..count {
         if let Some(item) = items.choose(&mut rng) {
-            all = all.rotate_left(1) ^ *item;
+            all = all.rotate_left(1).wrapping_add(*item);
         }
     }
     all
@@ -167,7 +175,7 @@ pub extern "C" fn nanorand_bench_kit_pcg64_jump(seed: u64, count: u64) -> u64 {
         let high = u128::from(rng.next_u64()) << 64;
         let draws = high + u128::from(rng.next_u64());
         rng.advance(draws);
-        all = all.rotate_left(1) ^ rng.next_u64();
+        all = all.rotate_left(1).wrapping_add(rng.next_u64());
     }
     all
 }

@@ -6,8 +6,10 @@
 
 pub mod buffers;
 pub mod choices;
+pub mod contexts;
 pub mod fills;
 pub mod jumps;
 pub mod kit;
+pub mod kit_contexts;
 pub mod ranges;
 pub mod words;

@@ -9,7 +9,7 @@ pub extern "C" fn nanorand_bench_range_u8(seed: u64, size: u8, count: u64) -> u6
     let mut all = 0u64;
     for _ in 0..count {
         if let Ok(number) = rng.generate_range(Included(0u8), Excluded(size)) {
-            all = all.rotate_left(1) ^ u64::from(number);
+            all = all.rotate_left(1).wrapping_add(u64::from(number));
         }
     }
     all
@@ -21,7 +21,7 @@ pub extern "C" fn nanorand_bench_range_u32(seed: u64, size: u32, count: u64) -> 
     let mut all = 0u64;
     for _ in 0..count {
         if let Ok(number) = rng.generate_range(Included(0u32), Excluded(size)) {
-            all = all.rotate_left(1) ^ u64::from(number);
+            all = all.rotate_left(1).wrapping_add(u64::from(number));
         }
     }
     all
@@ -33,7 +33,7 @@ pub extern "C" fn nanorand_bench_range_u64(seed: u64, size: u64, count: u64) -> 
     let mut all = 0u64;
     for _ in 0..count {
         if let Ok(number) = rng.generate_range(Included(0u64), Excluded(size)) {
-            all = all.rotate_left(1) ^ number;
+            all = all.rotate_left(1).wrapping_add(number);
         }
     }
     all

@@ -8,7 +8,7 @@ pub extern "C" fn nanorand_bench_wyrand_u64(seed: u64, count: u64) -> u64 {
     let mut rng = WyRand::new_seed(seed);
     let mut all = 0u64;
     for _ in 0..count {
-        all = all.rotate_left(1) ^ rng.generate::<u64>();
+        all = all.rotate_left(1).wrapping_add(rng.generate::<u64>());
     }
     all
 }
@@ -18,7 +18,7 @@ pub extern "C" fn nanorand_bench_pcg64_u64(seed: u64, count: u64) -> u64 {
     let mut rng = Pcg64::new_seed(u128::from(seed));
     let mut all = 0u64;
     for _ in 0..count {
-        all = all.rotate_left(1) ^ rng.generate::<u64>();
+        all = all.rotate_left(1).wrapping_add(rng.generate::<u64>());
     }
     all
 }
@@ -28,7 +28,7 @@ pub extern "C" fn nanorand_bench_chacha8_blocks(seed: u8, count: u64) -> u64 {
     let mut rng = ChaCha8::new_key([seed; 32], [seed; 8]);
     let mut all = 0u64;
     for _ in 0..count {
-        all = all.rotate_left(1) ^ mixed(&rng.rand());
+        all = all.rotate_left(1).wrapping_add(mixed(&rng.rand()));
     }
     all
 }
@@ -38,7 +38,7 @@ pub extern "C" fn nanorand_bench_chacha12_blocks(seed: u8, count: u64) -> u64 {
     let mut rng = ChaCha12::new_key([seed; 32], [seed; 8]);
     let mut all = 0u64;
     for _ in 0..count {
-        all = all.rotate_left(1) ^ mixed(&rng.rand());
+        all = all.rotate_left(1).wrapping_add(mixed(&rng.rand()));
     }
     all
 }
@@ -48,7 +48,7 @@ pub extern "C" fn nanorand_bench_chacha20_blocks(seed: u8, count: u64) -> u64 {
     let mut rng = ChaCha20::new_key([seed; 32], [seed; 8]);
     let mut all = 0u64;
     for _ in 0..count {
-        all = all.rotate_left(1) ^ mixed(&rng.rand());
+        all = all.rotate_left(1).wrapping_add(mixed(&rng.rand()));
     }
     all
 }
@@ -57,7 +57,7 @@ pub extern "C" fn nanorand_bench_chacha20_blocks(seed: u8, count: u64) -> u64 {
 pub fn mixed(block: &[u8; 64]) -> u64 {
     let mut all = 0u64;
     for i in 0..8 {
-        all = all.rotate_left(1) ^ u64_at(block, 8 * i);
+        all = all.rotate_left(1).wrapping_add(u64_at(block, 8 * i));
     }
     all
 }

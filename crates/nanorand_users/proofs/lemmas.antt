@@ -3,7 +3,4 @@ pub mod HandLemmas
 pub mod PlaceLemmas
 pub mod ResultLemmas
 pub mod RetryLemmas
-pub mod SampleCountLemmas
-pub mod SampleLemmas
-pub mod SampleWordLemmas
 pub mod SplitMixLemmas

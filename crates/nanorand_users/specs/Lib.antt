@@ -2,6 +2,5 @@ pub mod Card
 pub mod Cases
 pub mod Choice
 pub mod Deals
-pub mod Reservoir
 pub mod Retry
 pub mod SplitMix

@@ -1,6 +1,6 @@
 //! Proved callers of the library, one for each use; they need no proof of their own. `CALLING.md`
 //! quotes them. Larger callers have a module each.
-ghost use Rattle.std.specs.Prelude.{◌≡◌, ◌≢◌, ◌≤◌, ◌<◌, ◌+◌, ◌++◌, [], All, length, Contains, OnOk, IfOk, IfErr, MatchResult, IsPermutation};
+ghost use Rattle.std.specs.Prelude.{◌≡◌, ◌≢◌, ◌≤◌, ◌<◌, ◌+◌, ◌==◌, ◌++◌, [], All, count_by, length, Contains, OnOk, IfOk, IfErr, MatchResult, IsPermutation};
 ghost use Rattle.std.specs.List.{AllPairs};
 ghost use Rattle.std.specs.declared.ops.Bound.TheVariants.{Included};
 ghost use Rattle.nanorand_replay.specs.generators.Buffered.{buffered_taken};
@@ -8,6 +8,7 @@ ghost use Rattle.nanorand_core.specs.values.Draws.{unsigned_outcome};
 ghost use Rattle.nanorand.specs.generators.ChaCha.{chacha_requests};
 ghost use Rattle.nanorand.specs.generators.Pcg64.{pcg64_after};
 ghost use Rattle.nanorand_replay.specs.replay.Replay.{replayed};
+ghost use Rattle.nanorand_core.specs.shuffles.Arrangements.{rising};
 ghost use Rattle.nanorand_core.specs.shuffles.Shuffles.{from_itself, shuffled};
 ghost use Rattle.nanorand_core.specs.values.Values.{number_of};
 ghost use Rattle.nanorand.specs.generators.WyRand.{wyrand_requests};
@@ -19,12 +20,15 @@ pub mod fills;
 pub mod loops;
 pub mod saved;
 pub mod split_mix;
+pub mod unrefused;
 
-use nanorand::choices::{WeightError, below, choose, choose_mut, choose_weighted, ratio};
-use nanorand::laws::{pcg64_cycles, unbroken_delivery, words_as_numbers};
+use nanorand::choices::{
+    WeightError, below, between, bits, choose, choose_mut, choose_weighted, ratio,
+};
+use nanorand::laws::{pcg64_cycles, permutations_by_counting, unbroken_delivery, words_as_numbers};
 use nanorand::replay::{Answer, Call, replay};
-use nanorand::samples::sample;
-use nanorand::shuffles::partial_shuffle;
+use nanorand::samples::{reservoir, sample};
+use nanorand::shuffles::{identity, partial_shuffle};
 use nanorand::{BufferedRng, ChaCha20, Pcg64, RangeError, Rng, WyRand};
 use std::ops::Bound;
 
@@ -36,14 +40,14 @@ pub fn ticket(seed: u64) -> u64
     rng.generate::<u64>()
 }
 
-/// A throw of a die, from any generator: a number from 1 to 6, and 1 if the range draw fails.
+/// A throw of a die, from any generator: a number from 1 to 6, and 1 if the draw is refused.
 pub fn throw<G: Rng<OUTPUT>, const OUTPUT: usize>(rng: &mut G) -> u8
     ensures face { (1 ≤ result) × (result ≤ 6) }
     ensures thrown { let outcome = unsigned_outcome G.requests 8 rng.old in
         MatchResult (outcome (Included 1) (Included 6)).0
         (λ pips. result ≡ pips) (λ _. result ≡ 1) }
 {
-    match rng.generate_range(Bound::Included(1), Bound::Included(6)) {
+    match between(rng, 1, 6) {
         Ok(pips) => pips,
         Err(_) => 1,
     }
@@ -77,17 +81,33 @@ pub fn roll(rng: &mut WyRand) -> Result<u8, RangeError>
     ensures face { IfOk result (λ pips. (1 ≤ pips) × (pips ≤ 6)) }
     ensures refusal { IfErr result (λ refusal. refusal ≡ RangeError.Exhausted) }
 {
-    rng.generate_range(Bound::Included(1), Bound::Included(6))
+    between(rng, 1, 6)
 }
 
-/// A hexadecimal digit. 16 is a power of two, so no word is rejected, and there is no refusal.
+/// The toss of a coin. 2 is a power of two, so no word is rejected, and there is no refusal. The
+/// shortest coin is `rng.generate::<bool>()`.
+pub fn coin<G: Rng<OUTPUT>, const OUTPUT: usize>(rng: &mut G) -> bool {
+    match ratio(rng, 1, 2) {
+        Ok(heads) => heads,
+        Err(_) => unreachable!(),
+    }
+}
+
+/// One of eight directions. 8 is a power of two, so there is no refusal.
+pub fn direction<G: Rng<OUTPUT>, const OUTPUT: usize>(rng: &mut G, directions: &[u8; 8]) -> u8
+    ensures { Contains directions.now result }
+{
+    match choose(rng, directions) {
+        Ok(direction) => *direction,
+        Err(_) => unreachable!(),
+    }
+}
+
+/// A hexadecimal digit: four bits, which no draw refuses.
 pub fn digit(rng: &mut WyRand) -> u8
     ensures { result < 16 }
 {
-    match below(rng, 16) {
-        Ok(digit) => digit,
-        Err(_) => unreachable!(),
-    }
+    bits(rng, 4)
 }
 
 /// A server of the list, each by equally many words.
@@ -143,6 +163,21 @@ pub fn draw_winners(
     sample(rng, entrants, winners)
 }
 
+/// Lines of a log that is read once, as many as there are slots; all lines of a short log. It
+/// returns how many.
+pub fn pick_lines<'a>(
+    rng: &mut WyRand,
+    log: &'a str,
+    lines: &mut [&'a str],
+) -> Result<usize, RangeError>
+    ensures slots { IfOk result (λ picked. picked ≤ length lines.old) }
+    ensures full { length lines.old ≤ count_by (λ byte. byte == 10) log.now
+        → IfOk result (λ picked. picked ≡ length lines.old) }
+    ensures refusal { IfErr result (λ refusal. refusal ≡ RangeError.Exhausted) }
+{
+    reservoir(rng, log.lines(), lines)
+}
+
 /// Shuffles a hand to the front of a pack. No card is lost, also if the shuffle fails.
 pub fn deal_hand(rng: &mut WyRand, pack: &mut [u8], cards: usize) -> Result<(), RangeError>
     ensures { IsPermutation pack.old pack.new }
@@ -165,6 +200,24 @@ pub fn shuffle_cards(seed: u64, cards: &mut [u8]) -> Result<(), RangeError>
 {
     let mut rng = WyRand::new_seed(seed);
     rng.shuffle(cards)
+}
+
+/// Deals a whole deck: each of the cards 0, 1, .. is in it once, also if the shuffle fails.
+pub fn deal_deck(rng: &mut WyRand, deck: &mut [usize]) -> Result<(), RangeError>
+    ensures { IsPermutation (rising (length deck.old)) deck.new }
+{
+    identity(deck);
+    rng.shuffle(deck)
+}
+
+/// The same, as it is told of cards: each is one of the deck, and no two are equal.
+pub fn deal_cards(rng: &mut WyRand, deck: &mut [usize]) -> Result<(), RangeError>
+    ensures cards { All (λ card. card < length deck.old) deck.new }
+    ensures different { AllPairs (λ card other. card ≢ other) deck.new }
+{
+    permutations_by_counting();
+    identity(deck);
+    rng.shuffle(deck)
 }
 
 /// Fills two slices from a buffer. Together they hold what one request of both lengths gives.

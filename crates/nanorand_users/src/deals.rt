@@ -9,17 +9,8 @@ ghost use Rattle.nanorand_core.specs.declared.values.range.RangeError.TheVariant
 ghost use Rattle.nanorand_users.specs.Deals.{HoldsNoneTwice, HandsAreApart, hand_of, hands};
 
 use nanorand::laws::permutations_by_counting;
-use nanorand::shuffles::{apply_choices, choices_of, shuffle_and_record};
+use nanorand::shuffles::{apply_choices, choices_of, identity, shuffle_and_record};
 use nanorand::{RangeError, Rng};
-
-/// Writes the full deck, in order.
-pub fn write_deck(deck: &mut [usize])
-    ensures { deck.new ≡ rising (length deck.old) }
-{
-    for (card, slot) in deck.iter_mut().enumerate() {
-        *slot = card;
-    }
-}
 
 /// Writes the full deck in order, and shuffles it.
 ///
@@ -43,7 +34,7 @@ pub fn shuffle_deck<G: Rng<OUTPUT>, const OUTPUT: usize>(
     ensures none_twice { HoldsNoneTwice deck.new }
 {
     permutations_by_counting();
-    write_deck(deck);
+    identity(deck);
     rng.shuffle(deck)
 }
 
@@ -66,7 +57,7 @@ pub fn shuffle_and_store<G: Rng<OUTPUT>, const OUTPUT: usize>(
     ensures drawn { let shuffle = shuffled G.requests from_itself rng.old deck.old in
         OnOk result (choices.new ≡ shuffle.choices) }
 {
-    write_deck(deck);
+    identity(deck);
     shuffle_and_record(rng, deck, choices)
 }
 
@@ -92,7 +83,7 @@ pub fn deal_again(choices: &[usize], deck: &mut [usize])
     ensures deck { deck.new ≡ arranged choices.now (rising (length deck.old)) }
     ensures arrangement { IsArrangement deck.new }
 {
-    write_deck(deck);
+    identity(deck);
     apply_choices(choices, deck);
 }
 

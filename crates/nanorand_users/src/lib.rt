@@ -9,7 +9,6 @@ pub mod callers;
 pub mod cases;
 pub mod choice;
 pub mod deals;
-pub mod reservoir;
 pub mod retry;
 pub mod simulation;
 pub mod streams;

@@ -10,9 +10,8 @@ ghost use Rattle.nanorand_core.specs.values.Draws.{after_words};
 ghost use Rattle.nanorand_core.specs.declared.values.range.RangeError.TheVariants.{Exhausted};
 ghost use Rattle.nanorand_users.specs.Retry.{ceiling_after, delay_drawn, delays_after, state_after_delays};
 
-use nanorand::values::range::draw_number;
+use nanorand::choices::between;
 use nanorand::{RangeError, Rng};
-use std::ops::Bound;
 
 /// Draws a delay from `ceiling / 2..=ceiling`. It can be refused only as `Exhausted`, after 128
 /// words.
@@ -28,7 +27,7 @@ pub fn try_delay<G: Rng<OUTPUT>, const OUTPUT: usize>(
     ensures words { (n : ℕ) × (n ≤ 128) × (rng.new ≡ after_words G.requests 64 n rng.old) }
     ensures exhausted { result ≡ Err Exhausted → rng.new ≡ after_words G.requests 64 128 rng.old }
 {
-    draw_number(rng, Bound::Included(ceiling / 2), Bound::Included(ceiling))
+    between(rng, ceiling / 2, ceiling)
 }
 
 /// Draws a delay from `ceiling / 2..=ceiling`, from at most 128 words. If all of them are rejected,

@@ -49,7 +49,7 @@ none_of_three : samples_that 0 3 (λ sample. true) ≡ 1
 none_of_three = refl
 
 -- a draw from 0 to `last`, without a walk through all numbers of 64 bits
-number_from : (requests : Requests ℕ) (last g : ℕ) → last < 2 ^ 64
+pub number_from : (requests : Requests ℕ) (last g : ℕ) → last < 2 ^ 64
     → number_up_to requests last g ≡ range_outcome requests 64 (map unsigned_number (range_with_len 0 (last + 1))) g
 unfolding number_up_to
 number_from requests last g within =

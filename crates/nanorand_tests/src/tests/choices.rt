@@ -1,7 +1,8 @@
-//! `choose_mut`: which items are written. No clause says it.
+//! `choose_mut`: which items are written. No clause says it. And the short calls, as they run.
 
 use crate::comparing::{equal, equal_at};
-use nanorand::choices::{choose, choose_mut};
+use nanorand::choices::{below, between, bits, choose, choose_mut};
+use nanorand::shuffles::identity;
 use nanorand::{RangeError, WyRand};
 use std::process::Abort;
 use test_support::Script;
@@ -64,4 +65,41 @@ fn a_refused_choice_leaves_the_items(rt: HostRuntime) {
     equal(&rt, choose_mut(&mut zeros, &mut items).is_err(), true);
     equal(&rt, items, [1, 2, 3]);
     equal(&rt, zeros.drawn(), 128);
+}
+
+// Words, and the number of 1 to 6, below 16 and of four bits that each names.
+const NAMED: [(u64, u64, u64); 4] = [
+    (1, 1, 0),
+    (1 << 62, 2, 4),
+    ((1 << 63) + 1, 4, 8),
+    (u64::MAX, 6, 15),
+];
+
+#[test]
+fn the_short_calls(rt: HostRuntime) -> Result<(), RangeError> {
+    for (word, pips, digit) in NAMED {
+        equal_at(
+            &rt,
+            between(&mut Script::new(&[word]), 1u64, 6)?,
+            pips,
+            word,
+        );
+        equal_at(&rt, below(&mut Script::new(&[word]), 16u64)?, digit, word);
+        equal_at(
+            &rt,
+            bits::<u64, _, 8>(&mut Script::new(&[word]), 4),
+            digit,
+            word,
+        );
+    }
+    equal(&rt, bits::<u64, _, 8>(&mut Script::new(&[u64::MAX]), 0), 0);
+    equal(
+        &rt,
+        bits::<u64, _, 8>(&mut Script::new(&[u64::MAX]), 64),
+        u64::MAX,
+    );
+    let mut places = [7; 5];
+    identity(&mut places);
+    equal(&rt, places, [0, 1, 2, 3, 4]);
+    Ok(())
 }

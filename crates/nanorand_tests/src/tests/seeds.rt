@@ -1,7 +1,9 @@
 //! The first blocks of seeds, and the texts of generators that were drawn from, moved and seeded again.
 
 use crate::comparing::{debug_is, equal, equal_at};
-use nanorand::{Blocks, ChaCha8, Pcg64, SeedableRng, WyRand};
+use nanorand::{
+    Blocks, ChaCha8, ChaCha8Stream, Keystream, Pcg64, SeedableRng, WyRand, chacha_stream_from_u64,
+};
 use std::test::Fail;
 
 // Seeds, the first block of each, and the text of the generator after it.
@@ -141,4 +143,35 @@ fn jumps_join(rt: HostRuntime) {
             equal(&rt, (wyrand == far, pcg64 == further), (true, true));
         }
     }
+}
+
+// The words of splitmix64.c from 1234567: they are the seed, or the key and then the nonce.
+const NUMBER: u64 = 1234567;
+
+const WORDS: [u64; 5] = [
+    6457827717110365317,
+    3203168211198807973,
+    9817491932198370423,
+    4593380528125082431,
+    16408922859458223821,
+];
+
+#[test]
+fn seeds_of_a_number(rt: HostRuntime) -> Result<(), Fail> {
+    equal(&rt, WyRand::seed_from_u64(NUMBER).seed(), WORDS[0]);
+    let wide = u128::from(WORDS[0]) + (u128::from(WORDS[1]) << 64);
+    equal(&rt, Pcg64::seed_from_u64(NUMBER).seed(), wide);
+    let chacha = ChaCha8::seed_from_u64(NUMBER);
+    let key: &[u8] = &chacha.key();
+    for (place, word) in WORDS.iter().take(4).enumerate() {
+        let bytes: &[u8] = &word.to_le_bytes();
+        equal_at(&rt, &key[8 * place..8 * place + 8], bytes, place);
+    }
+    equal(&rt, chacha.nonce(), WORDS[4].to_le_bytes());
+    equal(&rt, chacha.counter(), 0);
+    let stream: ChaCha8Stream = chacha_stream_from_u64(NUMBER);
+    equal(&rt, stream.position(), 0);
+    equal(&rt, stream.inner().key(), chacha.key());
+    equal(&rt, stream.inner().nonce(), chacha.nonce());
+    Ok(())
 }

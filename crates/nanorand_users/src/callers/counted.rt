@@ -11,12 +11,13 @@ ghost use Rattle.nanorand_fairness.specs.Lists.{lists_that, number_by_words};
 ghost use Rattle.nanorand_fairness.specs.InTurn.{numbers_in_turn, word_lists_that};
 ghost use Rattle.nanorand_fairness.specs.Deals.{choices_by, deal_sizes, dealt, IsDeal};
 ghost use Rattle.nanorand_fairness.specs.Samples.{sample_by, sample_sizes};
+ghost use Rattle.nanorand_fairness.specs.Reservoirs.{later_sizes, reservoir_by};
 ghost use Rattle.nanorand.specs.generators.WyRand as wyrand;
 
 use nanorand::laws::{
-    fairness_with_rejections, full_shuffles_prefer_orders, partial_shuffles, sampled_sets_are_fair,
-    samples_draw_in_turn, shuffles_are_fair, shuffles_draw_in_turn, words_of_a_draw,
-    wyrand_words_are_not_equally_frequent,
+    fairness_with_rejections, full_shuffles_prefer_orders, partial_shuffles,
+    reservoir_words_are_fair, sampled_sets_are_fair, samples_draw_in_turn, shuffles_are_fair,
+    shuffles_draw_in_turn, words_of_a_draw, wyrand_words_are_not_equally_frequent,
 };
 use nanorand::samples::sample;
 use nanorand::shuffles::shuffle_and_record;
@@ -80,6 +81,17 @@ pub fn winners_are_alike()
         ≡ wins (λ draws. list_all others (sample_by 7 draws [])) }
 {
     sampled_sets_are_fair();
+}
+
+/// Any three of ten lines are kept by a reservoir by equally many lists of seven words.
+pub fn lines_are_alike()
+    ensures { (three others : ℕ → Bool)
+        → count_by three (range_with_len 0 10) ≡ 3 → count_by others (range_with_len 0 10) ≡ 3
+        → let keeps = word_lists_that 64 7 (later_sizes 3 10) in
+        keeps (λ slots. list_all three (reservoir_by 3 slots))
+        ≡ keeps (λ slots. list_all others (reservoir_by 3 slots)) }
+{
+    reservoir_words_are_fair();
 }
 
 /// Three of ten entrants: the winners are those by the numbers that the next words of the generator

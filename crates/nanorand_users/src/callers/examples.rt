@@ -1,16 +1,16 @@
 //! The shortest calls.
 
+use nanorand::choices::between;
 use nanorand::entropy::EntropyError;
 use nanorand::{BufferedRng, RangeError, Rng, WyRand};
 use std::io::Read;
-use std::ops::Bound;
 
 pub fn number(seed: u64) -> u64 {
-    WyRand::new_seed(seed).generate()
+    WyRand::seed_from_u64(seed).generate()
 }
 
 pub fn percent(rng: &mut WyRand) -> Result<u64, RangeError> {
-    rng.generate_range(Bound::Included(1), Bound::Included(100))
+    between(rng, 1, 100)
 }
 
 pub fn deal(rng: &mut WyRand, deck: &mut [u8]) -> Result<(), RangeError> {
@@ -18,7 +18,7 @@ pub fn deal(rng: &mut WyRand, deck: &mut [u8]) -> Result<(), RangeError> {
 }
 
 pub fn byte_after_byte(seed: u64, out: &mut [u8]) {
-    BufferedRng::new(WyRand::new_seed(seed)).fill_bytes(out);
+    BufferedRng::new(WyRand::seed_from_u64(seed)).fill_bytes(out);
 }
 
 pub fn seeded<R: Read>(source: &mut R) -> Result<WyRand, EntropyError> {

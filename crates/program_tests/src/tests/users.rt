@@ -7,7 +7,6 @@ use nanorand::{ChaCha20, Pcg64, WyRand};
 use nanorand_users::cases::{Property, check_again, failing_value, failure_again, first_failure};
 use nanorand_users::choice::server_for;
 use nanorand_users::deals::{deal_again, hand, rest, shuffle_and_store, shuffle_deck, store_deck};
-use nanorand_users::reservoir::sample_places;
 use nanorand_users::retry::schedule;
 use nanorand_users::simulation::{replay_copy, replay_in_two, replay_seed};
 use nanorand_users::streams::part;
@@ -76,14 +75,6 @@ fn stored_afterwards(rt: HostRuntime) {
     let mut choices = [0; 10];
     store_deck(&deck, &mut choices, &mut [0; 10]);
     equal(&rt, choices, [6, 9, 8, 9, 6, 9, 6, 7, 9, 9]);
-}
-
-#[test]
-fn samples(rt: HostRuntime) {
-    let mut chosen = [0; 5];
-    let outcome = sample_places(&mut WyRand::new_seed(7), 20, &mut chosen);
-    equal(&rt, outcome, Ok(()));
-    equal(&rt, chosen, [0, 17, 8, 7, 4]);
 }
 
 #[test]

@@ -1,0 +1,2 @@
+-- Lemmas that the laws of impls cite.
+pub mod WordLemmas

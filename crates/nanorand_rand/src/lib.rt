@@ -1,0 +1,15 @@
+//! Generators of `nanorand` for the kit's `rand`, and generators of the kit for `nanorand`.
+//!
+//! `Core` wraps a generator of `nanorand` as one of `rand_core`, so that the distributions, the
+//! weighted indices and the sampling of `rand` draw from it. `FromCore32` and `FromCore64` wrap a
+//! generator of `rand_core` as one of `nanorand`, for its ranges, shuffles, samples and replays.
+#![tactic(auto)]
+
+pub mod laws;
+pub mod ours;
+pub mod seeds;
+pub mod theirs;
+
+pub use ours::Core;
+pub use seeds::ChaChaSeed;
+pub use theirs::{FromCore32, FromCore64};

@@ -1,0 +1,97 @@
+//! Draws that are never refused, since as many numbers as divide the count of the words are drawn
+//! from: of each width, and without a line of proof.
+ghost use Rattle.std.specs.Prelude.{◌≡◌, ◌≤◌, ◌<◌, ◌^◌, ◌%◌, length, IsOk};
+
+use nanorand::choices::{below, between, choose, choose_mut, ratio};
+use nanorand::{RangeError, Rng, WyRand};
+use std::ops::Bound;
+
+pub fn bytes(rng: &mut WyRand) -> Result<u8, RangeError>
+    ensures { IsOk result }
+{
+    below(rng, 64)
+}
+
+pub fn words_of_16<G: Rng<OUTPUT>, const OUTPUT: usize>(rng: &mut G) -> Result<u16, RangeError>
+    ensures { IsOk result }
+{
+    below(rng, 1024)
+}
+
+pub fn words_of_32<G: Rng<OUTPUT>, const OUTPUT: usize>(rng: &mut G) -> Result<u32, RangeError>
+    ensures { IsOk result }
+{
+    below(rng, 1 << 31)
+}
+
+pub fn words_of_64<G: Rng<OUTPUT>, const OUTPUT: usize>(rng: &mut G) -> Result<u64, RangeError>
+    ensures { IsOk result }
+{
+    below(rng, 1 << 53)
+}
+
+pub fn sizes<G: Rng<OUTPUT>, const OUTPUT: usize>(rng: &mut G) -> Result<usize, RangeError>
+    ensures { IsOk result }
+{
+    below(rng, 4096)
+}
+
+pub fn signed_bytes<G: Rng<OUTPUT>, const OUTPUT: usize>(rng: &mut G) -> Result<i8, RangeError>
+    ensures { IsOk result }
+{
+    below(rng, -96)
+}
+
+pub fn signed_words<G: Rng<OUTPUT>, const OUTPUT: usize>(rng: &mut G) -> Result<i64, RangeError>
+    ensures { IsOk result }
+{
+    between(rng, -8, 7)
+}
+
+pub fn of_a_size<G: Rng<OUTPUT>, const OUTPUT: usize>(
+    rng: &mut G,
+    n: u64,
+) -> Result<u64, RangeError>
+    requires some { 0 < n }
+    requires divides { 2 ^ 64 % n ≡ 0 }
+    ensures { IsOk result }
+{
+    below(rng, n)
+}
+
+pub fn ports<G: Rng<OUTPUT>, const OUTPUT: usize>(rng: &mut G) -> Result<u16, RangeError>
+    ensures { IsOk result }
+{
+    between(rng, 49152, 65535)
+}
+
+pub fn hours<G: Rng<OUTPUT>, const OUTPUT: usize>(rng: &mut G) -> Result<u32, RangeError>
+    ensures { IsOk result }
+{
+    rng.generate_range(Bound::Included(8), Bound::Excluded(16))
+}
+
+pub fn chances<G: Rng<OUTPUT>, const OUTPUT: usize>(rng: &mut G) -> Result<bool, RangeError>
+    ensures { IsOk result }
+{
+    ratio(rng, 3, 8)
+}
+
+pub fn suits<'a, G: Rng<OUTPUT>, const OUTPUT: usize>(
+    rng: &mut G,
+    suits: &'a [u8; 4],
+) -> Result<&'a u8, RangeError>
+    ensures { IsOk result }
+{
+    choose(rng, suits)
+}
+
+pub fn counters<'a, G: Rng<OUTPUT>, const OUTPUT: usize>(
+    rng: &mut G,
+    counters: &'a mut [u32],
+) -> Result<&'a mut u32, RangeError>
+    requires { length counters.old ≡ 16 }
+    ensures { IsOk result }
+{
+    choose_mut(rng, counters)
+}
