@@ -15,6 +15,7 @@ mod table;
 mod here {
     include!("../benches/parts/here.rs");
     include!("../benches/parts/works.rs");
+    include!("../benches/parts/samples.rs");
 }
 
 /// The works by the calls of the old crate.
@@ -57,6 +58,11 @@ mod original {
 #[cfg(not(feature = "peers"))]
 mod peers {
     pub fn of(_row: &str) -> Vec<crate::row::Work> {
+        Vec::new()
+    }
+
+    #[cfg(not(feature = "drop_in"))]
+    pub fn sample(_slots: u32, _count: usize) -> Vec<crate::row::Work> {
         Vec::new()
     }
 }
@@ -245,6 +251,15 @@ mod peers {
         }
     }
 
+    #[cfg(not(feature = "drop_in"))]
+    pub fn sample(slots: u32, count: usize) -> Vec<Work> {
+        vec![work("SmallRng", slots, move || {
+            let mut rng: SmallRng = seeded();
+            let places = rand::seq::index::sample(&mut rng, black_box(count), slots as usize);
+            places.iter().map(|place| place as u64).sum()
+        })]
+    }
+
     fn of_chacha(row: &str) -> Vec<Work> {
         let length = match row {
             _ if row.ends_with("stream, u64") => 0,
@@ -284,6 +299,13 @@ fn main() -> Result<(), Box<dyn Error>> {
     for (here, original) in here::works().into_iter().zip(original::works()) {
         let peers = peers::of(&here.name);
         println!("{}", Row::new(here, Some(original), peers).timed());
+    }
+    #[cfg(not(feature = "drop_in"))]
+    for (here, slots, count) in here::samples() {
+        println!(
+            "{}",
+            Row::new(here, None, peers::sample(slots, count)).timed()
+        );
     }
     Ok(())
 }

@@ -13,6 +13,7 @@ mod row;
 mod here {
     include!("parts/here.rs");
     include!("parts/works.rs");
+    include!("parts/samples.rs");
 
     #[inline(never)]
     fn parts_of<R: library::Parts<OUTPUT>, const OUTPUT: usize>(rng: &R) -> u64 {
@@ -49,7 +50,12 @@ fn main() {
     }
     println!("| Work | ns |");
     println!("|---|---|");
-    for work in here::works().into_iter().chain(here::parts()) {
+    let samples = here::samples().into_iter().map(|(work, ..)| work);
+    for work in here::works()
+        .into_iter()
+        .chain(here::parts())
+        .chain(samples)
+    {
         let mut row = Row::new(work, None, Vec::new());
         let times = row.timed();
         println!("| {} | {:.2} |", times.name, times.here);

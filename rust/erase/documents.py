@@ -37,6 +37,18 @@ SENTENCES = {
     " (for ChaCha, `chacha_stream: state` and `laws::streams_deliver_chacha`)": "",
     "For ChaCha's blocks no such proof is known.": "For ChaCha's blocks that is not known.",
     " (`laws::samples_are_fair`)": "",
+    " (`laws::reservoirs_are_fair`)": "",
+    "Preconditions: `next` may be called, the iterator ends, and it has fewer than 2^64 items.": (
+        "The iterator ends, and gives at most `usize::MAX` items."
+    ),
+    "The time is O(k^2), since each number drawn is compared with the slots before it. `sample_with` leaves the same in"
+    " expected time O(k), by a table that the caller lends.": (
+        "The expected time is O(k): from 16 slots on a table is allocated, as `sample_with` takes one. Without the"
+        " feature `std`, or if there is no memory, each number drawn is compared with the slots before it, in O(k^2)."
+    ),
+    "With k or fewer there are no chains, and the time is that of `sample`.": (
+        "With k or fewer there are no chains, and the time is O(k^2)."
+    ),
     "Why a ranged draw returned no number.": (
         "Why a ranged draw returned no number. `Rng::range` and `Rng::permute` panic in its place."
     ),
@@ -72,6 +84,18 @@ SENTENCES = {
         "It returns `Empty` if the type has no number below `n`, and draws nothing then. It returns `Exhausted` if 128"
         " words in a row were rejected; they stay consumed. If 2^k numbers are below `n` (of an unsigned type: `n` is a power of two), no"
         " word is rejected."
+    ),
+    "Precondition: `low` is at most `high`. The only error is `Exhausted`, after 128 rejected words; they stay consumed."
+    " If 2^k numbers are between the two, there is none.": (
+        "It returns `Empty` if `low` is above `high`, and draws nothing then. It returns `Exhausted` if 128 words in a"
+        " row were rejected; they stay consumed. If 2^k numbers are between the two, no word is rejected."
+    ),
+    " (`laws::seeds_differ`)": "",
+    "as `Keystream::seed_from_u64` makes it. A call needs no import of that trait.": (
+        "as [`Keystream::seed_from_u64`] makes it. A call needs no import of that trait."
+    ),
+    "they are 40 bytes that SplitMix64 draws, as `ChaCha::seed_from_u64` says.": (
+        "they are 40 bytes that SplitMix64 draws, as [`ChaCha::seed_from_u64`](crate::ChaCha::seed_from_u64) says."
     ),
     "Nothing is promised about the provided methods of `Read`.": "",
     "It allocates nothing itself, so it never fails if the inner clone never does.": (

@@ -44,14 +44,20 @@ def use_like(use, attributes):
 
 
 def blocks_in_generators(file):
-    """Moves `rand` from the trait `Blocks` and its implementations into `Rng` and its own."""
+    """Moves `rand` from the trait `Blocks` and its implementations into `Rng` and its own.
+
+    What has blocks alone is a generator in Rust, whose requests are those that `Rng` provides.
+    """
     gone = []
     for blocks in file.items:
         if name_of(blocks) != "Blocks":
             continue
-        rng = next(item for item in file.items if name_of(item) == "Rng" and same_type(item, blocks))
-        rng.items = blocks.items + rng.items
-        gone.append(blocks)
+        rng = [item for item in file.items if name_of(item) == "Rng" and same_type(item, blocks)]
+        if rng:
+            rng[0].items = blocks.items + rng[0].items
+            gone.append(blocks)
+        else:
+            blocks.trait = blocks.trait.replace("Blocks", "Rng")
     file.items = [item for item in file.items if not any(item is other for other in gone)]
 
 

@@ -45,6 +45,9 @@ CRATES = {
 
 ATTRIBUTES = ("cold", "inline", "inline(always)", "inline(never)", "repr(C)")
 
+# What stands before the bounds of a type, which may be a path.
+BEFORE_BOUNDS = re.compile(r"(?<!:):(?!:)")
+
 DERIVES = ("Clone", "Copy", "Debug", "PartialEq", "Eq")
 
 # What the lists of calls derive in Rust. In Rattle a derive brings proofs with it.
@@ -119,6 +122,7 @@ BY_HAND = {
     "<[u8; 8]>::from_hex(seed).ok()?": "hex::bytes_of(seed)?",
     "<[u8; 16]>::from_hex(seed).ok()?": "hex::bytes_of(seed)?",
     "<[u8; 40]>::from_hex(seed).ok()?": "hex::bytes_of(seed)?",
+    "extend_sample(rng, count, places, 0, &mut [])": "extend_sample(rng, count, places, 0, &mut crate::layer::table(places))",
     "Sha256::digest(seed)": "sha256::digest(seed.as_bytes())",
     "input.read_to_end(&mut list)": "crate::reading::read_to_end(input, &mut list)",
     "write!(text, ": "write!(crate::growing::Growing(text), ",
@@ -218,12 +222,20 @@ PRECONDITIONS = {
     "length places.old ≤ count": (
         'assert!(places.len() <= count, "there are at most `count` slots");'
     ),
+    "I.can_next items": None,
+    "IsFinite (I.remaining items)": None,
+    "CountFits I.next_gives I.remaining 0 items": None,
+    "filled ≤ length places.old": (
+        'assert!(filled <= places.len(), "at most all slots are filled");'
+    ),
     "length answers.old ≡ length calls.now": (
         'assert!(answers.len() == calls.len(), "there is one answer for each call");'
     ),
     "F.IsAlwaysCallable draw": None,
     "can_start": None,
     "T.has_number Unbounded (Excluded n)": None,
+    "T.has_number (Included low) (Included high)": None,
+    "count ≤ T.BITS": 'assert!(count <= T::BITS, "`count` is at most the width of the type");',
     "place < 2 ^ BITS": None,
 }
 
@@ -288,8 +300,10 @@ def use_in_rust(source, use, _):
 
 def path_in_rust(source, use, path):
     head, _, rest = path.partition("::")
-    if rest.startswith(f"{LAWS}::") or path.endswith("::Blocks"):
+    if rest.startswith(f"{LAWS}::"):
         return None
+    if path.endswith("::Blocks"):
+        path, rest = path.replace("::Blocks", "::Rng"), rest.replace("::Blocks", "::Rng")
     if head in CRATES:
         return f"{CRATES[head]}::{rest}"
     if head in ("crate", "super") or head in source.modules:
@@ -432,13 +446,13 @@ def bound_in_rust(source, item, text):
     """A generic parameter without the bounds that Rust has not."""
     if text.startswith("const ") or text.startswith("'") or ":" not in text:
         return text
-    name, bounds = text.split(":", 1)
+    name, bounds = BEFORE_BOUNDS.split(text, maxsplit=1)
     kept = []
     for bound in split(bounds, "+"):
         head = head_of(bound)
         if head == "Blocks":
             bound = bound.replace("Blocks", "Rng", 1)
-        elif head not in (*TRAITS, "Copy", "Drop", "FnMut", "Sized", "fmt::Write"):
+        elif head not in (*TRAITS, "Copy", "Drop", "FnMut", "Iterator", "Sized", "fmt::Write"):
             raise source.unknown(f"a bound '{bound}'", item.place)
         if head != "Drop":
             kept.append(bound)
@@ -492,7 +506,7 @@ def function_in_rust(source, function, owner):
     function.conditions = [
         text
         for text in (bound_in_rust(source, function, text) for text in function.conditions)
-        if ":" in text
+        if BEFORE_BOUNDS.search(text)
     ]
     function.parameters = [
         type_in_rust(text) for text in function.parameters if not ALLOCATOR_TAKEN.fullmatch(text)
@@ -645,10 +659,11 @@ def refuse_broken_preconditions(source, function, owner):
 
 def wants_use(function, owner):
     """Whether a call is of no use without its result: it changes nothing that it is lent."""
+    provided = isinstance(owner, Trait) and function.body is not None
     in_trait = isinstance(owner, Trait) or (owner and owner.trait)
     changes = any("&mut" in text for text in function.parameters)
     plain = function.result and "Result" not in function.result
-    return function.visibility == "pub" and plain and not changes and not in_trait
+    return plain and not changes and (provided or function.visibility == "pub" and not in_trait)
 
 
 CONVERSIONS = {

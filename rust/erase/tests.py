@@ -317,6 +317,7 @@ class Differences(Same):
     def test_results_are_used(self):
         self.same("pub fn f(x: &u8) -> u8 { *x }", "#[must_use] pub fn f(x: &u8) -> u8 { *x }")
         self.same("pub fn f(x: &mut u8) -> u8 { *x }", "pub fn f(x: &mut u8) -> u8 { *x }")
+        self.same("pub trait Number { fn f() -> u8 { 1 } }", "pub trait Number { #[must_use] fn f() -> u8 { 1 } }")
 
     def test_what_rust_inlines(self):
         self.same("fn rejected() {}", "#[inline(always)] fn rejected() {}")
@@ -621,9 +622,9 @@ class Whole(unittest.TestCase):
 
     # Functions that check a precondition first, and then do what the proved body does.
     CHECKED = {
-        "apply_choices", "at", "chacha_block", "chacha_rounds", "chacha_stream", "chacha_stream_at", "chacha_unrounds",
-        "choices_of", "draw_below", "fill_by_blocks", "new", "new_key", "pick_word", "replay", "replay_seeded", "sample",
-        "shuffle_and_record",
+        "apply_choices", "at", "bits", "chacha_block", "chacha_rounds", "chacha_stream", "chacha_stream_at",
+        "chacha_stream_from_u64", "chacha_unrounds", "choices_of", "draw_below", "extend_sample", "fill_by_blocks", "new", "new_key",
+        "pick_word", "replay", "replay_seeded", "sample", "sample_with", "seed_from_u64", "shuffle_and_record",
     }
 
     # Functions that stand elsewhere in Rust, by another name: of bytes, and of any values.

@@ -13,7 +13,7 @@ fn name(card: usize) -> String {
 
 fn main() -> Result<(), RangeError> {
     let mut deck: Vec<usize> = (0..52).collect();
-    partial_shuffle(&mut WyRand::new_seed(5), &mut deck, 10)?;
+    partial_shuffle(&mut WyRand::seed_from_u64(5), &mut deck, 10)?;
     let (dealt, rest) = deck.split_at(10);
     for hand in dealt.chunks(5) {
         let names: Vec<String> = hand.iter().map(|card| name(*card)).collect();

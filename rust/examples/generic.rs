@@ -28,8 +28,8 @@ impl<R: Rng<8>> Quiz<R> {
 fn main() -> Result<(), RangeError> {
     let key = [5; 32];
     let days = [
-        birthday(&mut WyRand::new_seed(5))?,
-        birthday(&mut Pcg64::new_seed(5))?,
+        birthday(&mut WyRand::seed_from_u64(5))?,
+        birthday(&mut Pcg64::seed_from_u64(5))?,
         birthday(&mut ChaCha8::new_key(key, [5; 8]))?,
         birthday(&mut BufferedRng::new(ChaCha8::new_key(key, [5; 8])))?,
     ];
@@ -39,10 +39,10 @@ fn main() -> Result<(), RangeError> {
         "a buffer begins with its generator's bytes"
     );
 
-    let mut rng = WyRand::new_seed(3);
+    let mut rng = WyRand::seed_from_u64(3);
     let (hours, minutes) = time(&mut rng)?;
     println!("{hours}:{minutes:02}");
-    let mut same = WyRand::new_seed(3);
+    let mut same = WyRand::seed_from_u64(3);
     same.jump(2);
     assert_eq!(rng, same);
 

@@ -4,7 +4,7 @@ use nanorand_proved::samples::sample;
 use nanorand_proved::{Pcg64, RangeError};
 
 fn main() -> Result<(), RangeError> {
-    let mut rng = Pcg64::new_seed(2026);
+    let mut rng = Pcg64::seed_from_u64(2026);
     let mut numbers = [0; 6];
     sample(&mut rng, 49, &mut numbers)?;
     numbers.sort_unstable();

@@ -6,7 +6,7 @@ use nanorand_proved::{Rng, WyRand};
 const POINTS: u64 = 100_000;
 
 fn main() {
-    let mut rng = WyRand::new_seed(31);
+    let mut rng = WyRand::seed_from_u64(31);
     let mut within = 0;
     for _ in 0..POINTS {
         let (x, y): (u32, u32) = (rng.generate(), rng.generate());

@@ -40,7 +40,7 @@ impl<G: Rng<OUTPUT>, const OUTPUT: usize> RandomRange<G, OUTPUT> for Day {
 }
 
 fn main() -> Result<(), RangeError> {
-    let mut rng = WyRand::new_seed(42);
+    let mut rng = WyRand::seed_from_u64(42);
     let color: Color = rng.generate();
     let mut palette = [Color::default(); 16];
     ChaCha12::new_key([1; 32], [2; 8]).fill(&mut palette);

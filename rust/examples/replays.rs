@@ -17,12 +17,12 @@ fn play(rng: &mut WyRand) -> Result<[u32; 2], RangeError> {
 }
 
 fn main() -> Result<(), RangeError> {
-    let mut rng = WyRand::new_seed(8);
+    let mut rng = WyRand::seed_from_u64(8);
     let mut before = rng.clone();
     let won = play(&mut rng)?;
     println!("{} to {}", won[0], won[1]);
     assert_eq!(play(&mut before)?, won);
-    assert_eq!(play(&mut WyRand::new_seed(8))?, won);
+    assert_eq!(play(&mut WyRand::seed_from_u64(8))?, won);
     assert_eq!(before, rng);
     Ok(())
 }

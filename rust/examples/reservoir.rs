@@ -1,30 +1,18 @@
 //! A sample of lines that can be read only once, of unknown number: each line is in the sample with the
 //! same probability.
 
-use nanorand_proved::{RangeError, Rng, WyRand};
-
-fn sample<T>(
-    rng: &mut WyRand,
-    lines: impl Iterator<Item = T>,
-    size: usize,
-) -> Result<Vec<T>, RangeError> {
-    let mut chosen = Vec::with_capacity(size);
-    for (index, line) in lines.enumerate() {
-        if index < size {
-            chosen.push(line);
-        } else if let Some(slot) = chosen.get_mut(rng.generate_range(..=index)?) {
-            *slot = line;
-        }
-    }
-    Ok(chosen)
-}
+use nanorand_proved::samples::reservoir;
+use nanorand_proved::{RangeError, WyRand};
 
 fn main() -> Result<(), RangeError> {
-    let mut rng = WyRand::new_seed(7);
-    let chosen = sample(&mut rng, (0..20).map(|n| format!("line {n}")), 5)?;
+    let mut rng = WyRand::seed_from_u64(7);
+    let mut chosen = [(); 5].map(|()| String::new());
+    let lines = (0..20).map(|number| format!("line {number}"));
+    let filled = reservoir(&mut rng, lines, &mut chosen)?;
     println!("{chosen:?}");
-    assert_eq!(chosen, ["line 0", "line 17", "line 8", "line 7", "line 4"]);
-    let few = sample(&mut rng, ["only one"].iter(), 5)?;
-    assert_eq!(few, [&"only one"]);
+    assert_eq!(filled, 5);
+    assert_eq!(chosen, ["line 0", "line 1", "line 19", "line 5", "line 15"]);
+    let filled = reservoir(&mut rng, ["only one".to_string()].into_iter(), &mut chosen)?;
+    assert_eq!(chosen[..filled], ["only one"]);
     Ok(())
 }

@@ -3,7 +3,7 @@
 use nanorand_proved::{Rng, WyRand};
 
 fn main() {
-    let mut rng = WyRand::new_seed(42);
+    let mut rng = WyRand::seed_from_u64(42);
     let pips: u64 = rng.range(1..=6);
     println!("You rolled {pips}.");
 }

@@ -4,12 +4,12 @@ use nanorand_proved::{BufferedRng, ChaCha20, Pcg64, Rng, WyRand};
 use std::error::Error;
 
 fn main() -> Result<(), Box<dyn Error>> {
-    let mut wyrand = WyRand::new_seed(1);
+    let mut wyrand = WyRand::seed_from_u64(1);
     let _ = wyrand.generate::<u64>();
     let saved: u64 = wyrand.seed();
     assert_eq!(WyRand::new_seed(saved).next_u64(), wyrand.next_u64());
 
-    let mut pcg64 = Pcg64::new_seed(1);
+    let mut pcg64 = Pcg64::seed_from_u64(1);
     let _ = pcg64.generate::<u64>();
     let saved: u128 = pcg64.seed();
     assert_eq!(Pcg64::new_seed(saved).next_u64(), pcg64.next_u64());

@@ -7,11 +7,11 @@ use std::thread;
 
 const SHARE: usize = 1000;
 
-static SHARED: Mutex<WyRand> = Mutex::new(WyRand::new_seed(42));
+static SHARED: Mutex<WyRand> = Mutex::new(WyRand::new_seed(0x243f_6a88_85a3_08d3));
 
 /// The part of a stream that belongs to a worker.
 fn part(worker: u64) -> Vec<u64> {
-    let part = Pcg64::new_seed(99).part(worker, SHARE as u64);
+    let part = Pcg64::seed_from_u64(99).part(worker, SHARE as u64);
     let mut rng = part.expect("within the period");
     let mut numbers = vec![0; SHARE];
     rng.fill(&mut numbers);
@@ -28,6 +28,6 @@ fn main() {
         .flat_map(|worker| worker.join().expect("no panic"))
         .collect();
     let mut whole = vec![0_u64; 4 * SHARE];
-    Pcg64::new_seed(99).fill(&mut whole);
+    Pcg64::seed_from_u64(99).fill(&mut whole);
     assert_eq!(parts, whole, "the numbers are those of a single thread");
 }

@@ -1,14 +1,15 @@
 // Written by `python3 rust/erase` from:
 // crates/nanorand_core/src/choices.rt
 
-//! Choices by one drawn number: a number below another, an item of a slice, an event of a given
-//! ratio, an index by its weight.
+//! Choices by one drawn number: a number below another or between two, some bits, an item of a
+//! slice, an event of a given ratio, an index by its weight.
 //!
-//! Each draws words of 64 bits (`below` words of its type's width), each by one request, at most
-//! 128 of them. The first word that names a number decides, as `values::pick_word` says.
+//! Each draws words of 64 bits (`below`, `between` and `bits` words of their type's width), each by
+//! one request, at most 128 of them, and `bits` exactly one. The first word that names a number
+//! decides, as `values::pick_word` says.
 
 pub mod uniform;
 pub mod weighted;
 
-pub use uniform::{below, choose, choose_mut, ratio};
+pub use uniform::{below, between, bits, choose, choose_mut, ratio};
 pub use weighted::{choose_weighted, WeightError};

@@ -9,14 +9,17 @@ mod floats;
 mod hash;
 mod iterator;
 mod nonzero;
+mod samples;
 mod seeds;
 mod tuples;
 mod wide_numbers;
 
 pub use any::{AnyRng, Lent};
 pub use iterator::GenerateIter;
+pub(crate) use samples::table;
 
 use crate::values::word::MAX_WORDS;
+use crate::values::RangeError;
 use core::ops::Bound;
 
 /// Refuses an odd number of rounds while the program is compiled.
@@ -43,16 +46,23 @@ fn mapped<T, U>(bound: Bound<T>, map: impl FnOnce(T) -> U) -> Bound<U> {
     }
 }
 
-// The first of at most 128 draws that is accepted.
-#[inline]
+// The first of at most 128 draws that is accepted. The search has one exit: with two, LLVM vectorizes it, and
+// it takes forty times as long. It is no call, before which the state of the generator would be stored.
+#[inline(always)]
 fn first_accepted<G, T>(rng: &mut G, draw: impl Fn(&mut G) -> Option<T>) -> Option<T> {
-    draw(rng).or_else(|| later_accepted(rng, draw))
+    let mut accepted = draw(rng);
+    let mut drawn = 1;
+    while accepted.is_none() & (drawn < MAX_WORDS) {
+        accepted = draw(rng);
+        drawn += 1;
+    }
+    accepted
 }
 
-// Few words are rejected, so the search is kept out of line: else LLVM vectorizes it, which takes forty
-// times as long.
+// Panics with the text of the error.
 #[cold]
 #[inline(never)]
-fn later_accepted<G, T>(rng: &mut G, draw: impl Fn(&mut G) -> Option<T>) -> Option<T> {
-    (1..MAX_WORDS).find_map(|_| draw(rng))
+#[track_caller]
+pub(crate) fn refused(error: RangeError) -> ! {
+    panic!("{error}")
 }

@@ -10,10 +10,10 @@
 //! from memory, nothing reseeds itself, and nothing was audited. For keys, tokens and passwords, or
 //! where an adversary matters, take a vetted one.
 //!
-//! **A seed of `WyRand` or `Pcg64` is the state itself, and is not mixed.** Generators with neighbouring
-//! seeds, such as 0, 1, 2, .., draw correlated numbers. For many generators take [`Parts`] of one
-//! stream, or mixed seeds: numbers that another generator drew, or the first bytes of a SHA-256 of a
-//! name.
+//! `seed_from_u64` makes a generator of any number, as 0, 1, 2, ..: it mixes the number. **The seed that
+//! `new_seed` of `WyRand` and `Pcg64` takes is the state itself, and is not mixed:** generators with
+//! neighbouring seeds draw correlated numbers. For many generators take [`Parts`] of one stream, or
+//! mixed seeds: numbers that another generator drew, or the first bytes of a SHA-256 of a name.
 //!
 //! A number:
 //!
@@ -32,7 +32,7 @@
 //! ```
 //! use nanorand_proved::{RangeError, Rng, WyRand};
 //!
-//! let mut rng = WyRand::new_seed(42);
+//! let mut rng = WyRand::seed_from_u64(42);
 //! let pips: u8 = rng.generate_range(1..=6)?;
 //! assert!((1..=6).contains(&pips));
 //! assert_eq!(rng.generate_range(3..3_i64), Err(RangeError::Empty));
@@ -60,7 +60,7 @@
 //! use nanorand_proved::{RangeError, Rng, WyRand};
 //!
 //! let mut cards = vec!["ace", "king", "queen", "jack"];
-//! WyRand::new_seed(7).shuffle(&mut cards)?;
+//! WyRand::seed_from_u64(7).shuffle(&mut cards)?;
 //! cards.sort_unstable();
 //! assert_eq!(cards, ["ace", "jack", "king", "queen"]);
 //! # Ok::<(), RangeError>(())
@@ -71,7 +71,7 @@
 //! ```
 //! use nanorand_proved::{RangeError, Rng, WyRand};
 //!
-//! let mut rng = WyRand::new_seed(7);
+//! let mut rng = WyRand::seed_from_u64(7);
 //! let colour = rng.choose(&["red", "green", "blue"])?;
 //! let rain = rng.ratio(1, 3)?; // true one time in three
 //! let mut places = [0; 3];
@@ -86,12 +86,13 @@
 //! ```
 //! use nanorand_proved::{ChaCha8, Pcg64, Rng, WyRand};
 //!
-//! const START: WyRand = WyRand::from_seed([42, 0, 0, 0, 0, 0, 0, 0]);
-//! assert_eq!(START, WyRand::new_seed(42));
+//! const SEED: u64 = 0x243f_6a88_85a3_08d3;
+//! const START: WyRand = WyRand::from_seed(SEED.to_le_bytes());
+//! assert_eq!(START, WyRand::new_seed(SEED));
 //! # #[cfg(feature = "std")]
 //! let mut other = WyRand::from_entropy()?;
 //!
-//! let mut far = Pcg64::new_seed(1);
+//! let mut far = Pcg64::seed_from_u64(1);
 //! far.jump(1 << 100);
 //!
 //! let mut first = ChaCha8::new_key([1; 32], [2; 8]);
@@ -151,8 +152,8 @@
 //! ```
 //!
 //! Features: `std` (on by default) has readers, vectors, `std::error::Error`, `Default` and seeds from the
-//! system, and asks the processor for AVX2, for fills of `ChaCha`; without it the crate is `no_std` and
-//! allocates nothing. The crate `nanorand-proved-rand-core` has the traits of `rand_core` 0.6.
+//! system, draws samples by a table in linear time, and asks the processor for AVX2, for fills of
+//! `ChaCha`; without it the crate is `no_std` and allocates nothing. The crate `nanorand-proved-rand-core` has the traits of `rand_core` 0.6.
 #![no_std]
 #![deny(missing_docs)]
 // The proved source has the form of Rattle, and its proofs say that no cast loses a bit that counts.

@@ -42,11 +42,11 @@ impl std::error::Error for PastPeriod {}
 ///
 /// // What the task of an index draws, whenever and wherever it runs.
 /// fn task(index: u64) -> Result<[u64; 3], PastPeriod> {
-///     let mut rng = Pcg64::new_seed(42).part(index, 3)?;
+///     let mut rng = Pcg64::seed_from_u64(42).part(index, 3)?;
 ///     Ok(rng.generate())
 /// }
 ///
-/// let mut whole = Pcg64::new_seed(42);
+/// let mut whole = Pcg64::seed_from_u64(42);
 /// for index in 0..10 {
 ///     assert_eq!(task(index)?, whole.generate::<[u64; 3]>());
 /// }

@@ -11,10 +11,11 @@ mod halves;
 mod hexadecimal;
 pub mod keystream;
 pub mod pcg64;
+mod split_mix;
 pub mod wyrand;
 
 use crate::choices::WeightError;
-use crate::layer::{GenerateIter, Lent};
+use crate::layer::{refused, GenerateIter, Lent};
 use crate::swap::swap;
 use crate::values::word::{draw_below, pick_below, pick_counted, rejected, MAX_WORDS};
 use crate::values::{RandomGen, RandomRange, RangeError};
@@ -23,8 +24,8 @@ pub use chacha::{ChaCha, ChaCha12, ChaCha20, ChaCha8};
 pub use chacha_groups::ChaChaGroups;
 use core::ops::RangeBounds;
 pub use keystream::{
-    chacha_stream, chacha_stream_at, ChaCha12Stream, ChaCha20Stream, ChaCha8Stream, ChaChaStream,
-    Keystream,
+    chacha_stream, chacha_stream_at, chacha_stream_from_u64, ChaCha12Stream, ChaCha20Stream,
+    ChaCha8Stream, ChaChaStream, Keystream,
 };
 pub use pcg64::Pcg64;
 pub use wyrand::WyRand;
@@ -96,7 +97,7 @@ pub trait Rng<const OUTPUT: usize>: Sized {
     ///
     /// For the types of the library `Empty` if the range has no number; nothing is drawn then.
     /// `Exhausted` if 128 words in a row were rejected; they stay consumed.
-    #[inline]
+    #[inline(always)]
     fn generate_range<T: RandomRange<Self, OUTPUT> + Clone>(
         &mut self,
         range: impl RangeBounds<T>,
@@ -151,12 +152,12 @@ pub trait Rng<const OUTPUT: usize>: Sized {
     ///
     /// Panics with the text of the error where `generate_range` returns one. If 128 words in a
     /// row were rejected, they stay consumed.
-    #[inline]
+    #[inline(always)]
     #[track_caller]
     fn range<T: RandomRange<Self, OUTPUT> + Clone>(&mut self, range: impl RangeBounds<T>) -> T {
         match self.generate_range(range) {
             Ok(number) => number,
-            Err(error) => panic!("{error}"),
+            Err(error) => refused(error),
         }
     }
 
@@ -170,7 +171,7 @@ pub trait Rng<const OUTPUT: usize>: Sized {
     #[track_caller]
     fn permute<T>(&mut self, items: &mut [T]) {
         if let Err(error) = self.shuffle(items) {
-            panic!("{error}");
+            refused(error);
         }
     }
 
@@ -233,8 +234,8 @@ pub trait Rng<const OUTPUT: usize>: Sized {
     }
 
     /// Samples different numbers below `count`, one into each slot, as [`sample`](samples::sample)
-    /// does. The order of the slots is not random. The time is O(k^2) for k slots, since each number
-    /// drawn is compared with the slots before it. Without slots nothing is drawn.
+    /// does. The order of the slots is not random. The expected time is O(k) for k slots; without the
+    /// feature `std` it is O(k^2). Without slots nothing is drawn.
     ///
     /// # Errors
     ///
@@ -256,7 +257,7 @@ pub trait Rng<const OUTPUT: usize>: Sized {
     /// ```
     /// use nanorand_proved::{Rng, WyRand};
     ///
-    /// let mut rng = WyRand::new_seed(42);
+    /// let mut rng = WyRand::seed_from_u64(42);
     /// let throws: Vec<bool> = rng.generate_iter().take(10).collect();
     /// # let _ = throws;
     /// ```
@@ -277,7 +278,7 @@ pub trait Rng<const OUTPUT: usize>: Sized {
     /// fn sum<R: Rng<OUTPUT>, const OUTPUT: usize>(rng: &mut R) -> u64 {
     ///     number(&mut rng.as_any()).wrapping_add(number(&mut rng.as_any()))
     /// }
-    /// # let _ = sum(&mut WyRand::new_seed(42));
+    /// # let _ = sum(&mut WyRand::seed_from_u64(42));
     /// ```
     #[inline]
     fn as_any(&mut self) -> Lent<'_, Self, OUTPUT> {

@@ -21,6 +21,22 @@ impl core::fmt::Display for NotArrangement {
 #[cfg(feature = "std")]
 impl std::error::Error for NotArrangement {}
 
+/// Writes the identity to the slice: 0, 1, .., one number into each slot, as the cards of a deck
+/// in order, or the places of a list.
+///
+/// # Examples
+///
+/// ```
+/// let mut places = [0; 5];
+/// nanorand_proved::shuffles::identity(&mut places);
+/// assert_eq!(places, [0, 1, 2, 3, 4]);
+/// ```
+pub fn identity(slots: &mut [usize]) {
+    for (place, slot) in slots.iter_mut().enumerate() {
+        *slot = place;
+    }
+}
+
 /// Applies stored choices: for each index i, from 0 up, swaps the items at i and `choices[i]`.
 ///
 /// It leaves a permutation of the items. Applied to the items that a shuffle started from, the
@@ -89,7 +105,7 @@ pub fn choices_of(
         "`scratch` is as long as `order`"
     );
 
-    write_places(scratch);
+    identity(scratch);
     for (place, wanted) in order.iter().enumerate() {
         match place_from(scratch, place, *wanted) {
             Some(choice) => {
@@ -100,13 +116,6 @@ pub fn choices_of(
         }
     }
     Ok(())
-}
-
-// Writes the identity 0, 1, .. to the slice.
-fn write_places(slots: &mut [usize]) {
-    for (place, slot) in slots.iter_mut().enumerate() {
-        *slot = place;
-    }
 }
 
 // An index from `from` up whose item is `wanted`.
@@ -142,11 +151,11 @@ fn place_from(items: &[usize], from: usize, wanted: usize) -> Option<usize> {
 /// use nanorand_proved::{RangeError, WyRand};
 ///
 /// let (mut numbers, mut choices) = ([1, 2, 3, 4, 5], [0; 5]);
-/// shuffle_and_record(&mut WyRand::new_seed(42), &mut numbers, &mut choices)?;
+/// shuffle_and_record(&mut WyRand::seed_from_u64(42), &mut numbers, &mut choices)?;
 /// let mut letters = ['a', 'b', 'c', 'd', 'e'];
 /// apply_choices(&choices, &mut letters);
-/// assert_eq!(numbers, [4, 5, 2, 3, 1]);
-/// assert_eq!(letters, ['d', 'e', 'b', 'c', 'a']);
+/// assert_eq!(numbers, [2, 5, 4, 3, 1]);
+/// assert_eq!(letters, ['b', 'e', 'd', 'c', 'a']);
 /// # Ok::<(), RangeError>(())
 /// ```
 pub fn shuffle_and_record<G: Rng<OUTPUT>, T, const OUTPUT: usize>(
@@ -159,7 +168,7 @@ pub fn shuffle_and_record<G: Rng<OUTPUT>, T, const OUTPUT: usize>(
         "`choices` is as long as `target`"
     );
 
-    write_places(choices);
+    identity(choices);
     let count = target.len();
     for place in 0..count {
         let partner = draw_partner(rng, place, count)?;
@@ -187,9 +196,9 @@ pub fn shuffle_and_record<G: Rng<OUTPUT>, T, const OUTPUT: usize>(
 /// use nanorand_proved::{shuffles::partial_shuffle, RangeError, WyRand};
 ///
 /// let mut deck: Vec<u8> = (0..52).collect();
-/// partial_shuffle(&mut WyRand::new_seed(42), &mut deck, 5)?;
+/// partial_shuffle(&mut WyRand::seed_from_u64(42), &mut deck, 5)?;
 /// let (hand, rest) = deck.split_at(5);
-/// assert_eq!(hand, [35, 47, 41, 48, 20]);
+/// assert_eq!(hand, [17, 42, 34, 5, 2]);
 /// assert!(hand.iter().all(|card| !rest.contains(card)));
 /// # Ok::<(), RangeError>(())
 /// ```
@@ -224,8 +233,8 @@ pub fn partial_shuffle<G: Rng<OUTPUT>, T, const OUTPUT: usize>(
 /// use nanorand_proved::{shuffles::shuffle_full, RangeError, WyRand};
 ///
 /// let mut items = [1, 2, 3, 4, 5];
-/// shuffle_full(&mut WyRand::new_seed(42), &mut items)?;
-/// assert_eq!(items, [4, 3, 1, 2, 5]);
+/// shuffle_full(&mut WyRand::seed_from_u64(42), &mut items)?;
+/// assert_eq!(items, [3, 5, 4, 1, 2]);
 /// # Ok::<(), RangeError>(())
 /// ```
 #[inline]

@@ -68,10 +68,10 @@ impl<G: Rng<OUTPUT>, const OUTPUT: usize> RandomGen<G, OUTPUT> for bool {
 /// use nanorand_proved::{values::fill_with, Rng, WyRand};
 ///
 /// let mut points = [(0, false); 3];
-/// fill_with(&mut WyRand::new_seed(42), &mut points, |rng: &mut WyRand| {
+/// fill_with(&mut WyRand::seed_from_u64(42), &mut points, |rng: &mut WyRand| {
 ///     (rng.generate::<i8>(), rng.generate::<bool>())
 /// });
-/// assert_eq!(points, [(52, false), (58, true), (-64, true)]);
+/// assert_eq!(points, [(-38, true), (76, true), (-36, false)]);
 /// ```
 pub fn fill_with<G, T, F: FnMut(&mut G) -> T>(rng: &mut G, target: &mut [T], mut draw: F) {
     for item in target.iter_mut() {

@@ -53,6 +53,8 @@ trait Stored: Sized {
 
     fn restored(state: &[u8]) -> Self;
 
+    fn seeded(number: u64) -> Self;
+
     fn stored(&self) -> Vec<u8>;
 
     /// The calls that not every generator has.
@@ -64,6 +66,10 @@ trait Stored: Sized {
 impl Stored for WyRand {
     fn restored(state: &[u8]) -> Self {
         WyRand::new_seed(number(state))
+    }
+
+    fn seeded(number: u64) -> Self {
+        WyRand::seed_from_u64(number)
     }
 
     fn stored(&self) -> Vec<u8> {
@@ -85,6 +91,10 @@ impl Stored for Pcg64 {
         Pcg64::new_seed(wide(number(low), number(high)))
     }
 
+    fn seeded(number: u64) -> Self {
+        Pcg64::seed_from_u64(number)
+    }
+
     fn stored(&self) -> Vec<u8> {
         self.seed().to_le_bytes().to_vec()
     }
@@ -103,6 +113,10 @@ impl<const ROUNDS: u8> Stored for ChaCha<ROUNDS> {
         let key = state[..32].try_into().expect("a key");
         let nonce = state[32..40].try_into().expect("a nonce");
         ChaCha::at(key, nonce, number(&state[40..]))
+    }
+
+    fn seeded(number: u64) -> Self {
+        ChaCha::seed_from_u64(number)
     }
 
     fn stored(&self) -> Vec<u8> {
@@ -126,6 +140,10 @@ impl Stored for BufferedRng<ChaCha20, 64> {
         BufferedRng::with_rest(ChaCha20::restored(inner), rest).expect("less than a block")
     }
 
+    fn seeded(number: u64) -> Self {
+        BufferedRng::new(ChaCha20::seed_from_u64(number))
+    }
+
     fn stored(&self) -> Vec<u8> {
         [&self.inner().stored(), self.rest()].concat()
     }
@@ -138,6 +156,10 @@ impl Stored for ChaCha20Stream {
         let first = ChaCha20::restored(inner);
         let groups = ChaChaGroups::at(first.key(), first.nonce(), first.counter());
         BufferedRng::with_rest(groups, rest).expect("less than a block")
+    }
+
+    fn seeded(number: u64) -> Self {
+        ChaCha20Stream::seed_from_u64(number)
     }
 
     fn stored(&self) -> Vec<u8> {
@@ -263,6 +285,10 @@ where
         "shuffle" => shuffled(numbers(arguments)[0], |items| rng.shuffle(items)),
         "shuffle_full" => shuffled(numbers(arguments)[0], |items| shuffle_full(rng, items)),
         "sample" => sampled(rng, arguments),
+        "seed_from_u64" => {
+            *rng = G::seeded(numbers(arguments)[0]);
+            ("0", "-".to_owned())
+        }
         _ => rng.own_call(call, &numbers(arguments)),
     }
 }
@@ -285,7 +311,7 @@ fn check<G: Rng<OUTPUT> + Stored, const OUTPUT: usize>(generator: &str, calls: u
 
 #[test]
 fn wyrand() {
-    check::<WyRand, 8>("wyrand", 11);
+    check::<WyRand, 8>("wyrand", 12);
     for row in rows().filter(|row| row.call == "new_seed") {
         let rng = WyRand::new_seed(numbers(row.arguments)[0]);
         assert_eq!(hexadecimal(&rng.stored()), row.after);
@@ -294,28 +320,28 @@ fn wyrand() {
 
 #[test]
 fn pcg64() {
-    check::<Pcg64, 8>("pcg64", 11);
+    check::<Pcg64, 8>("pcg64", 12);
 }
 
 #[test]
 fn chacha_of_8_rounds() {
-    check::<ChaCha<8>, 64>("chacha8", 11);
+    check::<ChaCha<8>, 64>("chacha8", 12);
 }
 
 #[test]
 fn chacha_of_12_rounds() {
-    check::<ChaCha<12>, 64>("chacha12", 11);
+    check::<ChaCha<12>, 64>("chacha12", 12);
 }
 
 #[test]
 fn chacha_of_20_rounds() {
-    check::<ChaCha<20>, 64>("chacha20", 11);
+    check::<ChaCha<20>, 64>("chacha20", 12);
 }
 
 #[test]
 fn streams() {
-    check::<BufferedRng<ChaCha20, 64>, 64>("stream", 9);
-    check::<ChaCha20Stream, 512>("stream", 10);
+    check::<BufferedRng<ChaCha20, 64>, 64>("stream", 10);
+    check::<ChaCha20Stream, 512>("stream", 11);
 }
 
 /// No generator of the table is left out.

@@ -9,7 +9,7 @@ use common::{rising, zeros, Constant, Script, Steps, Waste};
 use nanorand_proved::choices::{below, choose, choose_mut, choose_weighted, ratio};
 use nanorand_proved::rand::fill_by_blocks;
 use nanorand_proved::replay::{replay, Answer, Call, Kind, Span};
-use nanorand_proved::samples::sample;
+use nanorand_proved::samples::{extend_sample, reservoir, sample, sample_with};
 use nanorand_proved::shuffles::{
     apply_choices, choices_of, partial_shuffle, shuffle_and_record, shuffle_full,
 };
@@ -18,7 +18,8 @@ use nanorand_proved::values::range::draw_number;
 use nanorand_proved::values::word::draw_below;
 use nanorand_proved::values::{fill_with, pick_word};
 use nanorand_proved::{
-    BufferedRng, ChaCha12, ChaCha20, ChaCha8, Pcg64, RangeError, Rng, SeedableRng, WyRand,
+    BufferedRng, ChaCha, ChaCha12, ChaCha20, ChaCha8, ChaChaStream, Keystream, Pcg64, RangeError,
+    Rng, SeedableRng, WyRand,
 };
 use std::fmt::Debug;
 use std::io::{self, Read};
@@ -160,6 +161,29 @@ fn functions_over_a_lent_generator() {
     );
     check_lent!(
         rng,
+        left_in!([0; 3], |out: &mut [usize]| sample_with(
+            rng,
+            99,
+            out,
+            &mut [0; 9]
+        ))
+    );
+    check_lent!(
+        rng,
+        left_in!([0; 3], |out: &mut [usize]| reservoir(rng, 0..9, out))
+    );
+    check_lent!(
+        rng,
+        left_in!([5, 0, 0], |out: &mut [usize]| extend_sample(
+            rng,
+            99,
+            out,
+            1,
+            &mut [0; 9]
+        ))
+    );
+    check_lent!(
+        rng,
         left_in!([0; 9], |out: &mut [u8]| fill_by_blocks(rng, out))
     );
     check_lent!(
@@ -284,6 +308,74 @@ fn seeds() {
         WyRand::from_seed([42, 0, 0, 0, 0, 0, 0, 0]),
         WyRand::new_seed(42)
     );
+}
+
+/// Equal bytes, and zeros and ones with one other bit.
+fn plain_seeds<const SIZE: usize>() -> Vec<[u8; SIZE]> {
+    let mut seeds: Vec<_> = (0..=255).map(|byte| [byte; SIZE]).collect();
+    for place in 0..8 * SIZE {
+        for byte in [0, 255] {
+            let mut seed = [byte; SIZE];
+            seed[place / 8] ^= 1 << (place % 8);
+            seeds.push(seed);
+        }
+    }
+    seeds
+}
+
+/// No seed is taken for another.
+#[test]
+fn plain_seeds_of_numbers() {
+    for seed in plain_seeds() {
+        let number = u64::from_le_bytes(seed);
+        let mut reseeded = WyRand::new_seed(5);
+        reseeded.reseed(seed);
+        assert_eq!(reseeded.seed(), number);
+        assert_eq!(WyRand::from_seed(seed).seed(), number);
+        assert_eq!(WyRand::new_seed(number).seed(), number);
+        assert_eq!(WyRand::new(&mut &seed[..]), Ok(reseeded));
+    }
+    for seed in plain_seeds() {
+        let number = u128::from_le_bytes(seed);
+        let text = format!("Pcg64 {{ seed: {number:#x}, state: 0x0, inc: 0x0 }}");
+        let mut reseeded = Pcg64::new_seed(5);
+        reseeded.reseed(seed);
+        assert_eq!(format!("{reseeded:?}"), text);
+        assert_eq!(format!("{:?}", Pcg64::from_seed(seed)), text);
+        assert_eq!(format!("{:?}", Pcg64::new_seed(number)), text);
+        assert_eq!(Pcg64::new(&mut &seed[..]), Ok(reseeded));
+    }
+}
+
+fn plain_keys_of<const ROUNDS: u8>() {
+    for seed in plain_seeds() {
+        let key = seed[..32].try_into().expect("a key");
+        let nonce = seed[32..].try_into().expect("a nonce");
+        let mut reseeded = ChaCha::<ROUNDS>::at([5; 32], [6; 8], 7);
+        reseeded.reseed(seed);
+        let read = ChaCha::new(&mut &seed[..]).expect("a seed");
+        for rng in [
+            &reseeded,
+            &read,
+            &ChaCha::from_seed(seed),
+            &ChaCha::new_key(key, nonce),
+        ] {
+            assert_eq!((rng.key(), rng.nonce(), rng.counter()), (key, nonce, 0));
+        }
+        let mut stream = ChaChaStream::<ROUNDS>::at_block([5; 32], [6; 8], 7);
+        stream.reseed(seed);
+        for stream in [&stream, &ChaChaStream::from_seed(seed)] {
+            let rng = stream.inner();
+            assert_eq!((rng.key(), rng.nonce(), rng.counter()), (key, nonce, 0));
+        }
+    }
+}
+
+#[test]
+fn plain_seeds_of_keys() {
+    plain_keys_of::<8>();
+    plain_keys_of::<12>();
+    plain_keys_of::<20>();
 }
 
 static SHARED: Mutex<WyRand> = Mutex::new(WyRand::new_seed(42));
@@ -502,6 +594,23 @@ fn preconditions_of_lists() {
     let mut rng = WyRand::new_seed(1);
     assert!(panics(|| sample(&mut rng, 2, &mut [0; 3])));
     assert!(panics(|| sample(&mut rng, 0, &mut [0; 1])));
+    for room in [0, 1, 3, 9] {
+        let mut table = vec![0; room];
+        assert!(panics(|| sample_with(&mut rng, 2, &mut [0; 3], &mut table)));
+        assert!(panics(|| sample_with(&mut rng, 0, &mut [0; 1], &mut table)));
+        for filled in [0, 1, 3] {
+            let mut places = [0; 3];
+            assert!(panics(|| {
+                extend_sample(&mut rng, 2, &mut places, filled, &mut table)
+            }));
+        }
+        for filled in [4, 9, usize::MAX] {
+            let mut places = [0; 3];
+            assert!(panics(|| {
+                extend_sample(&mut rng, 9, &mut places, filled, &mut table)
+            }));
+        }
+    }
     for length in [0, 1, 3, 9] {
         let mut other = vec![0; length];
         assert!(panics(|| apply_choices(&vec![9; length], &mut ['a', 'b'])));

@@ -60,6 +60,14 @@ impl<G: Rng<N>, S: PartialEq + Debug, const N: usize> Pair<G, S, N> {
         let status = (self.calls.sample)(&mut self.state, 2 * count, &mut others);
         assert_eq!(self.rng.sample(2 * count, &mut some), answer(status, ()));
         assert_eq!(some, others);
+        let (filled, mut table) = (count / 3, vec![7; 3 * count]);
+        let status =
+            (self.calls.extend_sample)(&mut self.state, count, &mut others, filled, &mut table);
+        assert_eq!(
+            proved::samples::extend_sample(&mut self.rng, count, &mut some, filled, &mut []),
+            answer(status, ())
+        );
+        assert_eq!(some, others);
         self.same(format_args!("{count} items"));
     }
 

@@ -39,14 +39,14 @@ fn beside(chooser: &mut Chooser, number: usize) -> usize {
     }
 }
 
-/// One call, of nine or ten, makes the same of both states, and of all memory around what it writes.
+/// One call, of ten or eleven, makes the same of both states, and of all memory around what it writes.
 fn call<S>(library: &Calls<S>, state: &mut S, mut chooser: Chooser) -> (u8, Vec<u8>, Vec<usize>) {
     let (mut bytes, mut items) = (vec![0xee; 2100], (0..80).collect::<Vec<_>>());
     let [first, last] = [chooser.end(), chooser.end()];
     let mut narrow = first as u32;
     let mut signed = first as i64;
     let mut number = first;
-    let chosen = chooser.below(if library.part.is_some() { 10 } else { 9 });
+    let chosen = chooser.below(if library.part.is_some() { 11 } else { 10 });
     let places = 7..7 + count(&mut chooser);
     let status = match chosen {
         0 => {
@@ -69,7 +69,13 @@ fn call<S>(library: &Calls<S>, state: &mut S, mut chooser: Chooser) -> (u8, Vec<
             let count = beside(&mut chooser, places.len());
             (library.sample)(state, count, &mut items[places])
         }
-        _ => library.part.expect("the tenth call")(state, first, last),
+        9 => {
+            let count = beside(&mut chooser, places.len());
+            let filled = chooser.below(places.len() + 2);
+            let mut table = vec![count; chooser.below(4 * places.len() + 2)];
+            (library.extend_sample)(state, count, &mut items[places], filled, &mut table)
+        }
+        _ => library.part.expect("the eleventh call")(state, first, last),
     };
     items.extend([narrow as usize, signed as usize, number as usize]);
     (status, bytes, items)
@@ -196,6 +202,25 @@ fn seeds_and_jumps() {
         (library.wyrand_jump)(&mut rng, chooser.end());
         (library.pcg64_jump)(&mut seed, &wide(&mut chooser));
         (rng, seed)
+    });
+}
+
+#[test]
+fn seeds_of_numbers() {
+    both(2000, |library, mut chooser| {
+        let mut rng = (library.new_seed)(chooser.end());
+        let (mut seed, mut state) = (wide(&mut chooser), chacha(&mut chooser));
+        let (mut stream, mut groups) = (stream(&mut chooser), group_stream(&mut chooser));
+        let number = chooser.end();
+        (library.wyrand_seed)(&mut rng, number);
+        (library.pcg64_seed)(&mut seed, number);
+        let states = library.chacha_seeds.map(|seed| {
+            seed(&mut state, number);
+            state.clone()
+        });
+        (library.stream_seed)(&mut stream, number);
+        (library.keystream_seed)(&mut groups, number);
+        (rng, seed, states, stream, groups)
     });
 }
 

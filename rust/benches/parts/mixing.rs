@@ -53,7 +53,7 @@ mix_bits!(f32, f64);
 
 #[inline(always)]
 pub fn mixed(all: u64, value: impl Mix) -> u64 {
-    all.rotate_left(1) ^ value.number()
+    all.rotate_left(1).wrapping_add(value.number())
 }
 
 /// A number that depends on the first items and the last.

@@ -53,7 +53,7 @@ impl Row {
             limit: self.here.limit,
             here: here.nanoseconds,
             original: original.nanoseconds,
-            same: here.result == original.result,
+            same: self.original.is_none() || here.result == original.result,
             peers: names
                 .zip(peers.iter().map(|best| best.nanoseconds))
                 .collect(),
@@ -87,6 +87,7 @@ pub struct Times {
     pub name: String,
     pub limit: f64,
     pub here: f64,
+    /// `f64::MAX` where the old crate has no such call.
     pub original: f64,
     /// Whether both libraries' results are the same.
     pub same: bool,

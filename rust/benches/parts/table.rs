@@ -17,6 +17,14 @@ fn cell([least, median]: [f64; 2]) -> String {
     format!("{least:.2} ({median:.2})")
 }
 
+// The old crate's figures, and what ours are of them.
+fn beside(ours: [f64; 2], original: [f64; 2]) -> String {
+    if original[0] == f64::MAX {
+        return "- | -".to_string();
+    }
+    format!("{} | {}", cell(original), cell(ratio(ours, original)))
+}
+
 // The peer whose median is the least, with its figures.
 fn best_peer(builds: &[Vec<Times>], place: usize) -> Option<(&str, [f64; 2])> {
     let peers = builds[0][place].peers.iter().enumerate();
@@ -47,7 +55,6 @@ pub fn print(paths: impl Iterator<Item = String>) -> Result<(), Box<dyn Error>> 
     for (place, row) in first.iter().enumerate() {
         let here = figures(&builds, |build| build[place].here);
         let original = figures(&builds, |build| build[place].original);
-        let beside = ratio(here, original);
         let note = if row.same { "" } else { " (other results)" };
         let peer = match best_peer(&builds, place) {
             Some((name, times)) => {
@@ -56,14 +63,13 @@ pub fn print(paths: impl Iterator<Item = String>) -> Result<(), Box<dyn Error>> 
             None => "- | -".to_string(),
         };
         println!(
-            "| {}{note} | {} | {} | {} | {peer} |",
+            "| {}{note} | {} | {} | {peer} |",
             row.name,
             cell(here),
-            cell(original),
-            cell(beside)
+            beside(here, original)
         );
-        if beside[0] > row.limit {
-            above.push((&row.name, row.limit, beside));
+        if here[0] > row.limit * original[0] {
+            above.push((&row.name, row.limit, ratio(here, original)));
         }
     }
     println!();

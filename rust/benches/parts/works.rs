@@ -144,7 +144,12 @@ fn all_shuffles(works: &mut Vec<Work>) {
         let name = format!("shuffle of {text}, an item");
         works.push(work(&name, 1.2, ITEMS, shuffled(length, shuffles)));
         let name = format!("shuffle of {text} from all indices, an item");
-        works.push(work(&name, 1.05, ITEMS, shuffled(length, shuffles_from_all)));
+        works.push(work(
+            &name,
+            1.05,
+            ITEMS,
+            shuffled(length, shuffles_from_all),
+        ));
     }
 }
 

@@ -1,7 +1,7 @@
-//! The nine calls that every generator has, and that of parts: the body of each, and the exports that a generator has
+//! The ten calls that every generator has, and that of parts: the body of each, and the exports that a generator has
 //! of them.
 
-use nanorand_proved::{shuffles, Parts, PastPeriod, RandomRange, RangeError, Rng};
+use nanorand_proved::{samples, shuffles, Parts, PastPeriod, RandomRange, RangeError, Rng};
 
 /// Memory of C that holds the state of a generator.
 pub trait State<const OUTPUT: usize> {
@@ -60,6 +60,24 @@ pub fn sample<S: State<N>, const N: usize>(
     }))
 }
 
+/// Draws the places behind those that stand. `NANORAND_EMPTY`, and nothing is drawn, for more places than numbers or
+/// fewer than stand.
+pub fn extend_sample<S: State<N>, const N: usize>(
+    state: &mut S,
+    count: usize,
+    places: &mut [usize],
+    filled: usize,
+    table: &mut [usize],
+) -> u8 {
+    status(state.call(|rng| {
+        if count < places.len() || places.len() < filled {
+            Err(RangeError::Empty)
+        } else {
+            samples::extend_sample(rng, count, places, filled, table)
+        }
+    }))
+}
+
 /// Moves to the beginning of the part. `NANORAND_OK`, or `NANORAND_PAST_PERIOD`, and nothing moves.
 pub fn part<S, const N: usize>(state: &mut S, index: u64, draws: u64) -> u8
 where
@@ -72,7 +90,7 @@ where
     }
 }
 
-/// Exports the nine calls of a generator, by its name in C and the type of its state. They stand in a block of
+/// Exports the ten calls of a generator, by its name in C and the type of its state. They stand in a block of
 /// their own, as those of the next generator have the same names.
 macro_rules! export_calls {
     ($generator:literal, $state:ty) => {
@@ -153,6 +171,20 @@ macro_rules! export_calls {
             ) -> u8 {
                 calls::sample(state, count, places.items(length))
             }
+
+            #[export_name = concat!("nanorand_v1_", $generator, "_extend_sample")]
+            extern "C" fn extend_sample(
+                state: &mut $state,
+                count: usize,
+                places: ArrayMut<usize>,
+                places_length: usize,
+                filled: usize,
+                table: ArrayMut<usize>,
+                length: usize,
+            ) -> u8 {
+                let (places, table) = (places.items(places_length), table.items(length));
+                calls::extend_sample(state, count, places, filled, table)
+            }
         };
     };
 }
@@ -197,6 +229,7 @@ mod tests {
         assert_eq!(shuffle(&mut Zeros, &mut items), 2);
         assert_eq!(shuffle_full(&mut Zeros, &mut items), 2);
         assert_eq!(sample(&mut Zeros, 5, &mut items), 2);
+        assert_eq!(extend_sample(&mut Zeros, 5, &mut items, 2, &mut [0; 9]), 2);
         assert_eq!((number, items), (7, [7, 8, 9]));
     }
 }

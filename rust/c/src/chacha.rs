@@ -11,6 +11,18 @@ pub struct ChaChaState<const ROUNDS: u8> {
     pub counter: u64,
 }
 
+impl<const ROUNDS: u8> ChaChaState<ROUNDS> {
+    /// The state of a number, at its first block.
+    pub fn seed_from_u64(number: u64) -> Self {
+        let rng = ChaCha::<ROUNDS>::seed_from_u64(number);
+        ChaChaState {
+            key: rng.key(),
+            nonce: rng.nonce(),
+            counter: 0,
+        }
+    }
+}
+
 impl<const ROUNDS: u8> State<64> for ChaChaState<ROUNDS> {
     type Generator = ChaCha<ROUNDS>;
 
@@ -29,6 +41,21 @@ export_calls!("chacha20", ChaChaState<20>);
 export_part!("chacha8", ChaChaState<8>);
 export_part!("chacha12", ChaChaState<12>);
 export_part!("chacha20", ChaChaState<20>);
+
+#[no_mangle]
+extern "C" fn nanorand_v1_chacha8_seed_from_u64(state: &mut ChaChaState<8>, number: u64) {
+    *state = ChaChaState::seed_from_u64(number);
+}
+
+#[no_mangle]
+extern "C" fn nanorand_v1_chacha12_seed_from_u64(state: &mut ChaChaState<12>, number: u64) {
+    *state = ChaChaState::seed_from_u64(number);
+}
+
+#[no_mangle]
+extern "C" fn nanorand_v1_chacha20_seed_from_u64(state: &mut ChaChaState<20>, number: u64) {
+    *state = ChaChaState::seed_from_u64(number);
+}
 
 #[no_mangle]
 extern "C" fn nanorand_v1_chacha8_block(state: &mut ChaChaState<8>, out: &mut [u8; 64]) {

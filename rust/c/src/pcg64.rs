@@ -39,6 +39,11 @@ export_calls!("pcg64", Wide);
 export_part!("pcg64", Wide);
 
 #[no_mangle]
+extern "C" fn nanorand_v1_pcg64_seed_from_u64(seed: &mut Wide, number: u64) {
+    *seed = Wide::split(Pcg64::seed_from_u64(number).seed());
+}
+
+#[no_mangle]
 extern "C" fn nanorand_v1_pcg64_jump(seed: &mut Wide, draws: &Wide) {
     seed.call(|rng| rng.jump(draws.joined()));
 }

@@ -104,6 +104,18 @@ impl Parts<512> for GroupStream {
     }
 }
 
+#[no_mangle]
+extern "C" fn nanorand_v1_stream_seed_from_u64(stream: &mut Stream, number: u64) {
+    stream.chacha = ChaChaState::seed_from_u64(number);
+    stream.buffered = 0;
+}
+
+#[no_mangle]
+extern "C" fn nanorand_v1_keystream_seed_from_u64(stream: &mut GroupStream, number: u64) {
+    stream.chacha = Groups(ChaChaState::seed_from_u64(number));
+    stream.buffered = 0;
+}
+
 export_calls!("stream", Stream);
 export_calls!("keystream", GroupStream);
 export_part!("keystream", GroupStream);

@@ -20,6 +20,11 @@ extern "C" fn nanorand_v1_wyrand_new_seed(seed: u64) -> WyRand {
 }
 
 #[no_mangle]
+extern "C" fn nanorand_v1_wyrand_seed_from_u64(rng: &mut WyRand, number: u64) {
+    *rng = WyRand::seed_from_u64(number);
+}
+
+#[no_mangle]
 extern "C" fn nanorand_v1_wyrand_jump(rng: &mut WyRand, draws: u64) {
     rng.jump(draws);
 }

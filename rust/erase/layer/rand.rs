@@ -1,5 +1,5 @@
 use crate::choices::{self, WeightError};
-use crate::layer::{GenerateIter, Lent};
+use crate::layer::{refused, GenerateIter, Lent};
 use crate::samples;
 use crate::shuffles;
 use crate::values::{RandomGen, RandomRange, RangeError};
@@ -51,7 +51,7 @@ pub trait Rng<const OUTPUT: usize>: Sized {
     ///
     /// For the types of the library `Empty` if the range has no number; nothing is drawn then.
     /// `Exhausted` if 128 words in a row were rejected; they stay consumed.
-    #[inline]
+    #[inline(always)]
     fn generate_range<T: RandomRange<Self, OUTPUT> + Clone>(
         &mut self,
         range: impl RangeBounds<T>,
@@ -65,12 +65,12 @@ pub trait Rng<const OUTPUT: usize>: Sized {
     ///
     /// Panics with the text of the error where `generate_range` returns one. If 128 words in a
     /// row were rejected, they stay consumed.
-    #[inline]
+    #[inline(always)]
     #[track_caller]
     fn range<T: RandomRange<Self, OUTPUT> + Clone>(&mut self, range: impl RangeBounds<T>) -> T {
         match self.generate_range(range) {
             Ok(number) => number,
-            Err(error) => panic!("{error}"),
+            Err(error) => refused(error),
         }
     }
 
@@ -84,7 +84,7 @@ pub trait Rng<const OUTPUT: usize>: Sized {
     #[track_caller]
     fn permute<T>(&mut self, items: &mut [T]) {
         if let Err(error) = self.shuffle(items) {
-            panic!("{error}");
+            refused(error);
         }
     }
 
@@ -147,8 +147,8 @@ pub trait Rng<const OUTPUT: usize>: Sized {
     }
 
     /// Samples different numbers below `count`, one into each slot, as [`sample`](samples::sample)
-    /// does. The order of the slots is not random. The time is O(k^2) for k slots, since each number
-    /// drawn is compared with the slots before it. Without slots nothing is drawn.
+    /// does. The order of the slots is not random. The expected time is O(k) for k slots; without the
+    /// feature `std` it is O(k^2). Without slots nothing is drawn.
     ///
     /// # Errors
     ///
@@ -170,7 +170,7 @@ pub trait Rng<const OUTPUT: usize>: Sized {
     /// ```
     /// use nanorand_proved::{Rng, WyRand};
     ///
-    /// let mut rng = WyRand::new_seed(42);
+    /// let mut rng = WyRand::seed_from_u64(42);
     /// let throws: Vec<bool> = rng.generate_iter().take(10).collect();
     /// # let _ = throws;
     /// ```
@@ -191,7 +191,7 @@ pub trait Rng<const OUTPUT: usize>: Sized {
     /// fn sum<R: Rng<OUTPUT>, const OUTPUT: usize>(rng: &mut R) -> u64 {
     ///     number(&mut rng.as_any()).wrapping_add(number(&mut rng.as_any()))
     /// }
-    /// # let _ = sum(&mut WyRand::new_seed(42));
+    /// # let _ = sum(&mut WyRand::seed_from_u64(42));
     /// ```
     #[inline]
     fn as_any(&mut self) -> Lent<'_, Self, OUTPUT> {

@@ -5,6 +5,10 @@
 mod process;
 
 use process::{by_each_name, shell};
+use std::io::Write;
+use std::os::unix::io::OwnedFd;
+use std::os::unix::net::UnixStream;
+use std::process::Command;
 
 /// Ends with the status of the commands and what they wrote to each stream.
 fn ends(commands: &str, status: i32, out: &str, err: &str) {
@@ -71,6 +75,22 @@ fn standard_input_that_cannot_be_read() {
         "",
         "lots: usage: lots SEED COUNT|all < entrants\n",
     );
+}
+
+/// The far end of a socket is gone before it has read all of its own bytes: the list may go on.
+#[test]
+fn standard_input_that_is_reset() {
+    let (mut near, mut far) = UnixStream::pair().unwrap();
+    far.write_all(b"a\nb\n").unwrap();
+    near.write_all(b"c").unwrap();
+    drop(far);
+    let mut command = Command::new(env!("CARGO_BIN_EXE_lots"));
+    command.args(["seed", "1"]).stdin(OwnedFd::from(near));
+    let output = command.output().unwrap();
+    let wanted = (Some(6), "", "lots: read failed\n");
+    let text = |bytes| std::str::from_utf8(bytes).unwrap();
+    let (out, err) = (text(&output.stdout), text(&output.stderr));
+    assert_eq!((output.status.code(), out, err), wanted);
 }
 
 #[test]

@@ -58,9 +58,18 @@ impl Write for Stream {
 mod tests {
     use super::*;
     use std::os::unix::net::UnixStream;
+    use std::sync::{Mutex, MutexGuard, PoisonError};
+
+    /// The tests take turns: a process that one begins has the open pipes of all until it runs its program, and
+    /// one stops this whole process, which interrupts the calls of all.
+    pub(super) fn turn() -> MutexGuard<'static, ()> {
+        static TURN: Mutex<()> = Mutex::new(());
+        TURN.lock().unwrap_or_else(PoisonError::into_inner)
+    }
 
     #[test]
     fn an_open_stream_is_its_descriptor() {
+        let _turn = turn();
         let (near, far) = UnixStream::pair().unwrap();
         let open = AtomicBool::new(false);
         let (mut near, mut far) = (Stream::of(&near, &open), Stream::of(&far, &open));
@@ -73,6 +82,7 @@ mod tests {
 
     #[test]
     fn a_stream_that_is_open_the_other_way_fails() {
+        let _turn = turn();
         let open = AtomicBool::new(false);
         let read_only = File::open("/dev/null").unwrap();
         assert!(Stream::of(&read_only, &open).write(b"a").is_err());
@@ -82,6 +92,7 @@ mod tests {
 
     #[test]
     fn a_stream_without_a_byte_or_without_room_fails() {
+        let _turn = turn();
         let (near, far) = UnixStream::pair().unwrap();
         near.set_nonblocking(true).unwrap();
         let mut near = Stream::of(&near, &AtomicBool::new(false));
@@ -103,11 +114,142 @@ mod tests {
 
     #[test]
     fn a_stream_that_was_closed_fails() {
+        let _turn = turn();
         let (near, _far) = UnixStream::pair().unwrap();
         let mut stream = Stream::of(&near, &AtomicBool::new(true));
         let kind = ErrorKind::NotConnected;
         assert_eq!(stream.write(b"a").unwrap_err().kind(), kind);
         assert_eq!(stream.read(&mut [0]).unwrap_err().kind(), kind);
         stream.flush().unwrap();
+    }
+}
+
+/// The errors of the system's calls, as Linux has them.
+#[cfg(all(test, target_os = "linux"))]
+mod tests_of_errors {
+    use super::tests::turn;
+    use super::*;
+    use std::io::Error;
+    use std::net::{TcpListener, UdpSocket};
+    use std::os::unix::net::{UnixDatagram, UnixStream};
+    use std::path::Path;
+    use std::process::{Child, Command, Stdio};
+    use std::time::Duration;
+    use std::{env, fs, process};
+
+    /// The error of a call of a new stream over the descriptor, whose flush is none.
+    fn fails(descriptor: &impl AsFd, call: fn(&mut Stream) -> Result<usize>) -> Error {
+        let mut stream = Stream::of(descriptor, &AtomicBool::new(false));
+        let error = call(&mut stream).unwrap_err();
+        stream.flush().unwrap();
+        error
+    }
+
+    fn read_fails(descriptor: &impl AsFd) -> Error {
+        fails(descriptor, |stream| stream.read(&mut [0; 9]))
+    }
+
+    fn write_fails(descriptor: &impl AsFd) -> Error {
+        fails(descriptor, |stream| stream.write(b"a"))
+    }
+
+    /// Bytes end where the far end is dropped, unless it had not read all of its own.
+    #[test]
+    fn a_stream_whose_far_end_is_dropped_ends_or_is_reset() {
+        let _turn = turn();
+        for (unread, last) in [(false, Ok(0)), (true, Err(ErrorKind::ConnectionReset))] {
+            let (mut near, mut far) = UnixStream::pair().unwrap();
+            far.write_all(b"abc").unwrap();
+            if unread {
+                near.write_all(b"a").unwrap();
+            }
+            drop(far);
+            let mut stream = Stream::of(&near, &AtomicBool::new(false));
+            let mut read = || stream.read(&mut [0; 9]).map_err(|error| error.kind());
+            assert_eq!([read(), read(), read()], [Ok(3), last, Ok(0)]);
+            assert_eq!(write_fails(&near).kind(), ErrorKind::BrokenPipe);
+        }
+    }
+
+    #[test]
+    fn a_socket_without_a_far_end_fails() {
+        let _turn = turn();
+        let unbound = UnixDatagram::unbound().unwrap();
+        assert_eq!(write_fails(&unbound).kind(), ErrorKind::NotConnected);
+        let (near, far) = UnixDatagram::pair().unwrap();
+        drop(far);
+        assert_eq!(write_fails(&near).kind(), ErrorKind::ConnectionRefused);
+        let listener = TcpListener::bind("127.0.0.1:0").unwrap();
+        assert_eq!(read_fails(&listener).kind(), ErrorKind::NotConnected);
+        let near = UdpSocket::bind("127.0.0.1:0").unwrap();
+        let far = UdpSocket::bind("127.0.0.1:0").unwrap();
+        near.connect(far.local_addr().unwrap()).unwrap();
+        near.set_read_timeout(Some(Duration::from_secs(30)))
+            .unwrap();
+        drop(far);
+        for fails in [read_fails, write_fails] {
+            assert_eq!(near.send(b"a").unwrap(), 1);
+            assert_eq!(fails(&near).kind(), ErrorKind::ConnectionRefused);
+        }
+    }
+
+    /// Errors whose kinds the oldest compiler does not name, by their numbers.
+    #[test]
+    fn a_file_that_cannot_be_read_or_written_fails() {
+        let _turn = turn();
+        let open = |path| File::options().read(true).write(true).open(path).unwrap();
+        let memory = open("/proc/self/mem");
+        assert_eq!(read_fails(&memory).raw_os_error(), Some(5)); // EIO: nothing is at address 0
+        assert_eq!(write_fails(&memory).raw_os_error(), Some(5));
+        let full = open("/dev/full");
+        assert_eq!(write_fails(&full).raw_os_error(), Some(28)); // ENOSPC
+        let folder = File::open(".").unwrap();
+        assert_eq!(read_fails(&folder).raw_os_error(), Some(21)); // EISDIR
+        assert_eq!(write_fails(&folder).raw_os_error(), Some(9)); // EBADF: open for reading
+        let write_only = File::options().write(true).open("/dev/null").unwrap();
+        assert_eq!(read_fails(&write_only).raw_os_error(), Some(9));
+        let setting = open("/proc/self/oom_score_adj"); // takes numbers alone
+        assert_eq!(write_fails(&setting).kind(), ErrorKind::InvalidInput);
+        let users = open("/proc/self/uid_map"); // was written when its namespace began
+        assert_eq!(write_fails(&users).kind(), ErrorKind::PermissionDenied);
+        let mut ended = Command::new("cat").stdin(Stdio::piped()).spawn().unwrap();
+        let status = File::open(format!("/proc/{}/status", ended.id())).unwrap();
+        let pipe = ended.stdin.take().unwrap();
+        ended.kill().unwrap();
+        ended.wait().unwrap();
+        assert_eq!(read_fails(&status).raw_os_error(), Some(3)); // ESRCH
+        assert_eq!(write_fails(&pipe).kind(), ErrorKind::BrokenPipe);
+    }
+
+    /// Stops this process and continues it, again and again until the file is gone.
+    fn interrupt(file: &Path) -> Child {
+        let commands = "while [ -e \"$1\" ] && kill -STOP $0; do kill -CONT $0; sleep 0.01; done";
+        let process = process::id().to_string();
+        let mut shell = Command::new("sh");
+        shell.args(["-c", commands, &process]).arg(file);
+        shell.spawn().unwrap()
+    }
+
+    /// A socket that has a time to wait does not wait again.
+    #[test]
+    fn a_stream_that_is_interrupted_fails() {
+        let _turn = turn();
+        let (near, _far) = UnixStream::pair().unwrap();
+        let long = Some(Duration::from_secs(30));
+        near.set_read_timeout(long).unwrap();
+        near.set_write_timeout(long).unwrap();
+        let file = env::temp_dir().join(format!("nanorand_program_{}", process::id()));
+        fs::write(&file, "").unwrap();
+        let mut shell = interrupt(&file);
+        let read = read_fails(&near).kind();
+        let mut full = Stream::of(&near, &AtomicBool::new(false));
+        let written = loop {
+            if let Err(error) = full.write(&[0; 4096]) {
+                break error.kind();
+            }
+        };
+        fs::remove_file(file).unwrap();
+        assert!(shell.wait().unwrap().success());
+        assert_eq!([read, written], [ErrorKind::Interrupted; 2]);
     }
 }

@@ -5,8 +5,8 @@
 //! use nanorand_proved_rand_core::Core;
 //! use rand_core::{RngCore, SeedableRng};
 //!
-//! let mut rng = Core(WyRand::new_seed(42));
-//! assert_eq!(rng.next_u64(), 12_558_987_674_375_533_620);
+//! let mut rng = Core(WyRand::seed_from_u64(42));
+//! assert_eq!(rng.next_u64(), 6_327_169_416_285_365_978);
 //! assert_eq!(rng, Core::from_seed(rng.0.seed().to_le_bytes()));
 //! ```
 //!
@@ -14,8 +14,8 @@
 //! where an adversary matters, take a vetted cryptographic generator.
 //!
 //! `from_seed` of `WyRand` and `Pcg64` takes the bytes as the state, and does not mix them:
-//! generators with neighbouring seeds draw correlated numbers. `seed_from_u64` mixes its number, as
-//! `rand_core` defines it.
+//! generators with neighbouring seeds draw correlated numbers. `seed_from_u64` mixes its number: it
+//! is the generator's own, by SplitMix64, and not the one by PCG32 that `rand_core` provides.
 #![no_std]
 #![forbid(unsafe_code)]
 #![deny(missing_docs)]
@@ -60,6 +60,10 @@ impl SeedableRng for Core<WyRand, 8> {
     fn from_seed(seed: [u8; 8]) -> Self {
         Core(WyRand::from_seed(seed))
     }
+
+    fn seed_from_u64(number: u64) -> Self {
+        Core(WyRand::seed_from_u64(number))
+    }
 }
 
 impl SeedableRng for Core<Pcg64, 8> {
@@ -67,6 +71,10 @@ impl SeedableRng for Core<Pcg64, 8> {
 
     fn from_seed(seed: [u8; 16]) -> Self {
         Core(Pcg64::from_seed(seed))
+    }
+
+    fn seed_from_u64(number: u64) -> Self {
+        Core(Pcg64::seed_from_u64(number))
     }
 }
 
@@ -92,5 +100,9 @@ impl<const ROUNDS: u8> SeedableRng for Core<ChaCha<ROUNDS>, 64> {
 
     fn from_seed(seed: ChaChaSeed) -> Self {
         Core(ChaCha::from_seed(seed.0))
+    }
+
+    fn seed_from_u64(number: u64) -> Self {
+        Core(ChaCha::seed_from_u64(number))
     }
 }

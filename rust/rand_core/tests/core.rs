@@ -125,42 +125,64 @@ fn seeds() {
     chacha_of::<20>();
 }
 
-/// What `rand_core` makes of a number, which is the same for every generator: known from the seeds
-/// of a generator whose seed is an array.
-struct Bytes<const SIZE: usize>([u8; SIZE]);
-
-macro_rules! seeded_by_bytes {
-    ($($size:literal),+) => { $(
-        impl SeedableRng for Bytes<$size> {
-            type Seed = [u8; $size];
-
-            fn from_seed(seed: [u8; $size]) -> Self {
-                Bytes(seed)
-            }
+/// Equal bytes, and zeros and ones with one other bit.
+fn plain_seeds<const SIZE: usize>() -> Vec<[u8; SIZE]> {
+    let mut seeds: Vec<_> = (0..=255).map(|byte| [byte; SIZE]).collect();
+    for place in 0..8 * SIZE {
+        for byte in [0, 255] {
+            let mut seed = [byte; SIZE];
+            seed[place / 8] ^= 1 << (place % 8);
+            seeds.push(seed);
         }
-    )+ };
+    }
+    seeds
 }
 
-seeded_by_bytes!(8, 16);
+fn plain_keys_of<const ROUNDS: u8>() {
+    for seed in plain_seeds() {
+        let Core(rng) = Core::<ChaCha<ROUNDS>, 64>::from_seed(ChaChaSeed(seed));
+        assert_eq!([&rng.key()[..], &rng.nonce()].concat(), seed);
+        assert_eq!(rng.counter(), 0);
+    }
+}
 
+/// No seed is taken for another.
+#[test]
+fn plain_seeds_are_the_state() {
+    for seed in plain_seeds() {
+        let Core(rng) = Core::<WyRand, 8>::from_seed(seed);
+        assert_eq!(rng.seed().to_le_bytes(), seed);
+    }
+    for seed in plain_seeds() {
+        let Core(rng) = Core::<Pcg64, 8>::from_seed(seed);
+        assert_eq!(rng, Pcg64::new_seed(u128::from_le_bytes(seed)));
+        assert_eq!(rng.seed().to_le_bytes(), seed);
+    }
+    plain_keys_of::<8>();
+    plain_keys_of::<12>();
+    plain_keys_of::<20>();
+}
+
+/// A number gives the generator that it gives without the adapter.
 #[test]
 fn seeds_of_a_number() {
     for number in [0, 1, 42, u64::MAX] {
-        let Bytes(eight) = Bytes::<8>::seed_from_u64(number);
         assert_eq!(
-            Core::<WyRand, 8>::seed_from_u64(number),
-            Core(WyRand::from_seed(eight))
+            Core::seed_from_u64(number),
+            Core(WyRand::seed_from_u64(number))
         );
-        let Bytes(sixteen) = Bytes::<16>::seed_from_u64(number);
         assert_eq!(
-            Core::<Pcg64, 8>::seed_from_u64(number),
-            Core(Pcg64::from_seed(sixteen))
+            Core::seed_from_u64(number),
+            Core(Pcg64::seed_from_u64(number))
         );
-        // A longer seed begins with the bytes of a shorter one.
-        let Core(chacha) = Core::<ChaCha20, 64>::seed_from_u64(number);
-        assert_eq!(chacha.key()[..16], sixteen);
-        assert_eq!(chacha.counter(), 0);
-        assert_ne!(chacha.nonce(), [0; 8]);
+        assert_eq!(
+            Core::seed_from_u64(number),
+            Core(ChaCha8::seed_from_u64(number))
+        );
+        assert_eq!(
+            Core::seed_from_u64(number),
+            Core(ChaCha20::seed_from_u64(number))
+        );
     }
 }
 

@@ -19,8 +19,8 @@ use crate::rand::{ChaCha, ChaChaGroups, Pcg64, Rng, WyRand};
 ///     rng.rng().shuffle(cards)
 /// }
 ///
-/// let pips = throw(&mut WyRand::new_seed(42))?;
-/// assert_eq!(WyRand::new_seed(42).generate_range(1..=6), Ok(pips));
+/// let pips = throw(&mut WyRand::seed_from_u64(42))?;
+/// assert_eq!(WyRand::seed_from_u64(42).generate_range(1..=6), Ok(pips));
 /// deal(&mut ChaCha20::new_key([1; 32], [2; 8]), &mut ["ace", "king", "queen"])?;
 /// # Ok::<(), RangeError>(())
 /// ```

@@ -7,7 +7,7 @@ use core::ops::{Add, Bound, Div, Mul, Sub};
 
 /// The word's top 24 bits times 2^-24: a multiple of 2^-24 from 0 to below 1, each equally likely.
 impl<G: Rng<OUTPUT>, const OUTPUT: usize> RandomGen<G, OUTPUT> for f32 {
-    #[inline]
+    #[inline(always)]
     fn random(rng: &mut G) -> f32 {
         f32::draw_step(rng) / f32::STEPS
     }
@@ -15,15 +15,18 @@ impl<G: Rng<OUTPUT>, const OUTPUT: usize> RandomGen<G, OUTPUT> for f32 {
 
 /// The word's top 53 bits times 2^-53: a multiple of 2^-53 from 0 to below 1, each equally likely.
 impl<G: Rng<OUTPUT>, const OUTPUT: usize> RandomGen<G, OUTPUT> for f64 {
-    #[inline]
+    #[inline(always)]
+    #[allow(clippy::cast_precision_loss)] // 53 bits, as many as an `f64` has
     fn random(rng: &mut G) -> f64 {
-        f64::draw_step(rng) / f64::STEPS
+        // Signed, it is 2^52 less. LLVM does not vectorize the conversion of a signed number, which would be slower.
+        let signed = (i64::random(rng) ^ i64::MIN) >> 11;
+        (signed as f64 + f64::STEPS / 2.0) / f64::STEPS
     }
 }
 
 /// A number that both bounds admit, by the top 24 bits of a word, as [`RandomRange`] says.
 impl<G: Rng<OUTPUT>, const OUTPUT: usize> RandomRange<G, OUTPUT> for f32 {
-    #[inline]
+    #[inline(always)]
     fn random_range(rng: &mut G, low: Bound<f32>, high: Bound<f32>) -> Result<f32, RangeError> {
         draw_between(rng, low, high)
     }
@@ -31,7 +34,7 @@ impl<G: Rng<OUTPUT>, const OUTPUT: usize> RandomRange<G, OUTPUT> for f32 {
 
 /// A number that both bounds admit, by the top 53 bits of a word, as [`RandomRange`] says.
 impl<G: Rng<OUTPUT>, const OUTPUT: usize> RandomRange<G, OUTPUT> for f64 {
-    #[inline]
+    #[inline(always)]
     fn random_range(rng: &mut G, low: Bound<f64>, high: Bound<f64>) -> Result<f64, RangeError> {
         draw_between(rng, low, high)
     }
@@ -64,7 +67,7 @@ impl Float for f32 {
     const LEAST: f32 = f32::MIN;
     const GREATEST: f32 = f32::MAX;
 
-    #[inline]
+    #[inline(always)]
     #[allow(clippy::cast_precision_loss)] // 24 bits, as many as an `f32` has
     fn draw_step<G: Rng<OUTPUT>, const OUTPUT: usize>(rng: &mut G) -> f32 {
         (u32::random(rng) >> 8) as f32
@@ -78,14 +81,14 @@ impl Float for f64 {
     const LEAST: f64 = f64::MIN;
     const GREATEST: f64 = f64::MAX;
 
-    #[inline]
+    #[inline(always)]
     #[allow(clippy::cast_precision_loss)] // 53 bits, as many as an `f64` has
     fn draw_step<G: Rng<OUTPUT>, const OUTPUT: usize>(rng: &mut G) -> f64 {
         (u64::random(rng) >> 11) as f64
     }
 }
 
-#[inline]
+#[inline(always)]
 fn draw_between<T: Float, G: Rng<OUTPUT>, const OUTPUT: usize>(
     rng: &mut G,
     low: Bound<T>,
@@ -120,29 +123,30 @@ impl<T: Float> Range<T> {
     }
 
     // The number that the next word names, unless it is an excluded end.
-    #[inline]
+    #[inline(always)]
     fn draw<G: Rng<OUTPUT>, const OUTPUT: usize>(self, rng: &mut G) -> Option<T> {
         let step = T::draw_step(rng);
-        let number = self.at(if self.high_excluded {
-            step / T::STEPS
+        let last = T::STEPS - T::ONE;
+        let number = if self.high_excluded {
+            self.at(step / T::STEPS)
+        } else if step == last {
+            self.high
         } else {
-            step / (T::STEPS - T::ONE)
-        });
+            self.at(step / last)
+        };
         let excluded =
             self.low_excluded && number == self.low || self.high_excluded && number == self.high;
         (!excluded).then_some(number)
     }
 
-    // The number at a part of the way from `low` to `high`, which ends at `high` whatever was rounded.
-    // Before that no number passes `high`: what the part takes off the way is more than rounding added
-    // to it. Where the way is longer than any number, the halves of both ends have one that is not.
-    #[inline]
+    // The number at a part of the way from `low` to `high`. No number passes `high`: what the part takes off the
+    // way is more than rounding added to it. Where the way is longer than any number, the halves of both ends
+    // have one that is not.
+    #[inline(always)]
     fn at(self, part: T) -> T {
         let (low, high) = (self.low, self.high);
         let way = high - low;
-        if part == T::ONE {
-            high
-        } else if way.is_number() {
+        if way.is_number() {
             low + way * part
         } else {
             (low / T::TWO + (high / T::TWO - low / T::TWO) * part) * T::TWO

@@ -1,7 +1,7 @@
 //! Seeds as bytes, and seeds from the operating system. The latter are not proved: what the system
 //! gives is its own.
 
-use crate::rand::{ChaCha, ChaChaStream, Keystream, Pcg64, WyRand};
+use crate::rand::{chacha_stream_from_u64, ChaCha, ChaChaStream, Keystream, Pcg64, WyRand};
 
 #[cfg(feature = "std")]
 use crate::{entropy::EntropyError, system};
@@ -77,6 +77,14 @@ impl<const ROUNDS: u8> ChaCha<ROUNDS> {
 }
 
 impl<const ROUNDS: u8> ChaChaStream<ROUNDS> {
+    /// The stream of a number, which may be small, at its byte 0: see
+    /// [`ChaCha::seed_from_u64`](crate::ChaCha::seed_from_u64). `ROUNDS` is even: another number
+    /// does not compile.
+    #[must_use]
+    pub fn seed_from_u64(number: u64) -> Self {
+        chacha_stream_from_u64(number)
+    }
+
     /// The stream with the first 32 of these bytes as its key and the other 8 as its nonce, at its
     /// byte 0. `ROUNDS` is even: another number does not compile.
     #[must_use]

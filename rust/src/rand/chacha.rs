@@ -10,6 +10,7 @@ use crate::crypto::chacha::{
 #[cfg(feature = "std")]
 use crate::entropy::{system, EntropyError};
 use crate::parts::{draws_before, Parts, PastPeriod};
+use crate::rand::split_mix::seed_from;
 use crate::rand::{fill_by_blocks, Rng, SeedableRng};
 use core::fmt;
 #[cfg(feature = "std")]
@@ -69,6 +70,21 @@ impl<const ROUNDS: u8> ChaCha<ROUNDS> {
         let mut state = chacha_init(key, nonce);
         set_counter(&mut state, index);
         ChaCha { state }
+    }
+
+    /// A generator whose key and nonce are made from a number, which may be small: 0, 1, 2, .., a
+    /// port, a year. Different numbers give different states. The counter is 0. An odd `ROUNDS` does
+    /// not compile.
+    ///
+    /// The 40 bytes of key and nonce are the first five words that SplitMix64 draws from the number
+    /// (Guy Steele, Doug Lea and Christine Flood, 2014, in Sebastiano Vigna's constants),
+    /// little-endian. There are only 2^64 such keys: they keep no secret.
+    #[must_use]
+    pub fn seed_from_u64(number: u64) -> Self {
+        let () = crate::layer::Rounds::<ROUNDS>::EVEN;
+
+        let (key, nonce) = split_seed(&seed_from(number));
+        ChaCha::new_key(key, nonce)
     }
 
     /// A generator made of the reader's next 40 bytes, with the counter 0: the first 32 are the key
@@ -251,8 +267,9 @@ impl<const ROUNDS: u8> SeedableRng<40, 64> for ChaCha<ROUNDS> {
     }
 }
 
+// The key and the nonce of a seed.
 #[inline]
-fn split_seed(seed: &[u8; 40]) -> ([u8; 32], [u8; 8]) {
+pub(crate) fn split_seed(seed: &[u8; 40]) -> ([u8; 32], [u8; 8]) {
     let mut key = [0; 32];
     let mut nonce = [0; 8];
     key.copy_from_slice(&seed[..32]);

@@ -5,7 +5,9 @@
 
 use crate::buffer::BufferedRng;
 use crate::parts::{draws_before, Parts, PastPeriod};
+use crate::rand::chacha::split_seed;
 use crate::rand::chacha_groups::ChaChaGroups;
+use crate::rand::split_mix::seed_from;
 use crate::rand::Rng;
 
 /// The keystream of a ChaCha, as one unbroken stream of bytes that computes eight blocks at once.
@@ -41,6 +43,16 @@ pub trait Keystream<const OUTPUT: usize>: Rng<OUTPUT> {
     /// `index * 64`. For ChaCha the number of rounds is even.
     fn at_block(key: [u8; 32], nonce: [u8; 8], index: u64) -> Self;
 
+    /// The stream whose key and nonce are made from a number, which may be small, at its byte 0: they
+    /// are 40 bytes that SplitMix64 draws, as [`ChaCha::seed_from_u64`](crate::ChaCha::seed_from_u64)
+    /// says. There are only 2^64 such keys: they keep no secret. For ChaCha the number of rounds is
+    /// even.
+    #[must_use]
+    fn seed_from_u64(number: u64) -> Self {
+        let (key, nonce) = split_seed(&seed_from(number));
+        Self::new_key(key, nonce)
+    }
+
     /// Goes to this byte, forward or back. Byte 2^70 is byte 0 again. Buffered bytes are dropped.
     ///
     /// The state is the one that a request for the bytes before this byte leaves, from byte 0 on.
@@ -75,6 +87,16 @@ pub fn chacha_stream_at<const ROUNDS: u8>(
     let () = crate::layer::Rounds::<ROUNDS>::EVEN;
 
     Keystream::at_block(key, nonce, index)
+}
+
+/// The stream of a number, which may be small, at its byte 0, as [`Keystream::seed_from_u64`]
+/// makes it. A call needs no import of that trait. An odd `ROUNDS` does not compile.
+#[must_use]
+pub fn chacha_stream_from_u64<const ROUNDS: u8>(number: u64) -> ChaChaStream<ROUNDS> {
+    let () = crate::layer::Rounds::<ROUNDS>::EVEN;
+
+    let (key, nonce) = split_seed(&seed_from(number));
+    chacha_stream(key, nonce)
 }
 
 impl<const ROUNDS: u8> Keystream<512> for BufferedRng<ChaChaGroups<ROUNDS>, 512> {

@@ -8,6 +8,7 @@ use crate::entropy::{system, EntropyError};
 use crate::parts::{draws_before, Parts, PastPeriod};
 use crate::rand::halves::folded;
 use crate::rand::hexadecimal::Hexadecimal;
+use crate::rand::split_mix::seed_from;
 use crate::rand::{fill_by_blocks, Rng, SeedableRng};
 use core::fmt;
 #[cfg(feature = "std")]
@@ -46,10 +47,23 @@ pub struct Pcg64 {
 }
 
 impl Pcg64 {
-    /// A generator with this seed, before its first draw: `state` and `inc` are 0.
+    /// A generator whose seed is made from a number, which may be small: 0, 1, 2, .., a port, a year.
+    /// Different numbers give different seeds.
     ///
-    /// The seed is the state itself, and is not mixed. Generators with neighbouring seeds, such as 0,
-    /// 1, 2, .., draw correlated numbers. Seeds that differ by a multiple of 2^k, for k above 64, give
+    /// The seed's 16 bytes are the first two words that SplitMix64 draws from the number (Guy Steele,
+    /// Doug Lea and Christine Flood, 2014, in Sebastiano Vigna's constants), little-endian. `state`
+    /// and `inc` are 0.
+    #[inline]
+    #[must_use]
+    pub fn seed_from_u64(number: u64) -> Self {
+        Pcg64::new_seed(u128::from_le_bytes(seed_from(number)))
+    }
+
+    /// A generator with this seed, which is the state itself, and is not mixed. Before the first draw
+    /// `state` and `inc` are 0.
+    ///
+    /// Generators with neighbouring seeds, such as 0, 1, 2, .., draw correlated numbers: for such
+    /// numbers take `seed_from_u64`. Seeds that differ by a multiple of 2^k, for k above 64, give
     /// streams whose words all agree in their low k - 64 bits. For many generators take parts of one
     /// stream (`part`), or mixed seeds: numbers that another generator drew, or the first 16 bytes of
     /// a SHA-256 of a name.

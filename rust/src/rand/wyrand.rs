@@ -6,7 +6,7 @@
 #[cfg(feature = "std")]
 use crate::entropy::{system, EntropyError};
 use crate::parts::{draws_before, Parts, PastPeriod};
-use crate::rand::halves::folded;
+use crate::rand::split_mix::seed_from;
 use crate::rand::{fill_by_blocks, Rng, SeedableRng};
 use crate::swap::swap;
 use crate::values::word::pick_word;
@@ -37,11 +37,22 @@ pub struct WyRand {
 }
 
 impl WyRand {
-    /// A generator with this seed.
+    /// A generator whose seed is made from a number, which may be small: 0, 1, 2, .., a port, a year.
+    /// Different numbers give different seeds.
     ///
-    /// The seed is the state itself, and is not mixed. Generators with neighbouring seeds, such as 0,
-    /// 1, 2, .., draw correlated numbers. For many generators take parts of one stream (`part`), or
-    /// mixed seeds: numbers that another generator drew, or the first 8 bytes of a SHA-256 of a name.
+    /// The seed is the first word that SplitMix64 draws from the number (Guy Steele, Doug Lea and
+    /// Christine Flood, 2014, in Sebastiano Vigna's constants).
+    #[inline]
+    #[must_use]
+    pub fn seed_from_u64(number: u64) -> Self {
+        WyRand::new_seed(u64::from_le_bytes(seed_from(number)))
+    }
+
+    /// A generator with this seed, which is the state itself, and is not mixed.
+    ///
+    /// Generators with neighbouring seeds, such as 0, 1, 2, .., draw correlated numbers: for such
+    /// numbers take `seed_from_u64`. For many generators take parts of one stream (`part`), or mixed
+    /// seeds: numbers that another generator drew, or the first 8 bytes of a SHA-256 of a name.
     #[inline]
     #[must_use]
     pub const fn new_seed(seed: u64) -> Self {
@@ -153,11 +164,14 @@ impl SeedableRng<8, 8> for WyRand {
     }
 }
 
-// The word of the seed that a draw leaves.
+// The word of the seed that a draw leaves: the product's high half xor its low half. The low half is a
+// product of its own, so that LLVM draws one word after another: two in a vector take twice as long.
 #[inline(always)]
 fn word(seed: u64) -> u64 {
-    let product = u128::from(seed) * u128::from(seed ^ MASK);
-    folded(product)
+    let mask = seed ^ MASK;
+    let low = seed.wrapping_mul(mask);
+    let product = u128::from(seed) * u128::from(mask);
+    ((product - u128::from(low)) >> 64) as u64 ^ low
 }
 
 // The shuffle from a seed, and the seed that it leaves.

@@ -172,7 +172,7 @@ pub fn draw_below<G: Rng<OUTPUT>, const OUTPUT: usize>(
 
 // The next word of `bits` bits, by one request.
 #[inline(always)]
-fn draw_word<G: Rng<OUTPUT>, const OUTPUT: usize>(rng: &mut G, bits: u32) -> u64 {
+pub(crate) fn draw_word<G: Rng<OUTPUT>, const OUTPUT: usize>(rng: &mut G, bits: u32) -> u64 {
     match bits {
         8 => u64::from(u8::random(rng)),
         16 => u64::from(u16::random(rng)),

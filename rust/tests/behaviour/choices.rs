@@ -1,10 +1,9 @@
-//! Choices by one drawn number: compared with the number that the word names. And refused samples.
+//! Choices by one drawn number: compared with the number that the word names.
 
-use crate::common::{zeros, ByteScript, Script, Steps};
-use nanorand_proved::choices::{below, choose, choose_mut, ratio};
-use nanorand_proved::samples::sample;
+use crate::common::{zeros, ByteScript, Steps};
+use nanorand_proved::choices::{below, between, bits, choose, choose_mut, ratio};
 use nanorand_proved::values::pick_word;
-use nanorand_proved::{RangeError, WyRand};
+use nanorand_proved::{RangeError, Rng};
 
 const WORDS: [u64; 8] = [
     0,
@@ -60,6 +59,66 @@ fn below_of_each_type() {
     assert_eq!(below(&mut ones(), -100_i64), Ok(-101));
     assert_eq!(below(&mut ones(), -100_isize), Ok(-101));
     assert_eq!(below(&mut zeros(), -126_i8), Ok(-128));
+}
+
+/// What `between` draws, `generate_range` does; crossed bounds are `Empty`, and draw nothing.
+macro_rules! between_both_ends {
+    ($($number:ty),+) => { $(
+        for low in [<$number>::MIN, 0, 1, 6, <$number>::MAX - 1, <$number>::MAX] {
+            for high in [<$number>::MIN, 0, 1, 6, <$number>::MAX - 1, <$number>::MAX] {
+                for word in WORDS {
+                    let (mut one, mut other) = (word_first(word), word_first(word));
+                    let number = between(&mut one, low, high);
+                    assert_eq!(number, other.generate_range(low..=high), "{low} {high} {word}");
+                    assert_eq!(one.drawn(), other.drawn());
+                    assert_eq!(number == Err(RangeError::Empty), low > high);
+                    assert_eq!(one.drawn() == 0, low > high);
+                }
+            }
+        }
+    )+ };
+}
+
+#[test]
+fn between_has_both_ends() {
+    between_both_ends!(u8, u16, u32, u64, usize, i8, i16, i32, i64, isize);
+    assert_eq!(between(&mut zeros(), 1, 6_u8), Err(RangeError::Exhausted));
+}
+
+/// As many bits as are asked for are the top ones of one word, and the number that `below` draws.
+macro_rules! bits_of_each_count {
+    ($($number:ty),+) => { $(
+        for count in 0..=<$number>::BITS {
+            for word in WORDS {
+                let mut rng = word_first(word);
+                let number: $number = bits(&mut rng, count);
+                assert_eq!(rng.drawn(), usize::try_from(<$number>::BITS / 8).expect("a few"));
+                let size = 1_u128 << count;
+                let whole = word & u64::MAX >> (64 - <$number>::BITS);
+                let rank = pick_word(size, <$number>::BITS, whole).expect("no word is rejected");
+                let least = i128::try_from(<$number>::MIN).expect("at most 64 bits");
+                assert_eq!(i128::try_from(number), Ok(least + i128::from(rank)), "{count} {word}");
+            }
+        }
+    )+ };
+}
+
+#[test]
+fn bits_are_never_refused() {
+    bits_of_each_count!(u8, u16, u32, u64, i8, i16, i32, i64);
+    assert_eq!(
+        bits::<usize, _, 1>(&mut word_first(u64::MAX), 53),
+        (1 << 53) - 1
+    );
+    assert_eq!(bits::<isize, _, 1>(&mut word_first(0), 64), isize::MIN);
+}
+
+#[test]
+fn more_bits_than_the_type_has() {
+    for count in [9, 64, 255, u32::MAX] {
+        let refused = std::panic::catch_unwind(|| bits::<u8, _, 8>(&mut zeros(), count));
+        assert!(refused.is_err(), "{count}");
+    }
 }
 
 #[test]
@@ -121,38 +180,5 @@ fn a_ratio_is_true_below_its_numerator() {
                 }
             }
         }
-    }
-}
-
-/// A sample of three of 7 draws below 5, 6 and 7, which all reject zeros. The slots from the refused
-/// draw on stay as they were.
-#[test]
-fn a_sample_refused_at_each_draw() {
-    let refused = Err(RangeError::Exhausted);
-    let rows = [
-        (0, refused, [99, 98, 97], 128),
-        (1, refused, [1, 98, 97], 129),
-        (2, refused, [1, 4, 97], 130),
-        (3, Ok(()), [1, 4, 0], 3),
-    ];
-    for (draws, answer, left, drawn) in rows {
-        let mut script = Script::new(&[76, 192, 18][..draws]);
-        let mut places = [99, 98, 97];
-        assert_eq!(sample(&mut script, 7, &mut places), answer);
-        assert_eq!(places, left);
-        assert_eq!(script.drawn(), drawn);
-    }
-}
-
-/// Different numbers below the count.
-#[test]
-fn a_sample_holds_no_number_twice() {
-    for seed in 0..20 {
-        let mut places = [usize::MAX; 20];
-        let mut rng = WyRand::new_seed(seed);
-        assert_eq!(sample(&mut rng, 25, &mut places), Ok(()));
-        places.sort_unstable();
-        assert!(places.windows(2).all(|pair| pair[0] < pair[1]), "{seed}");
-        assert!(places.iter().all(|place| *place < 25), "{seed}");
     }
 }

@@ -25,6 +25,9 @@ mod ranges;
 mod replays;
 #[cfg(feature = "std")]
 mod requests;
+mod reservoirs;
+mod samples;
+mod seeds;
 mod shuffles;
 mod stored;
 #[cfg(feature = "std")]

@@ -3,7 +3,8 @@
 use crate::common::{zeros, Rising, Script, Steps, Waste};
 use nanorand_proved::values::fill_with;
 use nanorand_proved::{
-    chacha_stream, BufferedRng, ChaCha12, ChaCha20, ChaCha8, Pcg64, RandomGen, Rng, WyRand,
+    chacha_stream, BufferedRng, ChaCha12, ChaCha20, ChaCha8, ChaChaGroups, Pcg64, RandomGen, Rng,
+    WyRand,
 };
 use std::fmt::Debug;
 use std::io::Read;
@@ -126,6 +127,84 @@ fn arrays_of_bytes() {
     assert_eq!(pieces, [[0, 1, 2, 3], [8, 9, 10, 11]]);
 }
 
+/// An array of bytes is one request, alone and as an item.
+fn check_array<G, const OUTPUT: usize, const SIZE: usize>(fresh: &G)
+where
+    G: Rng<OUTPUT> + Clone + PartialEq + Debug,
+{
+    let (mut rng, mut same) = (fresh.clone(), fresh.clone());
+    let mut filled = |bytes: &[u8; SIZE]| {
+        let mut wanted = vec![!bytes[0]; SIZE];
+        same.fill_bytes(&mut wanted);
+        assert!(wanted == bytes, "{SIZE}");
+    };
+    let bytes = rng.generate();
+    filled(&bytes);
+    let (first, [second, third]): ([u8; SIZE], [[u8; SIZE]; 2]) = rng.generate();
+    for bytes in [first, second, third] {
+        filled(&bytes);
+    }
+    let mut arrays = [bytes; 2];
+    rng.fill(&mut arrays);
+    for bytes in arrays {
+        filled(&bytes);
+    }
+    assert_eq!(rng, same, "{SIZE}");
+}
+
+/// An array of other values takes what its items take.
+fn check_items<G, const OUTPUT: usize, const SIZE: usize>(fresh: &G)
+where
+    G: Rng<OUTPUT> + Clone + PartialEq + Debug,
+{
+    let (mut rng, mut same) = (fresh.clone(), fresh.clone());
+    let truths: [bool; SIZE] = rng.generate();
+    assert!(truths.iter().all(|truth| same.generate::<bool>() == *truth));
+    let bytes: [i8; SIZE] = rng.generate();
+    assert!(bytes.iter().all(|byte| same.generate::<i8>() == *byte));
+    let words: [u16; SIZE] = rng.generate();
+    assert!(words.iter().all(|word| same.generate::<u16>() == *word));
+    let words: [u64; SIZE] = rng.generate();
+    assert!(words.iter().all(|word| same.generate::<u64>() == *word));
+    let pairs: [[u8; 2]; SIZE] = rng.generate();
+    assert!(pairs.iter().all(|pair| same.generate::<[u8; 2]>() == *pair));
+    assert_eq!(rng, same, "{SIZE}");
+}
+
+fn check_arrays<G: Rng<OUTPUT> + Clone + PartialEq + Debug, const OUTPUT: usize>(fresh: &G) {
+    macro_rules! check {
+        ($($size:literal)+) => { $(
+            check_array::<G, OUTPUT, $size>(fresh);
+            check_items::<G, OUTPUT, $size>(fresh);
+        )+ };
+    }
+    check!(1 2 64 255 256 257 512 513 1000 4096);
+    check_array::<G, OUTPUT, 65_537>(fresh);
+}
+
+/// Arrays and blocks are moved by value, some of them in each call.
+fn on_a_large_stack(checks: fn()) {
+    let thread = thread::Builder::new().stack_size(1 << 26).spawn(checks);
+    thread.expect("a thread").join().expect("all checks pass");
+}
+
+#[test]
+fn arrays_of_any_length() {
+    on_a_large_stack(|| {
+        check_arrays(&Waste::new());
+        check_arrays(&Rising::<3>::new());
+        check_arrays(&WyRand::new_seed(42));
+        check_arrays(&ChaCha8::new_key([1; 32], [2; 8]));
+        check_arrays(&ChaChaGroups::<2>::new_key([1; 32], [2; 8]));
+        let mut buffered = BufferedRng::new(Waste::new());
+        let _: [u8; 3] = buffered.generate();
+        check_arrays(&buffered);
+        let mut stream = chacha_stream::<8>([1; 32], [2; 8]);
+        let _: [u8; 300] = stream.generate();
+        check_arrays(&stream);
+    });
+}
+
 const LENGTHS: [usize; 13] = [0, 1, 7, 8, 9, 63, 64, 65, 255, 256, 257, 4096, 70_000];
 
 /// The blocks of a generator, one after another, until they have at least `count` bytes.
@@ -224,9 +303,7 @@ fn blocks_of_any_size() {
         check::<65_537>();
         check::<100_000>();
     }
-    // Blocks are moved by value, some of them in each call.
-    let thread = thread::Builder::new().stack_size(1 << 26).spawn(checks);
-    thread.expect("a thread").join().expect("all checks pass");
+    on_a_large_stack(checks);
 }
 
 /// The values of every type are read from the bytes of one request.

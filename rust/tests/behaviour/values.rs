@@ -109,6 +109,20 @@ fn integers_that_are_not_zero() {
     check!(NonZeroI8 NonZeroI16 NonZeroI32 NonZeroI64 NonZeroI128 NonZeroIsize);
 }
 
+/// One bit is enough, wherever it is.
+#[test]
+fn wide_integers_that_are_not_zero() {
+    for bit in 0..128 {
+        let words = [[0; 16], [0; 16], (1_u128 << bit).to_le_bytes()].concat();
+        let number: NonZeroU128 = ByteScript::new(&words).generate();
+        assert_eq!(number.get(), 1 << bit);
+        let mut rng = ByteScript::new(&words);
+        let number: NonZeroI128 = rng.generate();
+        assert_eq!(number.get(), 1 << bit);
+        assert_eq!(rng.drawn(), 48);
+    }
+}
+
 /// Where `usize` has fewer bits too: it has the low ones of a value, and its ranges are those of 64.
 #[test]
 #[allow(clippy::cast_possible_truncation, clippy::cast_possible_wrap)]
@@ -217,4 +231,106 @@ fn wide_words_at_the_border() {
     let mut rng = zeros();
     assert_eq!(rng.generate_range(..3_u128), Err(RangeError::Exhausted));
     assert_eq!(rng.drawn(), 2 * 128);
+}
+
+/// The halves of a product, the high one first, by digits of 32 bits.
+fn long_product(left: u128, right: u128) -> (u128, u128) {
+    let digits = |number: u128| {
+        [0, 32, 64, 96].map(|shift| u64::try_from(number >> shift & 0xffff_ffff).expect("a digit"))
+    };
+    let mut product = [0_u64; 8];
+    for (place, digit) in digits(left).iter().enumerate() {
+        let mut carry = 0;
+        for (index, other) in (place..).zip(digits(right)) {
+            let sum = product[index] + digit * other + carry;
+            product[index] = sum & 0xffff_ffff;
+            carry = sum >> 32;
+        }
+        product[place + 4] = carry;
+    }
+    let [low, high] = [0, 4].map(|first| {
+        let digits = product[first..first + 4].iter().rev();
+        digits.fold(0, |number, digit| number << 32 | u128::from(*digit))
+    });
+    (high, low)
+}
+
+/// 2^128 modulo the size: so many low halves, the least ones, are rejected.
+fn count_of_rejected(size: u128) -> u128 {
+    (u128::MAX % size + 1) % size
+}
+
+/// The number that a word names, by the definition.
+fn named(size: u128, word: u128) -> Option<u128> {
+    let (number, low) = long_product(word, size);
+    (low >= count_of_rejected(size)).then_some(number)
+}
+
+/// The least word whose product with the size has this low half. The greatest power of 2 in the
+/// size divides each.
+fn word_of(size: u128, low: u128) -> u128 {
+    let shift = size.trailing_zeros();
+    let odd = size >> shift;
+    let mut inverse = odd; // right in its lowest three bits, then in twice as many
+    for _ in 0..6 {
+        inverse = inverse.wrapping_mul(2_u128.wrapping_sub(odd.wrapping_mul(inverse)));
+    }
+    (low >> shift).wrapping_mul(inverse) & u128::MAX >> shift
+}
+
+/// The words at each border, below and above it, and some others.
+fn words_at_borders(size: u128) -> Vec<u128> {
+    let step = 1 << size.trailing_zeros();
+    let others = u128::MAX
+        .checked_shl(128 - size.trailing_zeros())
+        .unwrap_or(0);
+    let borders = [
+        0,
+        count_of_rejected(size),
+        size,
+        size << 1,
+        1 << 64,
+        1 << 127,
+    ];
+    let lows = borders.map(|low| low & !(step - 1));
+    let words = lows.map(|low| {
+        [low.wrapping_sub(step), low, low.wrapping_add(step)].map(|low| word_of(size, low))
+    });
+    let mut words = words.concat();
+    words.extend(words.clone().iter().map(|word| word | others));
+    words.extend([1, u128::MAX, u128::MAX / 3, u128::MAX / size]);
+    words
+}
+
+/// By ranges that begin at 0, that end with the greatest number, and that begin with the least.
+#[allow(clippy::cast_possible_wrap)] // the least number is rank 0
+fn check_wide_size(size: u128) {
+    let last = word_of(size, count_of_rejected(size));
+    let end = named(size, last).expect("the first that is accepted");
+    for word in words_at_borders(size) {
+        let (number, count) = named(size, word).map_or((end, 32), |number| (number, 16));
+        let fresh = ByteScript::new(&[word.to_le_bytes(), last.to_le_bytes()].concat());
+        let mut rng = fresh.clone();
+        assert_eq!(rng.generate_range(..size), Ok(number), "{size} {word}");
+        assert_eq!(rng.drawn(), count, "{size} {word}");
+        let first = u128::MAX - size + 1;
+        let drawn = fresh.clone().generate_range(first..);
+        assert_eq!(drawn, Ok(first + number), "{size} {word}");
+        let signed = |number| i128::MIN.wrapping_add(number as i128);
+        let drawn = fresh.clone().generate_range(..=signed(size - 1));
+        assert_eq!(drawn, Ok(signed(number)), "{size} {word}");
+    }
+}
+
+#[test]
+fn wide_ranges_are_those_of_the_definition() {
+    (1..=300).for_each(check_wide_size);
+    for bit in 9..128 {
+        let power = 1_u128 << bit;
+        (power - 3..=power + 3).for_each(check_wide_size);
+        let sizes = [power / 3, power / 5 * 3, power / 7 * 6, power | power >> 1];
+        sizes.into_iter().for_each(check_wide_size);
+    }
+    (3..39).for_each(|power| check_wide_size(10_u128.pow(power)));
+    (0..5).for_each(|less| check_wide_size(u128::MAX - less));
 }

@@ -65,10 +65,11 @@ pub struct Calls<S> {
     pub shuffle: fn(&mut S, &mut [usize]) -> u8,
     pub shuffle_full: fn(&mut S, &mut [usize]) -> u8,
     pub sample: fn(&mut S, usize, &mut [usize]) -> u8,
+    pub extend_sample: fn(&mut S, usize, &mut [usize], usize, &mut [usize]) -> u8,
     pub part: Option<fn(&mut S, u64, u64) -> u8>,
 }
 
-/// The nine calls of a generator, in the library of a prefix. They are made where calls of C are safe.
+/// The ten calls of a generator, in the library of a prefix. They are made where calls of C are safe.
 macro_rules! calls {
     ($prefix:literal, $generator:literal, $state:ty) => {{
         extern "C" {
@@ -90,6 +91,16 @@ macro_rules! calls {
             fn shuffle_full(rng: &mut $state, items: *mut usize, length: usize) -> u8;
             #[link_name = concat!($prefix, $generator, "_sample")]
             fn sample(rng: &mut $state, count: usize, places: *mut usize, length: usize) -> u8;
+            #[link_name = concat!($prefix, $generator, "_extend_sample")]
+            fn extend_sample(
+                rng: &mut $state,
+                count: usize,
+                places: *mut usize,
+                places_length: usize,
+                filled: usize,
+                table: *mut usize,
+                length: usize,
+            ) -> u8;
         }
         Calls::<$state> {
             u64: |rng| u64(rng),
@@ -101,6 +112,11 @@ macro_rules! calls {
             shuffle: |rng, items| shuffle(rng, items.as_mut_ptr(), items.len()),
             shuffle_full: |rng, items| shuffle_full(rng, items.as_mut_ptr(), items.len()),
             sample: |rng, count, places| sample(rng, count, places.as_mut_ptr(), places.len()),
+            extend_sample: |rng, count, places, filled, table| {
+                let (slots, items) = (places.len(), table.len());
+                let (places, table) = (places.as_mut_ptr(), table.as_mut_ptr());
+                extend_sample(rng, count, places, slots, filled, table, items)
+            },
             part: None,
         }
     }};
@@ -127,6 +143,11 @@ pub struct Library {
     pub stream: Calls<Stream>,
     pub keystream: Calls<GroupStream>,
     pub new_seed: fn(u64) -> WyRand,
+    pub wyrand_seed: fn(&mut WyRand, u64),
+    pub pcg64_seed: fn(&mut Wide, u64),
+    pub chacha_seeds: [fn(&mut ChaChaState, u64); 3],
+    pub stream_seed: fn(&mut Stream, u64),
+    pub keystream_seed: fn(&mut GroupStream, u64),
     pub wyrand_jump: fn(&mut WyRand, u64),
     pub pcg64_jump: fn(&mut Wide, &Wide),
     pub blocks: [fn(&mut ChaChaState, &mut [u8; 64]); 3],
@@ -142,6 +163,20 @@ macro_rules! library {
         extern "C" {
             #[link_name = concat!($prefix, "wyrand_new_seed")]
             fn new_seed(seed: u64) -> WyRand;
+            #[link_name = concat!($prefix, "wyrand_seed_from_u64")]
+            fn wyrand_seed(rng: &mut WyRand, number: u64);
+            #[link_name = concat!($prefix, "pcg64_seed_from_u64")]
+            fn pcg64_seed(seed: &mut Wide, number: u64);
+            #[link_name = concat!($prefix, "chacha8_seed_from_u64")]
+            fn chacha8_seed(state: &mut ChaChaState, number: u64);
+            #[link_name = concat!($prefix, "chacha12_seed_from_u64")]
+            fn chacha12_seed(state: &mut ChaChaState, number: u64);
+            #[link_name = concat!($prefix, "chacha20_seed_from_u64")]
+            fn chacha20_seed(state: &mut ChaChaState, number: u64);
+            #[link_name = concat!($prefix, "stream_seed_from_u64")]
+            fn stream_seed(stream: &mut Stream, number: u64);
+            #[link_name = concat!($prefix, "keystream_seed_from_u64")]
+            fn keystream_seed(stream: &mut GroupStream, number: u64);
             #[link_name = concat!($prefix, "wyrand_jump")]
             fn wyrand_jump(rng: &mut WyRand, draws: u64);
             #[link_name = concat!($prefix, "pcg64_jump")]
@@ -196,6 +231,15 @@ macro_rules! library {
                     ..calls!($prefix, "keystream", GroupStream)
                 },
                 new_seed: |seed| new_seed(seed),
+                wyrand_seed: |rng, number| wyrand_seed(rng, number),
+                pcg64_seed: |seed, number| pcg64_seed(seed, number),
+                chacha_seeds: [
+                    |state, number| chacha8_seed(state, number),
+                    |state, number| chacha12_seed(state, number),
+                    |state, number| chacha20_seed(state, number),
+                ],
+                stream_seed: |stream, number| stream_seed(stream, number),
+                keystream_seed: |stream, number| keystream_seed(stream, number),
                 wyrand_jump: |rng, draws| wyrand_jump(rng, draws),
                 pcg64_jump: |seed, draws| pcg64_jump(seed, draws),
                 blocks: [
