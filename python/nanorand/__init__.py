@@ -5,16 +5,17 @@
 from memory, and nothing reseeds itself. For keys, tokens and passwords, or where an adversary
 matters, take a vetted one.
 
-The seed of `WyRand` and `Pcg64` is the state itself, and is not mixed: generators with neighbouring
-seeds draw correlated numbers. The docstrings of the two say what to do.
+`seed_from_u64` of each class makes a generator of any number, and mixes it. The seed that `WyRand`
+and `Pcg64` themselves take is the state, and is not mixed: generators with neighbouring seeds draw
+correlated numbers.
 
 `nanorand.randoms` has the generators as `random.Random`, `nanorand.lots` the public draw by lot,
 and `nanorand.errors` every error.
 
 >>> from nanorand import WyRand
->>> rng = WyRand(42)
+>>> rng = WyRand.seed_from_u64(42)
 >>> rng.range(1, 100)
-69
+35
 """
 
 from nanorand import errors

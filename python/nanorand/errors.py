@@ -7,7 +7,7 @@ digits by how many bits it has.
 
 >>> from nanorand import EmptyRange, WyRand
 >>> try:
-...     WyRand(42).range(6, 1)
+...     WyRand.seed_from_u64(42).range(6, 1)
 ... except EmptyRange as error:
 ...     print(error)
 no number from 6 to 1
@@ -73,7 +73,7 @@ class PastPeriod(NanorandError, ValueError):
     """A part ends past the period of the generator, where its draws come again.
 
     >>> from nanorand import WyRand
-    >>> WyRand(42).part(2**32, 2**32)
+    >>> WyRand.seed_from_u64(42).part(2**32, 2**32)
     Traceback (most recent call last):
     nanorand.errors.PastPeriod: part 4294967296, of 4294967296 draws, ends past the period
     """

@@ -5,8 +5,8 @@
 matters, take a vetted one.
 
 >>> from nanorand.generators import WyRand
->>> WyRand(42).below(100)
-68
+>>> WyRand.seed_from_u64(42).below(100)
+34
 """
 
 from nanorand._native import ChaCha8, ChaCha12, ChaCha20, Generator, Pcg64, Stream, WyRand

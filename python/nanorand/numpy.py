@@ -13,7 +13,7 @@ matters, take a vetted one.
 >>> rng = numpy.random.Generator(Pcg64Bits(42))
 >>> len(rng.normal(size=1000))
 1000
->>> Pcg64Bits.of(Pcg64(42)).random_raw() == Pcg64(42).u64()
+>>> Pcg64Bits.of(Pcg64.seed_from_u64(42)).random_raw() == Pcg64.seed_from_u64(42).u64()
 True
 """
 
@@ -68,10 +68,11 @@ class GeneratorBits(BitGenerator):
         For one of many tasks it is that of the task's part of one stream.
 
         >>> from nanorand import Pcg64, WyRand
-        >>> rng = WyRand(42)
+        >>> rng = WyRand.seed_from_u64(42)
         >>> WyRandBits.of(rng).random_raw() == rng.u64()
         True
-        >>> tasks = [numpy.random.Generator(Pcg64Bits.of(Pcg64(42).part(task, 2**40 + 1))) for task in range(4)]
+        >>> root = Pcg64.seed_from_u64(42)
+        >>> tasks = [numpy.random.Generator(Pcg64Bits.of(root.part(task, 2**40 + 1))) for task in range(4)]
         >>> len({task.integers(2**60) for task in tasks})
         4
         """

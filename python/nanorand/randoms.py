@@ -16,9 +16,9 @@ None of the classes is a vetted cryptographic generator: for keys, tokens and pa
 adversary matters, take a vetted one.
 
 >>> from nanorand.randoms import WyRandRandom
->>> rng = WyRandRandom(42)
+>>> rng = WyRandRandom("seed 42")
 >>> rng.getrandbits(64), rng.randint(1, 6)
-(12558987674375533620, 2)
+(17154516133070439476, 2)
 """
 
 import hashlib
@@ -46,8 +46,8 @@ Seed = Union[None, SupportsIndex, float, str, bytes, bytearray]
 class GeneratorRandom(BaseRandom):
     """What the classes of this module have in common. They draw from `generator`.
 
-    >>> WyRandRandom(42).generator
-    WyRand(0x2a)
+    >>> WyRandRandom("seed 42").generator
+    WyRand(0xd95fc6fdf7c1b745)
     """
 
     _kind: ClassVar[type[Generator]]
@@ -68,9 +68,9 @@ class GeneratorRandom(BaseRandom):
     def seed(self, a: Seed = None, version: int = 2) -> None:  # type: ignore[override]
         """Starts anew from a seed. `version` changes nothing. Other types are a TypeError.
 
-        >>> rng = Pcg64Random(7)
+        >>> rng = Pcg64Random("seed 7")
         >>> first = rng.random()
-        >>> rng.seed(7)
+        >>> rng.seed("seed 7")
         >>> rng.random() == first
         True
         """
@@ -112,7 +112,7 @@ class GeneratorRandom(BaseRandom):
     def setstate(self, state: "tuple[Any, ...]") -> None:
         """Goes back to a state that `getstate` gave. One of another generator is `ForeignState`.
 
-        >>> WyRandRandom(1).setstate(Pcg64Random(1).getstate())
+        >>> WyRandRandom("seed 1").setstate(Pcg64Random("seed 1").getstate())
         Traceback (most recent call last):
         nanorand.errors.ForeignState: the state is not one of WyRand
         """
@@ -130,8 +130,8 @@ class WyRandRandom(GeneratorRandom):
 
     A whole number as seed is not mixed: generators with neighbouring seeds draw correlated numbers.
 
-    >>> WyRandRandom(42).randbytes(4).hex()
-    '34b4a9dd'
+    >>> WyRandRandom("seed 42").randbytes(4).hex()
+    '34045fd5'
     """
 
     _kind = WyRand
@@ -143,8 +143,8 @@ class Pcg64Random(GeneratorRandom):
 
     A whole number as seed is not mixed: generators with neighbouring seeds draw correlated numbers.
 
-    >>> Pcg64Random(0).randbytes(4).hex()
-    '3f75823f'
+    >>> Pcg64Random("seed 0").randbytes(4).hex()
+    'a0e95bce'
     """
 
     _kind = Pcg64
@@ -154,8 +154,8 @@ class Pcg64Random(GeneratorRandom):
 class ChaCha8Random(GeneratorRandom):
     """`ChaCha8` as `random.Random`: each number takes a block of 64 bytes, which `StreamRandom` does not.
 
-    >>> ChaCha8Random(0).randbytes(4).hex()
-    '3e00ef2f'
+    >>> ChaCha8Random("seed 0").randbytes(4).hex()
+    'bf935bf3'
     """
 
     _kind = ChaCha8
@@ -166,8 +166,8 @@ class ChaCha8Random(GeneratorRandom):
 class ChaCha12Random(GeneratorRandom):
     """`ChaCha12` as `random.Random`: each number takes a block of 64 bytes, which `StreamRandom` does not.
 
-    >>> ChaCha12Random(0).randbytes(4).hex()
-    '9bf49a6a'
+    >>> ChaCha12Random("seed 0").randbytes(4).hex()
+    '2b99b993'
     """
 
     _kind = ChaCha12
@@ -178,8 +178,8 @@ class ChaCha12Random(GeneratorRandom):
 class ChaCha20Random(GeneratorRandom):
     """`ChaCha20` as `random.Random`: each number takes a block of 64 bytes, which `StreamRandom` does not.
 
-    >>> ChaCha20Random(0).randbytes(4).hex()
-    '76b8e0ad'
+    >>> ChaCha20Random("seed 0").randbytes(4).hex()
+    '0b9b3dc9'
     """
 
     _kind = ChaCha20
@@ -190,8 +190,8 @@ class ChaCha20Random(GeneratorRandom):
 class StreamRandom(GeneratorRandom):
     """`Stream`, the unbroken keystream of ChaCha20, as `random.Random`.
 
-    >>> StreamRandom(0).randbytes(4).hex()
-    '76b8e0ad'
+    >>> StreamRandom("seed 0").randbytes(4).hex()
+    '0b9b3dc9'
     """
 
     _kind = Stream

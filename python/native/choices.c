@@ -242,9 +242,9 @@ PyDoc_STRVAR(choices_doc,
 "one call.\n"
 "\n"
 ">>> from nanorand import WyRand\n"
-">>> WyRand(42).choices([\"red\", \"green\", \"blue\"], [5, 0, 1], k=6)\n"
-"['red', 'blue', 'red', 'blue', 'red', 'blue']\n"
-">>> WyRand(42).choices(\"ab\", [0, 0])\n"
+">>> WyRand.seed_from_u64(6).choices([\"red\", \"green\", \"blue\"], [5, 0, 1], k=6)\n"
+"['red', 'red', 'blue', 'red', 'blue', 'red']\n"
+">>> WyRand.seed_from_u64(42).choices(\"ab\", [0, 0])\n"
 "Traceback (most recent call last):\n"
 "nanorand.errors.EmptyRange: no item has a weight\n");
 

@@ -251,9 +251,9 @@ PyDoc_STRVAR(fill_range_doc,
 ">>> from array import array\n"
 ">>> from nanorand import WyRand\n"
 ">>> dice = array(\"B\", bytes(6))\n"
-">>> WyRand(42).fill_range(dice, 1, 6)\n"
+">>> WyRand.seed_from_u64(42).fill_range(dice, 1, 6)\n"
 ">>> dice\n"
-"array('B', [6, 2, 2, 2, 1, 1])\n");
+"array('B', [5, 2, 3, 1, 4, 6])\n");
 
 PyDoc_STRVAR(fill_random_doc,
 "fill_random($self, /, buffer)\n"
@@ -267,8 +267,8 @@ PyDoc_STRVAR(fill_random_doc,
 ">>> from array import array\n"
 ">>> from nanorand import WyRand\n"
 ">>> floats = array(\"d\", [0, 0])\n"
-">>> WyRand(42).fill_random(floats)\n"
-">>> rng = WyRand(42)\n"
+">>> WyRand.seed_from_u64(42).fill_random(floats)\n"
+">>> rng = WyRand.seed_from_u64(42)\n"
 ">>> floats.tolist() == [rng.random(), rng.random()]\n"
 "True\n");
 

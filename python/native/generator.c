@@ -209,6 +209,25 @@ static PyObject *call_from_state(PyObject *class, PyObject *const *given, Py_ssi
     return of_state(class, state);
 }
 
+static PyObject *call_seed_from_u64(PyObject *class, PyObject *const *given, Py_ssize_t placed, PyObject *names)
+{
+    static const Parameters wanted = {"seed_from_u64", 1, 1, 1, {"number"}};
+    PyObject *value;
+    uint64_t number;
+    if (take_arguments(&wanted, given, placed, names, &value) < 0
+        || take_u64("number", value, UINT64_MAX, &number) < 0) {
+        return NULL;
+    }
+    PyObject *made = new_of(class);
+    if (made != NULL) {
+        Generator *rng = (Generator *)made;
+        Saved seeded = {{0}};
+        rng->kind->seed(seeded.bytes, number);
+        set_state(rng, seeded.bytes);
+    }
+    return made;
+}
+
 /* So many bytes of os.urandom. */
 static PyObject *system_bytes(size_t count)
 {
@@ -310,7 +329,8 @@ PyDoc_STRVAR(generator_doc,
 "Two generators are equal if they are of one class and their states are equal.\n"
 "\n"
 ">>> from nanorand import Pcg64, WyRand\n"
-">>> WyRand(42) == WyRand(42), WyRand(42) == WyRand(43), WyRand(42) == Pcg64(42)\n"
+">>> rng, same, other = (WyRand.seed_from_u64(number) for number in (42, 42, 43))\n"
+">>> rng == same, rng == other, rng == Pcg64.seed_from_u64(42)\n"
 "(True, False, False)\n");
 
 PyDoc_STRVAR(state_doc,
@@ -320,7 +340,7 @@ PyDoc_STRVAR(state_doc,
 "length is `WrongLength`.\n"
 "\n"
 ">>> from nanorand import Pcg64, Stream\n"
-">>> rng = Pcg64(42)\n"
+">>> rng = Pcg64.seed_from_u64(42)\n"
 ">>> saved = rng.state\n"
 ">>> first = rng.u64()\n"
 ">>> rng.state = saved\n"
@@ -338,6 +358,22 @@ PyDoc_STRVAR(from_state_doc,
 ">>> from nanorand import WyRand\n"
 ">>> WyRand.from_state(bytes([42, 0, 0, 0, 0, 0, 0, 0]))\n"
 "WyRand(0x2a)\n");
+
+PyDoc_STRVAR(seed_from_u64_doc,
+"seed_from_u64($type, /, number)\n"
+"--\n"
+"\n"
+"A generator whose seed is made from a number, which may be small: 0, 1, 2, .., a port, a year.\n"
+"\n"
+"The seed, or the key and then the nonce, is what SplitMix64 draws from the number (Guy Steele, Doug Lea and\n"
+"Christine Flood, 2014, in Sebastiano Vigna's constants), each word little-endian. Different numbers give\n"
+"different states. There are only 2^64 such keys: they keep no secret.\n"
+"\n"
+"A number below 0 or from 2^64 on is `OutOfBounds`.\n"
+"\n"
+">>> from nanorand import WyRand\n"
+">>> WyRand.seed_from_u64(2026)\n"
+"WyRand(0xdb9c559891948d23)\n");
 
 PyDoc_STRVAR(from_entropy_doc,
 "from_entropy($type, /)\n"
@@ -359,7 +395,7 @@ PyDoc_STRVAR(copy_doc,
 "A generator with the same state.\n"
 "\n"
 ">>> from nanorand import WyRand\n"
-">>> rng = WyRand(42)\n"
+">>> rng = WyRand.seed_from_u64(42)\n"
 ">>> rng.copy().u64() == rng.u64()\n"
 "True\n");
 
@@ -376,7 +412,7 @@ PyDoc_STRVAR(part_doc,
 "`PastPeriod`. An index or a number of draws below 0 or from 2^64 on is `OutOfBounds`.\n"
 "\n"
 ">>> from nanorand import Pcg64\n"
-">>> rng = Pcg64(42)\n"
+">>> rng = Pcg64.seed_from_u64(42)\n"
 ">>> parts = [rng.part(index, 2) for index in range(3)]\n"
 ">>> drawn = [part.u64() for part in parts for _ in range(2)]\n"
 ">>> drawn == [rng.u64() for _ in range(6)]\n"
@@ -384,6 +420,7 @@ PyDoc_STRVAR(part_doc,
 
 static PyMethodDef calls[] = {
     {"from_state", CALL(call_from_state), METH_CLASS | METH_FASTCALL | METH_KEYWORDS, from_state_doc},
+    {"seed_from_u64", CALL(call_seed_from_u64), METH_CLASS | METH_FASTCALL | METH_KEYWORDS, seed_from_u64_doc},
     {"from_entropy", call_from_entropy, METH_CLASS | METH_NOARGS, from_entropy_doc},
     {"copy", call_copy, METH_NOARGS, copy_doc},
     {"part", CALL(call_part), METH_FASTCALL | METH_KEYWORDS, part_doc},

@@ -5,6 +5,10 @@
 
 /* The functions that every generator of nanorand.h has, and that of parts. */
 #define FUNCTIONS(name)                                                                                       \
+    static void name##_seed(void *state, uint64_t number)                                                     \
+    {                                                                                                         \
+        nanorand_##name##_seed_from_u64(state, number);                                                       \
+    }                                                                                                         \
     static uint64_t name##_u64(void *state)                                                                   \
     {                                                                                                         \
         return nanorand_##name##_u64(state);                                                                  \
@@ -33,9 +37,10 @@
     {                                                                                                         \
         return nanorand_##name##_shuffle_full(state, items, length);                                          \
     }                                                                                                         \
-    static uint8_t name##_sample(void *state, size_t count, size_t *places, size_t length)                    \
+    static uint8_t name##_extend_sample(void *state, size_t count, size_t *places, size_t length,             \
+                                        size_t filled, size_t *table, size_t room)                            \
     {                                                                                                         \
-        return nanorand_##name##_sample(state, count, places, length);                                        \
+        return nanorand_##name##_extend_sample(state, count, places, length, filled, table, room);            \
     }                                                                                                         \
     static uint8_t name##_part(void *state, uint64_t index, uint64_t draws)                                   \
     {                                                                                                         \
@@ -49,9 +54,9 @@
     }
 
 #define TABLE(name)                                                                                           \
-    .u64 = name##_u64, .fill_bytes = name##_fill_bytes, .range_u32 = name##_range_u32,                        \
+    .seed = name##_seed, .u64 = name##_u64, .fill_bytes = name##_fill_bytes, .range_u32 = name##_range_u32,   \
     .range_u64 = name##_range_u64, .range_i64 = name##_range_i64, .shuffle = name##_shuffle,                  \
-    .shuffle_full = name##_shuffle_full, .sample = name##_sample, .part = name##_part
+    .shuffle_full = name##_shuffle_full, .extend_sample = name##_extend_sample, .part = name##_part
 
 /* A state whose bytes are those of its structure. */
 #define PLAIN(structure)                                                                                      \

@@ -33,13 +33,15 @@ typedef struct {
     size_t shortest, longest; /* of the state as bytes */
     size_t entropy;           /* so many bytes of a state are the system's, and zeros follow */
     int joined;               /* requests are joined without a gap */
+    void (*seed)(void *state, uint64_t number);
     uint64_t (*u64)(void *state);
     void (*fill_bytes)(void *state, uint8_t *buffer, size_t length);
     uint8_t (*range_u32)(void *state, uint32_t first, uint32_t last, uint32_t *number);
     uint8_t (*range_u64)(void *state, uint64_t first, uint64_t last, uint64_t *number);
     uint8_t (*range_i64)(void *state, int64_t first, int64_t last, int64_t *number);
     Permutation *shuffle, *shuffle_full;
-    uint8_t (*sample)(void *state, size_t count, size_t *places, size_t length);
+    uint8_t (*extend_sample)(void *state, size_t count, size_t *places, size_t length, size_t filled, size_t *table,
+                             size_t room);
     uint8_t (*part)(void *state, uint64_t index, uint64_t draws);
     void (*block)(void *state, uint8_t *block); /* of ChaCha alone */
     /* The state as bytes, and how many they are; and the state of so many bytes, which are enough. */

@@ -226,8 +226,8 @@ PyDoc_STRVAR(u64_doc,
 "A number of 64 bits, from 0 to 2^64 - 1.\n"
 "\n"
 ">>> from nanorand import WyRand\n"
-">>> WyRand(42).u64()\n"
-"12558987674375533620\n");
+">>> WyRand.seed_from_u64(42).u64()\n"
+"6327169416285365978\n");
 
 PyDoc_STRVAR(random_doc,
 "random($self, /)\n"
@@ -236,8 +236,8 @@ PyDoc_STRVAR(random_doc,
 "A number from 0.0 to below 1.0: the upper 53 bits of the next `u64`, times 2^-53.\n"
 "\n"
 ">>> from nanorand import WyRand\n"
-">>> WyRand(42).random()\n"
-"0.6808240860388313\n");
+">>> WyRand.seed_from_u64(42).random()\n"
+"0.34299654134102164\n");
 
 PyDoc_STRVAR(bytes_doc,
 "bytes($self, /, length)\n"
@@ -259,8 +259,8 @@ PyDoc_STRVAR(below_doc,
 "`Exhausted` the 128 rejected words stay consumed.\n"
 "\n"
 ">>> from nanorand import WyRand\n"
-">>> WyRand(42).below(100)\n"
-"68\n");
+">>> WyRand.seed_from_u64(42).below(100)\n"
+"34\n");
 
 PyDoc_STRVAR(range_doc,
 "range($self, /, first, last)\n"
@@ -273,9 +273,9 @@ PyDoc_STRVAR(range_doc,
 "the 128 rejected words stay consumed.\n"
 "\n"
 ">>> from nanorand import WyRand\n"
-">>> WyRand(42).range(1, 100), WyRand(42).range(-50, 49)\n"
-"(69, 18)\n"
-">>> WyRand(42).range(6, 1)\n"
+">>> WyRand.seed_from_u64(42).range(1, 100), WyRand.seed_from_u64(42).range(-50, 49)\n"
+"(35, -16)\n"
+">>> WyRand.seed_from_u64(42).range(6, 1)\n"
 "Traceback (most recent call last):\n"
 "nanorand.errors.EmptyRange: no number from 6 to 1\n");
 
@@ -289,9 +289,9 @@ PyDoc_STRVAR(randint_doc,
 "`Exhausted` the 128 rejected words stay consumed.\n"
 "\n"
 ">>> from nanorand import WyRand\n"
-">>> WyRand(42).randint(1, 100)\n"
-"69\n"
-">>> WyRand(42).randint(1, 2**64)\n"
+">>> WyRand.seed_from_u64(42).randint(1, 100)\n"
+"35\n"
+">>> WyRand.seed_from_u64(42).randint(1, 2**64)\n"
 "Traceback (most recent call last):\n"
 "nanorand.errors.OutOfBounds: b is 18446744073709551616, not in -9223372036854775808..=18446744073709551615\n");
 
@@ -306,8 +306,8 @@ PyDoc_STRVAR(range32_doc,
 "consumed.\n"
 "\n"
 ">>> from nanorand import WyRand\n"
-">>> WyRand(42).range32(1, 6)\n"
-"6\n");
+">>> WyRand.seed_from_u64(42).range32(1, 6)\n"
+"5\n");
 
 PyDoc_STRVAR(uniform_doc,
 "uniform($self, /, a, b)\n"
@@ -316,8 +316,8 @@ PyDoc_STRVAR(uniform_doc,
 "`a` + (`b` - `a`) * `random()`, as in `random.uniform`: `b` itself can come of rounding.\n"
 "\n"
 ">>> from nanorand import WyRand\n"
-">>> WyRand(42).uniform(-1, 1)\n"
-"0.36164817207766253\n");
+">>> WyRand.seed_from_u64(42).uniform(-1, 1)\n"
+"-0.3140069173179567\n");
 
 PyMethodDef number_calls[] = {
     {"u64", call_u64, METH_NOARGS, u64_doc},

@@ -170,9 +170,9 @@ PyDoc_STRVAR(generator_doc,
 "The generator that is drawn from. Another one of its kind can be put in its place.\n"
 "\n"
 ">>> from nanorand.randoms import WyRandRandom\n"
-">>> rng = WyRandRandom(42)\n"
+">>> rng = WyRandRandom(\"seed 42\")\n"
 ">>> rng.generator\n"
-"WyRand(0x2a)\n"
+"WyRand(0xd95fc6fdf7c1b745)\n"
 ">>> rng.getrandbits(64) == rng.generator.u64()\n"
 "False\n");
 
@@ -183,8 +183,8 @@ PyDoc_STRVAR(random_doc,
 "A number from 0.0 to below 1.0: the upper 53 bits of the next `u64`, times 2^-53.\n"
 "\n"
 ">>> from nanorand.randoms import WyRandRandom\n"
-">>> WyRandRandom(42).random()\n"
-"0.6808240860388313\n");
+">>> WyRandRandom(\"seed 42\").random()\n"
+"0.9299481829706302\n");
 
 PyDoc_STRVAR(getrandbits_doc,
 "getrandbits($self, /, k)\n"
@@ -196,7 +196,9 @@ PyDoc_STRVAR(getrandbits_doc,
 "\n"
 ">>> from nanorand import WyRand\n"
 ">>> from nanorand.randoms import WyRandRandom\n"
-">>> WyRandRandom(42).getrandbits(8) == WyRand(42).bytes(1)[0]\n"
+">>> rng = WyRandRandom(\"seed 42\")\n"
+">>> same = rng.generator.copy()\n"
+">>> rng.getrandbits(8) == same.bytes(1)[0]\n"
 "True\n");
 
 PyDoc_STRVAR(randbytes_doc,
@@ -207,7 +209,9 @@ PyDoc_STRVAR(randbytes_doc,
 "\n"
 ">>> from nanorand import WyRand\n"
 ">>> from nanorand.randoms import WyRandRandom\n"
-">>> WyRandRandom(42).randbytes(9) == WyRand(42).bytes(9)\n"
+">>> rng = WyRandRandom(\"seed 42\")\n"
+">>> same = rng.generator.copy()\n"
+">>> rng.randbytes(9) == same.bytes(9)\n"
 "True\n");
 
 static PyMethodDef calls[] = {

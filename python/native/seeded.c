@@ -98,8 +98,9 @@ PyDoc_STRVAR(seed_doc,
 "The seed that makes an equal generator.\n"
 "\n"
 ">>> from nanorand import WyRand\n"
-">>> WyRand(42).seed\n"
-"42\n");
+">>> rng = WyRand.seed_from_u64(42)\n"
+">>> WyRand(rng.seed) == rng\n"
+"True\n");
 
 static PyGetSetDef parts[] = {
     {"seed", get_seed, NULL, seed_doc, NULL},
@@ -114,15 +115,15 @@ PyDoc_STRVAR(wyrand_doc,
 "it.\n"
 "\n"
 "The seed is the state itself, and is not mixed: generators with neighbouring seeds, such as 0, 1, 2, .., draw\n"
-"correlated numbers. For many generators take parts of one stream (`part`), or mixed seeds: numbers that another\n"
-"generator drew, or the first 8 bytes of a SHA-256 of a name.\n"
+"correlated numbers. For such numbers take `seed_from_u64`. For many generators take parts of one stream (`part`), or\n"
+"mixed seeds: numbers that another generator drew, or the first 8 bytes of a SHA-256 of a name.\n"
 "\n"
 "A seed below 0 or from 2^64 on is `OutOfBounds`.\n"
 "\n"
 ">>> from nanorand import WyRand\n"
-">>> rng = WyRand(42)\n"
+">>> rng = WyRand.seed_from_u64(42)\n"
 ">>> rng.range(1, 100), rng.range(1, 100)\n"
-"(69, 92)\n");
+"(35, 82)\n");
 
 PyDoc_STRVAR(jump_wyrand_doc,
 "jump($self, /, draws)\n"
@@ -131,10 +132,10 @@ PyDoc_STRVAR(jump_wyrand_doc,
 "Leaves what so many draws leave, below 2^64 of them. Other numbers are `OutOfBounds`.\n"
 "\n"
 ">>> from nanorand import WyRand\n"
-">>> rng = WyRand(42)\n"
+">>> rng = WyRand.seed_from_u64(42)\n"
 ">>> rng.jump(1000)\n"
 ">>> rng.u64()\n"
-"869430474806095620\n");
+"4435970483277311118\n");
 
 static PyMethodDef wyrand_calls[] = {
     {"jump", CALL(call_jump_wyrand), METH_FASTCALL | METH_KEYWORDS, jump_wyrand_doc},
@@ -151,15 +152,15 @@ PyDoc_STRVAR(pcg64_doc,
 "from it.\n"
 "\n"
 "The seed is the state itself, and is not mixed: generators with neighbouring seeds, such as 0, 1, 2, .., draw\n"
-"correlated numbers. Seeds that differ by a multiple of 2^k, for k above 64, give words that agree in their low\n"
-"k - 64 bits. For many generators take parts of one stream (`part`), or mixed seeds: numbers that another generator\n"
-"drew, or the first 16 bytes of a SHA-256 of a name.\n"
+"correlated numbers. For such numbers take `seed_from_u64`. Seeds that differ by a multiple of 2^k, for k above 64,\n"
+"give words that agree in their low k - 64 bits. For many generators take parts of one stream (`part`), or mixed\n"
+"seeds: numbers that another generator drew, or the first 16 bytes of a SHA-256 of a name.\n"
 "\n"
 "A seed below 0 or from 2^128 on is `OutOfBounds`.\n"
 "\n"
 ">>> from nanorand import Pcg64\n"
-">>> Pcg64(42).range(1, 100)\n"
-"93\n");
+">>> Pcg64.seed_from_u64(42).range(1, 100)\n"
+"48\n");
 
 PyDoc_STRVAR(jump_pcg64_doc,
 "jump($self, /, draws)\n"
@@ -168,10 +169,10 @@ PyDoc_STRVAR(jump_pcg64_doc,
 "Leaves what so many draws leave, below 2^128 of them. Other numbers are `OutOfBounds`.\n"
 "\n"
 ">>> from nanorand import Pcg64\n"
-">>> rng = Pcg64(42)\n"
+">>> rng = Pcg64.seed_from_u64(42)\n"
 ">>> rng.jump(1000)\n"
 ">>> hex(rng.seed)\n"
-"'0xd39cf3ae66b76eb1d2717c7cd985cbca'\n");
+"'0x2a12d4e158f64dd6a4b03e149d4df5'\n");
 
 static PyMethodDef pcg64_calls[] = {
     {"jump", CALL(call_jump_pcg64), METH_FASTCALL | METH_KEYWORDS, jump_pcg64_doc},

@@ -37,9 +37,16 @@ static int require(const char *name, PyObject *value, const char *method, const 
     return found == 1 ? 0 : -1;
 }
 
+/* Whether the value is of a class of Python's own that is a sequence: most are, and need no other look. */
+static int is_known(PyObject *value)
+{
+    return PyList_CheckExact(value) || PyTuple_CheckExact(value) || PyUnicode_CheckExact(value)
+        || PyBytes_CheckExact(value) || PyByteArray_CheckExact(value) || Py_TYPE(value) == &PyRange_Type;
+}
+
 int require_sequence(const char *name, PyObject *value)
 {
-    if (PyList_CheckExact(value) || PyTuple_CheckExact(value) || PyUnicode_CheckExact(value)) {
+    if (is_known(value)) {
         return 0;
     }
     return require(name, value, "__getitem__", "a sequence");
@@ -111,19 +118,22 @@ static size_t *all_places(size_t count)
     return places;
 }
 
-/* Appends an item, which it takes over; or a NULL's error stays. */
-static int append(PyObject *list, PyObject *item)
+/* After so many items a signal is looked for, so that it can end what takes long. */
+enum { PIECE = 1 << 20 };
+
+/* Appends item number i, which it takes over; or a NULL's error stays, or what a signal's handler raised. */
+static int append(PyObject *list, size_t i, PyObject *item)
 {
     int added = item == NULL ? -1 : PyList_Append(list, item);
     Py_XDECREF(item);
-    return added;
+    return added == 0 && i % PIECE == PIECE - 1 ? PyErr_CheckSignals() : added;
 }
 
 PyObject *items_at(PyObject *items, const size_t *places, size_t count)
 {
     PyObject *list = PyList_New(0);
     for (size_t i = 0; list != NULL && i < count; i++) {
-        if (append(list, item_at(items, places[i])) < 0) {
+        if (append(list, i, item_at(items, places[i])) < 0) {
             Py_CLEAR(list);
         }
     }
@@ -134,7 +144,7 @@ PyObject *numbers_of(const size_t *places, size_t count)
 {
     PyObject *list = PyList_New(0);
     for (size_t i = 0; list != NULL && i < count; i++) {
-        if (append(list, PyLong_FromSize_t(places[i])) < 0) {
+        if (append(list, i, PyLong_FromSize_t(places[i])) < 0) {
             Py_CLEAR(list);
         }
     }
@@ -288,6 +298,51 @@ static PyObject *call_shuffle_full(PyObject *self, PyObject *const *given, Py_ss
 
 /* ---- Samples. ---- */
 
+/* The least length that is drawn faster with a table. */
+enum { LEAST_WITH_TABLE = 16 };
+
+/* Where a piece of a sample ends. Each piece links the places before it anew, so that later ones are longer. */
+static uint64_t end_of_piece(uint64_t filled, uint64_t length)
+{
+    uint64_t size = filled / 4 > PIECE ? filled / 4 : PIECE;
+    return length - filled < size ? length : filled + size;
+}
+
+/* Draws a sample in pieces, between which a signal is looked for: 0, or -1 and an exception. */
+static int draw_pieces(Generator *rng, uint64_t count, size_t *places, uint64_t length, size_t *table, size_t room)
+{
+    uint64_t filled = 0;
+    do {
+        uint64_t end = end_of_piece(filled, length);
+        Turn turn;
+        if (begin_turn(rng, (end - filled) * sizeof *places, &turn) < 0) {
+            return -1;
+        }
+        uint64_t missing = length - end;
+        uint8_t status = rng->kind->extend_sample(rng->state, count - missing, places, end, filled, table, room);
+        end_turn(rng, &turn);
+        if (status != NANORAND_OK) {
+            raise_status(status);
+            return -1;
+        }
+        filled = end;
+    } while (filled < length && PyErr_CheckSignals() == 0);
+    return filled < length ? -1 : 0;
+}
+
+/* A table for a sample: as many items as places, and a power of two of them or more. */
+static size_t room_for(uint64_t length)
+{
+    if (length < LEAST_WITH_TABLE) {
+        return 0;
+    }
+    size_t chains = 1;
+    while (chains < length) {
+        chains *= 2;
+    }
+    return length + chains;
+}
+
 /* Different places below `count`, and the state before them; or NULL. */
 static size_t *draw_places(Generator *rng, uint64_t count, uint64_t length, Saved *before)
 {
@@ -296,16 +351,14 @@ static size_t *draw_places(Generator *rng, uint64_t count, uint64_t length, Save
         return NULL;
     }
     size_t *places = new_array(length, sizeof *places);
-    Turn turn;
-    if (places == NULL || begin_turn(rng, length * sizeof *places, &turn) < 0) {
-        PyMem_Free(places);
-        return NULL;
+    size_t *table = places == NULL ? NULL : new_array(room_for(length), sizeof *table);
+    int drawn = table == NULL ? -1 : ready(rng);
+    if (drawn == 0) {
+        keep_state(rng, before);
+        drawn = draw_pieces(rng, count, places, length, table, room_for(length));
     }
-    keep_state(rng, before);
-    uint8_t status = rng->kind->sample(rng->state, count, places, length);
-    end_turn(rng, &turn);
-    if (status != NANORAND_OK) {
-        raise_status(status);
+    PyMem_Free(table);
+    if (drawn < 0) {
         PyMem_Free(places);
         return NULL;
     }
@@ -362,9 +415,9 @@ PyDoc_STRVAR(choice_doc,
 "words stay consumed.\n"
 "\n"
 ">>> from nanorand import WyRand\n"
-">>> WyRand(42).choice(\"abcdefghij\")\n"
-"'g'\n"
-">>> WyRand(42).choice([])\n"
+">>> WyRand.seed_from_u64(42).choice(\"abcdefghij\")\n"
+"'d'\n"
+">>> WyRand.seed_from_u64(42).choice([])\n"
 "Traceback (most recent call last):\n"
 "nanorand.errors.EmptyRange: items is empty\n");
 
@@ -381,9 +434,9 @@ PyDoc_STRVAR(shuffle_doc,
 "\n"
 ">>> from nanorand import WyRand\n"
 ">>> digits = list(range(10))\n"
-">>> WyRand(42).shuffle(digits)\n"
+">>> WyRand.seed_from_u64(42).shuffle(digits)\n"
 ">>> digits\n"
-"[6, 9, 8, 1, 0, 3, 4, 7, 5, 2]\n");
+"[3, 8, 7, 0, 2, 5, 9, 1, 4, 6]\n");
 
 PyDoc_STRVAR(shuffle_full_doc,
 "shuffle_full($self, /, items)\n"
@@ -395,9 +448,9 @@ PyDoc_STRVAR(shuffle_full_doc,
 "\n"
 ">>> from nanorand import WyRand\n"
 ">>> digits = list(range(10))\n"
-">>> WyRand(42).shuffle_full(digits)\n"
+">>> WyRand.seed_from_u64(42).shuffle_full(digits)\n"
 ">>> digits\n"
-"[2, 9, 0, 4, 5, 3, 7, 6, 8, 1]\n");
+"[4, 5, 6, 3, 7, 8, 1, 9, 0, 2]\n");
 
 PyDoc_STRVAR(sample_doc,
 "sample($self, /, population, length)\n"
@@ -407,14 +460,15 @@ PyDoc_STRVAR(sample_doc,
 "\n"
 "Each set of places has equally many words. Their order is not random: shuffle it if that\n"
 "matters. It raises `EmptyRange` if there are fewer items, and `OutOfBounds` for a length below 0 or from 2^64 on.\n"
-"A length of 0 draws nothing. After `Exhausted` the words stay consumed.\n"
+"A length of 0 draws nothing. After `Exhausted`, or if a signal ends the call while it draws, the words stay\n"
+"consumed.\n"
 "\n"
-"The time is O(k^2) for a length of k, since each number drawn is compared with those before it. For a large k\n"
-"shuffle a list and take its beginning.\n"
+"The expected time is O(k) for a length of k. If k is a large part of a list, shuffle the list and take its\n"
+"beginning.\n"
 "\n"
 ">>> from nanorand import WyRand\n"
-">>> WyRand(42).sample(\"abcdefghij\", 3)\n"
-"['f', 'i', 'h']\n");
+">>> WyRand.seed_from_u64(42).sample(\"abcdefghij\", 3)\n"
+"['c', 'h', 'g']\n");
 
 PyDoc_STRVAR(sample_below_doc,
 "sample_below($self, /, count, length)\n"
@@ -423,11 +477,12 @@ PyDoc_STRVAR(sample_below_doc,
 "`length` different numbers below `count`: the places of a sample.\n"
 "\n"
 "Both are from 0 to 2^64 - 1, or it is `OutOfBounds`; a `length` above `count` is `EmptyRange`. A length of 0 draws\n"
-"nothing. After `Exhausted` the words stay consumed. The time is O(k^2) for a length of k.\n"
+"nothing. After `Exhausted`, or if a signal ends the call while it draws, the words stay consumed. The expected\n"
+"time is O(k) for a length of k.\n"
 "\n"
 ">>> from nanorand import WyRand\n"
-">>> WyRand(42).sample_below(10, 3)\n"
-"[5, 8, 7]\n");
+">>> WyRand.seed_from_u64(42).sample_below(10, 3)\n"
+"[2, 7, 6]\n");
 
 PyMethodDef sequence_calls[] = {
     {"choice", CALL(call_choice), METH_FASTCALL | METH_KEYWORDS, choice_doc},

@@ -1,6 +1,12 @@
-"""What the tests share: every generator, and comparisons of states."""
+"""What the tests share: every generator, comparisons of states, copies of errors, and long memory."""
 
-from nanorand import ChaCha8, ChaCha12, ChaCha20, Pcg64, Stream, WyRand
+import copy
+import ctypes
+import mmap
+import os
+import pickle
+
+from nanorand import ChaCha8, ChaCha12, ChaCha20, NanorandError, Pcg64, Stream, WyRand
 from nanorand.randoms import (
     ChaCha8Random,
     ChaCha12Random,
@@ -29,6 +35,10 @@ RANDOMS = {
     ChaCha20Random: ChaCha20,
     StreamRandom: Stream,
 }
+# The ways of a copy, and of what crosses processes.
+COPIES = [copy.copy, copy.deepcopy]
+COPIES += [lambda thing, protocol=protocol: pickle.loads(pickle.dumps(thing, protocol))
+           for protocol in range(pickle.HIGHEST_PROTOCOL + 1)]
 
 
 def generators():
@@ -41,14 +51,28 @@ def generators():
 
 
 def refuses(test, rng, errors, call):
-    """The call raises exactly one of these errors, and leaves the state."""
+    """The call raises exactly one of these errors, and leaves the state. An error of this package can be copied."""
     before = rng.state
     with test.assertRaises(errors) as caught:
         call(rng)
     if isinstance(errors, type):
         test.assertIs(type(caught.exception), errors)
     test.assertEqual(rng.state, before)
+    if isinstance(caught.exception, NanorandError):
+        stays_itself(test, caught.exception)
     return caught.exception
+
+
+def told_of(error):
+    """What can be seen of an error."""
+    return type(error), error.args, str(error), repr(error), vars(error)
+
+
+def stays_itself(test, error, ways=COPIES):
+    """Every copy of an error is as the error, and so is one that is made by hand of its arguments."""
+    made = type(error)(*error.args)
+    for again in (made, *(way(error) for way in ways), *(way(way(error)) for way in ways)):
+        test.assertEqual(told_of(again), told_of(error))
 
 
 def views_of(text):
@@ -59,3 +83,29 @@ def views_of(text):
         memoryview(bytearray(text[::-1]))[::-1],
         memoryview(text).cast("b"),
     ]
+
+
+WINDOW = 1 << 22
+MAP_FIXED = 0x10  # of Linux
+
+
+def long_memory(test):
+    """More than 2 GiB that take 4 MiB: one window over and over, which keeps what is written last."""
+    if "COVERAGE_FILE" in os.environ:
+        test.skipTest("what counts lines is too slow for so much memory")
+    try:
+        length, descriptor = 2**31 + WINDOW, os.memfd_create("a window")
+        test.addCleanup(os.close, descriptor)
+        os.ftruncate(descriptor, length)
+        memory = mmap.mmap(descriptor, length)
+        test.addCleanup(memory.close)
+        place, whole = ctypes.CDLL(None, use_errno=True).mmap, ctypes.c_int
+        place.restype = ctypes.c_void_p
+        place.argtypes = [ctypes.c_void_p, ctypes.c_size_t, whole, whole, whole, ctypes.c_long]
+        start, writes = ctypes.addressof(ctypes.c_char.from_buffer(memory)), mmap.PROT_READ | mmap.PROT_WRITE
+        for at in range(start, start + length, WINDOW):
+            if place(at, WINDOW, writes, mmap.MAP_SHARED | MAP_FIXED, descriptor, 0) != at:
+                raise OSError(ctypes.get_errno(), "mmap")
+    except (AttributeError, OSError) as error:
+        test.skipTest(f"this system has no such memory: {error}")
+    return memory

@@ -3,6 +3,8 @@
 It runs in the repository: the wheel does not have what it tests.
 """
 
+import contextlib
+import glob
 import os
 import subprocess
 import sys
@@ -77,7 +79,37 @@ class Places(unittest.TestCase):
         self.assertEqual(words[words.index("--target-dir") + 1], str(self.top / "rust/c/target"))
 
 
+def listed(order):
+    """Every way to list a folder gives its files in this order."""
+    patches = contextlib.ExitStack()
+    for place, name in (Path, "glob"), (Path, "rglob"), (Path, "iterdir"), (os, "listdir"), (glob, "glob"):
+        def found(*given, own=getattr(place, name), **named):
+            return order([*own(*given, **named)])
+
+        patches.enter_context(mock.patch.object(place, name, found))
+    return patches
+
+
+def written(includes, archive, module):
+    """What `link` makes, without a compiler."""
+    module.write_bytes(b"a module")
+
+
 class Tools(unittest.TestCase):
+    def linked(self, order):
+        with listed(order), mock.patch.object(backend, "run") as run:
+            backend.link(["one", "other"], "archive.a", "module.so")
+        return run.call_args_list
+
+    def test_commands_have_one_order(self):
+        """Whatever the order in which a folder lists its files."""
+        commands = self.linked(sorted)
+        self.assertEqual(self.linked(lambda files: sorted(files, reverse=True)), commands)
+        self.assertEqual(self.linked(lambda files: sorted(files, key=lambda file: str(file)[::-1])), commands)
+        words = [word for [words, _] in commands for word in words if word.endswith(".c")]
+        self.assertEqual(words, sorted(str(backend.HERE / "native" / name)
+                                       for name in os.listdir(backend.HERE / "native") if name.endswith(".c")))
+
     def test_the_compiler(self):
         cases = [
             ("clang -m64", "gcc", ["clang", "-m64"]),
@@ -166,6 +198,18 @@ class Tools(unittest.TestCase):
 
 
 class Wheels(unittest.TestCase):
+    def packed(self, order):
+        """The name of a wheel and its bytes."""
+        patches = {"library": mock.Mock(), "link": written, "symbols": mock.Mock(return_value=["PyInit__native"])}
+        with tempfile.TemporaryDirectory() as folder, mock.patch.multiple(backend, **patches):
+            with listed(order):
+                name = backend.build_wheel(folder)
+            return name, (Path(folder) / name).read_bytes()
+
+    def test_a_wheel_has_one_order(self):
+        wheel = self.packed(sorted)
+        self.assertEqual(self.packed(lambda files: sorted(files, reverse=True)), wheel)
+
     def test_what_is_packed(self):
         with tempfile.TemporaryDirectory() as folder:
             module = Path(folder) / "module.so"
@@ -186,10 +230,8 @@ class Wheels(unittest.TestCase):
             self.assertEqual(set(modes.values()), {0o100644})
 
     def test_a_module_is_looked_at_before_it_is_packed(self):
-        def link(includes, archive, module):
-            module.write_bytes(b"a module")
-
-        patches = {"library": mock.Mock(), "link": link, "symbols": mock.Mock(return_value=["PyInit__native", "more"])}
+        exported = mock.Mock(return_value=["PyInit__native", "more"])
+        patches = {"library": mock.Mock(), "link": written, "symbols": exported}
         with tempfile.TemporaryDirectory() as folder, mock.patch.multiple(backend, **patches):
             self.assertRaises(backend.BuildFailed, backend.build_wheel, folder)
             self.assertEqual(os.listdir(folder), [])

@@ -10,7 +10,7 @@ import subprocess
 import sys
 import unittest
 
-from makers import CLASSES
+from makers import CLASSES, WINDOW, long_memory, stays_itself
 
 from nanorand import EmptyRange, Exhausted, PastPeriod, lots
 from nanorand.errors import SeedNotText, TooFew
@@ -54,6 +54,8 @@ class Refusals(unittest.TestCase):
                         with self.assertRaises(error) as caught:
                             call(rng)
                         self.assertIs(type(caught.exception), error)
+                        self.assertEqual(caught.exception.args, ())
+                        stays_itself(self, caught.exception)
                         self.assertEqual(rng.state[2], 1)
 
     def test_parts(self):
@@ -66,6 +68,7 @@ class Refusals(unittest.TestCase):
                 with self.assertRaises(PastPeriod) as caught:
                     rng.part(1, 1)
                 self.assertIs(type(caught.exception), PastPeriod)
+                stays_itself(self, caught.exception)
                 self.assertEqual(rng.state, before)
 
     def test_texts(self):
@@ -98,11 +101,21 @@ class Refusals(unittest.TestCase):
                         refusing(kind, 2, after=2).fill_range(items, 1, 3)
                     self.assertEqual(items.tolist(), [2, 2] + [7] * (length - 2))
 
+    def test_more_than_two_gib(self):
+        """The number of items is no multiple of 256, by which the state counts them."""
+        memory = long_memory(self)
+        for letter, middle in ("Q", 2), ("q", 3), ("i", 4):
+            rng, items = refusing("wyrand", 0), memoryview(memory).cast(letter)[5:]
+            rng.fill_range(items, middle - 1, middle + 1)
+            self.assertEqual(rng.state[2], len(items) % 256)
+            self.assertTrue(memory[:WINDOW] == array.array(letter, [middle] * (WINDOW // items.itemsize)).tobytes())
+
     def test_lots(self):
         for status, error in ((b"\2", SeedNotText), (b"\3", TooFew), (b"\x08", Exhausted), (b"\x09", Exhausted)):
             with self.assertRaises(error) as caught:
                 lots.draw(status, ["a", "b", "c"], 2)
             self.assertIs(type(caught.exception), error)
+            stays_itself(self, caught.exception)
         with self.assertRaises(TooFew) as caught:
             lots.draw(b"\3", ["a", "b", "c"], 2)
         self.assertEqual((caught.exception.entrants, caught.exception.count), (3, 2))

@@ -41,6 +41,10 @@ static uint8_t permuted(void *state, size_t *items, size_t length)
     }
 
 #define GENERATOR(name, state_type)                                                                          \
+    void nanorand_##name##_seed_from_u64(state_type *state, uint64_t number)                                 \
+    {                                                                                                        \
+        memcpy(state, &number, sizeof number);                                                               \
+    }                                                                                                        \
     uint64_t nanorand_##name##_u64(state_type *state)                                                        \
     {                                                                                                        \
         return drawn(state);                                                                                 \
@@ -60,10 +64,11 @@ static uint8_t permuted(void *state, size_t *items, size_t length)
     {                                                                                                        \
         return permuted(state, items, length);                                                               \
     }                                                                                                        \
-    uint8_t nanorand_##name##_sample(state_type *state, size_t count, size_t *places, size_t length)         \
+    uint8_t nanorand_##name##_extend_sample(state_type *state, size_t count, size_t *places, size_t length,  \
+                                            size_t filled, size_t *table, size_t room)                       \
     {                                                                                                        \
-        (void)count;                                                                                         \
-        memset(places, 0, length * sizeof *places);                                                          \
+        (void)count, (void)table, (void)room;                                                                \
+        memset(places + filled, 0, (length - filled) * sizeof *places);                                      \
         return drawn(state);                                                                                 \
     }                                                                                                        \
     uint8_t nanorand_##name##_part(state_type *state, uint64_t index, uint64_t draws)                        \

@@ -59,6 +59,8 @@ def given(generator, before, call, arguments):
     """The status, the result and the state after a public call."""
     if call == "new_seed":
         return 0, "-", WyRand(int(arguments)).state.hex()
+    if call == "seed_from_u64":
+        return 0, "-", CLASSES[generator].seed_from_u64(int(arguments)).state.hex()
     rng = CLASSES[generator].from_state(bytes.fromhex(before))
     try:
         if call == "part":
@@ -105,7 +107,7 @@ class Answers(unittest.TestCase):
                 self.assertEqual(answer, (int(status), result, after))
                 tried.add((generator, call))
         # Ten calls of six generators, three blocks, two jumps and a new seed.
-        self.assertEqual(len(tried), 10 * 6 + 6)
+        self.assertEqual(len(tried), 11 * 6 + 6)
 
     def test_every_row_of_lots(self):
         calls = {"digest": given_digest, "count": given_count, "draw": given_draw}

@@ -7,7 +7,7 @@ import mmap
 import struct
 import unittest
 
-from makers import KEY, generators, refuses
+from makers import KEY, WINDOW, generators, long_memory, refuses
 
 from nanorand import EmptyRange, OutOfBounds, Stream, WyRand
 
@@ -185,6 +185,21 @@ class Floats(unittest.TestCase):
             self.assertEqual(items.tolist(), wanted)
 
 
+class Long(unittest.TestCase):
+    """More memory than 2 GiB. Ranges of it are in refusals.py, where the library is faster."""
+
+    def test_each_fill(self):
+        """What is left is what the generator draws last, and it has drawn all before."""
+        memory = long_memory(self)
+        for name, letter in ("fill", "Q"), ("fill_random", "d"), ("fill_random", "f"):
+            rng, same, last = WyRand(5), WyRand(5), array.array(letter, bytes(WINDOW))
+            every_fill(memoryview(memory).cast(letter))[name](rng)
+            same.jump((len(memory) - WINDOW) // last.itemsize)
+            every_fill(last)[name](same)
+            self.assertEqual(rng, same)
+            self.assertTrue(memory[:WINDOW] == last.tobytes())
+
+
 def every_fill(buffer):
     """The fills of a buffer, by their names."""
     return {
@@ -192,6 +207,17 @@ def every_fill(buffer):
         "fill_range": lambda rng: rng.fill_range(buffer, 0, 1),
         "fill_random": lambda rng: rng.fill_random(buffer),
     }
+
+
+def fills_of(letter):
+    """The names of the fills that take such items."""
+    return {"c": ["fill"], "d": ["fill_random"], "f": ["fill_random"]}.get(letter, ["fill", "fill_range"])
+
+
+def alike(letter, size):
+    """The type code of an array for items of that size: after some byte-order marks L has four bytes."""
+    letters = [one for one in (letter, *WHOLE) if one != "c" and one.isupper() == (letter.isupper() or letter == "c")]
+    return next(one for one in letters if array.array(one).itemsize == size)
 
 
 class Refusals(unittest.TestCase):
@@ -256,10 +282,11 @@ class Refusals(unittest.TestCase):
                 WyRand(5).fill_range(memory, first, last)
                 WyRand(5).fill_range(items, first, last)
                 self.assertEqual(list(memory), items.tolist())
-        memory = (ctypes.c_double * 50)()
-        rng = WyRand(5)
-        WyRand(5).fill_random(memory)
-        self.assertEqual(list(memory), [rng.random() for _ in memory])
+        for kind, letter in (ctypes.c_double, "d"), (ctypes.c_float, "f"):
+            memory, items = (kind * 50)(), array.array(letter, [0] * 50)
+            WyRand(5).fill_random(memory)
+            WyRand(5).fill_random(items)
+            self.assertEqual(list(memory), items.tolist())
 
     def test_memory_that_is_not_aligned(self):
         for letter in (*WHOLE, "d", "f"):
@@ -287,6 +314,42 @@ class Exporters(unittest.TestCase):
                 every_fill(made)[name](WyRand(5))
                 every_fill(items)[name](WyRand(5))
                 self.assertEqual(made.tobytes(), items.tobytes())
+
+    def marked(self, marks):
+        """A buffer of each format with each mark, and an array of the same items."""
+        for mark in marks:
+            for letter in (*WHOLE, "c", "d", "f"):
+                made = self.made(letter=mark + letter, items=[b"\0" if letter == "c" else 0] * 6)
+                yield letter, made, array.array(alike(letter, memoryview(made).itemsize), [0] * 6)
+
+    def test_marks_of_this_machine_s_order(self):
+        for letter, made, items in self.marked(["", "@", "=", "<"]):
+            for name, call in every_fill(made).items():
+                rng, same = WyRand(5), WyRand(5)
+                if name in fills_of(letter):
+                    call(rng)
+                    every_fill(items)[name](same)
+                    self.assertEqual((made.tobytes(), rng), (items.tobytes(), same), (name, made.format))
+                else:
+                    refuses(self, rng, TypeError, call)
+
+    def test_bounds_by_each_mark(self):
+        for letter, made, items in self.marked(["", "@", "=", "<"]):
+            if letter in WHOLE:
+                least, greatest = bounds_of(items.typecode)
+                for first, last in spans_of(items.typecode):
+                    WyRand(5).fill_range(made, first, last)
+                    WyRand(5).fill_range(items, first, last)
+                    self.assertEqual(made.tobytes(), items.tobytes(), made.format)
+                for first, last in ((least - 1, greatest), (least, greatest + 1)):
+                    refuses(self, WyRand(5), OutOfBounds, lambda rng, f=first, o=last: rng.fill_range(made, f, o))
+
+    def test_marks_of_another_order(self):
+        """Of items of one byte too."""
+        for _, made, _ in self.marked([">", "!"]):
+            for call in every_fill(made).values():
+                error = refuses(self, WyRand(5), TypeError, call)
+                self.assertRegex(str(error), f"^buffer has items of the format '{made.format}', not one of '")
 
     def test_what_is_refused(self):
         flags = [_testbuffer.ND_FORTRAN, _testbuffer.ND_PIL]
@@ -341,6 +404,17 @@ class NumPy(unittest.TestCase):
                 rng.fill_random(made)
                 same.fill_random(items)
                 self.assertEqual(made.ravel().tolist(), items.tolist())
+
+    def test_memory_that_is_not_aligned(self):
+        """Its items are of this machine's order too, though NumPy marks them by `=`."""
+        for letter in (*WHOLE, "d", "f"):
+            items = array.array(letter, [0] * 20)
+            made = self.numpy.frombuffer(bytearray(20 * items.itemsize + 1), letter, offset=1)
+            self.assertEqual(made.flags.aligned, items.itemsize == 1)
+            for name in fills_of(letter):
+                every_fill(made)[name](WyRand(5))
+                every_fill(items)[name](WyRand(5))
+                self.assertEqual(made.tobytes(), items.tobytes())
 
     def test_what_is_refused(self):
         numpy = self.numpy

@@ -213,6 +213,28 @@ class States(unittest.TestCase):
         rng.bytes(1)
         self.assertEqual((rng.counter, len(rng.rest)), (0, 63))
 
+    def test_seeds_of_numbers(self):
+        """The words of `splitmix64.c` from 1234567."""
+        words = "599ed017fb08fc85 2c73f08458540fa5 883ebce5a3f27c77 3fbef740e9177b3f e3b8346708cb5ecd".split()
+        seed = b"".join(bytes.fromhex(word)[::-1] for word in words)
+        for name, kind in CLASSES.items():
+            own = type("Own", (kind,), {})
+            for made in kind.seed_from_u64(1234567), own.seed_from_u64(number=1234567):
+                length = LENGTHS_OF_SEEDS[name]
+                self.assertEqual(made.state, seed[:length] + bytes(len(made.state) - length))
+            self.assertEqual((type(kind.seed_from_u64(0)), type(own.seed_from_u64(0))), (kind, own))
+            self.assertEqual(len({kind.seed_from_u64(number).state for number in range(1000)}), 1000)
+            self.assertEqual(kind.seed_from_u64(True), kind.seed_from_u64(1))
+
+    def test_numbers_that_are_no_seeds(self):
+        for kind in CLASSES.values():
+            for number in (-1, -(2**63), 2**64, 2**128):
+                with self.assertRaisesRegex(OutOfBounds, "^number is "):
+                    kind.seed_from_u64(number)
+            for number in (None, "7", b"7", 7.0):
+                with self.assertRaisesRegex(TypeError, "^number is "):
+                    kind.seed_from_u64(number)
+
     def test_entropy(self):
         for kind in CLASSES.values():
             made = [kind.from_entropy() for _ in range(8)]
@@ -516,11 +538,13 @@ class Lists(unittest.TestCase):
 
     def test_samples(self):
         for rng in generators():
-            for population in ("abcdefghij", list("abcdefghij"), tuple("abcdefghij"), OwnList("abcdefghij")):
+            letters = b"abcdefghij"
+            for population in ("abcdefghij", list("abcdefghij"), tuple("abcdefghij"), OwnList("abcdefghij"), letters,
+                               bytearray(letters), array.array("B", letters), range(97, 107)):
                 for length in (0, 1, 3, 10):
                     same = rng.copy()
                     drawn = rng.sample(population, length)
-                    self.assertEqual(drawn, ["abcdefghij"[place] for place in same.sample_below(10, length)])
+                    self.assertEqual(drawn, [population[place] for place in same.sample_below(10, length)])
                     self.assertEqual(len(set(drawn)), length)
                     self.assertIs(type(drawn), list)
             for length in (11, 2**63, LAST):
@@ -535,6 +559,29 @@ class Lists(unittest.TestCase):
             for population in (None, 5, {1, 2, 3}, {0: 1, 1: 2}, iter("abc")):
                 refuses(self, rng, TypeError, lambda rng, population=population: rng.sample(population, 1))
             self.assertTrue(all(0 <= number < 10**18 for number in rng.sample(range(10**18), 5)))
+
+    def test_samples_of_every_length(self):
+        """Floyd's algorithm: number j of the last `length` numbers joins if the one drawn from 0 to j is there."""
+        for rng in generators():
+            for length in (*range(14, 19), 31, 32, 33, 100, 128, 129, 1000):
+                for count in (length, length + 1, 2 * length, 10**6, 2**63 + 1, LAST):
+                    same, wanted = rng.copy(), {}
+                    for last in range(count - length, count):
+                        drawn = same.range(0, last)
+                        wanted[last if drawn in wanted else drawn] = None
+                    self.assertEqual(rng.sample_below(count, length), list(wanted), (length, count))
+                    self.assertEqual(rng, same)
+
+    def test_samples_in_pieces(self):
+        """The first places of a sample are one of as many numbers less as places are left out."""
+        for rng in (WyRand(5), Stream(bytes(32))):
+            for length in (2**20 - 1, 2**20, 2**20 + 1, 2**21 + 5):
+                same = rng.copy()
+                drawn = rng.sample_below(2**40, length)
+                self.assertEqual(len(set(drawn)), length)
+                self.assertLess(max(drawn), 2**40)
+                begun = same.sample_below(2**40 - (length - 10**6), 10**6)
+                self.assertEqual(drawn[:10**6], begun)
 
 
 class Errors(unittest.TestCase):

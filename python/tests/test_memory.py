@@ -100,6 +100,7 @@ SUCCEED = {
     "fill_random": lambda rng: rng.fill_random(DOUBLES),
     "states": lambda rng: (rng.state, setattr(rng, "state", rng.state), type(rng).from_state(rng.state), rng.copy()),
     "from_entropy": lambda rng: type(rng).from_entropy(),
+    "seed_from_u64": lambda rng: (type(rng).seed_from_u64(7), type(rng).seed_from_u64(number=2**64 - 1)),
     "part": lambda rng: (rng.part(2**60, 3), rng.part(index=1, draws=2**60)),
     "compared": lambda rng: (rng == rng.copy(), rng != rng.copy(), rng == 5, rng < rng.copy() if False else None),
     "pickled": lambda rng: pickle.loads(pickle.dumps(rng)),

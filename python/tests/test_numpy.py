@@ -10,7 +10,7 @@ import threading
 import unittest
 from array import array
 
-from makers import KEY, NONCE
+from makers import KEY, NONCE, stays_itself
 from test_answers import octets, rows
 
 from nanorand import ChaCha20, Pcg64, Stream, WyRand, _native, lots
@@ -157,10 +157,14 @@ class States(unittest.TestCase):
                 self.assertEqual(rng.random(300).tolist(), first)
 
     def test_refused(self):
+        """They leave all as it was, though their other parts are those of another state."""
         for start in STARTS:
-            bits = bits_of(start)
-            DRAWS[Model.half_word](bits)
-            state = bits.state
+            bits, same, older = bits_of(start), bits_of(start), bits_of(start)
+            for one, draws in (bits, 3), (same, 3), (older, 5):
+                for _ in range(draws):
+                    DRAWS[Model.half_word](one)
+            before, state = bits.state, older.state
+            self.assertTrue(before["has_uint32"] and state["has_uint32"] and before["uinteger"] != state["uinteger"])
             for wrong, error in [
                 *[(value, TypeError) for value in (None, 5, "state", [1], {"state"})],
                 *[({}, ForeignState), ({"bit_generator": state["bit_generator"]}, ForeignState)],
@@ -175,7 +179,11 @@ class States(unittest.TestCase):
                 with self.assertRaises(error) as caught:
                     bits.state = wrong
                 self.assertIs(type(caught.exception), error)
-                self.assertEqual(bits.state, state)
+                if error is not TypeError:
+                    stays_itself(self, caught.exception)
+                self.assertEqual(bits.state, before)
+            for draw in (DRAWS[Model.half_word], *DRAWS.values()):
+                self.assertEqual(draw(bits), draw(same))
 
     def test_every_half_word_is_one(self):
         for start in STARTS:

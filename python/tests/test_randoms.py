@@ -12,9 +12,9 @@ import sys
 import unittest
 import weakref
 
-from makers import KEY, RANDOMS, refuses
+from makers import KEY, RANDOMS, refuses, stays_itself
 
-from nanorand import OutOfBounds, Pcg64, Stream, WyRand
+from nanorand import OutOfBounds, Pcg64, Stream, WrongLength, WyRand
 from nanorand.errors import ForeignState
 from nanorand.randoms import GeneratorRandom, Pcg64Random, StreamRandom, WyRandRandom
 
@@ -71,6 +71,20 @@ class Twin(random.Random):
     def getrandbits(self, k):
         octets = self.generator.bytes(-(-k // 8))
         return int.from_bytes(octets, "little") // 2 ** (8 * len(octets) - k)
+
+
+def refused_states(kind):
+    """Each state that `setstate` refuses, with the error."""
+    older = kind(2)
+    older.gauss(0, 1)
+    name, octets, kept = older.getstate()
+    foreign = [other(2).getstate() for other in RANDOMS if other is not kind]
+    foreign += [random.Random(2).getstate(), (), None, 5, b"state", (name, octets), (name, octets, kept, None)]
+    foreign += [[name, octets, kept], *((other, octets, kept) for other in (None, 5, "", name.encode(), name.lower()))]
+    foreign += [(name, octets, other) for other in ("x", b"x", 1, True, 1j, (kept,), type("Own", (float,), {})(kept))]
+    wrong = [octets[:7], b"", b"short", octets + bytes(64)]
+    return [*((ForeignState, state) for state in foreign), *((WrongLength, (name, other, kept)) for other in wrong),
+            *((TypeError, (name, other, kept)) for other in (None, 5, "text", [*octets], older.generator))]
 
 
 class Randoms(unittest.TestCase):
@@ -265,23 +279,22 @@ class Randoms(unittest.TestCase):
                 other.setstate(saved)
                 self.assertEqual([other.gauss(0, 1) for _ in range(5)], wanted)
 
-    def test_foreign_states(self):
+    def test_refused_states(self):
+        """They leave all as it was, though their other parts are those of another state."""
         for kind in RANDOMS:
-            rng = kind(1)
-            rng.gauss(0, 1)
-            good = rng.getstate()
-            self.assertIsNotNone(good[2])
-            foreign = [other(1).getstate() for other in RANDOMS if other is not kind]
-            foreign += [random.Random(1).getstate(), (), None, 5, good[:2], (*good, None), list(good)]
-            foreign += [(good[0], good[1], "x")]
-            for state in foreign:
-                with self.assertRaises(ForeignState):
-                    rng.setstate(state)
-                self.assertEqual(rng.getstate(), good)
-            for state in ((good[0], b"short", None), (good[0], None, None)):
-                with self.assertRaises((ValueError, TypeError)):
-                    rng.setstate(state)
-                self.assertEqual(rng.getstate(), good)
+            rng, same = kind(1), kind(1)
+            own = rng.generator
+            for error, state in refused_states(kind):
+                for _ in range(2):
+                    with self.assertRaises(error) as caught:
+                        rng.setstate(state)
+                    if error is not TypeError:
+                        self.assertIs(type(caught.exception), error)
+                        stays_itself(self, caught.exception)
+                    self.assertIs(rng.generator, own)
+                    self.assertEqual(rng.getstate(), same.getstate())
+                    # With what `gauss` has kept, and without.
+                    self.assertEqual((rng.gauss(0, 1), rng.random()), (same.gauss(0, 1), same.random()))
 
     def test_copies(self):
         ways = [copy.copy, copy.deepcopy]

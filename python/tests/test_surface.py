@@ -3,7 +3,6 @@
 import array
 import copy
 import inspect
-import pickle
 import re
 import subprocess
 import sys
@@ -11,7 +10,7 @@ import unittest
 from pathlib import Path
 from unittest import mock
 
-from makers import CHACHAS, CLASSES, KEY, NONCE, RANDOMS, generators, refuses
+from makers import CHACHAS, CLASSES, COPIES, KEY, NONCE, RANDOMS, generators, refuses, stays_itself
 
 from nanorand import ChaCha20, OutOfBounds, Pcg64, Stream, WrongLength, WyRand, errors, generators as kinds, lots
 
@@ -29,6 +28,44 @@ SPECIAL = {
 OF_EVERY_CLASS = {
     *("__module__", "__doc__", "__dict__", "__weakref__", "__annotations__", "__qualname__"),
     *("__static_attributes__", "__firstlineno__", "__annotate_func__", "__annotations_cache__"),
+}
+# The calls of generators that raise errors of this package, by their names. What needs 128 words is in refusals.py.
+RAISING = {
+    "state": [("WrongLength", lambda rng: setattr(rng, "state", b"short"))],
+    "from_state": [("WrongLength", lambda rng: rng.from_state(b"short"))],
+    "seed_from_u64": [("OutOfBounds", lambda rng: rng.seed_from_u64(-1)),
+                      ("OutOfBounds", lambda rng: rng.seed_from_u64(2**64))],
+    "part": [("OutOfBounds", lambda rng: rng.part(-1, 1)), ("OutOfBounds", lambda rng: rng.part(1, 2**64)),
+             ("PastPeriod", lambda rng: rng.part(2**64 - 1, 2**64 - 1))],
+    "jump": [("OutOfBounds", lambda rng: rng.jump(-1))],
+    "bytes": [("OutOfBounds", lambda rng: rng.bytes(-1))],
+    "below": [("EmptyRange", lambda rng: rng.below(0)), ("OutOfBounds", lambda rng: rng.below(HUGE))],
+    "range": [("EmptyRange", lambda rng: rng.range(2, 1)), ("EmptyRange", lambda rng: rng.range(-1, -2)),
+              ("OutOfBounds", lambda rng: rng.range(0, HUGE)), ("OutOfBounds", lambda rng: rng.range(-1, 2**63))],
+    "range32": [("EmptyRange", lambda rng: rng.range32(2, 1)), ("OutOfBounds", lambda rng: rng.range32(-1, 1))],
+    "randint": [("EmptyRange", lambda rng: rng.randint(2, 1)), ("OutOfBounds", lambda rng: rng.randint(0, HUGE))],
+    "choice": [("EmptyRange", lambda rng: rng.choice([]))],
+    "choices": [("EmptyRange", lambda rng: rng.choices([])), ("EmptyRange", lambda rng: rng.choices("ab", [0, 0])),
+                ("WrongLength", lambda rng: rng.choices("ab", [1])),
+                ("OutOfBounds", lambda rng: rng.choices("ab", k=-1)),
+                ("OutOfBounds", lambda rng: rng.choices("ab", [1, -1])),
+                ("OutOfBounds", lambda rng: rng.choices("ab", [1.0, -1.0])),
+                ("OutOfBounds", lambda rng: rng.choices("ab", cum_weights=[2, 1])),
+                ("WrongLength", lambda rng: rng.choices("ab", cum_weights=[1]))],
+    "sample": [("EmptyRange", lambda rng: rng.sample("ab", 3)), ("OutOfBounds", lambda rng: rng.sample("ab", -1))],
+    "sample_below": [("EmptyRange", lambda rng: rng.sample_below(2, 3)),
+                     ("OutOfBounds", lambda rng: rng.sample_below(-1, 0))],
+    "fill_range": [("EmptyRange", lambda rng: rng.fill_range(bytearray(2), 2, 1)),
+                   ("OutOfBounds", lambda rng: rng.fill_range(bytearray(2), 0, 256))],
+}
+NEVER_RAISING = {"u64", "random", "uniform", "copy", "from_entropy", "fill", "fill_random", "shuffle", "shuffle_full"}
+# What an error is made of; each other one is made of its text.
+ARGUMENTS = {
+    "EmptySeed": lambda error: (),
+    "SeedNotText": lambda error: (),
+    "EmptyLine": lambda error: (error.line,),
+    "TooFew": lambda error: (error.entrants, error.count),
+    "ForeignState": lambda error: (error.generator,),
 }
 
 
@@ -58,9 +95,11 @@ class Arguments(unittest.TestCase):
             self.assertEqual(parameters(chacha), ["key", "nonce", "counter"])
 
     def test_an_error_names_the_argument(self):
-        good = {"first": 0, "last": 9, "count": 9, "length": 1, "population": "abc", "end": 5, "index": 1, "draws": 1}
+        good = {"first": 0, "last": 9, "count": 9, "length": 1, "population": "abc", "end": 5, "index": 1, "draws": 1,
+                "number": 7}
         for rng in generators():
-            for call in ("bytes", "below", "range", "range32", "sample", "sample_below", "jump", "part"):
+            calls = "seed_from_u64", "bytes", "below", "range", "range32", "sample", "sample_below", "jump", "part"
+            for call in calls:
                 for name in parameters(getattr(rng, call, lambda: None)):
                     given = {other: good[other] for other in parameters(getattr(rng, call))}
                     for bad, kind in ((None, TypeError), (HUGE, OutOfBounds), (-HUGE, OutOfBounds)):
@@ -72,7 +111,7 @@ class Arguments(unittest.TestCase):
     def test_arguments_that_do_not_fit(self):
         """Too few and too many, one twice, and one of another name: of each call."""
         good = {"first": 0, "last": 9, "count": 9, "length": 1, "population": "abc", "end": 5, "draws": 1, "a": 1,
-                "b": 2, "index": 1, "items": [1, 2], "buffer": b"", "state": b""}
+                "b": 2, "index": 1, "items": [1, 2], "buffer": b"", "state": b"", "number": 7}
         members = [name for name in dir(kinds.Generator) if not name.startswith("_")]
         calls = [name for name in members if callable(getattr(kinds.Generator, name))]
         self.assertGreater(len(calls), 18)
@@ -197,17 +236,59 @@ class Errors(unittest.TestCase):
         told = ("EmptyRange", "OutOfBounds", "PastPeriod", "WrongLength", "LibraryRefused", "NanorandError")
         rows += [(getattr(errors, name), ("why not",), "why not", {}) for name in told]
         self.assertEqual({kind.__name__ for kind, *_ in rows}, set(errors.__all__))
-        ways = [copy.copy, copy.deepcopy]
-        ways += [lambda error, protocol=protocol: pickle.loads(pickle.dumps(error, protocol))
-                 for protocol in range(pickle.HIGHEST_PROTOCOL + 1)]
         for kind, arguments, text, attributes in rows:
-            for way in ways:
+            for way in COPIES:
                 error = kind(*arguments)
                 error.added = [1]
                 for again in (error, way(error), way(way(error))):
                     self.assertIs(type(again), kind)
                     self.assertEqual((again.args, str(again)), (arguments, text))
                     self.assertEqual(vars(again), {**attributes, "added": [1]})
+
+    def raised(self, kind, call, *given):
+        """An error that a call raises: it has its arguments, and so has every copy."""
+        with self.assertRaises(kind) as caught:
+            call(*given)
+        error = caught.exception
+        self.assertIs(type(error), kind)
+        self.assertEqual(error.args, ARGUMENTS.get(kind.__name__, lambda error: (str(error),))(error))
+        stays_itself(self, error)
+
+    def test_errors_of_every_call(self):
+        members = {name for name in dir(kinds.Generator) if not name.startswith("_")}
+        self.assertEqual(members - set(RAISING) - NEVER_RAISING, set())
+        for rng in generators():
+            for name, calls in RAISING.items():
+                for kind, call in calls if hasattr(rng, name) else []:
+                    with self.subTest(generator=type(rng).__name__, name=name, kind=kind):
+                        self.raised(getattr(errors, kind), call, rng)
+
+    def test_errors_of_makers(self):
+        calls = [("OutOfBounds", kind, -1) for kind in (WyRand, Pcg64)]
+        for kind in (*CHACHAS, Stream):
+            calls += [("WrongLength", kind, b"short"), ("WrongLength", kind, KEY, b"short"),
+                      ("OutOfBounds", kind, KEY, NONCE, -1)]
+        calls += [("WrongLength", Stream, KEY, NONCE, 0, bytes(64))]
+        for kind, *call in calls:
+            self.raised(getattr(errors, kind), *call)
+
+    def test_errors_of_lots(self):
+        calls = [("EmptySeed", "", ["a"]), ("EmptySeed", b"", b"a"), ("SeedNotText", b"\xff", ["a"]),
+                 ("SeedNotText", "\ud800", ["a"]), ("EmptyLine", "seed", b"a\n\n"), ("TooFew", "seed", b"a\n", 2),
+                 ("TooFew", "seed", ["a"], 2**64 - 1), ("OutOfBounds", "seed", ["a"], -1)]
+        for kind, *given in calls:
+            self.raised(getattr(errors, kind), lots.draw, *given)
+        self.raised(errors.EmptyLine, lots.count, b"a\nb\n\n")
+
+    def test_errors_of_randoms(self):
+        for kind in RANDOMS:
+            rng = kind(1)
+            name = rng.getstate()[0]
+            calls = [("OutOfBounds", rng.getrandbits, -1), ("OutOfBounds", rng.randbytes, -1),
+                     ("ForeignState", rng.setstate, ()), ("ForeignState", rng.setstate, (name, NONCE, "x")),
+                     ("WrongLength", rng.setstate, (name, b"short", None))]
+            for error, *call in calls:
+                self.raised(getattr(errors, error), *call)
 
 
 class Imports(unittest.TestCase):
@@ -246,6 +327,8 @@ class Imports(unittest.TestCase):
                 with self.assertRaises(ImportError) as caught:
                     import nanorand  # noqa: F401
             self.assertEqual((type(caught.exception).__name__, str(caught.exception)), ("LibraryRefused", text))
+            self.assertEqual(caught.exception.args, (text,))
+            stays_itself(self, caught.exception, [copy.copy, copy.deepcopy])
 
     def test_an_import_does_nothing_else(self):
         code = "import random; state = random.getstate(); import nanorand; assert state == random.getstate()"

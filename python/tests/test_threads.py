@@ -2,6 +2,7 @@
 
 import array
 import copy
+import faulthandler
 import os
 import pickle
 import subprocess
@@ -9,12 +10,14 @@ import sys
 import threading
 import time
 import unittest
+from unittest import mock
 
 from makers import CLASSES, RANDOMS, generators
 
 from nanorand import ChaCha20, WyRand
 
 LONG = 30_000_000  # bytes that take long
+HANGS = 300  # seconds that no test takes
 
 CALLS = {
     "u64": lambda rng: rng.u64(),
@@ -75,8 +78,8 @@ LONG_CALLS = {
     "fill_range, narrow": lambda rng: rng.fill_range(SHORTS, 0, 99),
     "fill_random": lambda rng: rng.fill_random(DOUBLES),
     "fill_random, floats": lambda rng: rng.fill_random(FLOATS),
-    "sample_below": lambda rng: rng.sample_below(10**9, 10_000),
-    "sample": lambda rng: rng.sample(range(10**9), 10_000),
+    "sample_below": lambda rng: rng.sample_below(10**9, 300_000),
+    "sample": lambda rng: rng.sample(range(10**9), 300_000),
 }
 
 class Meanwhile:
@@ -93,7 +96,41 @@ class Meanwhile:
         call()
 
 
-class Turns(unittest.TestCase):
+class Threads(unittest.TestCase):
+    """An exception in a thread fails the test too, and threads that wait for ever end the run."""
+
+    def setUp(self):
+        faulthandler.dump_traceback_later(HANGS, exit=True, file=sys.__stderr__)
+        self.addCleanup(faulthandler.cancel_dump_traceback_later)
+        raised = []
+        hook = mock.patch.object(threading, "excepthook", lambda told: raised.append(repr(told.exc_value)))
+        # They are called last to first.
+        self.addCleanup(lambda: self.assertEqual(raised, []))
+        hook.start()
+        self.addCleanup(hook.stop)
+
+    def together(self, *calls):
+        """Each call in a thread of its own."""
+        threads = [threading.Thread(target=call) for call in calls]
+        for thread in threads:
+            thread.start()
+        for thread in threads:
+            thread.join()
+
+
+class Reports(Threads):
+    def test_an_exception_of_a_thread(self):
+        """It is one of the test."""
+        class Fails(Threads):
+            def runTest(self):
+                self.together(lambda: None, lambda: WyRand(-1), lambda: None)
+
+        result = unittest.TestResult()
+        Fails().run(result)
+        self.assertIn("OutOfBounds", result.failures[0][1])
+
+
+class Turns(Threads):
     def test_every_call_waits_for_a_long_fill(self):
         for rng in generators():
             before = rng.copy()
@@ -187,17 +224,35 @@ class Turns(unittest.TestCase):
                 for length in (1 << 17, 64, 1 << 18, 128, 1 << 16, (1 << 16) + 64):
                     pieces.append(shared.bytes(length))
 
-            threads = [threading.Thread(target=draw) for _ in range(6)]
-            for thread in threads:
-                thread.start()
-            for thread in threads:
-                thread.join()
+            self.together(*[draw] * 6)
             whole = kind.from_state(state).bytes(sum(map(len, pieces)))
             found = {whole.index(piece[:64]) for piece in pieces}
-            self.assertEqual(len(found), len(pieces))
+            self.assertEqual((len(found), len(pieces)), (36, 36))
             for piece in pieces:
                 at = whole.index(piece[:64])
                 self.assertEqual(whole[at : at + len(piece)], piece)
+
+    def test_a_state_that_is_set_while_others_wait(self):
+        """It is not lost: what is drawn after it is drawn from there, and each piece once."""
+        for kind in CLASSES.values():
+            for _ in range(20):
+                first, second = kind.from_entropy(), kind.from_entropy()
+                shared, pieces = first.copy(), []
+
+                def draw(shared=shared, pieces=pieces):
+                    for _ in range(4):
+                        pieces.append(shared.bytes(100_032))
+
+                def put(shared=shared, state=second.state):
+                    shared.state = state
+
+                self.together(draw, draw, put, draw)
+                wanted = [first.bytes(100_032) for _ in pieces]
+                before = len([piece for piece in pieces if piece in wanted])
+                wanted[before:] = [second.bytes(100_032) for _ in pieces[before:]]
+                self.assertEqual(len(pieces), 12)
+                self.assertTrue(sorted(pieces) == sorted(wanted))
+                self.assertEqual(shared, second)
 
     def test_generators_of_their_own(self):
         """Threads with a generator each do not wait for one another, and draw what they draw alone."""
@@ -207,11 +262,7 @@ class Turns(unittest.TestCase):
         def draw(seed):
             found[seed] = WyRand(seed).bytes(1_000_000)
 
-        threads = [threading.Thread(target=draw, args=(seed,)) for seed in range(8)]
-        for thread in threads:
-            thread.start()
-        for thread in threads:
-            thread.join()
+        self.together(*[lambda seed=seed: draw(seed) for seed in range(8)])
         self.assertEqual(found, wanted)
 
     def test_a_list_of_another_thread_s(self):
@@ -260,7 +311,7 @@ def replace_the_generator():
 
 
 @unittest.skipUnless(hasattr(os, "fork"), "this system has no fork")
-class Processes(unittest.TestCase):
+class Processes(Threads):
     def test_a_child_goes_on_from_the_same_state(self):
         rng = WyRand(5)
         rng.bytes(1_000_000)

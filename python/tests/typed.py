@@ -21,6 +21,8 @@ def makes() -> None:
     assert_type(Stream(memoryview(bytes(32)), rest=b"abc"), Stream)
     assert_type(WyRand.from_state(bytes(8)), WyRand)
     assert_type(ChaCha20.from_entropy(), ChaCha20)
+    assert_type(Stream.seed_from_u64(number=True), Stream)
+    WyRand.seed_from_u64(4.2)  # type: ignore[arg-type]
     assert_type(Pcg64(1).copy(), Pcg64)
     assert_type(Pcg64(1).part(3, draws=2**40), Pcg64)
     Stream(bytes(32)).part(1)  # type: ignore[call-arg]
