@@ -106,6 +106,8 @@ def answer(generator, before, call, arguments):
         return (*LOTS[call](*arguments.split(",")), "-")
     if call == "new_seed":
         return rules.DRAWN, "-", int(arguments).to_bytes(8, "little").hex()
+    if call == "seed_from_u64":
+        return rules.DRAWN, "-", rules.seeded_state(generator, int(arguments)).hex()
     rng = rules.GENERATORS[generator](bytes.fromhex(before))
     status, result = CALLS[call](rng, *arguments_of(arguments))
     return status, result, rng.state().hex()

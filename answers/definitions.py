@@ -15,6 +15,17 @@ class Refused(Exception):
     """128 words in a row were rejected."""
 
 
+def seed_from(number, length):
+    """The first bytes that SplitMix64 draws from a number, of Steele, Lea and Flood, in Vigna's constants."""
+    words = []
+    while 8 * len(words) < length:
+        number = (number + 0x9E3779B97F4A7C15) % 2**64
+        mixed = (number ^ number >> 30) * 0xBF58476D1CE4E5B9 % 2**64
+        mixed = (mixed ^ mixed >> 27) * 0x94D049BB133111EB % 2**64
+        words.append(struct.pack("<Q", mixed ^ mixed >> 31))
+    return b"".join(words)[:length]
+
+
 class Plain:
     """A generator each of whose requests begins a new block, and drops the rest of its last one."""
 
@@ -105,6 +116,13 @@ class ChaCha(Plain):
 
     def state(self):
         return self.key + self.nonce + struct.pack("<Q", self.counter)
+
+
+def seeded_state(generator, number):
+    """The state that a number gives. The counter of ChaCha is 0, and no byte of a stream is buffered."""
+    if generator in ("wyrand", "pcg64"):
+        return seed_from(number, 8 if generator == "wyrand" else 16)
+    return seed_from(number, 40) + bytes(8)
 
 
 def quarter_round(words, a, b, c, d):

@@ -50,6 +50,8 @@ RANGES = {
     ],
 }
 
+NUMBERS = [0, 1, 2, 42, 1234567, 2**32 - 1, 2**32, 2**63, LAST - 1, LAST]
+
 SEEDS = [b"seed", b"a seed", b" ", b"\n", b"\0", "Zürich, 1. März".encode(), b"4 1 6", b"416", b"x" * 55]
 SEEDS += [b"x" * 56, b"x" * 63, b"x" * 64, b"x" * 65, b"0" * 100, "\U0010ffff".encode()]
 REFUSED_SEEDS = [b"", b"\xff", b"seed\xc3", b"\xed\xa0\x80", b"\xc0\x80", b"\xf4\x90\x80\x80", b"\x80a"]
@@ -102,6 +104,7 @@ def calls(generator):
     for name in "shuffle", "shuffle_full":
         yield from ((name, (length,)) for length in ITEMS)
     yield from (("sample", sizes) for sizes in SAMPLES)
+    yield from (("seed_from_u64", (number,)) for number in NUMBERS)
     yield from (("part", part) for part in PARTS)
     if generator == "wyrand":
         yield from (("jump", (draws,)) for draws in DRAWS)

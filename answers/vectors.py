@@ -99,6 +99,13 @@ def numbers_and_words():
     yield "of a byte 1", rules.number_in(Script(1), -1, 1, 8), -1
 
 
+def seeds():
+    """The words of splitmix64.c from 1234567, as Rosetta Code has them too, and of the zero."""
+    words = [6457827717110365317, 3203168211198807973, 9817491932198370423, 4593380528125082431, 16408922859458223821]
+    yield "a seed of 1234567", rules.seed_from(1234567, 40), b"".join(number.to_bytes(8, "little") for number in words)
+    yield "a seed of 0", rules.seed_from(0, 16).hex(), "afcd1d7b39a820e2f465b9a16a9e786e"
+
+
 def lists():
     yield "WyRand shuffle", shuffled(wyrand(), list(range(10))), [6, 9, 8, 1, 0, 3, 4, 7, 5, 2]
     whole = shuffled(wyrand(), list(range(10)), rules.shuffle_full)
@@ -170,6 +177,7 @@ def checks():
         given = rules.GENERATORS[generator](state).request(len(published) // 2)
         yield f"{generator} {published[:8]}", given.hex(), published
     yield from numbers_and_words()
+    yield from seeds()
     yield from lists()
     yield from parts()
     yield from lots()

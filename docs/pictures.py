@@ -101,17 +101,18 @@ def layers():
     programs, modules, traits, specs = 44, 178, 322, 462
     parts = [text(MARGIN, 28, "An arrow goes from a module to what it uses.", "quiet")]
 
-    parts += module(MARGIN, programs, 170, 54, "draw, draw_core", "a command line to a text")
-    parts += module(206, programs, 194, 54, "nanorand_users", "one program per kind of user")
-    parts += module(416, programs, 174, 54, "lots, lots_core", "a public draw by lot")
-    parts += module(626, programs, 190, 54, "nanorand_c", "exports: C, Python, a page")
-    parts += module(832, programs, 188, 54, "rust/", "the same, without contracts")
-    parts.append(arrow(f"M626 {programs + 27} H598", (591, programs + 27), "left"))
+    parts += module(MARGIN, programs, 140, 54, "draw, draw_core", "arguments to a text")
+    parts += module(172, programs, 140, 54, "nanorand_users", "programs of users")
+    parts += module(324, programs, 140, 54, "nanorand_rand", "for the kit's rand")
+    parts += module(476, programs, 150, 54, "lots, lots_core", "a public draw by lot")
+    parts += module(662, programs, 184, 54, "nanorand_c", "exports: C, Python, a page")
+    parts += module(858, programs, 162, 54, "rust/", "without contracts")
+    parts.append(arrow(f"M662 {programs + 27} H634", (627, programs + 27), "left"))
 
     line = 140
     parts.append(f'<path d="M{MARGIN} {line} H1020" class="frame"/>')
     parts.append(text(MARGIN, line - 8, "public contracts", "quiet"))
-    for x in (140, 303, 503, 721, 926):
+    for x in (140, 242, 394, 551, 754, 939):
         parts.append(arrow(f"M{x} {programs + 54} V{line - 9}", (x, line - 1), "down"))
     parts.append(text(MARGIN, line + 20, "crates/nanorand_core: for every generator", "quiet"))
     parts.append(text(378, line + 20, "crates/nanorand_replay: over any generator", "quiet"))

@@ -77,6 +77,90 @@ unsafe extern "C" {
         steps: usize,
         times: u32,
     );
+    fn nanorand_bench_words_by_parameter(seed: u64, items: NonNull<u64>, length: usize, times: u32);
+    fn nanorand_bench_words_by_field(seed: u64, items: NonNull<u64>, length: usize, times: u32);
+    fn nanorand_bench_below_u32_by_parameter(
+        seed: u64,
+        items: NonNull<u64>,
+        length: usize,
+        size: u32,
+        times: u32,
+    );
+    fn nanorand_bench_below_u32_by_field(
+        seed: u64,
+        items: NonNull<u64>,
+        length: usize,
+        size: u32,
+        times: u32,
+    );
+    fn nanorand_bench_below_u64_by_parameter(
+        seed: u64,
+        items: NonNull<u64>,
+        length: usize,
+        size: u64,
+        times: u32,
+    );
+    fn nanorand_bench_below_u64_by_field(
+        seed: u64,
+        items: NonNull<u64>,
+        length: usize,
+        size: u64,
+        times: u32,
+    );
+    fn nanorand_bench_shuffle_by_parameter(
+        seed: u64,
+        items: NonNull<u64>,
+        length: usize,
+        times: u32,
+    );
+    fn nanorand_bench_shuffle_by_field(seed: u64, items: NonNull<u64>, length: usize, times: u32);
+    fn nanorand_bench_kit_words_by_parameter(
+        seed: u64,
+        items: NonNull<u64>,
+        length: usize,
+        times: u32,
+    );
+    fn nanorand_bench_kit_words_by_field(seed: u64, items: NonNull<u64>, length: usize, times: u32);
+    fn nanorand_bench_kit_below_u32_by_parameter(
+        seed: u64,
+        items: NonNull<u64>,
+        length: usize,
+        size: u32,
+        times: u32,
+    );
+    fn nanorand_bench_kit_below_u32_by_field(
+        seed: u64,
+        items: NonNull<u64>,
+        length: usize,
+        size: u32,
+        times: u32,
+    );
+    fn nanorand_bench_kit_below_u64_by_parameter(
+        seed: u64,
+        items: NonNull<u64>,
+        length: usize,
+        size: u64,
+        times: u32,
+    );
+    fn nanorand_bench_kit_below_u64_by_field(
+        seed: u64,
+        items: NonNull<u64>,
+        length: usize,
+        size: u64,
+        times: u32,
+    );
+    fn nanorand_bench_kit_shuffle_by_parameter(
+        seed: u64,
+        items: NonNull<u64>,
+        length: usize,
+        times: u32,
+    );
+    fn nanorand_bench_kit_shuffle_by_field(
+        seed: u64,
+        items: NonNull<u64>,
+        length: usize,
+        times: u32,
+    );
 }
 
 macro_rules! slices {
@@ -104,4 +188,20 @@ slices! {
     sample = nanorand_bench_sample(u64, [usize], count: usize, times: u32);
     partial_shuffle = nanorand_bench_partial_shuffle(u64, [u64], steps: usize, times: u32);
     partial_shuffle_of_the_kit = nanorand_bench_kit_partial_shuffle(u64, [u64], steps: usize, times: u32);
+    words_by_parameter = nanorand_bench_words_by_parameter(u64, [u64], times: u32);
+    words_by_field = nanorand_bench_words_by_field(u64, [u64], times: u32);
+    below_u32_by_parameter = nanorand_bench_below_u32_by_parameter(u64, [u64], size: u32, times: u32);
+    below_u32_by_field = nanorand_bench_below_u32_by_field(u64, [u64], size: u32, times: u32);
+    below_u64_by_parameter = nanorand_bench_below_u64_by_parameter(u64, [u64], size: u64, times: u32);
+    below_u64_by_field = nanorand_bench_below_u64_by_field(u64, [u64], size: u64, times: u32);
+    shuffle_by_parameter = nanorand_bench_shuffle_by_parameter(u64, [u64], times: u32);
+    shuffle_by_field = nanorand_bench_shuffle_by_field(u64, [u64], times: u32);
+    words_by_parameter_of_the_kit = nanorand_bench_kit_words_by_parameter(u64, [u64], times: u32);
+    words_by_field_of_the_kit = nanorand_bench_kit_words_by_field(u64, [u64], times: u32);
+    below_u32_by_parameter_of_the_kit = nanorand_bench_kit_below_u32_by_parameter(u64, [u64], size: u32, times: u32);
+    below_u32_by_field_of_the_kit = nanorand_bench_kit_below_u32_by_field(u64, [u64], size: u32, times: u32);
+    below_u64_by_parameter_of_the_kit = nanorand_bench_kit_below_u64_by_parameter(u64, [u64], size: u64, times: u32);
+    below_u64_by_field_of_the_kit = nanorand_bench_kit_below_u64_by_field(u64, [u64], size: u64, times: u32);
+    shuffle_by_parameter_of_the_kit = nanorand_bench_kit_shuffle_by_parameter(u64, [u64], times: u32);
+    shuffle_by_field_of_the_kit = nanorand_bench_kit_shuffle_by_field(u64, [u64], times: u32);
 }

@@ -4,6 +4,8 @@
 mod calls;
 #[cfg(feature = "original")]
 mod original;
+#[cfg(feature = "original")]
+mod original_contexts;
 mod row;
 mod rows;
 mod table;

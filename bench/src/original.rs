@@ -7,7 +7,7 @@ use std::hint::black_box;
 fn words<R: Rng<OUTPUT>, const OUTPUT: usize>(mut rng: R, count: u64) -> u64 {
     let mut all = 0u64;
     for _ in 0..black_box(count) {
-        all = all.rotate_left(1) ^ rng.generate::<u64>();
+        all = all.rotate_left(1).wrapping_add(rng.generate::<u64>());
     }
     all
 }
@@ -15,7 +15,9 @@ fn words<R: Rng<OUTPUT>, const OUTPUT: usize>(mut rng: R, count: u64) -> u64 {
 fn bytes<R: Rng<OUTPUT>, const OUTPUT: usize>(mut rng: R, count: u64) -> u64 {
     let mut all = 0u64;
     for _ in 0..black_box(count) {
-        all = all.rotate_left(1) ^ u64::from(rng.generate::<u8>());
+        all = all
+            .rotate_left(1)
+            .wrapping_add(u64::from(rng.generate::<u8>()));
     }
     all
 }
@@ -23,7 +25,7 @@ fn bytes<R: Rng<OUTPUT>, const OUTPUT: usize>(mut rng: R, count: u64) -> u64 {
 fn mixed(block: &[u8; 64]) -> u64 {
     let (words, _) = block.as_chunks::<8>();
     words.iter().fold(0, |all, word| {
-        all.rotate_left(1) ^ u64::from_le_bytes(*word)
+        all.rotate_left(1).wrapping_add(u64::from_le_bytes(*word))
     })
 }
 
@@ -42,7 +44,7 @@ pub fn chacha_blocks<const ROUNDS: u8>(seed: u8, count: u64) -> u64 {
     let mut rng = ChaCha::<ROUNDS>::new_key([seed; 32], [seed; 8]);
     let mut all = 0u64;
     for _ in 0..black_box(count) {
-        all = all.rotate_left(1) ^ mixed(&rng.rand());
+        all = all.rotate_left(1).wrapping_add(mixed(&rng.rand()));
     }
     all
 }
@@ -95,7 +97,7 @@ macro_rules! ranges {
             let size = black_box(size);
             let mut all = 0u64;
             for _ in 0..black_box(count) {
-                all = all.rotate_left(1) ^ u64::from(rng.generate_range::<$number, _>(0..size));
+                all = all.rotate_left(1).wrapping_add(u64::from(rng.generate_range::<$number, _>(0..size)));
             }
             all
         }
@@ -118,7 +120,9 @@ pub fn choose(seed: u64, items: &mut [u64], count: u64) -> u64 {
     let mut rng = WyRand::new_seed(seed);
     let mut all = 0u64;
     for _ in 0..black_box(count) {
-        all = all.rotate_left(1) ^ items[rng.generate_range(0..items.len())];
+        all = all
+            .rotate_left(1)
+            .wrapping_add(items[rng.generate_range(0..items.len())]);
     }
     all
 }

@@ -1,9 +1,9 @@
 //! The rows: what is timed.
 
 use crate::calls::*;
-#[cfg(feature = "original")]
-use crate::original;
 use crate::row::{Row, Work};
+#[cfg(feature = "original")]
+use crate::{original, original_contexts};
 
 // The work of the old crate, if it is there.
 macro_rules! old {
@@ -270,6 +270,73 @@ fn others(rows: &mut Vec<Row>) {
     }));
 }
 
+// Does a work to 1000 numbers again and again, and returns a number that depends on the first eight.
+fn done(work: Shuffle) -> impl FnMut() -> u64 {
+    shuffled(1000, work)
+}
+
+// Works behind a `&mut` parameter, and in a field.
+fn contexts(rows: &mut Vec<Row>) {
+    let works: [(_, Shuffle, Option<Shuffle>, Shuffle); 8] = [
+        (
+            "u64, behind a parameter",
+            words_by_parameter,
+            old!(Shuffle: original_contexts::words_by_parameter),
+            words_by_parameter_of_the_kit,
+        ),
+        (
+            "u64, in a field",
+            words_by_field,
+            old!(Shuffle: original_contexts::words_by_field),
+            words_by_field_of_the_kit,
+        ),
+        (
+            "u32 below 1000, behind a parameter",
+            |seed, items, times| below_u32_by_parameter(seed, items, 1000, times),
+            old!(Shuffle: |seed, items, times| original_contexts::below_u32_by_parameter(seed, items, 1000, times)),
+            |seed, items, times| below_u32_by_parameter_of_the_kit(seed, items, 1000, times),
+        ),
+        (
+            "u32 below 1000, in a field",
+            |seed, items, times| below_u32_by_field(seed, items, 1000, times),
+            old!(Shuffle: |seed, items, times| original_contexts::below_u32_by_field(seed, items, 1000, times)),
+            |seed, items, times| below_u32_by_field_of_the_kit(seed, items, 1000, times),
+        ),
+        (
+            "u64 below 1000, behind a parameter",
+            |seed, items, times| below_u64_by_parameter(seed, items, 1000, times),
+            old!(Shuffle: |seed, items, times| original_contexts::below_u64_by_parameter(seed, items, 1000, times)),
+            |seed, items, times| below_u64_by_parameter_of_the_kit(seed, items, 1000, times),
+        ),
+        (
+            "u64 below 1000, in a field",
+            |seed, items, times| below_u64_by_field(seed, items, 1000, times),
+            old!(Shuffle: |seed, items, times| original_contexts::below_u64_by_field(seed, items, 1000, times)),
+            |seed, items, times| below_u64_by_field_of_the_kit(seed, items, 1000, times),
+        ),
+        (
+            "shuffle of 1000, an item, behind a parameter",
+            shuffle_by_parameter,
+            old!(Shuffle: original_contexts::shuffle_by_parameter),
+            shuffle_by_parameter_of_the_kit,
+        ),
+        (
+            "shuffle of 1000, an item, in a field",
+            shuffle_by_field,
+            old!(Shuffle: original_contexts::shuffle_by_field),
+            shuffle_by_field_of_the_kit,
+        ),
+    ];
+    for (name, work, original, kit) in works {
+        let original = original.map(|work| Box::new(done(work)) as Work);
+        rows.push(
+            Row::new(name, ITEMS, done(work))
+                .original(original)
+                .kit(done(kit)),
+        );
+    }
+}
+
 /// All rows, in the table's order.
 pub fn all() -> Vec<Row> {
     let mut rows = Vec::new();
@@ -277,6 +344,7 @@ pub fn all() -> Vec<Row> {
     fills(&mut rows);
     ranges(&mut rows);
     shuffles(&mut rows);
+    contexts(&mut rows);
     choices(&mut rows);
     others(&mut rows);
     rows

@@ -109,6 +109,10 @@ const CALLS = {
     }
     return { result: "-" };
   },
+  seed_from_u64: (call, [number]) => {
+    call(number);
+    return { result: "-" };
+  },
   part: (call, [index, draws]) => ({ status: call(index, draws), result: "-" }),
 };
 CALLS.shuffle_full = CALLS.shuffle;

@@ -13,7 +13,17 @@ from page import Page
 ALPHABETS = [(0x30, 0x3A), (0x20, 0x7F), (0xA0, 0x800), (0x800, 0xD800), (0x10000, 0x110000), (0x01, 0x0D)]
 LENGTHS = [1, 2, 5, 20, 31, 32, 33, 55, 56, 57, 63, 64, 65, 119, 120, 200]
 NAMED = 1000
+LONG = 600_000
 ROOM = 65536
+# Notes the addresses of files, and what is to be done later.
+ADDRESSES = """
+window.made = [];
+window.givenBack = [];
+window.later = [];
+window.setTimeout = (...task) => later.push(task);
+URL.revokeObjectURL = (address) => givenBack.push(address);
+HTMLAnchorElement.prototype.click = function () { made.push(this.href); };
+"""
 
 
 def a_seed(rng: random.Random) -> str:
@@ -126,6 +136,18 @@ def sizes(counts: Counts, page: Page, program: str, module: str) -> None:
             compare(counts, page, program, module, f"{entrants} entrants, a seed of {len(seed)}", seed, "all", data)
 
 
+def long_entrants(counts: Counts, page: Page, program: str, module: str) -> None:
+    """Entrants of more bytes than a browser takes as arguments of one call, drawn and checked."""
+    page.load()
+    for name, letter in (("letters", b"a"), ("wide letters", "\u6f22".encode()), ("backslashes", b"\\"),
+                         ("no UTF-8", b"\xff"), ("any bytes", bytes(set(range(256)) - {10}))):
+        data = letter * (LONG // len(letter)) + b"\nb\n"
+        page.open_file(data)
+        page.fill("seed", "all")
+        shown = compare(counts, page, program, module, f"a long entrant of {name}", "seed", "all", data)
+        counts.same(f"the check of a long entrant of {name}", page.check(shown["record"])["outcome"], "agrees")
+
+
 def long_lists(counts: Counts, page: Page, program: str, module: str) -> None:
     page.load()
     watch_progress(page)
@@ -138,9 +160,14 @@ def long_lists(counts: Counts, page: Page, program: str, module: str) -> None:
         counts.same(f"check of {count} of {size}", page.check(shown["record"])["outcome"], "agrees")
         last = shown["record"].replace("result SHA-256: ", "result SHA-256: 0")[:-1]
         counts.same(f"check of a cut record of {size}", page.check(last)["outcome"], "no record")
+    page.open_file(b"a\n")
+    page.browser.run("document.getElementById('tidy-trim').click();")
+    page.browser.wait("return !document.getElementById('tidied').hidden;")
     told = page.browser.run("return Array.from(new Set(window.told));")
-    wanted = ["Computing the SHA-256 of the list", "Counting the entrants", "Drawing", "Writing the result"]
+    wanted = ["Computing the SHA-256 of the list", "Counting the entrants", "Looking for what is worth a second look",
+              "Drawing", "Writing the result", "Repeating the draw", "Changing the list"]
     counts.same("progress is told", [text for text in wanted if text not in told], [])
+    long_entrants(counts, page, program, module)
 
 
 def watch_progress(page: Page) -> None:
@@ -168,8 +195,9 @@ def files(counts: Counts, page: Page, program: str, folder: Path) -> None:
     """The three files that the page gives: the list, the record, the result."""
     page.load()
     large = b"".join(b"entrant %d\n" % number for number in range(20_000))
-    for index, data in enumerate((b"a\nb\r\n\xff\xfe\nd", b"Ada\nBarbara\n", b"\xef\xbb\xbfx\n\0\n", large)):
-        page.open_file(data)
+    pasted = "Zo\u00eb\n\u200b".encode()
+    for index, data in enumerate((b"a\nb\r\n\xff\xfe\nd", b"Ada\nBarbara\n", b"\xef\xbb\xbfx\n\0\n", large, pasted)):
+        page.paste(data.decode()) if data == pasted else page.open_file(data)
         page.fill("a seed", "all")
         shown = page.draw()
         wanted = {"save-list": ("entrants.txt", data), "save-record": ("record.txt", shown["record"].encode()),
@@ -177,6 +205,25 @@ def files(counts: Counts, page: Page, program: str, folder: Path) -> None:
         for button, (name, content) in wanted.items():
             page.browser.click(f"#{button}")
             counts.same(f"{button} {index}", saved(page, folder, name), content)
+    addresses_of_files(counts, page)
+
+
+def addresses_of_files(counts: Counts, page: Page) -> None:
+    """The address of a file is good for a while, as a browser may ask where to save it, and then given back."""
+    page.load()
+    page.paste("Ada\n")
+    page.fill("seed", "all")
+    page.facts()
+    page.draw()
+    page.browser.run(ADDRESSES)
+    for button in ("save-list", "save-record", "save-result"):
+        page.browser.run("document.getElementById(arguments[0]).click();", button)
+        made, given_back, delays = page.browser.run("return [made, givenBack, later.map(([, delay]) => delay)];")
+        counts.same(f"{button}: addresses", (len(made), given_back, len(delays)), (1, [], 1))
+        counts.case(f"{button}: a while", "" if min(delays, default=0) >= 10_000 else str(delays))
+        left = page.browser.run("""for (const [act] of later.splice(0)) act();
+            return [givenBack.splice(0), made.splice(0)];""")
+        counts.same(f"{button}: given back", left[0], left[1])
 
 
 def copies(counts: Counts, page: Page) -> None:

@@ -18,6 +18,8 @@ import urllib.request
 from pathlib import Path
 from typing import Any, Dict, List, Optional
 
+# Milliseconds that a script and the loading of a page may take: a check of a million entrants is long.
+TIMEOUTS = {"script": 120_000, "pageLoad": 120_000}
 ELEMENT = "element-6066-11e4-a52e-4f735466cecf"
 BACKSPACE, TAB, ENTER, SHIFT, CONTROL, SPACE = "\ue003", "\ue004", "\ue007", "\ue008", "\ue009", " "
 
@@ -41,7 +43,7 @@ class Browser:
         """The value that a script returns in the page."""
         return self.command("ExecuteScript", script=script, args=list(values))
 
-    def wait(self, script: str, *values: Any, seconds: float = 60) -> Any:
+    def wait(self, script: str, *values: Any, seconds: float = 120) -> Any:
         """The first value of a script that is not false."""
         end = time.monotonic() + seconds
         while time.monotonic() < end:
@@ -133,7 +135,7 @@ class Chromium(Browser):
         self.address = self._address()
         arguments = ["--headless=new", "--no-sandbox", "--disable-gpu", "--disable-dev-shm-usage"]
         options = {"args": arguments, "prefs": {"download.default_directory": str(downloads)}}
-        wanted = {"goog:chromeOptions": options, "goog:loggingPrefs": {"browser": "ALL"}}
+        wanted = {"goog:chromeOptions": options, "goog:loggingPrefs": {"browser": "ALL"}, "timeouts": TIMEOUTS}
         answer = self._send("POST", "session", {"capabilities": {"alwaysMatch": wanted}})
         self.address += f"session/{answer['sessionId']}/"
         self.version = answer["capabilities"]["browserVersion"]
@@ -150,7 +152,7 @@ class Chromium(Browser):
         request = urllib.request.Request(self.address + path, data, method=method)
         request.add_header("Content-Type", "application/json")
         try:
-            with urllib.request.urlopen(request, timeout=120) as answer:
+            with urllib.request.urlopen(request, timeout=180) as answer:
                 return json.load(answer)["value"]
         except urllib.error.HTTPError as error:
             raise DriverError(json.load(error)["value"]["message"].split("\n")[0]) from None
@@ -210,7 +212,7 @@ class Firefox(Browser):
         self._read()
         capabilities = self.command("NewSession")["capabilities"]
         self.version = capabilities["browserVersion"]
-        self.command("SetTimeouts", script=120000, pageLoad=120000)
+        self.command("SetTimeouts", **TIMEOUTS)
 
     def _write_preferences(self, downloads: Path) -> None:
         values = {
@@ -231,7 +233,7 @@ class Firefox(Browser):
         end = time.monotonic() + 60
         while time.monotonic() < end:
             try:
-                return socket.create_connection(("127.0.0.1", int(port.read_text())), timeout=120)
+                return socket.create_connection(("127.0.0.1", int(port.read_text())), timeout=180)
             except (OSError, ValueError):
                 time.sleep(0.1)
         raise DriverError("Firefox does not start")

@@ -1,7 +1,10 @@
 """What goes wrong beside the page: a module that fails, memory that is missing, a worker that is lost, files that
 cannot be read, and what is dropped that is no file."""
 
+from pathlib import Path
 from typing import Any, Dict, Tuple
+from urllib.parse import urlparse
+from urllib.request import url2pathname
 
 from counts import Counts, sha256
 from page import Page
@@ -32,6 +35,23 @@ REFUSALS: "Dict[str, Tuple[Dict[str, Any], str, str]]" = {
     "too few entrants": ({"entrants": 5, "count": "9"}, "count", "The list has 5 entrants, and 9 are asked for."),
     "seed is empty": ({}, "seed", "The seed is empty. Type at least one character."),
 }
+# Before the code of the worker: its first answer to each task but the start cannot be copied to the page.
+UNCOPIED = """
+{
+  const tasks = new Map();
+  const failed = new Set(["start"]);
+  const post = self.postMessage.bind(self);
+  self.addEventListener("message", ({ data }) => tasks.set(data.number, data.task));
+  self.postMessage = (message) => {
+    const task = tasks.get(message.number);
+    if (message.answer && !failed.has(task)) {
+      failed.add(task);
+      throw new DOMException("no room", "DataCloneError");
+    }
+    post(message);
+  };
+}
+"""
 DROP_TEXT = """
 const data = new DataTransfer();
 data.setData("text/plain", "dropped");
@@ -113,6 +133,17 @@ def lists(counts: Counts, page: Page) -> None:
     counts.same("its focus", page.browser.run("return document.activeElement.id;"), "list-text")
 
 
+def errors_of_the_page(counts: Counts, page: Page) -> None:
+    """What is said of the page goes with another list, also before a draw."""
+    page.load()
+    page.browser.run(REFUSED)
+    filled(page)
+    page.browser.run(SET, "draw", "no memory", {})
+    counts.case("an error of the page", "" if page.draw()["page"] else "is not said")
+    page.paste("other\n")
+    counts.same("no error of the page", (page.facts()["digest"], errors(page)), (sha256(b"other\n"), {}))
+
+
 def changes(counts: Counts, page: Page) -> None:
     """Equal lines that cannot be removed."""
     page.load()
@@ -149,6 +180,36 @@ def lost_workers(counts: Counts, page: Page) -> None:
     counts.same("no progress", page.browser.run("return document.getElementById('progress').hidden;"), True)
 
 
+def with_worker(page: Page, code: str) -> Page:
+    """A copy of the page with code before that of its worker."""
+    text = Path(url2pathname(urlparse(page.address).path)).read_text(encoding="utf-8")
+    path = page.folder / "worker.html"
+    start = '<script type="text/plain" id="worker">'
+    path.write_text(text.replace(start, start + code, 1), encoding="utf-8")
+    return Page(page.browser, path.as_uri(), page.folder)
+
+
+def answers_not_copied(counts: Counts, page: Page) -> None:
+    """An answer that finds no room in the page is refused, and the page goes on with the next."""
+    wanted = {"page": "The module failed, and nothing is drawn: DataCloneError: no room"}
+    page = with_worker(page, UNCOPIED)
+    page.load()
+    hidden = "return document.getElementById(arguments[0]).hidden;"
+    there = "return !document.getElementById(arguments[0]).hidden;"
+    page.browser.wait(there, "page-error", seconds=20)
+    counts.same("a list not copied", errors(page), wanted)
+    page.paste(LIST + LIST)
+    page.fill("seed", "all")
+    counts.same("a list after it", (page.facts()["entrants"], errors(page)), ("6 entrants", {}))
+    for button, shown in (("tidy-unique", "tidied"), ("draw", "result"), ("check", "outcome")):
+        page.tab("check" if button == "check" else "draw")
+        for element, said in (("page-error", wanted), (shown, {})):
+            page.browser.run("document.getElementById(arguments[0]).click();", button)
+            page.browser.wait(there, element, seconds=20)
+            counts.same(f"{button}, {element}", errors(page), said)
+            counts.same("no progress", page.browser.run(hidden, "progress"), True)
+
+
 def files(counts: Counts, page: Page) -> None:
     page.load()
     page.paste(LIST)
@@ -180,5 +241,5 @@ def prints(counts: Counts, page: Page) -> None:
 
 
 def run(counts: Counts, page: Page) -> None:
-    for part in (draws, checks, lists, changes, lost_workers, files, prints):
+    for part in (draws, checks, lists, errors_of_the_page, changes, lost_workers, files, prints, answers_not_copied):
         part(counts, page)

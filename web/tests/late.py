@@ -1,5 +1,6 @@
 """Answers that come late, to a list, a file, a record or a field that is no longer there, and errors that are over."""
 
+import failures
 from counts import Counts, sha256
 from page import Page
 
@@ -35,6 +36,17 @@ Blob.prototype.arrayBuffer = function () {
   files += 1;
   const bytes = read.call(this);
   return files > 1 ? bytes : new Promise((done) => setTimeout(() => done(bytes), 800));
+};
+"""
+# A text is put in place of the list that a change has left, before the worker has answered to that.
+REPLACED_TIDIED = """
+const [text] = arguments;
+const post = Worker.prototype.postMessage;
+let before = "";
+Worker.prototype.postMessage = function (...sent) {
+  post.apply(this, sent);
+  if (before === "tidy") queueMicrotask(() => put("list-text", text));
+  before = sent[0].task;
 };
 """
 LARGE = "\n".join(str(number) for number in range(60_000)) + "\n"
@@ -75,7 +87,18 @@ def facts_of_older_lists(counts: Counts, page: Page) -> None:
 
 
 def files_read_late(counts: Counts, page: Page) -> None:
-    """A file that is read after another was opened, or after it was closed, is not the list."""
+    """A file that is read after another was opened, or after it was closed, is not the list. While it is read there is
+    none."""
+    page.load()
+    page.browser.run(SLOW_FILE)
+    page.fill("seed", "all")
+    page.paste("typed\n")
+    page.facts()
+    page.browser.run(WATCH, "list-digest")
+    page.open_file(b"slow\n")
+    counts.same("a draw while a file is read", page.draw()["drawn"], ["slow"])
+    idle(page)
+    counts.same("digests until it is read", page.browser.run("return seen;"), [sha256(b"slow\n")])
     page.load()
     page.browser.run(SLOW_FILE)
     page.open_file(b"slow\n")
@@ -105,6 +128,29 @@ def checks_of_older_records(counts: Counts, page: Page) -> None:
         counts.same(f"a late outcome, {field}", page.shown()["outcome"], "")
 
 
+def refusals_of_older_fields(counts: Counts, page: Page) -> None:
+    """A refusal of fields that have changed since is not shown, and does not take the keyboard away."""
+    page.load()
+    page.browser.run(SET)
+    page.browser.run(failures.REFUSED)
+    page.browser.run(failures.SET, "check", "no memory", {})
+    for button, text, count in (("draw", "a\n\n", "all"), ("draw", "a\n", "x"), ("check", "a\n\n", "all"),
+                                ("check", "a\n", "all")):
+        page.tab(button)
+        page.browser.run("""const [button, text, count] = arguments;
+            put("list-text", text);
+            put("count", count);
+            document.getElementById(button).click();
+            document.getElementById("list-file").focus();
+            put("seed", "later");""", button, text, count)
+        idle(page)
+        page.tab("draw")
+        wanted = {"list": "Line 2 is empty. Each line of the list must have an entrant."} if text == "a\n\n" else {}
+        name = f"a {button} of {text!r} and {count}"
+        counts.same(name, failures.errors(page), wanted)
+        counts.same(f"{name}: the keyboard", page.browser.run("return document.activeElement.id;"), "list-file")
+
+
 def lists_changed_while_tidied(counts: Counts, page: Page) -> None:
     """A list that is changed while equal lines are removed from it stays as it was changed."""
     page.load()
@@ -124,6 +170,20 @@ def lists_changed_while_tidied(counts: Counts, page: Page) -> None:
     counts.same("a file opened while one is tidied", last_digest(page, sha256(b"another\n")), sha256(b"another\n"))
     page.paste("x\n")
     counts.same("a text after it", last_digest(page, sha256(b"x\n")), sha256(b"x\n"))
+
+
+def lists_changed_after_tidied(counts: Counts, page: Page) -> None:
+    """A list that is changed once equal lines are removed from it is not said to have lost them."""
+    for text in ("later\n", "", "a\n\n"):
+        page.load()
+        page.browser.run(SET)
+        page.paste("a\na\n")
+        page.facts()
+        page.browser.run(REPLACED_TIDIED, text)
+        page.browser.run('document.getElementById("tidy-unique").click();')
+        idle(page)
+        found = page.browser.run('return document.getElementById("list-text").value;')
+        counts.same(f"{text!r} after a change", (found, page.browser.run(TIDIED)), (text, ""))
 
 
 def errors_that_are_over(counts: Counts, page: Page) -> None:
@@ -148,11 +208,17 @@ def errors_that_are_over(counts: Counts, page: Page) -> None:
         idle(page)
         counts.same(f"{field}: valid again", page.browser.run(invalid), [])
         counts.same(f"{field}: a result", len(page.draw()["drawn"]), 3)
+    page.paste("a\n\n")
+    page.facts()
+    page.paste("a\nb\nc\n")
+    counts.same("a draw at once after a list that was refused", len(page.draw()["drawn"]), 3)
 
 
 def run(counts: Counts, page: Page) -> None:
     facts_of_older_lists(counts, page)
     files_read_late(counts, page)
     checks_of_older_records(counts, page)
+    refusals_of_older_fields(counts, page)
     lists_changed_while_tidied(counts, page)
+    lists_changed_after_tidied(counts, page)
     errors_that_are_over(counts, page)

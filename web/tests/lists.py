@@ -60,6 +60,7 @@ TIDY = {
     ("unique", b"a\nb\na\na\nc\n"): (b"a\nb\nc\n", 2), ("unique", b"b\na\nb"): (b"b\na", 1),
     ("unique", b"\xff\n\xfe\n\xff\n"): (b"\xff\n\xfe\n", 1), ("unique", b"a\nA\na \n"): (b"a\nA\na \n", 0),
     ("unique", b"\x81\n\xc2\x81\n\x81\n"): (b"\x81\n\xc2\x81\n", 1),
+    ("unique", b"\xef\xbb\xbfa\na\n"): (b"\xef\xbb\xbfa\na\n", 0),
     ("unique", b"a\n\na"): (b"a\n\n", 1), ("unique", b"\n\n\na"): (b"\na", 2), ("trim", b"a\n "): (b"a\n\n", 1),
     ("trim", b"\t"): (b"\n", 1), ("trim", b" \na"): (b"\na", 1), ("empty", b"\na\n\n"): (b"a\n", 2),
 }
@@ -76,6 +77,11 @@ SHOWN = {
     "a\ufe0f": "a[U+FE0F emoji variation]", "a\U000e0041": "a[U+E0041]", " b ": "[U+0020 space]b[U+0020 space]",
     "c\r": "c[U+000D carriage return]",
     "\u2066d\u2069": "[U+2066 left-to-right isolate]d[U+2069 pop directional isolate]",
+    "4\u200d2": "4[U+200D zero width joiner]2", "7\ufe0f": "7[U+FE0F emoji variation]",
+    "\U0001f468\u200d7": "\U0001f468[U+200D zero width joiner]7",
+    "7\u200d\U0001f467": "7[U+200D zero width joiner]\U0001f467",
+    "\u0645\u200dx": "\u0645[U+200D zero width joiner]x", "x\u200c\u0645": "x[U+200C zero width non-joiner]\u0645",
+    "\U0001f468\u200c\U0001f467": "\U0001f468[U+200C zero width non-joiner]\U0001f467",
     "\U0001f468\u200d": "\U0001f468[U+200D zero width joiner]", "[U+200B]": "[U+200B]",
 }
 
@@ -123,6 +129,7 @@ def pasted_between(counts: Counts, page: Page, long: str) -> None:
         counts.same(f"{long[:13]!r} pasted from {first} to {last}", page.facts()["digest"], sha256(data))
         name = page.browser.run("return document.getElementById('file-name').textContent;")
         counts.same("its name", name, f"Pasted text, {grouped(len(data))} bytes")
+        counts.same("the keyboard after it", page.browser.run("return document.activeElement.id;"), "close-file")
 
 
 def alike(counts: Counts, page: Page) -> None:
@@ -159,8 +166,12 @@ def tidied(counts: Counts, page: Page) -> None:
             if way == "pasted":
                 text = page.browser.run("return document.getElementById('list-text').value;")
                 counts.same(f"{change} of {before!r}: the field", text, after.decode())
+    hidden = "return document.getElementById('tidy').hidden;"
     page.paste("")
-    counts.same("nothing to change", page.browser.run("return document.getElementById('tidy').hidden;"), True)
+    counts.same("nothing to change", page.browser.run(hidden), True)
+    page.browser.run("document.getElementById('draw').click();")
+    page.browser.wait("return !document.getElementById('draw').disabled;")
+    counts.same("nothing to change of an empty list", page.browser.run(hidden), True)
 
 
 def is_text(data: bytes) -> bool:

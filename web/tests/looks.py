@@ -42,13 +42,14 @@ const low = (elements, least, colours) => Array.from(document.querySelectorAll(e
     return [element.id || element.tagName, (Math.max(...two) + 0.05) / (Math.min(...two) + 0.05)];
   }).filter(([, contrast]) => contrast < least);
 """
-# Texts on what is behind them, and the borders of fields and buttons on what is around them.
+# Texts on what is behind them; the borders of fields and buttons, and the tab that is shown, on what is around them.
 CONTRAST = COLOURS + """
 return [
   ...low("p, li, label, h1, h2, h3, code, pre, summary, textarea, input, button, strong", 4.5,
     (element) => [getComputedStyle(element).color, behind(element)]),
   ...low("textarea, input:not([type=file]), button", 3,
     (element) => [getComputedStyle(element).borderTopColor, behind(element.parentElement)]),
+  ...low("[role=tab][aria-selected=true]", 3, (tab) => [behind(tab), behind(tab.parentElement)]),
 ];
 """
 LAST_IS_LEFT = """
@@ -61,10 +62,39 @@ const left = (place) => {
 };
 return left(text.length - 1) < left(0);
 """
+# What sticks out of its card or of the window, and what has to be moved sideways to be read.
 WIDE = """
-return Array.from(document.querySelectorAll("body *")).filter((element) => element.checkVisibility() &&
-  !element.closest("pre, textarea, ol") && element.getBoundingClientRect().right > innerWidth + 0.5)
+const shown = Array.from(document.querySelectorAll("body *")).filter((element) => element.checkVisibility());
+const right = (element) => element.getBoundingClientRect().right;
+const edge = (element) => element ? right(element) : innerWidth;
+const name = (element) => element.id || element.tagName;
+return [
+  ...shown.filter((element) => !element.closest("pre, ol") &&
+    right(element) > edge(element.parentElement.closest("section")) + 0.5),
+  ...shown.filter((element) => element.scrollWidth > element.clientWidth + 1 &&
+    !element.matches("textarea, input, #heard") && getComputedStyle(element).overflowX !== "visible"),
+].map(name);
+"""
+# Whether the list stands beside the second step, and above it.
+PLACES = """
+const [one, other] = Array.from(document.querySelectorAll("#panel > .columns > section"))
+  .filter((section) => section.checkVisibility()).map((section) => section.getBoundingClientRect());
+return [one.right <= other.left, one.bottom <= other.top];
+"""
+# Texts that are there with nothing to say.
+EMPTY = """
+return Array.from(document.querySelectorAll("p, ul, ol, pre, h1, h2, h3, label, details, section")).filter((element) =>
+  element.checkVisibility() && element.id !== "heard" && element.textContent.trim() === "")
   .map((element) => element.id || element.tagName);
+"""
+# What tells by its colour, too.
+COLOURED = """
+const colour = (element) => getComputedStyle(element).color;
+const wanted = ["[role=alert]", ".error", "#list-warnings", ".unseen",
+  ...["agrees", "differs", "no record"].map((outcome) => `[data-outcome="${outcome}"]`)];
+return Array.from(document.querySelectorAll(wanted.join()))
+  .filter((element) => element.checkVisibility() && colour(element) === colour(document.body))
+  .map((element) => element.id || element.className);
 """
 LONG = "W" * 300 + "\nAda\nBarbara\r\n Chidi\nAda\n\\\n"
 
@@ -108,7 +138,10 @@ def width_and_colour(counts: Counts, page: Page, pictures: Path, width: int, dar
     found = page.browser.run("return [innerWidth, document.documentElement.scrollWidth];")
     counts.case(f"the width {name}", "" if found[0] == width and found[1] <= width else str(found))
     counts.same(f"nothing is cut off, {name}", page.browser.run(WIDE), [])
+    counts.same(f"the steps, {name}", page.browser.run(PLACES), [width > 1000, width < 1000])
+    counts.same(f"texts of nothing, {name}", page.browser.run(EMPTY), [])
     counts.same(f"contrast, {name}", page.browser.run(CONTRAST), [])
+    counts.same(f"texts without a colour of their own, {name}", page.browser.run(COLOURED), [])
     colour = page.browser.run("return getComputedStyle(document.body).backgroundColor;")
     counts.same(f"background, {name}", colour, "rgb(15, 19, 24)" if dark else "rgb(246, 247, 249)")
     page.browser.picture(pictures / f"{page.browser.name.lower()}-{name.replace(' ', '-')}.png")
@@ -137,6 +170,9 @@ def names(counts: Counts, page: Page) -> None:
           .flatMap((element) => [element.getAttribute("aria-describedby"), element.getAttribute("aria-labelledby"),
             element.getAttribute("for")]).filter(Boolean).flatMap((ids) => ids.split(" "))
           .filter((id) => !document.getElementById(id));"""), [])
+    counts.same("what scrolls is reached by keys and has a name", page.browser.run("""
+        return Array.from(document.querySelectorAll("pre, ol")).filter((element) => element.tabIndex !== 0 ||
+          !(element.ariaLabel || element.getAttribute("aria-labelledby"))).map((element) => element.outerHTML);"""), [])
     counts.same("each field has a label", page.browser.run("""
         return Array.from(document.querySelectorAll("input, textarea")).filter((field) => field.labels.length === 0)
           .map((field) => field.id);"""), [])
@@ -204,8 +240,9 @@ def forced_colours(counts: Counts, page: Page) -> None:
     if page.browser.media(forced_colors="active"):
         for tab in ("draw", "check"):
             page.tab(tab)
-            found = page.browser.run(COLOURS + """return low("[role=tab][aria-selected=true]", 3,
-                (tab) => [behind(tab), behind(tab.parentElement)]);""")
+            found = page.browser.run(COLOURS + """return [
+                ...low("[role=tab][aria-selected=true]", 3, (tab) => [behind(tab), behind(tab.parentElement)]),
+                ...low("[role=tab]", 4.5, (tab) => [getComputedStyle(tab).color, behind(tab)])];""")
             counts.same(f"forced colours, {tab}", found, [])
         page.browser.media()
 

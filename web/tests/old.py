@@ -12,6 +12,7 @@ import checks
 import draws
 from counts import Counts
 from drivers import Browser
+from looks import EMPTY
 from page import Page
 
 WORDS = ("This browser cannot draw: it has no WebAssembly, or it is switched off. Open the page in a newer browser: "
@@ -21,6 +22,11 @@ FAILED = "The module failed, and nothing is drawn: TypeError: "
 MAKER = "Version 1.0.0, module SHA-256 {}, for 32-bit memory: the same source, its proof erased"
 OTHER = ("The record was made by this page's other module, for 64-bit memory, proved. "
          "Here runs the one for 32-bit memory: the same source, its proof erased.")
+# What is to be seen once there is something to do with it, or to say.
+LATER = """
+return ["tidy", "opened", "list-facts", "progress", "result", "check-step", "outcome", "maker"]
+  .filter((id) => document.getElementById(id).checkVisibility());
+"""
 
 
 def without_modules(counts: Counts, page: Page, name: str, words: str = WORDS) -> None:
@@ -29,6 +35,7 @@ def without_modules(counts: Counts, page: Page, name: str, words: str = WORDS) -
     shown = page.shown()
     said = shown["page"] if shown["page"].startswith(words) else words
     counts.same(name, [shown[field] for field in ("page", "list", "seed", "count")], [said, "", "", ""])
+    counts.same(f"{name}: nothing else", (page.browser.run(LATER), page.browser.run(EMPTY)), ([], []))
     page.paste("a\nb\n")
     page.fill("seed", "all")
     time.sleep(1)

@@ -33,7 +33,7 @@ return {
   warnings: items("list-warnings"), title: shown("result-title"), drawn: drawn(),
   more: shown("more"), escapes: shown("escapes"), record: shown("record"), read: shown("seed-read"),
   outcome: shown("outcome") && document.getElementById("outcome").dataset.outcome,
-  outcomeTitle: shown("outcome-title"), findings: items("findings"),
+  outcomeTitle: shown("outcome-title"), findings: items("findings"), hint: shown("publish-hint"),
 };
 """
 

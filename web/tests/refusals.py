@@ -92,15 +92,22 @@ def lists_refused(counts: Counts, page: Page, program: str) -> None:
 
 
 def stale_results(counts: Counts, page: Page) -> None:
-    """A result goes once a field is changed, and an answer that comes late is not shown."""
-    for field, value in (("list-text", "a\nb\nc\n"), ("seed", "other"), ("count", "1")):
+    """A result and an outcome go once a field is changed, and an answer that comes late is not shown."""
+    for field, value in (("list-text", "a\nb\nc\n"), ("seed", "other"), ("count", "1"), ("check-text", "other")):
         page.paste("a\nb\n")
         page.fill("seed", "all")
-        counts.case(f"{field}: a result", "" if page.draw()["record"] else "is missing")
+        shown = page.draw()
+        counts.same(f"{field}: a result, and no hint", (shown["record"] != "", shown["hint"]), (True, ""))
+        counts.same(f"{field}: an outcome", page.check(shown["record"])["outcome"], "agrees")
         page.browser.run("""document.getElementById(arguments[0]).value = arguments[1];
             document.getElementById(arguments[0]).dispatchEvent(new Event("input"));""", field, value)
+        counts.same(f"{field}: no outcome of before", page.shown()["outcome"], "")
+        page.tab("draw")
         shown = page.shown()
-        counts.same(f"{field}: no result of before", (shown["record"], shown["title"]), ("", ""))
+        if field != "check-text":
+            counts.same(f"{field}: no result of before", (shown["record"], shown["title"]), ("", ""))
+            counts.same(f"{field}: the hint again", shown["hint"].split(" with ")[0],
+                        "After the draw the winners stand here,")
     page.paste("a\n" * 50000)
     page.fill("seed", "all")
     page.browser.run("""document.getElementById("draw").click();

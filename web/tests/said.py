@@ -5,6 +5,7 @@ import time
 from pathlib import Path
 
 from counts import ALL_UNSEEN, Counts
+from looks import EMPTY
 from page import Page
 
 TOP = Path(__file__).resolve().parents[2]
@@ -43,6 +44,7 @@ def counts_of_draws(counts: Counts, page: Page) -> None:
             "1 entrant" if entrants == 1 else f"{grouped(entrants)} entrants",
             f"{grouped(drawn)} of {grouped(entrants)} drawn, in this order:" if drawn else "Nobody was drawn.",
             f"and {grouped(left)} more, in the result that you can save" if left > 0 else "", min(drawn, 1000)])
+        counts.same(f"{name}: texts of nothing", page.browser.run(EMPTY), [])
         counts.same(f"{name}: no progress", page.browser.run('return document.getElementById("progress").hidden;'), True)
 
 
@@ -69,6 +71,9 @@ def texts(counts: Counts, page: Page, module: str) -> None:
     document = (TOP / "docs/LOTS.md").read_text(encoding="utf-8")
     code = re.search(r"^```python\n(.*?)\n```$", document, re.M | re.S)
     counts.same("the Python code", page.browser.run(text, "pre[aria-label='The draw in Python']"), code and code[1])
+    prose = " ".join(page.browser.run(text, ".prose").split())
+    for call in ('lots "4 1 6 3 3 2 5 6" 3 < entrants.txt', "python3 lots.py SEED COUNT < entrants.txt"):
+        counts.case(f"how to call {call[:12]}", "" if call in prose else "is missing")
 
 
 def descriptions(counts: Counts, page: Page) -> None:
@@ -100,8 +105,10 @@ def frame(counts: Counts, page: Page) -> None:
     levels = page.browser.run("return Array.from(document.querySelectorAll('h1,h2,h3,h4,h5,h6'), (one) => one.tagName);")
     skipped = [pair for pair in zip(levels, levels[1:]) if int(pair[1][1]) > int(pair[0][1]) + 1]
     counts.same("the levels of headings", (levels[0], levels.count("H1"), skipped), ("H1", 1, []))
-    counts.same("sections without a heading", page.browser.run("""return Array.from(document.querySelectorAll("section"))
-        .filter((one) => !/^H/.test(document.getElementById(one.getAttribute("aria-labelledby")).tagName)).length;"""), 0)
+    counts.same("sections that another heading names", page.browser.run("""
+        return Array.from(document.querySelectorAll("section")).filter((one) =>
+          document.getElementById(one.getAttribute("aria-labelledby")) !== one.querySelector("h1,h2,h3"))
+          .map((one) => one.id || one.className);"""), [])
     counts.same("buttons that submit", page.browser.run("""return Array.from(document.querySelectorAll("button"))
         .filter((button) => button.getAttribute("type") !== "button").map((button) => button.id);"""), [])
 
@@ -125,7 +132,8 @@ def fresh_page(counts: Counts, page: Page) -> None:
 
 
 def files_named(counts: Counts, page: Page) -> None:
-    """The name and the size of the file that is open, and none of one that was closed."""
+    """The name and the size of the file that is open, and none of one that was closed: the pasted text is the list."""
+    page.paste("Max\n")
     for name, size in (("one", 3), (MARKED.replace("/", ""), 12345)):
         (page.folder / name).write_bytes(b"a" * (size - 1) + b"\n")
         page.browser.type("#list-file", str(page.folder / name))
@@ -134,6 +142,9 @@ def files_named(counts: Counts, page: Page) -> None:
         counts.same(f"the file {name}", text, f"{name}, {grouped(size)} bytes")
     page.browser.click("#close-file")
     counts.same("no file is chosen", page.browser.run('return document.getElementById("list-file").files.length;'), 0)
+    counts.same("the keyboard after it", page.browser.run("return document.activeElement.id;"), "list-text")
+    page.fill("seed", "all")
+    counts.same("a draw after it", page.draw()["drawn"], ["Max"])
 
 
 def mark_up(counts: Counts, page: Page) -> None:

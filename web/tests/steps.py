@@ -6,7 +6,7 @@ import zlib
 from pathlib import Path
 from typing import List
 
-from counts import Counts
+from counts import Counts, sha256
 from drivers import BACKSPACE, CONTROL, ENTER, SHIFT, SPACE, TAB
 from page import Page
 
@@ -24,6 +24,21 @@ const others = shown.filter((one) => !one.closest("#drawn"));
 return [size(document.querySelector("#drawn li")), Math.max(...others.map(size)),
   document.getElementById("record").getBoundingClientRect().top -
     document.getElementById("drawn").getBoundingClientRect().bottom];
+"""
+# The width of a winner's number, the room beside the winners, and the width of a number with one digit more.
+NUMBERS = """
+const list = document.getElementById("drawn");
+const widthOf = (text) => {
+  const item = list.firstElementChild.cloneNode();
+  item.textContent = text;
+  item.style.cssText = "position: absolute; list-style: none;";
+  list.append(item);
+  const { width } = item.getBoundingClientRect();
+  item.remove();
+  return width;
+};
+const room = list.firstElementChild.getBoundingClientRect().left - list.getBoundingClientRect().left;
+return [widthOf(`${arguments[0]}.`), room, widthOf(`${arguments[0]}0.`)];
 """
 # How many letters of each digest stand in each of its rows.
 ROWS = """
@@ -45,20 +60,29 @@ return ["tab-draw", "list-heading", "list-hint", "list-file", "list-text", "file
   "list-warnings", "list-digest", "seed", "check-text", "outcome", "publish-hint", "drawn", "record", "print"]
   .filter((id) => document.getElementById(id).checkVisibility());
 """
+# Whether a part is higher than what is seen of it, and what becomes of the rest.
+CUT = """
+const part = document.getElementById(arguments[0]);
+return [part.scrollHeight > part.clientHeight + 1, getComputedStyle(part).overflowY];
+"""
 FRAMED = """
 document.getElementById(arguments[0]).focus({ focusVisible: true });
 return getComputedStyle(document.activeElement).outlineStyle;
 """
 DROP = """
-const [id, name, text] = arguments;
+const [id, name, bytes] = arguments;
 const data = new DataTransfer();
-data.items.add(new File([text], name));
+data.items.add(new File([Uint8Array.from(bytes)], name));
 for (const kind of ["dragover", "drop"]) {
   const event = new DragEvent(kind, { dataTransfer: data, bubbles: true, cancelable: true });
   document.getElementById(id).dispatchEvent(event);
   if (!event.defaultPrevented) throw new Error(`${kind} is left to the browser`);
 }
 """
+
+
+def drop(page: Page, element: str, name: str, data: bytes) -> None:
+    page.browser.run(DROP, element, name, list(data))
 
 
 def focused(page: Page) -> str:
@@ -72,11 +96,22 @@ def drawn(page: Page) -> None:
     page.draw()
 
 
+def tab_is(counts: Counts, page: Page, name: str) -> None:
+    """The tab of this name is chosen, Tab leads to it alone, and what it shows is named by it."""
+    found = page.browser.run("""return Array.from(document.querySelectorAll("[role=tab]"), (tab) =>
+        [tab.id, tab.getAttribute("aria-selected"), tab.tabIndex, tab.getAttribute("aria-controls")]);""")
+    wanted = [[f"tab-{one}", str(one == name).lower(), 0 if one == name else -1, "panel"] for one in ("draw", "check")]
+    counts.same(f"the tab {name}", found, wanted)
+    panel = page.browser.run("return document.getElementById('panel').getAttribute('aria-labelledby');")
+    counts.same(f"the panel of {name}", panel, f"tab-{name}")
+
+
 def tabs(counts: Counts, page: Page) -> None:
     """The steps stand under one tab; the list, the record and the answer under the other."""
     page.load()
     steps = ["1. Close the list", "2. Draw", "3. Publish", "Why believe it"]
     counts.same("the steps", page.browser.run(HEADINGS), steps)
+    tab_is(counts, page, "draw")
     record = "nanorand"
     page.check(record)
     counts.same("a check", page.browser.run(HEADINGS), ["The list", "The record that was published", "Why believe it"])
@@ -86,12 +121,8 @@ def tabs(counts: Counts, page: Page) -> None:
                       (HOME, "draw"), (HOME, "draw"), (END, "check"), (END, "check")):
         page.browser.run("document.querySelector('[role=tab][aria-selected=true]').focus();")
         page.browser.press(key)
-        found = page.browser.run("""return Array.from(document.querySelectorAll("[role=tab]"),
-            (tab) => [tab.id, tab.getAttribute("aria-selected"), tab.tabIndex]);""")
-        wanted = [[f"tab-{one}", str(one == name).lower(), 0 if one == name else -1] for one in ("draw", "check")]
-        counts.same(f"the tab {name}", (focused(page), found), (f"tab-{name}", wanted))
-        panel = page.browser.run("return document.getElementById('panel').getAttribute('aria-labelledby');")
-        counts.same(f"the panel of {name}", panel, f"tab-{name}")
+        counts.same(f"the keyboard at {name}", focused(page), f"tab-{name}")
+        tab_is(counts, page, name)
 
 
 def winners_first(counts: Counts, page: Page) -> None:
@@ -106,6 +137,19 @@ def winners_first(counts: Counts, page: Page) -> None:
     page.load()
     height = page.browser.run("return document.documentElement.scrollHeight;")
     counts.case("an empty page has two screens at most", "" if height <= TWO_SCREENS else str(height))
+    page.browser.size(1000, 900)
+
+
+def numbers_of_winners(counts: Counts, page: Page) -> None:
+    """No number of a winner is cut off, and the winners stand no further in than two digits or theirs need."""
+    for drawn in (1, 9, 10, 99, 100, 999, 1000):
+        page.paste("".join(f"entrant {number}\n" for number in range(drawn)))
+        page.fill(SEED, "all")
+        page.draw()
+        for width in (360, 1440):
+            page.browser.size(width, 900)
+            widths = page.browser.run(NUMBERS, max(drawn, 10))
+            counts.case(f"the number {drawn}, {width}", "" if widths == sorted(widths) else str(widths))
     page.browser.size(1000, 900)
 
 
@@ -140,27 +184,48 @@ def files_dropped(counts: Counts, page: Page) -> None:
     """A file is the list wherever it is dropped, but on the field of the record."""
     drawn(page)
     record = page.shown()["record"]
-    page.browser.run(DROP, "list-text", "people.txt", LIST + "Max\n")
+    drop(page, "list-text", "people.txt", f"{LIST}Max\n".encode())
     counts.same("a list dropped", page.facts()["entrants"], "13 entrants")
     text = page.browser.run("return document.getElementById('file-name').textContent;")
     counts.same("its name", text.split(",")[0], "people.txt")
     page.open_file(b"chosen\n")
     page.facts()
     page.tab("check")
-    page.browser.run(DROP, "panel", "entrants.txt", LIST)
+    drop(page, "panel", "entrants.txt", LIST.encode())
     chosen = page.browser.run("return document.getElementById('list-file').files.length;")
     counts.same("the file that was chosen before", chosen, 0)
     counts.same("a list dropped beside it", page.facts()["entrants"], "12 entrants")
-    page.browser.run(DROP, "check-text", "record.txt", record)
+    drop(page, "panel", "marked.txt", b"\xef\xbb\xbfM\xfcller\r\n")
+    wanted = sha256(b"\xef\xbb\xbfM\xfcller\r\n")
+    counts.same("a list dropped that is no UTF-8", page.facts()["digest"], wanted)
+    drop(page, "panel", "entrants.txt", LIST.encode())
+    page.facts()
+    drop(page, "check-text", "record.txt", record.encode())
     page.browser.wait("return document.getElementById('check-text').value;")
     page.browser.run("document.getElementById('check').click();")
     page.browser.wait("return !document.getElementById('outcome').hidden;")
     counts.same("a record dropped", page.shown()["outcome"], "agrees")
-    for text in (record.replace("drawn: 3", "drawn: 2"), "", record):
-        page.browser.run(DROP, "check-text", "record.txt", text)
+    for text in (record.replace("drawn: 3", "drawn: 2"), "", record + "\n"):
+        drop(page, "check-text", "record.txt", text.encode())
         page.browser.wait("return document.getElementById('check-text').value === arguments[0];", text)
         counts.same("no outcome of the record before", page.shown()["outcome"], "")
         page.check(record)
+
+
+def records_dropped(counts: Counts, page: Page) -> None:
+    """A record is found in a file with a mark in front, or with other bytes than UTF-8 around."""
+    drawn(page)
+    record = page.shown()["record"].encode()
+    page.tab("check")
+    for name, data in (("a byte order mark", b"\xef\xbb\xbf" + record), ("Windows", record.replace(b"\n", b"\r\n")),
+                       ("Latin-1 above", b"Gr\xfc\xdfe\n" + record), ("Latin-1 below", record + b"\nGr\xfc\xdfe"),
+                       ("a letter cut off", record + b"\xe2\x82"), ("bytes of value 0", b"\0\n" + record)):
+        page.check("before")
+        drop(page, "check-text", "record.txt", data)
+        page.browser.wait("return document.getElementById('check-text').value !== 'before';")
+        page.browser.run("document.getElementById('check').click();")
+        page.browser.wait("return !document.getElementById('outcome').hidden;")
+        counts.same(f"a record dropped, {name}", page.shown()["outcome"], "agrees")
 
 
 def sheets(document: bytes) -> int:
@@ -202,6 +267,21 @@ def paper(counts: Counts, page: Page) -> None:
     on_paper(counts, page, "a check", ["check-text", "outcome"])
 
 
+def long_results(counts: Counts, page: Page) -> None:
+    """Many winners are scrolled on the screen, and stand on paper all; so does a long record in its field."""
+    page.paste("".join(f"entrant {number}\n" for number in range(300)))
+    page.fill(SEED, "all")
+    record = page.draw()["record"]
+    counts.same("winners on the screen", page.browser.run(CUT, "drawn"), [True, "auto"])
+    counts.same("the record on the screen", page.browser.run(CUT, "record")[0], False)
+    if page.browser.media("print"):
+        counts.same("winners on paper", page.browser.run(CUT, "drawn")[0], False)
+        page.check(record)
+        counts.same("a checked record on paper", page.browser.run(CUT, "check-text")[0], False)
+        page.browser.media()
+        page.tab("draw")
+
+
 def by_keyboard(counts: Counts, page: Page) -> None:
     """A draw of 300 entrants and its check, by keys alone, in less than two minutes."""
     page.load()
@@ -239,5 +319,6 @@ def by_keyboard(counts: Counts, page: Page) -> None:
 
 
 def run(counts: Counts, page: Page) -> None:
-    for part in (tabs, winners_first, details, enter_draws, files_dropped, paper, by_keyboard):
+    for part in (tabs, winners_first, numbers_of_winners, details, enter_draws, files_dropped, records_dropped, paper,
+                 long_results, by_keyboard):
         part(counts, page)
