@@ -165,13 +165,15 @@ impl SeedableRng<8, 8> for WyRand {
 }
 
 // The word of the seed that a draw leaves: the product's high half xor its low half. The low half is a
-// product of its own, so that LLVM draws one word after another: two in a vector take twice as long.
+// product of its own, and the borrow is always 0: with them LLVM draws one word after another. Without
+// them it draws two in a vector and multiplies each by itself, which takes twice as long.
 #[inline(always)]
 fn word(seed: u64) -> u64 {
     let mask = seed ^ MASK;
     let low = seed.wrapping_mul(mask);
     let product = u128::from(seed) * u128::from(mask);
-    ((product - u128::from(low)) >> 64) as u64 ^ low
+    let borrow = u64::from(((product % (1 << 64)) as u64) < low);
+    ((product >> 64) as u64).wrapping_sub(borrow) ^ low
 }
 
 // The shuffle from a seed, and the seed that it leaves.

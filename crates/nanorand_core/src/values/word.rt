@@ -135,8 +135,8 @@ pub(crate) fn rejected(size: u64, bits: u32) -> u64
 }
 
 // No fewer than the words that are rejected, without a division: a low half of at least that many is
-// accepted as it is. Of a size above half it is their number, so that a draw has one test that no
-// processor foresees.
+// accepted as it is. Sizes above half are common among small words: there it is the number of rejected
+// words itself, so that a draw has one test that no processor foresees.
 fn most_rejected(size: u64, bits: u32) -> u64
     requires width { IsWordWidth bits }
     requires some { 1 ≤ size }
@@ -144,6 +144,9 @@ fn most_rejected(size: u64, bits: u32) -> u64
     ensures fits { result ≤ size }
     ensures reaches { rejected bits size ≤ result }
 {
+    if bits > 16 {
+        return size;
+    }
     let others = ((1u128 << bits) - u128::from(size)) as u64;
     others.min(size)
 }
