@@ -4,7 +4,7 @@ import contextlib
 import signal
 import unittest
 
-from nanorand import WyRand
+from nanorand import Stream, WyRand
 
 LENGTH = 6 * 2**20  # some pieces, after each of which a signal is looked for
 
@@ -39,6 +39,14 @@ class Signals(unittest.TestCase):
                     while True:
                         call(rng)
                 self.assertEqual(len(rng.sample_below(10, 10)), 10)
+
+    def test_an_exception_in_the_only_piece_or_the_last(self):
+        for length in (2**19, 2**20, 2**20 + 2**19):
+            for seconds in (0.001, 0.01, 0.02):
+                with self.assertRaises(Raised), handled_by(fail, seconds):
+                    rng = Stream(bytes(32))
+                    while True:
+                        rng.sample_below(2**60, length)
 
     def test_a_handler_that_returns_changes_nothing(self):
         calls = []

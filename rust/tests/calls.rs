@@ -128,6 +128,41 @@ macro_rules! left_in {
     }};
 }
 
+/// Shuffles items and fills bytes by whatever generator it takes.
+fn shuffled_and_filled<R: Rng<N>, const N: usize>(
+    mut rng: R,
+    length: usize,
+) -> (Vec<usize>, Vec<u8>) {
+    let (mut items, mut bytes) = (rising(length), vec![0; length]);
+    assert_eq!(rng.shuffle(&mut items), Ok(()));
+    rng.fill_bytes(&mut bytes);
+    (items, bytes)
+}
+
+/// Slices of any length, also of no item and of one, leave the same generator if it is lent.
+fn check_lengths<G: Rng<N> + Clone + PartialEq + Debug, const N: usize>(fresh: &G) {
+    for length in 0..140 {
+        let (mut lent, mut borrowed) = (fresh.clone(), fresh.clone());
+        let (mut items, mut bytes) = (rising(length), vec![0; length]);
+        let mut own = fresh.clone();
+        assert_eq!(own.shuffle(&mut items), Ok(()));
+        own.fill_bytes(&mut bytes);
+        let wanted = (items, bytes);
+        assert_eq!(shuffled_and_filled(&mut lent, length), wanted);
+        assert_eq!(shuffled_and_filled(&mut &mut borrowed, length), wanted);
+        assert_eq!((&lent, &borrowed), (&own, &own));
+    }
+}
+
+#[test]
+fn lengths_by_a_lent_generator() {
+    check_lengths(&WyRand::new_seed(3));
+    check_lengths(&Pcg64::new_seed(3));
+    check_lengths(&ChaCha12::new_key([3; 32], [4; 8]));
+    check_lengths(&BufferedRng::new(WyRand::new_seed(3)));
+    check_lengths(&BufferedRng::new(ChaCha8::new_key([3; 32], [4; 8])));
+}
+
 #[test]
 fn methods_of_a_lent_generator() {
     check_lent!(rng, rng.rand());

@@ -1,5 +1,5 @@
-//! Allocations that are refused. `read_to_end` is the only call that allocates: a refusal is an error,
-//! and changes neither the vector nor the buffer.
+//! Allocations that are refused. Two calls allocate. A refusal is an error of `read_to_end`, and changes neither
+//! the vector nor the buffer; `sample` does without.
 #![cfg(feature = "std")]
 
 mod common;
@@ -127,7 +127,7 @@ fn read_to_end_without_an_allocation() {
     assert_eq!(count, 0);
 }
 
-/// Every other call needs no memory.
+/// No other call needs memory.
 #[test]
 fn calls_without_memory() -> Result<(), RangeError> {
     let mut items = rising(100);
@@ -147,4 +147,21 @@ fn calls_without_memory() -> Result<(), RangeError> {
     items.sort_unstable();
     assert_eq!(items, rising(100));
     Ok(())
+}
+
+/// The method has a table where memory for all of it is granted, and draws the same numbers without.
+#[test]
+fn samples_with_any_memory() {
+    for slots in [16, 17, 100, 1000] {
+        let mut wanted = vec![0; slots];
+        let mut last = WyRand::new_seed(42);
+        assert_eq!(sample(&mut last, 100_000, &mut wanted), Ok(()));
+        let item = std::mem::size_of::<usize>();
+        for most in (0..4 * slots * item).step_by(slots * item / 16) {
+            let mut places = vec![0; slots];
+            let mut rng = WyRand::new_seed(42);
+            let drawn = with_memory(most, || rng.sample(100_000, &mut places));
+            assert_eq!((drawn, &places, &rng), (Ok(()), &wanted, &last), "{most}");
+        }
+    }
 }

@@ -5,24 +5,34 @@ mod refusing;
 
 use draw::run::run;
 use draw::DrawError;
-use refusing::{refused_above, refused_after};
+use refusing::{refused_above, refused_after, refused_once};
 
-/// The outcome after so many requests for memory, and how much was written. `words` are the requests of the
-/// program, each of which is made 300 times.
-fn run_after(requests: usize, count: &str, words: &[&str]) -> (Result<(), DrawError>, usize) {
+/// The outcome where memory is refused after so many requests, once or from there on, and how much was written.
+/// `words` are the requests of the program, each of which is made 300 times.
+fn run_after(
+    requests: usize,
+    once: bool,
+    count: &str,
+    words: &[&str],
+) -> (Result<(), DrawError>, usize) {
     let head = ["wyrand", "d29b42879be2895f", "plain", count];
     let words = words.iter().flat_map(|word| [*word; 300]);
     let arguments: Vec<String> = head.into_iter().chain(words).map(String::from).collect();
     let mut out = vec![0; 100_000];
     let mut rest = out.as_mut_slice();
-    let outcome = refused_after(requests, || run(&arguments, &mut rest));
+    let call = || run(&arguments, &mut rest);
+    let outcome = if once {
+        refused_once(requests, call)
+    } else {
+        refused_after(requests, call)
+    };
     let left = rest.len();
     (outcome, 100_000 - left)
 }
 
 /// How many requests are refused one by one until there is a text.
-fn refusals(count: &str, words: &[&str]) -> usize {
-    let outcomes = (0..).map(|requests| run_after(requests, count, words));
+fn refusals(once: bool, count: &str, words: &[&str]) -> usize {
+    let outcomes = (0..).map(|requests| run_after(requests, once, count, words));
     let mut refused = 0;
     for outcome in outcomes.take_while(|outcome| outcome.0.is_err()) {
         assert_eq!(outcome, (Err(DrawError::Memory), 0));
@@ -43,18 +53,19 @@ fn each_request_may_be_refused() {
         ("1000", &[], 10),
         ("0", &["u64"], 10),
     ] {
-        let refused = refusals(count, words);
+        let refused = refusals(false, count, words);
         assert!(refused > least, "{refused}");
+        assert_eq!(refusals(true, count, words), refused);
     }
 }
 
 #[test]
 fn the_first_four_arguments_take_no_memory() {
     assert_eq!(
-        run_after(0, "1001", &["u8"]),
+        run_after(0, false, "1001", &["u8"]),
         (Err(DrawError::BadWord(4)), 0)
     );
-    assert_eq!(run_after(0, "0", &[]), (Ok(()), 0));
+    assert_eq!(run_after(0, false, "0", &[]), (Ok(()), 0));
 }
 
 /// 1000 items are of eight bytes each, and each list and text may double its room.

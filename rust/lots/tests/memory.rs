@@ -5,7 +5,7 @@ mod refusing;
 
 use lots::run::run;
 use lots::{draw_places, LotsError};
-use refusing::{refused_above, refused_after};
+use refusing::{refused_above, refused_after, refused_once};
 use std::io::{Read, Result};
 
 /// Gives at most this many bytes at each read.
@@ -18,27 +18,38 @@ impl Read for Slow<'_> {
     }
 }
 
-/// The outcome after this many requests for memory, of a list that comes in pieces, and how much was written.
-fn run_after(requests: usize, piece: usize) -> (std::result::Result<(), LotsError>, usize) {
+/// The outcome where memory is refused after this many requests, once or from there on, of a list that comes in
+/// pieces, and how much was written.
+fn run_after(
+    requests: usize,
+    once: bool,
+    piece: usize,
+) -> (std::result::Result<(), LotsError>, usize) {
     let arguments = ["seed".to_string(), "all".to_string()];
     let list: Vec<u8> = (0..5000)
         .flat_map(|number| format!("{number}\n").into_bytes())
         .collect();
     let mut out = vec![0; list.len()];
     let mut rest = out.as_mut_slice();
-    let outcome = refused_after(requests, || {
-        run(&arguments, &mut Slow(&list, piece), &mut rest)
-    });
+    let call = || run(&arguments, &mut Slow(&list, piece), &mut rest);
+    let outcome = if once {
+        refused_once(requests, call)
+    } else {
+        refused_after(requests, call)
+    };
     let left = rest.len();
     (outcome, list.len() - left)
 }
 
 #[test]
 fn each_request_may_be_refused() {
-    for piece in [1, 7, 40, 63, 64, 1000, 100_000] {
+    for (piece, once) in [1, 7, 40, 63, 64, 1000, 100_000]
+        .into_iter()
+        .flat_map(|piece| [(piece, false), (piece, true)])
+    {
         let mut count = 0;
         for outcome in (0..)
-            .map(|requests| run_after(requests, piece))
+            .map(|requests| run_after(requests, once, piece))
             .take_while(|outcome| outcome.0.is_err())
         {
             assert_eq!(outcome, (Err(LotsError::Memory), 0), "{piece}");
@@ -46,7 +57,7 @@ fn each_request_may_be_refused() {
         }
         // Two lists and a text grow.
         assert!(count > 20, "{count}");
-        assert_eq!(run_after(count, piece), (Ok(()), 23890));
+        assert_eq!(run_after(count, once, piece), (Ok(()), 23890));
     }
 }
 

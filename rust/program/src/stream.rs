@@ -171,6 +171,38 @@ mod tests_of_errors {
         }
     }
 
+    /// A process of its own, which may have eight descriptors, runs this test alone, and holds all that are left.
+    #[test]
+    fn a_stream_that_cannot_be_copied_fails() {
+        const FEW: &str = "NANORAND_FEW_DESCRIPTORS";
+        let _turn = turn();
+        if env::var_os(FEW).is_none() {
+            let name = "stream::tests_of_errors::a_stream_that_cannot_be_copied_fails";
+            let mut shell = Command::new("sh");
+            shell.args(["-c", "ulimit -n 8; exec \"$0\" --exact \"$1\""]);
+            shell.arg(env::current_exe().unwrap()).arg(name);
+            let output = shell.env(FEW, "").output().unwrap();
+            let text = String::from_utf8_lossy(&output.stdout);
+            assert!(output.status.success(), "{text}");
+            assert!(text.contains("1 passed"), "{text}");
+            return;
+        }
+        let null = File::options().read(true).write(true).open("/dev/null");
+        let null = null.unwrap();
+        let mut held = Vec::new();
+        held.extend(std::iter::from_fn(|| null.try_clone().ok()));
+        assert!(!held.is_empty());
+        assert_eq!(read_fails(&null).kind(), ErrorKind::NotConnected);
+        assert_eq!(write_fails(&null).kind(), ErrorKind::NotConnected);
+        drop(held);
+        assert_eq!(
+            Stream::of(&null, &AtomicBool::new(false))
+                .write(b"a")
+                .unwrap(),
+            1
+        );
+    }
+
     #[test]
     fn a_socket_without_a_far_end_fails() {
         let _turn = turn();

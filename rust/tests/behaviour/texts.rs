@@ -117,12 +117,10 @@ fn of_a_buffer() {
 
 /// What deriving writes for a buffer: its numbers obey the options.
 mod derived {
-    use nanorand_proved::rand::ChaChaGroups;
-
     #[derive(Debug)]
     #[allow(dead_code)] // Debug alone reads the fields
-    pub struct BufferedRng<'a> {
-        pub inner: &'a ChaChaGroups<8>,
+    pub struct BufferedRng<'a, G> {
+        pub inner: &'a G,
         pub buffered: usize,
     }
 }
@@ -147,6 +145,40 @@ fn of_a_buffer_by_options() {
             let found = format!("{rng:#6.precision$?}");
             assert_eq!(found, format!("{wanted:#6.precision$?}"));
         }
+    }
+}
+
+/// A generator whose text has as many lines and digits as the options say.
+#[derive(Debug)]
+struct Own {
+    next: u64,
+    path: [Option<u8>; 2],
+}
+
+impl Rng<2> for Own {
+    fn rand(&mut self) -> [u8; 2] {
+        self.next += 1;
+        [0, 1]
+    }
+}
+
+/// The options are those of the generator inside, too.
+#[test]
+fn of_a_buffer_over_any_generator() {
+    let mut rng = BufferedRng::new(Own {
+        next: 19,
+        path: [None, Some(255)],
+    });
+    for buffered in [0, 1] {
+        if buffered == 1 {
+            let _ = rng.generate::<u8>();
+        }
+        let inner = rng.inner();
+        let wanted = derived::BufferedRng { inner, buffered };
+        assert_eq!(format!("{rng:?}"), format!("{wanted:?}"));
+        assert_eq!(format!("{rng:#?}"), format!("{wanted:#?}"));
+        assert_eq!(format!("{rng:x?}"), format!("{wanted:x?}"));
+        assert_eq!(format!("{rng:#010X?}"), format!("{wanted:#010X?}"));
     }
 }
 

@@ -12,6 +12,8 @@ static ALLOCATOR: Refusing = Refusing;
 thread_local! {
     /// How many requests of this thread are granted.
     static GRANTED: Cell<usize> = const { Cell::new(usize::MAX) };
+    /// How many requests of this thread are refused after those.
+    static REFUSED: Cell<usize> = const { Cell::new(usize::MAX) };
     /// The largest request of this thread that is granted, in bytes.
     static MOST: Cell<usize> = const { Cell::new(usize::MAX) };
 }
@@ -24,6 +26,14 @@ pub fn refused_after<T>(requests: usize, call: impl FnOnce() -> T) -> T {
     result
 }
 
+/// What the call returns if one request for memory is refused, after so many.
+pub fn refused_once<T>(requests: usize, call: impl FnOnce() -> T) -> T {
+    REFUSED.with(|refused| refused.set(1));
+    let result = refused_after(requests, call);
+    REFUSED.with(|refused| refused.set(usize::MAX));
+    result
+}
+
 /// Returns the call's result when every request for more than `most` bytes fails.
 pub fn refused_above<T>(most: usize, call: impl FnOnce() -> T) -> T {
     MOST.with(|granted| granted.set(most));
@@ -32,13 +42,16 @@ pub fn refused_above<T>(most: usize, call: impl FnOnce() -> T) -> T {
     result
 }
 
+/// Takes one from the count, unless it is 0 already.
+fn takes_one(count: &Cell<usize>) -> bool {
+    let left = count.get();
+    count.set(left.saturating_sub(1));
+    left > 0
+}
+
 /// Whether a request for `size` bytes is granted.
 fn granted(size: usize) -> bool {
-    GRANTED.with(|granted| {
-        let left = granted.get();
-        granted.set(left.saturating_sub(1));
-        left > 0 && size <= MOST.with(Cell::get)
-    })
+    (GRANTED.with(takes_one) || !REFUSED.with(takes_one)) && size <= MOST.with(Cell::get)
 }
 
 // SAFETY: what is granted is done by the system's allocator, with the same arguments.
