@@ -18,6 +18,27 @@ def stream_of(*words):
     return Stream(KEY, rest=b"".join(word.to_bytes(8, "little") for word in words))
 
 
+class Raising:
+    """A number of which one operation raises an error, and each other returns itself."""
+
+    def __init__(self, error, operation):
+        self.error, self.operation = error, operation
+
+    def after(self, operation):
+        if operation == self.operation:
+            raise self.error
+        return self
+
+    def __sub__(self, _):
+        return self.after("-")
+
+    def __mul__(self, _):
+        return self.after("*")
+
+    def __radd__(self, _):
+        return self.after("+")
+
+
 class Floats(unittest.TestCase):
     def test_random(self):
         for rng in generators():
@@ -60,6 +81,13 @@ class Floats(unittest.TestCase):
         for rng in generators():
             for pair in pairs:
                 refuses(self, rng, TypeError, lambda rng, pair=pair: rng.uniform(*pair))
+            refuses(self, rng, OverflowError, lambda rng: rng.uniform(0, 10**400))
+
+    def test_what_the_numbers_of_uniform_raise(self):
+        for error in (TypeError, ValueError, OverflowError, ArithmeticError, MemoryError, KeyboardInterrupt):
+            for end in (Raising(error, operation) for operation in "-*+"):
+                for rng in generators():
+                    refuses(self, rng, error, lambda rng, end=end: rng.uniform(0, end))
 
 
 class WholeNumbers(unittest.TestCase):
