@@ -334,12 +334,20 @@ class Jumps(unittest.TestCase):
                 self.assertEqual(ahead.bytes(200), model.bytes(200))
 
     def test_leaves_where_it_was(self):
+        draws = [[], [Model.word], [Model.half_word], [Model.half_word, Model.half_word]]
         for start in STARTS:
-            bits = bits_of(start)
-            DRAWS[Model.half_word](bits)
-            before = bits.state
-            bits.jumped()
-            self.assertEqual(bits.state, before)
+            for drawn in draws:
+                bits = bits_of(start)
+                for draw in drawn:
+                    DRAWS[draw](bits)
+                before = bits.state
+                one, two = bits.jumped(), bits.jumped()
+                self.assertEqual((bits.state, one.state), (before, two.state))
+                bits.generator.u64()
+                self.assertEqual(bits.state, before)
+                copy.copy(bits).generator.u64()
+                one.random_raw()
+                self.assertEqual((bits.state, two.state), (before, bits.jumped().state))
 
     def test_refused(self):
         for kind, last in LAST_JUMPS.items():
