@@ -85,9 +85,31 @@ fn seed_from<const SIZE: usize>(fill: fn(&mut [u8]) -> bool) -> [u8; SIZE] {
 
 #[cfg(all(test, feature = "wyrand"))]
 mod tests {
+    extern crate std;
+
+    use super::seed_from;
+    use std::panic::catch_unwind;
+    use std::sync::atomic::{AtomicUsize, Ordering};
+
     #[test]
     #[should_panic(expected = "no source of random bytes is available")]
     fn systems_without_a_source() {
-        let _: [u8; 8] = super::seed_from(|_| false);
+        let _: [u8; 8] = seed_from(|_| false);
+    }
+
+    /// Whatever part of the seed a source had written.
+    #[test]
+    fn systems_that_fail_in_the_middle() {
+        static WRITTEN: AtomicUsize = AtomicUsize::new(0);
+        for written in 0..=8 {
+            WRITTEN.store(written, Ordering::Relaxed);
+            let made = catch_unwind(|| {
+                seed_from::<8>(|seed| {
+                    seed[..WRITTEN.load(Ordering::Relaxed)].fill(7);
+                    false
+                })
+            });
+            assert!(made.is_err(), "{written}");
+        }
     }
 }

@@ -150,6 +150,7 @@ fn of_a_buffer_by_options() {
 
 /// A generator whose text has as many lines and digits as the options say.
 #[derive(Debug)]
+#[allow(dead_code)] // Debug alone reads the path
 struct Own {
     next: u64,
     path: [Option<u8>; 2],
