@@ -231,6 +231,7 @@ class Refusals(unittest.TestCase):
     def test_memory_that_cannot_be_written(self):
         read_only = [b"12345678", memoryview(b"12345678"), memoryview(bytearray(8)).toreadonly()]
         read_only += [memoryview(b"12345678").cast("d"), memoryview(array.array("d", [0])).toreadonly()]
+        read_only += [b"", memoryview(b""), memoryview(array.array("Q")).toreadonly()]
         for rng in generators():
             for buffer in read_only:
                 for call in every_fill(buffer).values():

@@ -120,6 +120,17 @@ class States(unittest.TestCase):
                 rng.state = bytearray(saved)
                 self.assertEqual([rng.u64() for _ in range(20)], wanted)
 
+    def test_a_state_of_any_other_byte_is_another(self):
+        for rng in [*generators(), *(Stream(KEY, rest=bytes(range(length))) for length in (1, 8, 63))]:
+            saved = rng.state
+            for place, byte in enumerate(saved):
+                try:
+                    other = type(rng).from_state(saved[:place] + bytes([byte ^ 1]) + saved[place + 1:])
+                except NanorandError:
+                    continue
+                self.assertNotEqual(rng, other, place)
+                self.assertNotEqual(rng.state, other.state)
+
     def test_copies_are_apart(self):
         ways = [copy.copy, copy.deepcopy, lambda rng: rng.copy()]
         ways += [
@@ -516,11 +527,12 @@ class Lists(unittest.TestCase):
     def test_a_sequence_of_views(self):
         """Rows that are moved over one another would be lost."""
         for rng in generators():
-            matrix = Matrix([[1, 2], [3, 4], [5, 6]])
-            for name in ("shuffle", "shuffle_full"):
-                refuses(self, rng, TypeError, lambda rng, name=name: getattr(rng, name)(matrix))
-            self.assertEqual([list(row) for row in matrix], [[1, 2], [3, 4], [5, 6]])
-            self.assertIn(list(rng.choice(matrix)), [[1, 2], [3, 4], [5, 6]])
+            for rows in ([[1, 2], [3, 4]], [[1, 2], [3, 4], [5, 6]], [[place, -place] for place in range(100)]):
+                matrix = Matrix(rows)
+                for name in ("shuffle", "shuffle_full"):
+                    refuses(self, rng, TypeError, lambda rng, name=name: getattr(rng, name)(matrix))
+                self.assertEqual([list(row) for row in matrix], rows)
+                self.assertIn(list(rng.choice(matrix)), rows)
 
     def test_choices(self):
         for rng in generators():

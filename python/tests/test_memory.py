@@ -112,6 +112,8 @@ SUCCEED = {
     "weak references": lambda rng: weakref.ref(rng)(),
 }
 
+LONG = 2**5000  # errors tell its length alone
+
 FAIL = {
     "bytes": [lambda rng: rng.bytes(-1), lambda rng: rng.bytes(BIG), lambda rng: rng.bytes(OTHER),
               lambda rng: rng.bytes(FAILS),
@@ -156,6 +158,8 @@ FAIL = {
                lambda rng: hash(rng),
                lambda rng: Generator(), lambda rng: Generator.from_entropy(), lambda rng: rng < rng],
     "made": [lambda rng: type(rng)(OTHER), lambda rng: type(rng)(BIG), lambda rng: type(rng)(b"short"),
+             lambda rng: type(rng)(LONG), lambda rng: rng.below(LONG), lambda rng: rng.range(LONG, -LONG),
+             lambda rng: rng.bytes(LONG), lambda rng: type(rng).seed_from_u64(-LONG),
              lambda rng: type(rng)(),
              lambda rng: type(rng)(KEY, b"short"), lambda rng: type(rng)(KEY, NONCE, BIG),
              lambda rng: Stream(KEY, rest=bytes(64)),

@@ -132,6 +132,23 @@ class Arguments(unittest.TestCase):
                     same = rng.copy()
                     self.assertEqual(call(*values), getattr(same, name)(**dict(zip(names, values))), name)
 
+    def test_an_argument_that_is_given_twice(self):
+        """By place and by name, also one that may be left out: of each call, and of each maker."""
+        good = {"first": 0, "last": 9, "count": 9, "length": 1, "population": "abc", "end": 5, "draws": 1, "a": 1,
+                "b": 2, "index": 1, "items": [1, 2], "buffer": b"", "state": b"", "number": 7, "weights": None,
+                "k": 1, "cum_weights": None, "key": KEY, "nonce": NONCE, "counter": 0, "rest": b"", "seed": 5}
+        for rng in generators():
+            calls = [getattr(rng, name) for name in dir(rng) if not name.startswith("_")]
+            for call in (*(call for call in calls if callable(call) and has_signature(call)), type(rng)):
+                if not has_signature(call):
+                    continue
+                places = [one.name for one in inspect.signature(call).parameters.values()
+                          if one.kind in (one.POSITIONAL_ONLY, one.POSITIONAL_OR_KEYWORD)]
+                for place, name in enumerate(places):
+                    values = [good[one] for one in places[:place + 1]]
+                    with self.assertRaisesRegex(TypeError, "multiple values|keyword arg|takes at most|given by name"):
+                        call(*values, **{name: good[name]})
+
     def test_an_error_of_a_maker_names_the_argument(self):
         for kind in (WyRand, Pcg64):
             for bad, error in ((None, TypeError), (HUGE, OutOfBounds), (-1, OutOfBounds)):

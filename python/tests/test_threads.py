@@ -1,6 +1,7 @@
 """Threads that share a generator take turns: each call sees a state that was before or after any other call."""
 
 import array
+import collections.abc
 import copy
 import faulthandler
 import os
@@ -130,6 +131,28 @@ class Reports(Threads):
         self.assertIn("OutOfBounds", result.failures[0][1])
 
 
+class Failing(collections.abc.MutableSequence):
+    """So many items, none of which is given or taken."""
+
+    def __init__(self, length):
+        self.length = length
+
+    def __len__(self):
+        return self.length
+
+    def __getitem__(self, place):
+        raise KeyError(place)
+
+    def __setitem__(self, place, item):
+        raise KeyError(place)
+
+    def __delitem__(self, place):
+        raise KeyError(place)
+
+    def insert(self, place, item):
+        raise KeyError(place)
+
+
 class Turns(Threads):
     def test_every_call_waits_for_a_long_fill(self):
         for rng in generators():
@@ -147,6 +170,28 @@ class Turns(Threads):
                     self.assertIn(found, wanted)
                     first.fill(bytearray(4_000_000))
                     self.assertIn(shared.state, (first.state, second.state))
+
+    def test_a_call_that_fails_after_its_turn(self):
+        """It leaves the state that it found when its turn came."""
+        failing = {
+            "choice": lambda rng: rng.choice(Failing(9)),
+            "choices": lambda rng: rng.choices(Failing(9), k=5),
+            "choices by weights": lambda rng: rng.choices(Failing(2), [1, 2]),
+            "choices by floats": lambda rng: rng.choices(Failing(2), [1.5, 2]),
+            "sample": lambda rng: rng.sample(Failing(9), 5),
+            "shuffle": lambda rng: rng.shuffle(Failing(9)),
+            "uniform": lambda rng: rng.uniform(0, 10**400),
+        }
+        for rng in generators():
+            after = rng.copy()
+            after.fill(bytearray(4_000_000))
+            for name, call in failing.items():
+                with self.subTest(kind=type(rng).__name__, name=name):
+                    shared = rng.copy()
+                    other = Meanwhile(lambda shared=shared: shared.fill(bytearray(4_000_000)))
+                    self.assertRaises((KeyError, OverflowError), call, shared)
+                    other.thread.join()
+                    self.assertEqual(shared.state, after.state)
 
     def test_the_calls_of_random(self):
         for kind in RANDOMS:

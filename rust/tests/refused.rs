@@ -15,6 +15,17 @@ use std::io::{ErrorKind, Read};
 thread_local! {
     /// The greatest request of this thread that is granted, in bytes.
     static MOST: Cell<usize> = const { Cell::new(usize::MAX) };
+    /// How many bytes this thread holds more than it gave back.
+    static HELD: Cell<isize> = const { Cell::new(0) };
+}
+
+fn hold(bytes: isize) {
+    HELD.with(|held| held.set(held.get() + bytes));
+}
+
+/// No place in memory is longer than this type's greatest number.
+fn signed(size: usize) -> isize {
+    isize::try_from(size).expect("a size")
 }
 
 /// The system's allocator, which refuses a thread's greater requests.
@@ -26,11 +37,13 @@ unsafe impl GlobalAlloc for Refusing {
         if layout.size() > MOST.with(Cell::get) {
             std::ptr::null_mut()
         } else {
+            hold(signed(layout.size()));
             System.alloc(layout)
         }
     }
 
     unsafe fn dealloc(&self, bytes: *mut u8, layout: Layout) {
+        hold(-signed(layout.size()));
         System.dealloc(bytes, layout);
     }
 }
@@ -164,4 +177,24 @@ fn samples_with_any_memory() {
             assert_eq!((drawn, &places, &rng), (Ok(()), &wanted, &last), "{most}");
         }
     }
+}
+
+/// What a call allocates for itself it gives back.
+#[test]
+fn nothing_is_left_behind() {
+    let mut rng = WyRand::new_seed(42);
+    for slots in [1, 15, 16, 17, 1000] {
+        let mut places = vec![0; slots];
+        for most in [0, 100, 1000, usize::MAX] {
+            let before = HELD.with(Cell::get);
+            with_memory(most, || rng.sample(100_000, &mut places)).expect("a sample");
+            assert_eq!(HELD.with(Cell::get), before, "{slots}, {most}");
+        }
+    }
+    let mut out = Vec::with_capacity(1000);
+    let before = HELD.with(Cell::get);
+    BufferedRng::new(ChaCha20::new_key([1; 32], [2; 8]))
+        .read_to_end(&mut out)
+        .expect("nothing to append");
+    assert_eq!(HELD.with(Cell::get), before);
 }

@@ -52,6 +52,9 @@ fn each_request_may_be_refused() {
         ),
         ("1000", &[], 10),
         ("0", &["u64"], 10),
+        ("0", &["bool"], 10),
+        ("0", &["u8:3..3"], 10),
+        ("3", &["shuffle"], 10),
     ] {
         let refused = refusals(false, count, words);
         assert!(refused > least, "{refused}");
