@@ -83,6 +83,8 @@ SHOWN = {
     "\u0645\u200dx": "\u0645[U+200D zero width joiner]x", "x\u200c\u0645": "x[U+200C zero width non-joiner]\u0645",
     "\U0001f468\u200c\U0001f467": "\U0001f468[U+200C zero width non-joiner]\U0001f467",
     "\U0001f468\u200d": "\U0001f468[U+200D zero width joiner]", "[U+200B]": "[U+200B]",
+    "\U0001f600\U000e0041": "\U0001f600[U+E0041]", "\u2764\U000e0067\U000e0062": "\u2764[U+E0067][U+E0062]",
+    "\U0001f3f3\U000e0067": "\U0001f3f3[U+E0067]",
 }
 
 
