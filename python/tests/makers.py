@@ -41,6 +41,27 @@ COPIES += [lambda thing, protocol=protocol: pickle.loads(pickle.dumps(thing, pro
            for protocol in range(pickle.HIGHEST_PROTOCOL + 1)]
 
 
+class Index:
+    """A whole number by its `__index__`. As an integer, a float or a truth it is another one."""
+
+    def __init__(self, number):
+        self.number = number
+
+    def __index__(self):
+        return self.number
+
+    def __int__(self):
+        return self.number + 1
+
+    __trunc__ = __int__
+
+    def __float__(self):
+        return self.number + 2.0
+
+    def __bool__(self):
+        return not self.number
+
+
 def generators():
     """One of each, and two more streams: one without and one with the most buffered bytes."""
     return [

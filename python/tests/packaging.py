@@ -38,7 +38,7 @@ class Places(unittest.TestCase):
 
     def command(self, *words):
         self.ran.append(words)
-        self.put("rust/c/target/release/libnanorand.a")
+        self.put("rust/nanorand-c/target/release/libnanorand.a")
         return ""
 
     def put(self, name):
@@ -72,11 +72,11 @@ class Places(unittest.TestCase):
 
     def test_cargo_s_is_the_last(self):
         with self.environment(NANORAND_LIBRARY=""):
-            self.assertEqual(backend.library(), self.top / "rust/c/target/release/libnanorand.a")
+            self.assertEqual(backend.library(), self.top / "rust/nanorand-c/target/release/libnanorand.a")
         [words] = self.ran
         self.assertEqual(words[:3], ("cargo", "build", "--release"))
-        self.assertEqual(words[words.index("--manifest-path") + 1], str(self.top / "rust/c/Cargo.toml"))
-        self.assertEqual(words[words.index("--target-dir") + 1], str(self.top / "rust/c/target"))
+        self.assertEqual(words[words.index("--manifest-path") + 1], str(self.top / "rust/nanorand-c/Cargo.toml"))
+        self.assertEqual(words[words.index("--target-dir") + 1], str(self.top / "rust/nanorand-c/target"))
 
 
 def listed(order):

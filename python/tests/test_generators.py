@@ -9,7 +9,7 @@ import threading
 import unittest
 from unittest import mock
 
-from makers import CHACHAS, CLASSES, KEY, NONCE, generators, refuses, views_of
+from makers import CHACHAS, CLASSES, KEY, NONCE, Index, generators, refuses, views_of
 
 from nanorand import (
     ChaCha8,
@@ -47,16 +47,6 @@ class SetOfPlaces(collections.abc.Set):
 
     def __setitem__(self, place, item):
         raise AssertionError
-
-
-class Index:
-    """A whole number by its `__index__` alone."""
-
-    def __init__(self, number):
-        self.number = number
-
-    def __index__(self):
-        return self.number
 
 
 class OwnList(collections.abc.MutableSequence):

@@ -39,6 +39,27 @@ class Raising:
         return self.after("+")
 
 
+class Kept:
+    """A number that no operation may change in place."""
+
+    def __init__(self, value):
+        self.value = value
+
+    def __add__(self, other):
+        return Kept(self.value + getattr(other, "value", other))
+
+    def __sub__(self, other):
+        return Kept(self.value - getattr(other, "value", other))
+
+    def __mul__(self, other):
+        return Kept(self.value * getattr(other, "value", other))
+
+    def in_place(self, _):
+        raise AssertionError("an operation in place")
+
+    __iadd__ = __isub__ = __imul__ = in_place
+
+
 class Floats(unittest.TestCase):
     def test_random(self):
         for rng in generators():
@@ -75,6 +96,11 @@ class Floats(unittest.TestCase):
             rng = Pcg64(5)
             unit = rng.copy().random()
             self.assertEqual(rng.uniform(a, b), Fixed().uniform(a, b))
+
+    def test_uniform_changes_no_number(self):
+        for rng in generators():
+            unit = rng.copy().random()
+            self.assertEqual(rng.uniform(Kept(2.5), Kept(4.0)).value, 2.5 + (4.0 - 2.5) * unit)
 
     def test_what_uniform_refuses(self):
         pairs = [("a", "b"), (None, 1), (1, None), ([], []), ({1}, {2}), (decimal.Decimal(1), decimal.Decimal(2))]

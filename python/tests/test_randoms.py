@@ -187,6 +187,30 @@ class Randoms(unittest.TestCase):
                 self.assertEqual(kind(same).generator, kind(seed).generator, seed)
                 self.assertEqual(str(same), "another")
 
+    def test_what_a_replaced_generator_sees_at_its_end(self):
+        """The new one, and no longer itself: a `__del__` may read the attribute, set it again or remove it."""
+        for kind, of in RANDOMS.items():
+            for ends in ("reads", "sets", "draws"):
+                seen = []
+
+                class Ending(of):
+                    def __del__(self):
+                        seen.append(owner.generator)
+                        if ends == "sets":
+                            owner.generator = of.seed_from_u64(8)
+                        elif ends == "draws":
+                            owner.random()
+
+                owner = kind(1)
+                owner.generator = Ending.seed_from_u64(7)
+                new = of.seed_from_u64(9)
+                owner.generator = new
+                self.assertEqual([one is new for one in seen], [True], (kind, ends))
+                wanted = of.seed_from_u64(8 if ends == "sets" else 9)
+                if ends == "draws":
+                    wanted.random()
+                self.assertEqual(owner.generator, wanted, (kind, ends))
+
     def test_seeds_by_their_index(self):
         class Index:
             def __index__(self):

@@ -10,7 +10,7 @@ import unittest
 from pathlib import Path
 from unittest import mock
 
-from makers import CHACHAS, CLASSES, COPIES, KEY, NONCE, RANDOMS, generators, refuses, stays_itself
+from makers import CHACHAS, CLASSES, COPIES, KEY, NONCE, RANDOMS, Index, generators, refuses, stays_itself
 
 from nanorand import ChaCha20, OutOfBounds, Pcg64, Stream, WrongLength, WyRand, errors, generators as kinds, lots
 
@@ -148,6 +148,35 @@ class Arguments(unittest.TestCase):
                     values = [good[one] for one in places[:place + 1]]
                     with self.assertRaisesRegex(TypeError, "multiple values|keyword arg|takes at most|given by name"):
                         call(*values, **{name: good[name]})
+
+    def test_each_whole_number_by_its_index(self):
+        """Of each call, each argument: an object is the number of its `__index__`, whatever else it may be taken for."""
+        good = {"first": 0, "last": 9, "count": 9, "length": 3, "population": "abc", "end": 5, "draws": 1, "a": 1, "b": 2,
+                "index": 1, "number": 7, "k": 2, "buffer": None}
+        tried = set()
+        for rng in generators():
+            calls = [name for name in dir(rng) if not name.startswith("_") and name != "uniform"]
+            for call in (name for name in calls if callable(getattr(rng, name)) and has_signature(getattr(rng, name))):
+                names = [one.name for one in inspect.signature(getattr(rng, call)).parameters.values()
+                         if one.default is one.empty or one.name == "k"]
+                for name in (one for one in names if good.keys() >= set(names) and type(good[one]) is int):
+                    tried.add((call, name))
+                    found, wanted = [], []
+                    for same, number, answers in ((rng.copy(), Index(good[name]), found), (rng.copy(), good[name], wanted)):
+                        given = {one: good[one] for one in names}
+                        if "buffer" in given:
+                            given["buffer"] = array.array("Q", [0, 0])
+                        answers += [getattr(same, call)(**{**given, name: number}), given.get("buffer"), same.state]
+                    self.assertEqual(found, wanted, (call, name))
+        self.assertGreaterEqual(len(tried), 18)
+
+    def test_each_whole_number_of_a_maker_by_its_index(self):
+        for kind in (WyRand, Pcg64):
+            self.assertEqual(kind(Index(5)), kind(5))
+            self.assertEqual(kind.seed_from_u64(Index(7)), kind.seed_from_u64(7))
+        for kind in (*CHACHAS, Stream):
+            self.assertEqual(kind(KEY, NONCE, Index(5)), kind(KEY, NONCE, 5))
+        self.assertEqual(lots.draw("seed", b"a\nb\nc\n", Index(2)), lots.draw("seed", b"a\nb\nc\n", 2))
 
     def test_an_error_of_a_maker_names_the_argument(self):
         for kind in (WyRand, Pcg64):

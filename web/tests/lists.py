@@ -2,6 +2,8 @@
 
 import re
 import time
+import unicodedata
+from typing import List
 
 from counts import Counts, sha256
 from page import Page
@@ -86,6 +88,15 @@ SHOWN = {
     "\U0001f600\U000e0041": "\U0001f600[U+E0041]", "\u2764\U000e0067\U000e0062": "\u2764[U+E0067][U+E0062]",
     "\U0001f3f3\U000e0067": "\U0001f3f3[U+E0067]",
 }
+# The scripts whose letters join, or choose a form, by a joiner between them, and others, each with a letter.
+JOINING = ("ARABIC LETTER BEH", "BENGALI LETTER KA", "DEVANAGARI LETTER KA", "GUJARATI LETTER KA", "GURMUKHI LETTER KA",
+           "KANNADA LETTER KA", "KHMER LETTER KA", "MALAYALAM LETTER KA", "MONGOLIAN LETTER A", "ORIYA LETTER KA",
+           "SINHALA LETTER ALPAPRAANA KAYANNA", "SYRIAC LETTER BETH", "TAMIL LETTER KA", "TELUGU LETTER KA",
+           "THAANA LETTER HAA")
+OTHERS = ("LATIN SMALL LETTER A", "GREEK SMALL LETTER ALPHA", "CYRILLIC SMALL LETTER A", "HEBREW LETTER BET",
+          "ARMENIAN SMALL LETTER AYB", "GEORGIAN LETTER AN", "THAI CHARACTER KO KAI", "LAO LETTER KO",
+          "HIRAGANA LETTER KA", "HANGUL SYLLABLE GA", "CJK UNIFIED IDEOGRAPH-6587", "CHEROKEE LETTER A", "DIGIT SEVEN")
+JOINERS = {"\u200c": "[U+200C zero width non-joiner]", "\u200d": "[U+200D zero width joiner]"}
 
 
 def long_pastes(counts: Counts, page: Page) -> None:
@@ -184,16 +195,48 @@ def is_text(data: bytes) -> bool:
     return True
 
 
-def letters_by_name(counts: Counts, page: Page) -> None:
-    """Joined letters as they are, and what cannot be seen by its name."""
+def alike_bytes(counts: Counts, page: Page) -> None:
+    """Lines that are no text are equal only if all their bytes are: no byte stands for another."""
     page.load()
-    page.open_file("".join(f"{entrant}\n" for entrant in SHOWN).encode())
+    each = [bytes([66, byte, 110]) for byte in range(128, 256)]
+    for lines, begins in ((each, []), (each + each, ["128 of the lines equal an earlier line: look at line 129."]),
+                          ([b"B\xe4n", b"B\xf6n", b"B\xef\xbf\xbdn"], []), ([b"\xe4", b"\xc4"], []),
+                          ([b"\xe4 ", b"\xe4"], [f"{SPACED}: look at line 1.", f"{ONE} but for the spaces at its ends"])):
+        page.open_file(b"\n".join(lines))
+        found = [one for one in page.facts()["warnings"] if "equal" in one or "space" in one]
+        right = len(found) == len(begins) and all(one.startswith(begin) for one, begin in zip(found, begins))
+        counts.case(f"alike: {len(lines)} lines of bytes, {lines[0]!r} ..", "" if right else str(found))
+
+
+def joined_letters(counts: Counts, page: Page) -> None:
+    """A joiner between two letters is shown as it is in each script that joins by it, and by its name in others."""
+    pairs = [(unicodedata.lookup(name), name in JOINING) for name in JOINING + OTHERS]
+    wanted = {}
+    for letter, joins in pairs:
+        for joiner, name in JOINERS.items():
+            entrant = f"{letter}{joiner}{letter}"
+            wanted[entrant] = entrant if joins else f"{letter}{name}{letter}"
+    counts.same("joined letters", sorted(shown_by_name(page, list(wanted))), sorted(wanted.values()))
+    record = page.shown()["record"]
+    for entrant, shown in wanted.items():
+        if entrant == shown:
+            counts.case(f"{entrant!r} in a record", "" if f": {entrant}\n" in record else record)
+
+
+def shown_by_name(page: Page, entrants: List[str]) -> List[str]:
+    """What the page shows of a draw of all, with the names of what cannot be seen in brackets."""
+    page.load()
+    page.open_file("".join(f"{entrant}\n" for entrant in entrants).encode())
     page.fill("seed", "all")
     page.draw()
-    found = page.browser.run("""return Array.from(document.querySelectorAll("#drawn li"), (item) =>
+    return page.browser.run("""return Array.from(document.querySelectorAll("#drawn li"), (item) =>
         Array.from(item.childNodes, (node) => node.className === "unseen" ? `[${node.textContent}]` : node.data)
           .join(""));""")
-    counts.same("letters by name", sorted(found), sorted(SHOWN.values()))
+
+
+def letters_by_name(counts: Counts, page: Page) -> None:
+    """Joined letters as they are, and what cannot be seen by its name."""
+    counts.same("letters by name", sorted(shown_by_name(page, list(SHOWN))), sorted(SHOWN.values()))
     record = page.shown()["record"]
     for entrant in list(SHOWN)[:7]:
         counts.case(f"{entrant!r} in a record", "" if f": {entrant}\n" in record else record)
@@ -222,5 +265,5 @@ def progress(counts: Counts, page: Page) -> None:
 
 
 def run(counts: Counts, page: Page) -> None:
-    for part in (long_pastes, pastes, alike, tidied, letters_by_name, progress):
+    for part in (long_pastes, pastes, alike, alike_bytes, tidied, letters_by_name, joined_letters, progress):
         part(counts, page)
