@@ -3,7 +3,7 @@
 The C files of python/native and the static library become one extension module, which exports `PyInit__native`
 alone. Equal sources and libraries give equal bytes, by the same compiler and linker. The library is the first there
 is of: the file that the variable NANORAND_LIBRARY names; lib/libnanorand.a, as in the unpacked archive; and what cargo
-builds from rust/c. It takes a C compiler (the variable CC, or Python's own, or `cc`), and no network.
+builds from rust/nanorand-c. It takes a C compiler (the variable CC, or Python's own, or `cc`), and no network.
 """
 
 import base64
@@ -67,7 +67,7 @@ def run(*command):
 def library():
     """The static library."""
     given = os.environ.get("NANORAND_LIBRARY")
-    packed, manifest = TOP / "lib/libnanorand.a", TOP / "rust/c/Cargo.toml"
+    packed, manifest = TOP / "lib/libnanorand.a", TOP / "rust/nanorand-c/Cargo.toml"
     if given or packed.exists():
         found = Path(given or packed)
     else:

@@ -1,6 +1,3 @@
-// Written by `python3 rust/erase` from:
-// crates/draw_core/src/bounds.rt
-
 //! The two bounds of a range, LOW..HIGH or LOW..=HIGH.
 
 use crate::numbers::ReadNumber;

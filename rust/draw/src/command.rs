@@ -1,6 +1,3 @@
-// Written by `python3 rust/erase` from:
-// crates/draw_core/src/command.rt
-
 //! Reads the arguments of the command line into a command.
 
 use crate::error::DrawError;

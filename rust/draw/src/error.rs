@@ -1,6 +1,3 @@
-// Written by `python3 rust/erase` from:
-// crates/draw_core/src/error.rt
-
 //! The ways in which a run fails.
 
 /// Why `run` failed.

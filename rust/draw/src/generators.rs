@@ -1,6 +1,3 @@
-// Written by `python3 rust/erase` from:
-// crates/draw_core/src/generators.rt
-
 //! Runs calls on the generator of a seed and a mode.
 
 use crate::command::{Mode, SeededGenerator};

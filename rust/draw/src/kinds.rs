@@ -1,6 +1,3 @@
-// Written by `python3 rust/erase` from:
-// crates/draw_core/src/kinds.rt
-
 //! The names of the number types.
 
 use nanorand_proved::replay::Kind;

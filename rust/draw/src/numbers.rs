@@ -1,6 +1,3 @@
-// Written by `python3 rust/erase` from:
-// crates/draw_core/src/numbers.rt
-
 //! Numbers in the arguments of the command line.
 
 mod signed;

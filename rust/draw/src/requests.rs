@@ -1,6 +1,3 @@
-// Written by `python3 rust/erase` from:
-// crates/draw_core/src/requests.rt
-
 //! Requests: a type, a range of a type, or a shuffle.
 
 use crate::bounds::bounds;

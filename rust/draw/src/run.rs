@@ -1,6 +1,3 @@
-// Written by `python3 rust/erase` from:
-// crates/draw_core/src/run.rt
-
 //! The whole run: from the arguments of the command line to the text that is written.
 
 use crate::command::{read, Command};

@@ -1,6 +1,3 @@
-// Written by `python3 rust/erase` from:
-// crates/draw_core/src/text.rt
-
 //! The text of the answers and the items.
 
 use nanorand_proved::replay::Answer;

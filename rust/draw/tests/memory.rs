@@ -1,6 +1,6 @@
 //! A run whose memory is refused at any request ends with `Memory`, and writes nothing.
 
-#[path = "../../program/tests/common/refusing.rs"]
+#[path = "../../nanorand-program/tests/common/refusing.rs"]
 mod refusing;
 
 use draw::run::run;

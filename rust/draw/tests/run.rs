@@ -1,8 +1,8 @@
 //! A whole run: what arguments ask for, which are refused, and writers that fail.
 
-#[path = "../../tests/common/formats.rs"]
+#[path = "../../nanorand-proved/tests/common/formats.rs"]
 mod formats;
-#[path = "../../program/tests/common/writer.rs"]
+#[path = "../../nanorand-program/tests/common/writer.rs"]
 mod writer;
 
 use draw::run::{report, run};

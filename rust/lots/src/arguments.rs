@@ -1,6 +1,3 @@
-// Written by `python3 rust/erase` from:
-// crates/lots_core/src/arguments.rt
-
 //! Reads the arguments of the command line: a seed and a count.
 
 /// How many entrants are asked for.

@@ -1,6 +1,3 @@
-// Written by `python3 rust/erase` from:
-// crates/lots_core/src/draws.rt
-
 //! The draw: a seed's words, and the entrants that they choose.
 
 use crate::error::LotsError;

@@ -1,6 +1,3 @@
-// Written by `python3 rust/erase` from:
-// crates/lots_core/src/entrants.rt
-
 //! The entrants of a list: its lines.
 
 use crate::error::LotsError;

@@ -1,6 +1,3 @@
-// Written by `python3 rust/erase` from:
-// crates/lots_core/src/error.rt
-
 //! The ways in which a draw fails.
 
 /// Why nothing was drawn, or why the selection was not written.
@@ -9,7 +6,12 @@ pub enum LotsError {
     /// The arguments are not a seed and a count. Nothing was read.
     Usage,
     /// More entrants were asked for than there are.
-    TooFew { entrants: usize, count: usize },
+    TooFew {
+        /// How many entrants there are.
+        entrants: usize,
+        /// How many were asked for.
+        count: usize,
+    },
     /// The number, counted from 1, of the first empty line.
     EmptyLine(usize),
     /// Out of memory: an allocation was refused.

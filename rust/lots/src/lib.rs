@@ -7,7 +7,7 @@
 //! # Ok::<(), lots::LotsError>(())
 //! ```
 //!
-//! The functions are the proved source of the crate `lots_core` in Rattle, with its contracts erased;
+//! The functions have the bodies of the crate `lots_core` in Rattle, whose contracts are proved;
 //! `sha256` and `reading` are written by hand. The program `lots` calls `run::run` and `run::report`, and
 //! nothing else.
 //!

@@ -1,6 +1,3 @@
-// Written by `python3 rust/erase` from:
-// crates/lots_core/src/run.rt
-
 //! The whole run: from the arguments and the list to the text that is written.
 
 use crate::arguments::{read, Request};

@@ -1,6 +1,3 @@
-// Written by `python3 rust/erase` from:
-// crates/lots_core/src/text.rt
-
 //! The text of the entrants drawn.
 
 /// The text of the lines, each ended by a line feed.

@@ -1,6 +1,6 @@
 //! The draw without its program: places and entrants, the lines of a list, and errors.
 
-#[path = "../../tests/common/formats.rs"]
+#[path = "../../nanorand-proved/tests/common/formats.rs"]
 mod formats;
 
 use formats::is_displayed;

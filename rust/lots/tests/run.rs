@@ -1,6 +1,6 @@
 //! A whole run over readers and writers whose bytes and failures are known.
 
-#[path = "../../program/tests/common/writer.rs"]
+#[path = "../../nanorand-program/tests/common/writer.rs"]
 mod writer;
 
 use lots::run::{report, run};

@@ -1,8 +1,8 @@
 //! Lists and arguments of every size: no run fails where nothing is wrong. No clause of the proved source says so.
 
-#[path = "../../program/tests/common/sizes.rs"]
+#[path = "../../nanorand-program/tests/common/sizes.rs"]
 mod sizes;
-#[path = "../../program/tests/common/writer.rs"]
+#[path = "../../nanorand-program/tests/common/writer.rs"]
 mod writer;
 
 use lots::run::{report, run};

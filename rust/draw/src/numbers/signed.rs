@@ -1,6 +1,3 @@
-// Written by `python3 rust/erase` from:
-// crates/draw_core/src/numbers/signed.rt
-
 //! Signed numbers: decimal digits after at most one minus, with a value that fits the type.
 
 use super::{read_signed, ReadNumber};

@@ -1,6 +1,3 @@
-// Written by `python3 rust/erase` from:
-// crates/draw_core/src/numbers/unsigned.rt
-
 //! Unsigned numbers: decimal digits with a value that fits the type.
 
 use super::{read_unsigned, ReadNumber};

@@ -1,0 +1,3 @@
+//! Stream ciphers whose keystream is a source of blocks.
+
+pub mod chacha;

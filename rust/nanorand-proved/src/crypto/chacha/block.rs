@@ -1,0 +1,28 @@
+//! The rounds and the block.
+
+use super::lanes::{matrix_of, mix, rows_of};
+use super::vectors::Vector;
+
+/// The matrix after the rounds alone, without the final addition of the input.
+///
+/// An odd `ROUNDS` does not compile. A double round is one round on the columns and then one on
+/// the diagonals.
+#[must_use]
+pub fn chacha_rounds<const ROUNDS: u8>(input: [u32; 16]) -> [u32; 16] {
+    let () = crate::layer::Rounds::<ROUNDS>::EVEN;
+
+    matrix_of(mix::<ROUNDS>(rows_of(&input)))
+}
+
+/// The block: the matrix after the rounds plus the input, word by word, modulo 2^32.
+///
+/// An odd `ROUNDS` does not compile. With 0 rounds the block is the input plus itself.
+#[must_use]
+pub fn chacha_block<const ROUNDS: u8>(input: [u32; 16]) -> [u32; 16] {
+    let () = crate::layer::Rounds::<ROUNDS>::EVEN;
+
+    let rows = rows_of(&input);
+    let [a, b, c, d] = rows;
+    let [p, q, r, s] = mix::<ROUNDS>(rows);
+    matrix_of([p.add(a), q.add(b), r.add(c), s.add(d)])
+}

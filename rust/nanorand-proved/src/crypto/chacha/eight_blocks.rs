@@ -1,0 +1,118 @@
+//! Eight blocks side by side.
+
+use super::four_blocks::FourBlocks;
+use super::side_by_side::{blocks_of, Matrices, Row};
+use super::state::{counter, high, low};
+use super::wide::{joined, woven, woven_pairs, EightLanes};
+use crate::simd::U32x8;
+
+// A state and the seven after it. The counter may wrap within the eight.
+#[inline(always)]
+fn eight_states(lanes: EightLanes, x: &[u32; 16]) -> Matrices<U32x8> {
+    let first = counter(x);
+    let second = first.wrapping_add(1);
+    let third = first.wrapping_add(2);
+    let fourth = first.wrapping_add(3);
+    let fifth = first.wrapping_add(4);
+    let sixth = first.wrapping_add(5);
+    let seventh = first.wrapping_add(6);
+    let eighth = first.wrapping_add(7);
+    (
+        (
+            lanes.splat(x[0]),
+            lanes.splat(x[1]),
+            lanes.splat(x[2]),
+            lanes.splat(x[3]),
+        ),
+        (
+            lanes.splat(x[4]),
+            lanes.splat(x[5]),
+            lanes.splat(x[6]),
+            lanes.splat(x[7]),
+        ),
+        (
+            lanes.splat(x[8]),
+            lanes.splat(x[9]),
+            lanes.splat(x[10]),
+            lanes.splat(x[11]),
+        ),
+        (
+            lanes.vector([
+                low(first),
+                low(second),
+                low(third),
+                low(fourth),
+                low(fifth),
+                low(sixth),
+                low(seventh),
+                low(eighth),
+            ]),
+            lanes.vector([
+                high(first),
+                high(second),
+                high(third),
+                high(fourth),
+                high(fifth),
+                high(sixth),
+                high(seventh),
+                high(eighth),
+            ]),
+            lanes.splat(x[14]),
+            lanes.splat(x[15]),
+        ),
+    )
+}
+
+// Vector k of the result has the lanes k of the four vectors, and then their lanes 4 + k.
+#[inline(always)]
+fn woven_row(row: Row<U32x8>) -> Row<U32x8> {
+    let (a, b, c, d) = row;
+    let (p, r) = woven(a, b);
+    let (q, s) = woven(c, d);
+    let (first, second) = woven_pairs(p, q);
+    let (third, fourth) = woven_pairs(r, s);
+    (first, second, third, fourth)
+}
+
+// The words of two vectors, one after the other.
+#[inline(always)]
+fn sixteen_of(a: U32x8, b: U32x8) -> [u32; 16] {
+    let [a0, a1, a2, a3, a4, a5, a6, a7] = a.to_array();
+    let [b0, b1, b2, b3, b4, b5, b6, b7] = b.to_array();
+    [
+        a0, a1, a2, a3, a4, a5, a6, a7, b0, b1, b2, b3, b4, b5, b6, b7,
+    ]
+}
+
+// Of four vectors with a row of one matrix and then one of another: the two matrices.
+#[inline(always)]
+fn two_matrices(p: U32x8, q: U32x8, r: U32x8, s: U32x8) -> ([u32; 16], [u32; 16]) {
+    let (a, c) = joined(p, q);
+    let (b, d) = joined(r, s);
+    (sixteen_of(a, b), sixteen_of(c, d))
+}
+
+#[inline(always)]
+fn eight_matrices(x: Matrices<U32x8>) -> (FourBlocks, FourBlocks) {
+    let (p0, p1, p2, p3) = woven_row(x.0);
+    let (q0, q1, q2, q3) = woven_row(x.1);
+    let (r0, r1, r2, r3) = woven_row(x.2);
+    let (s0, s1, s2, s3) = woven_row(x.3);
+    let (first, fifth) = two_matrices(p0, q0, r0, s0);
+    let (second, sixth) = two_matrices(p1, q1, r1, s1);
+    let (third, seventh) = two_matrices(p2, q2, r2, s2);
+    let (fourth, eighth) = two_matrices(p3, q3, r3, s3);
+    (
+        (first, second, third, fourth),
+        (fifth, sixth, seventh, eighth),
+    )
+}
+
+// The blocks of a state and of the seven after it.
+#[inline(always)]
+pub(crate) fn eight_blocks<const ROUNDS: u8>(
+    lanes: EightLanes,
+    x: &[u32; 16],
+) -> (FourBlocks, FourBlocks) {
+    eight_matrices(blocks_of::<U32x8, ROUNDS>(eight_states(lanes, x)))
+}

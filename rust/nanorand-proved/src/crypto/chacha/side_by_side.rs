@@ -1,0 +1,77 @@
+//! Blocks side by side: sixteen vectors, one for each word, with one lane for each block.
+
+use super::vectors::Vector;
+
+pub(crate) type Row<V> = (V, V, V, V);
+
+// The vectors of the words, as four rows. Lane j of all vectors is matrix j.
+pub(crate) type Matrices<V> = (Row<V>, Row<V>, Row<V>, Row<V>);
+
+#[inline(always)]
+pub(crate) fn quarter_round<V: Vector>(a: V, b: V, c: V, d: V) -> Row<V> {
+    let a1 = a.add(b);
+    let d1 = d.xor_rotate(a1, 16);
+    let c1 = c.add(d1);
+    let b1 = b.xor_rotate(c1, 12);
+    let a2 = a1.add(b1);
+    let d2 = d1.xor_rotate(a2, 8);
+    let c2 = c1.add(d2);
+    let b2 = b1.xor_rotate(c2, 7);
+    (a2, b2, c2, d2)
+}
+
+#[inline(always)]
+fn mix_columns<V: Vector>(x: Matrices<V>) -> Matrices<V> {
+    let ((x0, x1, x2, x3), (x4, x5, x6, x7), (x8, x9, x10, x11), (x12, x13, x14, x15)) = x;
+    let (x0, x4, x8, x12) = quarter_round(x0, x4, x8, x12);
+    let (x1, x5, x9, x13) = quarter_round(x1, x5, x9, x13);
+    let (x2, x6, x10, x14) = quarter_round(x2, x6, x10, x14);
+    let (x3, x7, x11, x15) = quarter_round(x3, x7, x11, x15);
+    (
+        (x0, x1, x2, x3),
+        (x4, x5, x6, x7),
+        (x8, x9, x10, x11),
+        (x12, x13, x14, x15),
+    )
+}
+
+#[inline(always)]
+fn mix_diagonals<V: Vector>(x: Matrices<V>) -> Matrices<V> {
+    let ((x0, x1, x2, x3), (x4, x5, x6, x7), (x8, x9, x10, x11), (x12, x13, x14, x15)) = x;
+    let (x0, x5, x10, x15) = quarter_round(x0, x5, x10, x15);
+    let (x1, x6, x11, x12) = quarter_round(x1, x6, x11, x12);
+    let (x2, x7, x8, x13) = quarter_round(x2, x7, x8, x13);
+    let (x3, x4, x9, x14) = quarter_round(x3, x4, x9, x14);
+    (
+        (x0, x1, x2, x3),
+        (x4, x5, x6, x7),
+        (x8, x9, x10, x11),
+        (x12, x13, x14, x15),
+    )
+}
+
+#[inline(always)]
+fn mix<V: Vector, const ROUNDS: u8>(x: Matrices<V>) -> Matrices<V> {
+    let mut mixed = x;
+    for _pair in 0..ROUNDS / 2 {
+        mixed = mix_diagonals(mix_columns(mixed));
+    }
+    mixed
+}
+
+#[inline(always)]
+fn sum_row<V: Vector>(x: Row<V>, y: Row<V>) -> Row<V> {
+    (x.0.add(y.0), x.1.add(y.1), x.2.add(y.2), x.3.add(y.3))
+}
+
+// The blocks of the matrices.
+#[inline(always)]
+pub(crate) fn blocks_of<V: Vector, const ROUNDS: u8>(x: Matrices<V>) -> Matrices<V> {
+    let mixed = mix::<V, ROUNDS>(x);
+    (
+        sum_row(mixed.0, x.0),
+        sum_row(mixed.1, x.1),
+        sum_row(mixed.2, x.2),
+        sum_row(mixed.3, x.3),
+    )
+}

@@ -1,0 +1,68 @@
+//! The initial state, and the counter in a state.
+
+/// The state of a key and a nonce, with the counter 0.
+///
+/// Words 0 to 3 are the ASCII text `expand 32-byte k`, words 4 to 11 the key, 12 and 13 the
+/// counter, 14 and 15 the nonce. Four bytes make a word, least byte first.
+#[must_use]
+pub const fn chacha_init(key: [u8; 32], nonce: [u8; 8]) -> [u32; 16] {
+    [
+        0x6170_7865,
+        0x3320_646e,
+        0x7962_2d32,
+        0x6b20_6574,
+        read_word(&key, 0),
+        read_word(&key, 4),
+        read_word(&key, 8),
+        read_word(&key, 12),
+        read_word(&key, 16),
+        read_word(&key, 20),
+        read_word(&key, 24),
+        read_word(&key, 28),
+        0,
+        0,
+        read_word(&nonce, 0),
+        read_word(&nonce, 4),
+    ]
+}
+
+#[inline]
+const fn read_word(bytes: &[u8], at: usize) -> u32 {
+    u32::from_le_bytes([bytes[at], bytes[at + 1], bytes[at + 2], bytes[at + 3]])
+}
+
+/// Adds 1 to the counter, whose low half is word 12 and whose high half is word 13, and returns
+/// true.
+///
+/// At the greatest counter, 2^64 - 1, it returns false and changes nothing.
+#[inline]
+pub fn chacha_increment_counter(state: &mut [u32; 16]) -> bool {
+    match counter(state).checked_add(1) {
+        Some(next) => {
+            set_counter(state, next);
+            true
+        }
+        None => false,
+    }
+}
+
+#[inline]
+pub(crate) fn counter(state: &[u32; 16]) -> u64 {
+    u64::from(state[12]) | u64::from(state[13]) << 32
+}
+
+#[inline]
+pub(crate) fn set_counter(state: &mut [u32; 16], counter: u64) {
+    state[12] = (counter & 0xffff_ffff) as u32;
+    state[13] = (counter >> 32) as u32;
+}
+
+#[inline(always)]
+pub(crate) fn low(n: u64) -> u32 {
+    (n & 0xffff_ffff) as u32
+}
+
+#[inline(always)]
+pub(crate) fn high(n: u64) -> u32 {
+    (n >> 32) as u32
+}

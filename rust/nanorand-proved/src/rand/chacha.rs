@@ -1,0 +1,294 @@
+//! ChaCha as a generator: a block of 64 bytes per draw, from a 256-bit key.
+
+use crate::crypto::chacha::{
+    chacha_block, chacha_increment_counter, chacha_init, counter, eight_blocks, four_blocks,
+    set_counter, EightLanes, FourBlocks, Wide,
+};
+#[cfg(feature = "std")]
+use crate::entropy::{system, EntropyError};
+use crate::parts::{draws_before, Parts, PastPeriod};
+use crate::rand::split_mix::seed_from;
+use crate::rand::{fill_by_blocks, Rng, SeedableRng};
+use core::fmt;
+#[cfg(feature = "std")]
+use std::io::Read;
+
+/// ChaCha with 8 rounds, fewer than the standard's 20. Each number costs a block: see `ChaCha`.
+pub type ChaCha8 = ChaCha<8>;
+
+/// ChaCha with 12 rounds, fewer than the standard's 20. Each number costs a block: see `ChaCha`.
+pub type ChaCha12 = ChaCha<12>;
+
+/// ChaCha with the standard's 20 rounds. Each number costs a block: see `ChaCha`.
+pub type ChaCha20 = ChaCha<20>;
+
+/// The keystream of the stream cipher ChaCha, with a 64-bit counter and a 64-bit nonce, after
+/// Daniel J. Bernstein, "ChaCha, a variant of Salsa20" (2008).
+///
+/// A draw returns the block of the state as 64 bytes, each 32-bit word least byte first, and adds
+/// 1 to the counter. After the block of the greatest counter, 2^64 - 1, the counter is 0 again,
+/// under the same key and nonce. It is a plain generator: each request starts a new block.
+///
+/// So every number, a single byte too, costs a whole block. For many numbers take the stream, such
+/// as `ChaCha20Stream`: it drops no bytes, and computes eight blocks at once.
+///
+/// It is for long reproducible streams whose blocks can be reached by index. The cipher is fast
+/// and long-studied, and its stream is believed unpredictable while the key is secret. It is not a
+/// vetted cryptographic generator: nothing here reseeds on its own or erases keys from memory, and
+/// nothing was audited. For keys, tokens and passwords, or where an adversary matters, take one
+/// that is vetted. For encryption, never use a pair of key and nonce twice. `ChaCha8` and
+/// `ChaCha12` have fewer rounds than the standard's 20.
+///
+/// An odd `ROUNDS` does not compile.
+pub struct ChaCha<const ROUNDS: u8> {
+    state: [u32; 16],
+}
+
+impl<const ROUNDS: u8> ChaCha<ROUNDS> {
+    /// A generator with this key and nonce and the counter 0. An odd `ROUNDS` does not compile.
+    #[must_use]
+    pub const fn new_key(key: [u8; 32], nonce: [u8; 8]) -> Self {
+        let () = crate::layer::Rounds::<ROUNDS>::EVEN;
+
+        ChaCha {
+            state: chacha_init(key, nonce),
+        }
+    }
+
+    /// A generator with this key and nonce, whose next block is the one at this index: the counter is
+    /// `index`. An odd `ROUNDS` does not compile.
+    ///
+    /// `key`, `nonce` and `counter` are what has to be stored of a generator: `at` of the three makes
+    /// an equal one.
+    #[must_use]
+    pub fn at(key: [u8; 32], nonce: [u8; 8], index: u64) -> Self {
+        let () = crate::layer::Rounds::<ROUNDS>::EVEN;
+
+        let mut state = chacha_init(key, nonce);
+        set_counter(&mut state, index);
+        ChaCha { state }
+    }
+
+    /// A generator whose key and nonce are made from a number, which may be small: 0, 1, 2, .., a
+    /// port, a year. Different numbers give different states. The counter is 0. An odd `ROUNDS` does
+    /// not compile.
+    ///
+    /// The 40 bytes of key and nonce are the first five words that SplitMix64 draws from the number
+    /// (Guy Steele, Doug Lea and Christine Flood, 2014, in Sebastiano Vigna's constants),
+    /// little-endian. There are only 2^64 such keys: they keep no secret.
+    #[must_use]
+    pub fn seed_from_u64(number: u64) -> Self {
+        let () = crate::layer::Rounds::<ROUNDS>::EVEN;
+
+        let (key, nonce) = split_seed(&seed_from(number));
+        ChaCha::new_key(key, nonce)
+    }
+
+    /// A generator made of the reader's next 40 bytes, with the counter 0: the first 32 are the key
+    /// and the other 8 the nonce. An odd `ROUNDS` does not compile.
+    ///
+    /// # Errors
+    ///
+    /// It returns `Short` or `Fault` as `entropy::system` does. A reader such as a slice of bytes has
+    /// given fewer than 40 bytes then.
+    #[cfg(feature = "std")]
+    pub fn new<R: Read>(source: &mut R) -> Result<Self, EntropyError> {
+        let () = crate::layer::Rounds::<ROUNDS>::EVEN;
+
+        let mut key = [0; 32];
+        let mut nonce = [0; 8];
+        system(source, &mut key)?;
+        system(source, &mut nonce)?;
+        Ok(ChaCha::new_key(key, nonce))
+    }
+
+    /// The key, as 32 bytes. With the nonce and the counter it makes up the state.
+    #[must_use]
+    pub fn key(&self) -> [u8; 32] {
+        let bytes: &[u8] = &bytes_of(&self.words());
+        let mut key = [0; 32];
+        key.copy_from_slice(&bytes[16..48]);
+        key
+    }
+
+    /// The nonce, as 8 bytes.
+    #[must_use]
+    pub fn nonce(&self) -> [u8; 8] {
+        let bytes: &[u8] = &bytes_of(&self.words());
+        let mut nonce = [0; 8];
+        nonce.copy_from_slice(&bytes[56..64]);
+        nonce
+    }
+
+    /// The counter: the index of the next block under this key and nonce.
+    #[inline]
+    #[must_use]
+    pub fn counter(&self) -> u64 {
+        counter(&self.words())
+    }
+
+    #[inline]
+    fn words(&self) -> [u32; 16] {
+        self.state
+    }
+
+    /// Advances by n draws, with one addition. The period of the states is exactly 2^64.
+    #[inline]
+    pub fn jump(&mut self, n: u64) {
+        let counter = counter(&self.state).wrapping_add(n);
+        set_counter(&mut self.state, counter);
+    }
+
+    // The next four blocks, as one request of 256 bytes.
+    fn fill_four(&mut self, out: &mut [u8]) {
+        let blocks = four_blocks::<ROUNDS>(&self.state);
+        self.jump(4);
+        write_four(out, blocks);
+    }
+
+    // Fills as many bytes as whole groups of eight blocks have, where eight lanes are faster, and
+    // returns their count. What is left is a request of its own.
+    #[inline]
+    fn fill_wide(&mut self, buffer: &mut [u8]) -> usize {
+        let mut filled = 0;
+        if let Some(lanes) = EightLanes::find() {
+            while 512 <= buffer.len() - filled {
+                lanes.run(self, &mut buffer[filled..filled + 512]);
+                filled += 512;
+            }
+        }
+        filled
+    }
+
+    // The next eight blocks, by eight lanes where these are faster.
+    #[inline]
+    pub(crate) fn next_group(&mut self) -> [u8; 512] {
+        if let Some(lanes) = EightLanes::find() {
+            lanes.next(self)
+        } else {
+            let mut group = [0; 512];
+            self.fill_bytes(&mut group);
+            group
+        }
+    }
+}
+
+impl<const ROUNDS: u8> Wide for ChaCha<ROUNDS> {
+    // The next eight blocks, as one request of 512 bytes.
+    #[inline(always)]
+    fn fill_eight(&mut self, lanes: EightLanes, out: &mut [u8]) {
+        let (front, back) = eight_blocks::<ROUNDS>(lanes, &self.state);
+        self.jump(8);
+        write_four(&mut out[0..256], front);
+        write_four(&mut out[256..], back);
+    }
+
+    #[inline(always)]
+    fn next_eight(&mut self, lanes: EightLanes) -> [u8; 512] {
+        let mut group = [0; 512];
+        Wide::fill_eight(self, lanes, &mut group);
+        group
+    }
+}
+
+/// An equal generator. Nothing is allocated.
+impl<const ROUNDS: u8> Clone for ChaCha<ROUNDS> {
+    #[inline]
+    fn clone(&self) -> Self {
+        ChaCha { state: self.state }
+    }
+}
+
+/// Equal exactly if the states are: the key, the nonce and the counter.
+impl<const ROUNDS: u8> PartialEq for ChaCha<ROUNDS> {
+    #[inline]
+    fn eq(&self, other: &Self) -> bool {
+        self.state == other.state
+    }
+}
+
+impl<const ROUNDS: u8> Eq for ChaCha<ROUNDS> {}
+
+impl<const ROUNDS: u8> fmt::Debug for ChaCha<ROUNDS> {
+    fn fmt(&self, f: &mut fmt::Formatter<'_>) -> fmt::Result {
+        let counter = counter(&self.state);
+        write!(f, "ChaCha20 {{ rounds: {ROUNDS}, counter: {counter} }}")
+    }
+}
+
+impl<const ROUNDS: u8> fmt::Display for ChaCha<ROUNDS> {
+    fn fmt(&self, f: &mut fmt::Formatter<'_>) -> fmt::Result {
+        write!(f, "ChaCha ({ROUNDS} rounds)")
+    }
+}
+
+impl<const ROUNDS: u8> Rng<64> for ChaCha<ROUNDS> {
+    #[inline]
+    fn rand(&mut self) -> [u8; 64] {
+        // The counter is stored first. The next block's load of its row waits for that store.
+        let input = self.state;
+        if !chacha_increment_counter(&mut self.state) {
+            set_counter(&mut self.state, 0);
+        }
+        bytes_of(&chacha_block::<ROUNDS>(input))
+    }
+
+    /// Computes whole groups of 256 bytes four blocks side by side, and those of 512 bytes eight where
+    /// that is faster.
+    fn fill_bytes(&mut self, buffer: &mut [u8]) {
+        let mut filled = self.fill_wide(buffer);
+        while 256 <= buffer.len() - filled {
+            self.fill_four(&mut buffer[filled..filled + 256]);
+            filled += 256;
+        }
+        fill_by_blocks(self, &mut buffer[filled..])
+    }
+}
+
+/// The period is 2^64 draws, which are blocks.
+impl<const ROUNDS: u8> Parts<64> for ChaCha<ROUNDS> {
+    #[inline]
+    fn part(&self, index: u64, draws: u64) -> Result<Self, PastPeriod> {
+        let before = draws_before(index, draws, 1 << 64)?;
+        let mut part = ChaCha { state: self.state };
+        part.jump(before as u64);
+        Ok(part)
+    }
+}
+
+impl<const ROUNDS: u8> SeedableRng<40, 64> for ChaCha<ROUNDS> {
+    /// The first 32 bytes of the seed become the key and the last 8 the nonce. The counter is 0.
+    fn reseed(&mut self, seed: [u8; 40]) {
+        let (key, nonce) = split_seed(&seed);
+        self.state = chacha_init(key, nonce);
+    }
+}
+
+// The key and the nonce of a seed.
+#[inline]
+pub(crate) fn split_seed(seed: &[u8; 40]) -> ([u8; 32], [u8; 8]) {
+    let mut key = [0; 32];
+    let mut nonce = [0; 8];
+    key.copy_from_slice(&seed[..32]);
+    nonce.copy_from_slice(&seed[32..]);
+    (key, nonce)
+}
+
+#[inline(always)]
+fn write_four(out: &mut [u8], blocks: FourBlocks) {
+    let (first, second, third, fourth) = blocks;
+    out[0..64].copy_from_slice(&bytes_of(&first));
+    out[64..128].copy_from_slice(&bytes_of(&second));
+    out[128..192].copy_from_slice(&bytes_of(&third));
+    out[192..].copy_from_slice(&bytes_of(&fourth));
+}
+
+// The words as bytes, each least byte first.
+#[inline(always)]
+fn bytes_of(words: &[u32; 16]) -> [u8; 64] {
+    let mut bytes = [0; 64];
+    for i in 0..16 {
+        bytes[4 * i..4 * i + 4].copy_from_slice(&words[i].to_le_bytes());
+    }
+    bytes
+}

@@ -1,0 +1,17 @@
+use core::fmt;
+
+// A number whose text is its lower-case hexadecimal digits. It is written in two halves because
+// std's contract does not say what `{:x}` writes for a 128-bit integer.
+pub(crate) struct Hexadecimal(pub(crate) u128);
+
+impl fmt::Display for Hexadecimal {
+    fn fmt(&self, f: &mut fmt::Formatter<'_>) -> fmt::Result {
+        let high = (self.0 >> 64) as u64;
+        let low = (self.0 % (1 << 64)) as u64;
+        if high == 0 {
+            write!(f, "{low:x}")
+        } else {
+            write!(f, "{high:x}{low:016x}")
+        }
+    }
+}

@@ -1,0 +1,34 @@
+//! SplitMix64, which makes a seed of any size from one number, after Guy Steele, Doug Lea and
+//! Christine Flood, "Fast Splittable Pseudorandom Number Generators" (2014), with the constants of
+//! Sebastiano Vigna's `splitmix64.c`.
+
+use crate::rand::{fill_by_blocks, Rng};
+
+const INCREMENT: u64 = 0x9e37_79b9_7f4a_7c15;
+
+// A generator of 64-bit words.
+struct SplitMix64 {
+    state: u64,
+}
+
+impl Rng<8> for SplitMix64 {
+    #[inline]
+    fn rand(&mut self) -> [u8; 8] {
+        self.state = self.state.wrapping_add(INCREMENT);
+        mixed(self.state).to_le_bytes()
+    }
+}
+
+// The first bytes that SplitMix64 draws from a number.
+pub(crate) fn seed_from<const SIZE: usize>(number: u64) -> [u8; SIZE] {
+    let mut seed = [0; SIZE];
+    fill_by_blocks(&mut SplitMix64 { state: number }, &mut seed);
+    seed
+}
+
+// The word of a new state.
+fn mixed(state: u64) -> u64 {
+    let first = (state ^ (state >> 30)).wrapping_mul(0xbf58_476d_1ce4_e5b9);
+    let second = (first ^ (first >> 27)).wrapping_mul(0x94d0_49bb_1331_11eb);
+    second ^ (second >> 31)
+}

@@ -1,0 +1,182 @@
+//! Random words of 8, 16, 32 or 64 bits, and the numbers that they name.
+
+use crate::rand::Rng;
+use crate::values::RandomGen;
+
+// The most words that are drawn for one number.
+pub(crate) const MAX_WORDS: usize = 128;
+
+/// The number below `size` that a word of `bits` bits names, or `None` if the word is rejected.
+///
+/// The method is that of Daniel Lemire, "Fast Random Integer Generation in an Interval" (2019):
+/// each number has a run of floor(2^bits / size) consecutive words, in the order of the numbers,
+/// and the 2^bits % size words outside all runs are rejected.
+///
+/// # Panics
+///
+/// Panics unless `bits` is 8, 16, 32 or 64, `size` is from 1 to 2^bits, and `word` is below
+/// 2^bits.
+#[inline(always)]
+#[must_use]
+pub fn pick_word(size: u128, bits: u32, word: u64) -> Option<u64> {
+    assert!(
+        matches!(bits, 8 | 16 | 32 | 64),
+        "a word has 8, 16, 32 or 64 bits"
+    );
+    assert!(1 <= size, "the size is at least 1");
+    assert!(size <= 1 << bits, "the size is at most 2^bits");
+    assert!(u128::from(word) < 1 << bits, "the word is below 2^bits");
+
+    if size > u128::from(u64::MAX) {
+        return Some(word);
+    }
+    pick_below(size as u64, bits, word)
+}
+
+// As `pick_word`, for a size that fits in 64 bits. Fewer than `size` words are rejected, so a low
+// part of at least `size` is accepted without computing how many.
+#[inline(always)]
+pub(crate) fn pick_below(size: u64, bits: u32, word: u64) -> Option<u64> {
+    let (number, low) = halves_of(size, bits, word);
+    if low >= size || low >= rejected(size, bits) {
+        Some(number)
+    } else {
+        None
+    }
+}
+
+// As `pick_below`, where the number of rejected words is already computed.
+#[inline(always)]
+pub(crate) fn pick_counted(size: u64, bits: u32, rejects: u64, word: u64) -> Option<u64> {
+    let (number, low) = halves_of(size, bits, word);
+    (low >= rejects).then_some(number)
+}
+
+// The halves of `word * size`: the high one is the number, and the low one accepts or rejects.
+#[inline(always)]
+fn halves_of(size: u64, bits: u32, word: u64) -> (u64, u64) {
+    let product = product_of(size, bits, word);
+    (high_of(product, bits), low_of(product, bits))
+}
+
+// The product of a word and the size. Words of fewer than 64 bits are multiplied in 64.
+#[inline(always)]
+fn product_of(size: u64, bits: u32, word: u64) -> u128 {
+    if bits < 64 {
+        u128::from(word * size)
+    } else {
+        u128::from(word) * u128::from(size)
+    }
+}
+
+// The high half of a product.
+#[inline(always)]
+fn high_of(product: u128, bits: u32) -> u64 {
+    (product >> bits) as u64
+}
+
+// The low half of a product.
+#[inline(always)]
+fn low_of(product: u128, bits: u32) -> u64 {
+    (product % (1 << bits)) as u64
+}
+
+// Whether the low half of a product is below a number, compared in the type of the word.
+#[inline(always)]
+fn low_is_below(product: u128, number: u64, bits: u32) -> bool {
+    let low = low_of(product, bits);
+    match bits {
+        8 => (low as u8) < number as u8,
+        16 => (low as u16) < number as u16,
+        32 => (low as u32) < number as u32,
+        _ => low < number,
+    }
+}
+
+// How many words are rejected. If `size` is more than half of all words, this needs no division.
+#[inline(always)]
+pub(crate) fn rejected(size: u64, bits: u32) -> u64 {
+    let others = ((1u128 << bits) - u128::from(size)) as u64;
+    if others < size {
+        others
+    } else {
+        remainder(others, size)
+    }
+}
+
+// No fewer than the words that are rejected, without a division: a low half of at least that many is
+// accepted as it is. Sizes above half are common among small words: there it is the number of rejected
+// words itself, so that a draw has one test that no processor foresees.
+#[inline(always)]
+fn most_rejected(size: u64, bits: u32) -> u64 {
+    if bits > 16 {
+        return size;
+    }
+    let others = ((1u128 << bits) - u128::from(size)) as u64;
+    others.min(size)
+}
+
+// Few words need the division, so it is kept apart from the path that draws. It is no call: LLVM must
+// take one of another crate to unwind, and would then store the state of a generator before each.
+#[cold]
+#[inline]
+fn remainder(others: u64, size: u64) -> u64 {
+    others % size
+}
+
+/// Draws a number below `size`; each is named by equally many words of `bits` bits.
+///
+/// Each word is one request, and the first word that names a number, as `pick_word` says, decides.
+/// It returns `None` if 128 words in a row were rejected; they stay consumed. A size that divides
+/// 2^bits, such as a power of two, rejects no word.
+///
+/// # Panics
+///
+/// Panics unless `bits` is 8, 16, 32 or 64, and `size` is from 1 to 2^bits.
+#[inline(always)]
+pub fn draw_below<G: Rng<OUTPUT>, const OUTPUT: usize>(
+    rng: &mut G,
+    size: u128,
+    bits: u32,
+) -> Option<u64> {
+    assert!(
+        matches!(bits, 8 | 16 | 32 | 64),
+        "a word has 8, 16, 32 or 64 bits"
+    );
+    assert!(1 <= size, "the size is at least 1");
+    assert!(size <= 1 << bits, "the size is at most 2^bits");
+
+    let first = draw_word(rng, bits);
+    if size == 1 << bits {
+        return Some(first);
+    }
+    let size = size as u64;
+    let mut product = product_of(size, bits, first);
+    let limit = most_rejected(size, bits);
+    if !low_is_below(product, limit, bits) {
+        return Some(high_of(product, bits));
+    }
+    let rejects = rejected(size, bits);
+    let mut drawn = 1;
+    // `&` makes one exit: with two, LLVM vectorizes the search, which takes four times as long.
+    while low_is_below(product, rejects, bits) & (drawn < MAX_WORDS) {
+        let word = draw_word(rng, bits);
+        product = product_of(size, bits, word);
+        drawn += 1;
+    }
+    if low_is_below(product, rejects, bits) {
+        return None;
+    }
+    Some(high_of(product, bits))
+}
+
+// The next word of `bits` bits, by one request.
+#[inline(always)]
+pub(crate) fn draw_word<G: Rng<OUTPUT>, const OUTPUT: usize>(rng: &mut G, bits: u32) -> u64 {
+    match bits {
+        8 => u64::from(u8::random(rng)),
+        16 => u64::from(u16::random(rng)),
+        32 => u64::from(u32::random(rng)),
+        _ => u64::random(rng),
+    }
+}

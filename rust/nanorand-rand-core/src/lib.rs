@@ -1,0 +1,112 @@
+//! The generators of `nanorand-proved` behind the traits of `rand_core` 0.6, which `rand` 0.8 takes.
+//!
+//! ```
+//! use nanorand_proved::WyRand;
+//! use nanorand_proved_rand_core::Core;
+//! use rand_core::{RngCore, SeedableRng};
+//!
+//! let mut rng = Core(WyRand::seed_from_u64(42));
+//! assert_eq!(rng.next_u64(), 6_327_169_416_285_365_978);
+//! assert_eq!(rng, Core::from_seed(rng.0.seed().to_le_bytes()));
+//! ```
+//!
+//! A generator of your own serves too. None is a `CryptoRng`: for keys, tokens and passwords, or
+//! where an adversary matters, take a vetted cryptographic generator.
+//!
+//! `from_seed` of `WyRand` and `Pcg64` takes the bytes as the state, and does not mix them:
+//! generators with neighbouring seeds draw correlated numbers. `seed_from_u64` mixes its number: it
+//! is the generator's own, by SplitMix64, and not the one by PCG32 that `rand_core` provides.
+#![no_std]
+#![forbid(unsafe_code)]
+#![deny(missing_docs)]
+
+use nanorand_proved::{ChaCha, Pcg64, Rng, WyRand};
+use rand_core::{Error, RngCore, SeedableRng};
+
+#[cfg(doctest)]
+#[doc = include_str!("../README.md")]
+struct Readme;
+
+/// A generator for what takes an `RngCore`.
+///
+/// `OUTPUT` is the size of the generator's blocks, which the compiler finds: 64 for `ChaCha`, 8 for
+/// `WyRand` and `Pcg64`.
+#[derive(Clone, Debug, PartialEq, Eq)]
+pub struct Core<G, const OUTPUT: usize>(pub G);
+
+impl<G: Rng<OUTPUT>, const OUTPUT: usize> RngCore for Core<G, OUTPUT> {
+    #[inline]
+    fn next_u32(&mut self) -> u32 {
+        self.0.next_u32()
+    }
+
+    #[inline]
+    fn next_u64(&mut self) -> u64 {
+        self.0.next_u64()
+    }
+
+    #[inline]
+    fn fill_bytes(&mut self, bytes: &mut [u8]) {
+        self.0.fill_bytes(bytes);
+    }
+
+    /// Never an error.
+    #[inline]
+    fn try_fill_bytes(&mut self, bytes: &mut [u8]) -> Result<(), Error> {
+        self.0.fill_bytes(bytes);
+        Ok(())
+    }
+}
+
+impl SeedableRng for Core<WyRand, 8> {
+    type Seed = [u8; 8];
+
+    fn from_seed(seed: [u8; 8]) -> Self {
+        Core(WyRand::from_seed(seed))
+    }
+
+    fn seed_from_u64(number: u64) -> Self {
+        Core(WyRand::seed_from_u64(number))
+    }
+}
+
+impl SeedableRng for Core<Pcg64, 8> {
+    type Seed = [u8; 16];
+
+    fn from_seed(seed: [u8; 16]) -> Self {
+        Core(Pcg64::from_seed(seed))
+    }
+
+    fn seed_from_u64(number: u64) -> Self {
+        Core(Pcg64::seed_from_u64(number))
+    }
+}
+
+/// The seed of a `ChaCha`, 32 bytes of key and 8 of nonce. An array of that length has no `Default`,
+/// which `rand_core` asks for.
+#[derive(Clone, Copy)]
+pub struct ChaChaSeed(pub [u8; 40]);
+
+impl Default for ChaChaSeed {
+    fn default() -> Self {
+        ChaChaSeed([0; 40])
+    }
+}
+
+impl AsMut<[u8]> for ChaChaSeed {
+    fn as_mut(&mut self) -> &mut [u8] {
+        &mut self.0
+    }
+}
+
+impl<const ROUNDS: u8> SeedableRng for Core<ChaCha<ROUNDS>, 64> {
+    type Seed = ChaChaSeed;
+
+    fn from_seed(seed: ChaChaSeed) -> Self {
+        Core(ChaCha::from_seed(seed.0))
+    }
+
+    fn seed_from_u64(number: u64) -> Self {
+        Core(ChaCha::seed_from_u64(number))
+    }
+}

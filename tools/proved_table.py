@@ -1,0 +1,97 @@
+"""The table of `rust/PROVED.md`: what of the Rust sources is proved source, what departs and why, what is written by
+hand and why. `tools/bodies.py` writes it from what it found, and checks that it is that of now."""
+
+from translation import SENTENCES
+
+BEGIN, END = "<!-- written by tools/bodies.py -->", "<!-- end -->"
+
+
+def with_table(text, report):
+    """The document with the table of this report between its two markers, or None if it has no such markers."""
+    if BEGIN not in text or END not in text:
+        return None
+    head, rest = text.split(BEGIN, 1)
+    tail = rest.split(END, 1)[1]
+    return f"{head}{BEGIN}\n\n{table(report)}\n{END}{tail}"
+
+
+def table(report):
+    parts = [modules(report), departures(report), items_by_hand(report), files_by_hand(report)]
+    return "\n".join([*parts, preconditions(report), languages()])
+
+
+def rows_of(heading, text, columns, rows):
+    """A section with a table."""
+    lines = [f"## {heading}", "", text, "", line_of(columns), "|---" * len(columns) + "|"]
+    return "\n".join([*lines, *(line_of(row) for row in rows), ""])
+
+
+def line_of(cells):
+    return "| " + " | ".join(str(cell).replace("|", r"\|") for cell in cells) + " |"
+
+
+def code(text):
+    """A text as code; with a backtick in it, between two."""
+    text = " ".join(text.split())
+    return f"`` {text} ``" if "`" in text else f"`{text}`"
+
+
+def short(file):
+    return code(file.removeprefix("rust/"))
+
+
+def place(row):
+    item = row.get("item")
+    return f"{short(row.get('file'))}: {code(item)}" if item else f"{short(row.get('file'))} as a whole"
+
+
+def modules(report):
+    rows = []
+    for module in report.modules:
+        counts = [sum(row.kind == kind for row in module.rows) for kind in ("departure", "hand_written")]
+        proved = ", ".join(code(name.removeprefix("crates/")) for name in module.proved)
+        rows.append((short(module.file), proved, module.equal, *counts))
+    total = [sum(row[column] for row in rows) for column in (2, 3, 4)]
+    text = (
+        "Each file of Rust here has the items of a module of the proved crates. An item is a function, a constant, a"
+        " type, a trait, an implementation, a module, or all `use` lines of a file."
+    )
+    columns = ("File", "Proved source, in `crates/`", "Items that are the same", "that depart", "written by hand")
+    return rows_of("Modules", text, columns, [*rows, ("all", "", *total)])
+
+
+def departures(report):
+    rows = [(place(row), row.get("reason")) for row in report.listed.of("departure")]
+    return rows_of("What departs from the proved source", f"{len(rows)} items.", ("Item", "Why"), rows)
+
+
+def items_by_hand(report):
+    rows = [(place(row), row.get("reason")) for row in report.listed.of("hand_written") if row.get("item")]
+    text = f"{len(rows)} items of the files above."
+    return rows_of("Items that are written by hand", text, ("Item", "What it is"), rows)
+
+
+def files_by_hand(report):
+    rows = []
+    for row in report.listed.of("hand_written"):
+        names = row.values.get("files") or ([] if row.get("item") else [row.get("file")])
+        if names:
+            rows.append((", ".join(short(name) for name in names), row.get("reason")))
+    text = "No proof speaks of these files. Tests do."
+    return rows_of("Files that are written by hand", text, ("File", "What it is"), rows)
+
+
+def preconditions(report):
+    rows = []
+    for row in report.listed.of("precondition"):
+        rows.append((code(row.get("clause")), code(row.get("rust")) if row.get("rust") else "", row.get("reason")))
+    text = (
+        "A contract of Rattle may require something of the caller, which the prover checks at each call. A public"
+        " function in Rust checks it first, where it can be checked and matters."
+    )
+    return rows_of("Preconditions", text, ("Clause", "Check in Rust", "Why"), rows)
+
+
+def languages():
+    text = "These differences of the two languages are the same everywhere, and are no departures."
+    return rows_of("Rattle and Rust", text, ("Rattle", "Rust", "Why"), SENTENCES)

@@ -1,0 +1,575 @@
+"""Reads Rattle and Rust: the tokens of a text, and the items of a file.
+
+Rattle is Rust with contracts, and both languages share the grammar of items that this repository uses. `tokens_of`
+splits a text; `file_of` returns the items of a file. What is inside an item (a type, a body, an attribute) stays a
+tuple of tokens. Each item and each token knows its line, for messages. White space, comments and docs are no tokens;
+docs are kept with their items. Text that is not understood raises `Unreadable`, with the file and the line.
+
+The tools of `tools/` import this module, such as `tools/bodies.py`.
+"""
+
+import re
+from dataclasses import dataclass, field
+from typing import NamedTuple
+
+# Symbols of several characters, so that `a & &b` is not read as `a && b`. `<` and `>` stay alone in front of another
+# one, since they are brackets too.
+TOKENS = re.compile(
+    r"""
+      (?P<space>\s+)
+    | (?P<inner>//![^\n]*)
+    | (?P<doc>///(?!/)[^\n]*)
+    | (?P<comment>//[^\n]*|/\*.*?\*/)
+    | (?P<string>[bc]?r(?P<hashes>\#*)".*?"(?P=hashes)|[bc]?"(?:[^"\\]|\\.)*")
+    | (?P<character>b?'(?:[^'\\\n]|\\[^\n]+?)')
+    | (?P<lifetime>'[A-Za-z_]\w*)
+    | (?P<number>0x[0-9a-fA-F_]+\w*|\d[\d_]*\w*)
+    | (?P<name>(?:r\#)?[^\W\d]\w*)
+    | (?P<symbol>\.\.=|\.\.\.|\.\.|::|->|=>|==|!=|<=|>=|&&|\|\||[-+*/%^&|]=|.)
+    """,
+    re.VERBOSE | re.DOTALL,
+)
+
+CLOSING = {"(": ")", "[": "]", "{": "}"}
+
+# Words that may stand before `fn`.
+FUNCTION_WORDS = ("const", "async", "unsafe", "extern", "default", "final")
+
+
+class Unreadable(Exception):
+    """Text that is not understood, with the file and the line where it stands."""
+
+
+class Token(NamedTuple):
+    """A token. `spaced` says whether white space or a comment stands before it."""
+
+    kind: str
+    text: str
+    line: int
+    spaced: bool = False
+
+
+@dataclass
+class Item:
+    """What every item has. `tokens` are all tokens of the item, with its attributes and without docs."""
+
+    line: int
+    docs: list
+    attributes: list
+    visibility: tuple
+    tokens: tuple = field(repr=False)
+
+
+@dataclass(frozen=True)
+class Path:
+    """A path that a `use` names, and the name that it gives to it in the file: of a glob `*`."""
+
+    text: str
+    name: str
+
+
+@dataclass
+class Use(Item):
+    paths: list
+
+
+@dataclass
+class Module(Item):
+    """A module. `items` is None if it has a file of its own."""
+
+    name: str
+    items: list
+
+
+@dataclass
+class Constant(Item):
+    """A constant or a static. `value` is None if a trait declares it alone."""
+
+    kind: str
+    name: str
+    type: tuple
+    value: tuple
+
+
+@dataclass
+class Alias(Item):
+    """The alias of a type, or the associated type of a trait or an implementation."""
+
+    name: str
+    generics: list
+    bounds: list
+    value: tuple
+
+
+@dataclass
+class Part:
+    """A field of a struct or a variant of an enum."""
+
+    line: int
+    docs: list
+    attributes: list
+    tokens: tuple
+
+
+@dataclass
+class Data(Item):
+    """A struct (`kind` is record, tuple or unit), an enum or a union."""
+
+    kind: str
+    name: str
+    generics: list
+    conditions: list
+    parts: list
+
+
+@dataclass
+class Clause:
+    """A precondition or a postcondition. Its text has one space for any white space."""
+
+    line: int
+    name: str
+    text: str
+
+
+@dataclass
+class Function(Item):
+    """A function. `body` is None if it is declared alone, and has no braces around it otherwise."""
+
+    words: tuple
+    name: str
+    generics: list
+    parameters: list
+    result: tuple
+    conditions: list
+    requires: list
+    ensures: list
+    body: tuple
+
+
+@dataclass
+class Trait(Item):
+    words: tuple
+    name: str
+    generics: list
+    bounds: list
+    conditions: list
+    items: list
+
+
+@dataclass
+class Implementation(Item):
+    """An implementation. `trait` is empty if it is of the type alone."""
+
+    words: tuple
+    generics: list
+    trait: tuple
+    type: tuple
+    conditions: list
+    items: list
+
+
+@dataclass
+class Ghost(Item):
+    """Something of Rattle that only contracts and proofs use."""
+
+    name: str
+
+
+@dataclass
+class Other(Item):
+    """A macro, the call of one, or something external: `name` says which."""
+
+    name: str
+
+
+@dataclass
+class File:
+    """A file: its docs, its inner attributes and its items."""
+
+    name: str
+    docs: list
+    attributes: list
+    items: list
+
+
+def tokens_of(text, first_line=1):
+    """The tokens of a text. Docs and comments are left out."""
+    return [token for token in all_tokens(text, first_line) if token.kind not in ("doc", "inner")]
+
+
+def all_tokens(text, first_line=1):
+    """The tokens of a text with its docs."""
+    found, line, spaced = [], first_line, False
+    for match in TOKENS.finditer(text):
+        kind, part = match.lastgroup, match.group()
+        if kind in ("space", "comment"):
+            spaced = True
+        else:
+            found.append(Token(kind, part, line, spaced))
+            spaced = False
+        if kind in ("space", "comment", "string"):
+            line += part.count("\n")
+    return found
+
+
+def text_of(tokens):
+    """The tokens as a text, with one space for any white space between them."""
+    return "".join(" " * (token.spaced and place > 0) + token.text for place, token in enumerate(tokens))
+
+
+def closing(tokens, opening):
+    """The place of the bracket that closes the one at `opening`."""
+    depth = 0
+    for place in range(opening, len(tokens)):
+        if tokens[place].kind == "symbol":
+            depth += (tokens[place].text in CLOSING) - (tokens[place].text in CLOSING.values())
+        if depth == 0:
+            return place
+    raise Unreadable(f"line {tokens[opening].line}: nothing closes '{tokens[opening].text}'")
+
+
+def split(tokens, separator=","):
+    """The parts of a type, of parameters or of bounds between separators that stand outside brackets."""
+    parts, depth, start = [], 0, 0
+    for place, token in enumerate(tokens):
+        if token.kind == "symbol":
+            if token.text == separator and depth == 0:
+                parts.append(tuple(tokens[start:place]))
+                start = place + 1
+            depth += (token.text in "([{<") - (token.text in ")]}>")
+    parts.append(tuple(tokens[start:]))
+    return [part for part in parts if part]
+
+
+def file_of(text, name, first_line=1):
+    """The file of this text. `name` and the number of its first line are for messages."""
+    return Reader(text, name, first_line).file()
+
+
+class Reader:
+    """A text, read from its first token to its last."""
+
+    def __init__(self, text, name, first_line=1):
+        self.name = name
+        self.tokens = all_tokens(text, first_line)
+        self.next = 0
+
+    def unreadable(self, what, token=None):
+        token = token or self.peek() or (self.tokens[-1] if self.tokens else None)
+        return Unreadable(f"{self.name}:{token.line if token else 1}: {what}")
+
+    def peek(self, ahead=0):
+        place = self.next + ahead
+        return self.tokens[place] if place < len(self.tokens) else None
+
+    def at(self, *texts):
+        """Whether the next tokens are these."""
+        found = [self.peek(place) for place in range(len(texts))]
+        return all(token is not None and token.text == text for token, text in zip(found, texts))
+
+    def take(self):
+        token = self.peek()
+        if token is None:
+            raise self.unreadable("the file ends within an item")
+        self.next += 1
+        return token
+
+    def accept(self, text):
+        """Takes the next token if it is this one."""
+        if self.at(text):
+            self.next += 1
+            return True
+        return False
+
+    def expect(self, text):
+        if not self.accept(text):
+            found = self.peek().text if self.peek() else "the end"
+            raise self.unreadable(f"'{text}' should stand where '{found}' stands")
+
+    def name_here(self):
+        token = self.take()
+        if token.kind != "name":
+            raise self.unreadable(f"a name should stand where '{token.text}' stands", token)
+        return token.text
+
+    def docs_here(self, kind):
+        docs = []
+        while self.peek() and self.peek().kind == kind:
+            docs.append(self.take().text[3:])
+        return docs
+
+    def since(self, start):
+        """The tokens from this place on, without docs."""
+        return tuple(token for token in self.tokens[start : self.next] if token.kind not in ("doc", "inner"))
+
+    def group(self):
+        """Takes a bracket and all up to the one that closes it; the tokens between the two."""
+        opening = self.take()
+        if opening.text not in CLOSING:
+            raise self.unreadable(f"a bracket should stand where '{opening.text}' stands", opening)
+        start, expected = self.next, [CLOSING[opening.text]]
+        while expected:
+            token = self.take()
+            if token.kind == "symbol" and token.text in CLOSING:
+                expected.append(CLOSING[token.text])
+            elif token.kind == "symbol" and token.text in CLOSING.values():
+                if expected.pop() != token.text:
+                    raise self.unreadable(f"'{token.text}' closes no bracket", token)
+        return self.since(start)[:-1]
+
+    def until(self, *stops, angles=True):
+        """Takes all tokens before the first of these that stands outside brackets.
+
+        `angles` says whether `<` and `>` are brackets, as they are in types and not in values.
+        """
+        start, depth = self.next, 0
+        while True:
+            token = self.peek()
+            if token is None:
+                raise self.unreadable(f"one of {stops} should follow")
+            if depth == 0 and token.text in stops and token.kind != "string":
+                return self.since(start)
+            if token.kind == "symbol" and token.text in CLOSING:
+                self.group()
+            else:
+                if angles and token.kind == "symbol":
+                    depth += (token.text == "<") - (token.text == ">")
+                self.take()
+
+    def attributes_here(self):
+        attributes = []
+        while self.at("#", "["):
+            self.take()
+            attributes.append(self.attribute())
+        return attributes
+
+    def attribute(self):
+        place, attribute = self.peek(), self.group()
+        if not attribute:
+            raise self.unreadable("an attribute should stand in these brackets", place)
+        return attribute
+
+    def file(self):
+        docs, attributes = self.docs_here("inner"), []
+        while self.at("#", "!"):
+            self.take()
+            self.take()
+            attributes.append(self.attribute())
+            docs += self.docs_here("inner")
+        return File(self.name, docs, attributes, self.items_until(None))
+
+    def items_until(self, end):
+        """The items up to this bracket, or to the end of the file."""
+        items = []
+        while self.peek() if end is None else not self.accept(end):
+            items.append(self.item())
+        return items
+
+    def items_within(self):
+        self.expect("{")
+        self.docs_here("inner")
+        while self.at("#", "!"):
+            self.take()
+            self.take()
+            self.group()
+        return self.items_until("}")
+
+    def item(self):
+        """The next item, of a file, a trait or an implementation."""
+        start = self.next
+        docs, attributes = self.docs_here("doc"), self.attributes_here()
+        while self.peek() and self.peek().kind == "doc":
+            docs += self.docs_here("doc")
+            attributes += self.attributes_here()
+        if self.peek() is None:
+            raise self.unreadable("an item should follow")
+        line, visibility = self.peek().line, self.visibility_here()
+        item = self.reader_of_item()(line, docs, attributes, visibility, ())
+        item.tokens = self.since(start)
+        return item
+
+    def visibility_here(self):
+        start = self.next
+        if self.accept("pub") and self.at("("):
+            self.group()
+        return self.since(start)
+
+    def reader_of_item(self):
+        """The method that reads what follows, by its first words."""
+        ahead = 0
+        while self.peek(ahead) and (self.peek(ahead).text in FUNCTION_WORDS or self.peek(ahead).kind == "string"):
+            ahead += 1
+        word = self.peek(ahead).text if self.peek(ahead) else ""
+        if word == "fn":
+            return self.function
+        if word in ("impl", "trait"):
+            return {"impl": self.implementation, "trait": self.trait}[word]
+        known = {
+            "ghost": self.ghost, "use": self.use, "mod": self.module, "const": self.constant, "static": self.constant,
+            "type": self.alias, "struct": self.struct, "enum": self.enum, "extern": self.external,
+        }
+        word = self.peek().text
+        if word in known:
+            return known[word]
+        if word == "union" and self.peek(1).kind == "name":
+            return self.enum
+        if self.peek().kind == "name" and self.peek(1) and self.peek(1).text in ("!", "::"):
+            return self.macro
+        raise self.unreadable(f"no item begins with '{word}'")
+
+    def ghost(self, *common):
+        self.expect("ghost")
+        name = self.take().text
+        self.until(";", angles=False)
+        self.expect(";")
+        return Ghost(*common, name)
+
+    def use(self, *common):
+        self.expect("use")
+        place, tokens = self.peek(), self.until(";", angles=False)
+        if not tokens or sum(token.text == "{" for token in tokens) != sum(token.text == "}" for token in tokens):
+            raise self.unreadable("a path should stand here", place)
+        paths = paths_of(tokens)
+        self.expect(";")
+        return Use(*common, paths)
+
+    def module(self, *common):
+        self.expect("mod")
+        name = self.name_here()
+        items = None if self.accept(";") else self.items_within()
+        return Module(*common, name, items)
+
+    def constant(self, *common):
+        kind = self.take().text
+        kind += " mut" if self.accept("mut") else ""
+        name = self.name_here()
+        self.expect(":")
+        kind_of_value, value = self.until("=", ";"), None
+        if self.accept("="):
+            value = self.until(";", angles=False)
+        self.expect(";")
+        return Constant(*common, kind, name, kind_of_value, value)
+
+    def alias(self, *common):
+        self.expect("type")
+        name, generics, bounds, value = self.name_here(), self.generics_here(), [], None
+        if self.accept(":"):
+            bounds = split(self.until("=", ";"), "+")
+        if self.accept("="):
+            value = self.until(";")
+        self.expect(";")
+        return Alias(*common, name, generics, bounds, value)
+
+    def generics_here(self):
+        """The parameters between `<` and `>`, if they follow."""
+        if not self.accept("<"):
+            return []
+        tokens = self.until(">")
+        self.expect(">")
+        return split(tokens)
+
+    def conditions_here(self):
+        """The predicates of a `where`, if it follows."""
+        return split(self.until("{", ";", "requires", "ensures")) if self.accept("where") else []
+
+    def struct(self, *common):
+        self.expect("struct")
+        name, generics = self.name_here(), self.generics_here()
+        if self.at("("):
+            parts = [self.part_of_tuple(part) for part in split(self.group())]
+            conditions = self.conditions_here()
+            self.expect(";")
+            return Data(*common, "tuple", name, generics, conditions, parts)
+        conditions = self.conditions_here()
+        if self.accept(";"):
+            return Data(*common, "unit", name, generics, conditions, [])
+        return Data(*common, "record", name, generics, conditions, self.parts_here(angles=True))
+
+    def enum(self, *common):
+        kind = self.take().text
+        name, generics, conditions = self.name_here(), self.generics_here(), self.conditions_here()
+        return Data(*common, kind, name, generics, conditions, self.parts_here(angles=kind == "union"))
+
+    def part_of_tuple(self, tokens):
+        return Part(tokens[0].line, [], [], tokens)
+
+    def parts_here(self, angles):
+        """Fields or variants in braces."""
+        self.expect("{")
+        parts = []
+        while not self.accept("}"):
+            docs, attributes = self.docs_here("doc"), self.attributes_here()
+            place, tokens = self.peek(), self.until(",", "}", angles=angles)
+            self.accept(",")
+            if not tokens:
+                raise self.unreadable("a field or a variant should stand here", place)
+            parts.append(Part(tokens[0].line, docs, attributes, tokens))
+        return parts
+
+    def words_before(self, last):
+        start = self.next
+        while not self.at(last):
+            self.take()
+        words = self.since(start)
+        self.expect(last)
+        return words
+
+    def trait(self, *common):
+        words, name, generics = self.words_before("trait"), self.name_here(), self.generics_here()
+        bounds = split(self.until("{", "where"), "+") if self.accept(":") else []
+        return Trait(*common, words, name, generics, bounds, self.conditions_here(), self.items_within())
+
+    def implementation(self, *common):
+        words, generics = self.words_before("impl"), self.generics_here()
+        trait, subject = (), self.until("for", "{", "where")
+        if self.accept("for"):
+            trait, subject = subject, self.until("{", "where")
+        return Implementation(*common, words, generics, trait, subject, self.conditions_here(), self.items_within())
+
+    def function(self, *common):
+        words, name, generics = self.words_before("fn"), self.name_here(), self.generics_here()
+        parameters, result = split(self.group()), ()
+        if self.accept("->"):
+            result = self.until("{", ";", "where", "requires", "ensures")
+        conditions = self.conditions_here()
+        requires, ensures = self.clauses_here()
+        body = None if self.accept(";") else self.group()
+        return Function(*common, words, name, generics, parameters, result, conditions, requires, ensures, body)
+
+    def clauses_here(self):
+        """The preconditions and the postconditions that follow."""
+        clauses = {"requires": [], "ensures": []}
+        while self.peek() and self.peek().text in clauses:
+            word = self.take()
+            self.accept("*")
+            name = self.take().text if self.peek().kind == "name" else ""
+            clauses[word.text].append(Clause(word.line, name, text_of(self.group())))
+        return clauses["requires"], clauses["ensures"]
+
+    def macro(self, *common):
+        name = text_of(self.until("(", "[", "{"))
+        braces = self.at("{")
+        self.group()
+        if not braces:
+            self.expect(";")
+        return Other(*common, name)
+
+    def external(self, *common):
+        name = text_of(self.until(";", "{"))
+        if not self.accept(";"):
+            self.group()
+        return Other(*common, name)
+
+
+def paths_of(tokens, prefix=""):
+    """The paths that a use names, each whole."""
+    texts = [token.text for token in tokens]
+    if texts[-1:] == ["}"]:
+        opening = texts.index("{")
+        head = prefix + "".join(texts[:opening])
+        return [path for part in split(tokens[opening + 1 : -1]) for path in paths_of(part, head)]
+    name = texts[-1]
+    if "as" in texts:
+        texts = texts[: texts.index("as")]
+    path = (prefix + "".join(texts)).removesuffix("::self")
+    return [Path(path, path.rpartition("::")[2] if name == "self" else name)]
