@@ -152,6 +152,13 @@ class Lots(unittest.TestCase):
                 with self.assertRaises(TypeError):
                     call(text)
 
+    def test_more_bytes_than_32_bits_count(self):
+        """Zeros that no memory holds until they are written."""
+        wanted = "fbb82f7b353676bb562eb82157fcf0ea42c36492ca13ee56dbf82c08b6802c5c"
+        zeros = bytes(2**32 + 1)
+        self.assertEqual(lots.digest(zeros).hex(), wanted)
+        self.assertEqual(lots.count(zeros), 1)
+
     def test_a_long_list(self):
         text = b"".join(b"%d\n" % number for number in range(100_000))
         drawn = lots.draw("a long list", text)

@@ -9,9 +9,12 @@ thread_local! {
     static NEXT: Cell<(usize, isize)> = const { Cell::new((usize::MAX, 0)) };
     /// Whether each request was for at most 256 bytes, and without flags.
     static PLAIN: Cell<bool> = const { Cell::new(true) };
+    /// What each byte is.
+    static BYTE: Cell<u8> = const { Cell::new(1) };
 }
 
-/// Fills the bytes with ones. A request past those that are filled writes nothing. std calls it too, in other threads.
+/// Fills the bytes with one byte. A request past those that are filled writes nothing. std calls it too, in other
+/// threads.
 #[no_mangle]
 unsafe extern "C" fn getrandom(bytes: *mut u8, size: usize, flags: u32) -> isize {
     PLAIN.with(|plain| plain.set(plain.get() && size <= 256 && flags == 0));
@@ -20,7 +23,7 @@ unsafe extern "C" fn getrandom(bytes: *mut u8, size: usize, flags: u32) -> isize
     if left == 0 {
         return answer;
     }
-    bytes.write_bytes(1, size);
+    bytes.write_bytes(BYTE.with(Cell::get), size);
     size.try_into().unwrap_or(-1)
 }
 
@@ -30,7 +33,11 @@ fn is_filled(length: usize, requests: usize, answer: isize) -> bool {
     let mut bytes = vec![0; length];
     let filled = entropy::system(&mut bytes);
     assert!(PLAIN.with(Cell::get));
-    assert!(!filled || bytes.iter().all(|byte| *byte == 1), "{length}");
+    let given = BYTE.with(Cell::get);
+    assert!(
+        !filled || bytes.iter().all(|byte| *byte == given),
+        "{length}"
+    );
     filled
 }
 
@@ -48,5 +55,22 @@ fn requests_that_fail() {
                 }
             }
         }
+    }
+}
+
+/// No bytes of the system are refused: all of them equal, and zeros too, are a seed.
+#[test]
+#[cfg(all(feature = "wyrand", feature = "pcg64", feature = "chacha"))]
+fn bytes_of_every_value() {
+    use nanorand::{ChaCha8, Pcg64, Rng, WyRand};
+    for byte in 0..=u8::MAX {
+        BYTE.with(|given| given.set(byte));
+        assert!(is_filled(600, usize::MAX, 0), "{byte}");
+        let seeded = WyRand::new_seed(u64::from_le_bytes([byte; 8])).rand();
+        assert_eq!(WyRand::new().rand(), seeded, "{byte}");
+        let seeded = Pcg64::new_seed(u128::from_le_bytes([byte; 16])).rand();
+        assert_eq!(Pcg64::new().rand(), seeded, "{byte}");
+        let seeded = ChaCha8::new_key([byte; 32], [byte; 8]).rand();
+        assert_eq!(ChaCha8::new().rand(), seeded, "{byte}");
     }
 }
