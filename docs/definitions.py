@@ -4,8 +4,11 @@ A name counts wherever it stands, whatever it means there, and what breaks one l
 them. So more is found than is so, and nothing is missed."""
 
 import re
+import sys
+from pathlib import Path
 
-from items import items_of
+sys.path.insert(0, str(Path(__file__).resolve().parent.parent / "tools"))
+from rattle import items_at  # noqa: E402
 
 DECLARED = re.compile(
     r"^( *)(?:(?:abbrev|unfoldable|pub) )*(?:(?:record|data|module) (\S+)|([^\s(){}:;,.]+) :(?= |$))", re.M
@@ -40,10 +43,9 @@ class Definitions:
             for name, start, end in declarations_of(text):
                 self.add(name, text if of_lemmas else f"{given}\n{text[start:end]}")
         for path in crate.glob("src/**/*.rt"):
-            text = path.read_text(encoding="utf-8")
-            for item in items_of(text, 0, len(text)):
-                for one in [item, *(item.members() if item.kind in ("impl", "trait") else [])]:
-                    self.add(one.name, text[one.start : one.end])
+            for item in items_at(path):
+                for one in (item, *item.members()):
+                    self.add(one.name, one.code())
 
     def add(self, name, text):
         self.named.setdefault(name, set()).update(names_in(text))

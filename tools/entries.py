@@ -291,7 +291,7 @@ def in_braces(body, line):
 
 
 def facets_of_constant(constant):
-    return f"{constant.kind} {constant.name}", {"type": constant.type, "value": constant.value or ()}
+    return f"{constant.word} {constant.name}", {"type": constant.type, "value": constant.value or ()}
 
 
 def facets_of_alias(alias):

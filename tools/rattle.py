@@ -2,10 +2,12 @@
 
 Rattle is Rust with contracts, and both languages share the grammar of items that this repository uses. `tokens_of`
 splits a text; `file_of` returns the items of a file. What is inside an item (a type, a body, an attribute) stays a
-tuple of tokens. Each item and each token knows its line, for messages. White space, comments and docs are no tokens;
-docs are kept with their items. Text that is not understood raises `Unreadable`, with the file and the line.
+tuple of tokens. Each item and each token knows its line, for messages, and its place in the text, from which an item
+returns its comment and its code as they are laid out. White space, comments and docs are no tokens; docs are kept with
+their items. Text that is not understood raises `Unreadable`, with the file and the line.
 
-The tools of `tools/` import this module, such as `tools/bodies.py`.
+Whatever reads the sources imports this module: `tools/bodies.py`, `docs/contracts`, `docs/definitions.py`, `c/header`,
+and several scripts of `tests/`.
 """
 
 import re
@@ -41,23 +43,70 @@ class Unreadable(Exception):
 
 
 class Token(NamedTuple):
-    """A token. `spaced` says whether white space or a comment stands before it."""
+    """A token. `spaced` says whether white space or a comment stands before it. It begins at `start` in the text."""
 
     kind: str
     text: str
     line: int
     spaced: bool = False
+    start: int = 0
+
+    @property
+    def end(self):
+        return self.start + len(self.text)
 
 
-@dataclass
+@dataclass(eq=False)
 class Item:
-    """What every item has. `tokens` are all tokens of the item, with its attributes and without docs."""
+    """What every item has. `tokens` are all tokens of the item, with its attributes and without docs.
+
+    `source` is the text of its file. In it the comments and attributes of the item begin at `lead`, and the item itself
+    at `start`. `word` is the word that says what it is, such as `fn`. An item is equal to itself alone.
+    """
 
     line: int
     docs: list
     attributes: list
     visibility: tuple
     tokens: tuple = field(repr=False)
+    source: str = field(default="", repr=False, kw_only=True)
+    lead: int = field(default=0, kw_only=True)
+    start: int = field(default=0, kw_only=True)
+
+    @property
+    def end(self):
+        return self.tokens[-1].end
+
+    @property
+    def brace(self):
+        """The place of the brace that opens its body, its fields or its members, or None if it has none."""
+        depth = 0
+        for token in reversed(self.tokens):
+            if token.kind == "symbol":
+                depth += (token.text in CLOSING.values()) - (token.text in CLOSING)
+            if depth == 0:
+                return token.start if token.text == "{" else None
+
+    @property
+    def is_public(self):
+        """Whether it is `pub` without a restriction."""
+        return text_of(self.visibility) == "pub"
+
+    def members(self):
+        """The items in the braces of a trait or an implementation."""
+        return self.items if isinstance(self, (Trait, Implementation)) else []
+
+    def indentation(self):
+        return " " * (self.start - self.source.rfind("\n", 0, self.start) - 1)
+
+    def comment(self):
+        """The lines of comments and docs before the item, with its indentation."""
+        lines = [line.strip() for line in self.source[self.lead : self.start].splitlines()]
+        return "".join(f"{self.indentation()}{line}\n" for line in lines if line.startswith("//"))
+
+    def code(self, end=None):
+        """The item with the indentation that it has in its file, to its end or to another place."""
+        return self.indentation() + self.source[self.start : end or self.end].rstrip()
 
 
 @dataclass(frozen=True)
@@ -68,33 +117,41 @@ class Path:
     name: str
 
 
-@dataclass
+@dataclass(eq=False)
 class Use(Item):
+    word = "use"
     paths: list
 
+    @property
+    def name(self):
+        """The crate or the module where its first path begins."""
+        return self.paths[0].text.partition("::")[0]
 
-@dataclass
+
+@dataclass(eq=False)
 class Module(Item):
     """A module. `items` is None if it has a file of its own."""
 
+    word = "mod"
     name: str
     items: list
 
 
-@dataclass
+@dataclass(eq=False)
 class Constant(Item):
-    """A constant or a static. `value` is None if a trait declares it alone."""
+    """A constant or a static, which `word` says. `value` is None if a trait declares it alone."""
 
-    kind: str
+    word: str
     name: str
     type: tuple
     value: tuple
 
 
-@dataclass
+@dataclass(eq=False)
 class Alias(Item):
     """The alias of a type, or the associated type of a trait or an implementation."""
 
+    word = "type"
     name: str
     generics: list
     bounds: list
@@ -110,8 +167,13 @@ class Part:
     attributes: list
     tokens: tuple
 
+    @property
+    def is_public(self):
+        """Whether it is `pub` without a restriction."""
+        return self.tokens[0].text == "pub" and self.tokens[1].text != "("
 
-@dataclass
+
+@dataclass(eq=False)
 class Data(Item):
     """A struct (`kind` is record, tuple or unit), an enum or a union."""
 
@@ -120,6 +182,10 @@ class Data(Item):
     generics: list
     conditions: list
     parts: list
+
+    @property
+    def word(self):
+        return self.kind if self.kind in ("enum", "union") else "struct"
 
 
 @dataclass
@@ -131,10 +197,11 @@ class Clause:
     text: str
 
 
-@dataclass
+@dataclass(eq=False)
 class Function(Item):
     """A function. `body` is None if it is declared alone, and has no braces around it otherwise."""
 
+    word = "fn"
     words: tuple
     name: str
     generics: list
@@ -146,8 +213,9 @@ class Function(Item):
     body: tuple
 
 
-@dataclass
+@dataclass(eq=False)
 class Trait(Item):
+    word = "trait"
     words: tuple
     name: str
     generics: list
@@ -156,10 +224,11 @@ class Trait(Item):
     items: list
 
 
-@dataclass
+@dataclass(eq=False)
 class Implementation(Item):
     """An implementation. `trait` is empty if it is of the type alone."""
 
+    word = "impl"
     words: tuple
     generics: list
     trait: tuple
@@ -167,18 +236,29 @@ class Implementation(Item):
     conditions: list
     items: list
 
+    @property
+    def name(self):
+        """Its head without parameters and conditions: `impl Blocks for WyRand`."""
+        trait = f"{bare(self.trait)} for " if self.trait else ""
+        return f"impl {trait}{bare(self.type)}"
 
-@dataclass
+
+@dataclass(eq=False)
 class Ghost(Item):
-    """Something of Rattle that only contracts and proofs use."""
+    """Something of Rattle that only contracts and proofs use. An import of theirs has the name `use`."""
 
     name: str
 
+    @property
+    def word(self):
+        return "ghost use" if self.name == "use" else "ghost"
 
-@dataclass
+
+@dataclass(eq=False)
 class Other(Item):
     """A macro, the call of one, or something external: `name` says which."""
 
+    word = ""
     name: str
 
 
@@ -205,7 +285,7 @@ def all_tokens(text, first_line=1):
         if kind in ("space", "comment"):
             spaced = True
         else:
-            found.append(Token(kind, part, line, spaced))
+            found.append(Token(kind, part, line, spaced, match.start()))
             spaced = False
         if kind in ("space", "comment", "string"):
             line += part.count("\n")
@@ -215,6 +295,27 @@ def all_tokens(text, first_line=1):
 def text_of(tokens):
     """The tokens as a text, with one space for any white space between them."""
     return "".join(" " * (token.spaced and place > 0) + token.text for place, token in enumerate(tokens))
+
+
+def bare(tokens):
+    """A type as a text, without the parameters between `<` and `>`."""
+    kept, depth = [], 0
+    for token in tokens:
+        depth += token.text == "<"
+        kept += [token] if depth == 0 else []
+        depth -= token.text == ">"
+    return text_of(kept)
+
+
+def name_and_type(tokens):
+    """The name of a parameter or a field, and its type as a text."""
+    colon = [token.text for token in tokens].index(":")
+    return tokens[colon - 1].text, text_of(tokens[colon + 1 :])
+
+
+def derives_of(attributes):
+    """What attributes derive: the tokens of each trait."""
+    return [name for attribute in attributes if attribute[0].text == "derive" for name in split(attribute[2:-1])]
 
 
 def closing(tokens, opening):
@@ -241,6 +342,22 @@ def split(tokens, separator=","):
     return [part for part in parts if part]
 
 
+def exports_of(items):
+    """The functions that are exported under their own names, for C."""
+    marks = ("unsafe(no_mangle)", "no_mangle")
+    return [item for item in items if item.word == "fn" and any(text_of(one) in marks for one in item.attributes)]
+
+
+def is_laid_out_as_in_c(item):
+    """Whether it is a struct whose fields lie in memory as in C."""
+    return item.word == "struct" and any(text_of(one) == "repr(C)" for one in item.attributes)
+
+
+def items_at(path):
+    """The items of the file at a path."""
+    return file_of(path.read_text(encoding="utf-8"), str(path)).items
+
+
 def file_of(text, name, first_line=1):
     """The file of this text. `name` and the number of its first line are for messages."""
     return Reader(text, name, first_line).file()
@@ -250,7 +367,7 @@ class Reader:
     """A text, read from its first token to its last."""
 
     def __init__(self, text, name, first_line=1):
-        self.name = name
+        self.name, self.text = name, text
         self.tokens = all_tokens(text, first_line)
         self.next = 0
 
@@ -376,16 +493,16 @@ class Reader:
 
     def item(self):
         """The next item, of a file, a trait or an implementation."""
-        start = self.next
+        first, lead = self.next, self.tokens[self.next - 1].end if self.next else 0
         docs, attributes = self.docs_here("doc"), self.attributes_here()
         while self.peek() and self.peek().kind == "doc":
             docs += self.docs_here("doc")
             attributes += self.attributes_here()
         if self.peek() is None:
             raise self.unreadable("an item should follow")
-        line, visibility = self.peek().line, self.visibility_here()
+        line, start, visibility = self.peek().line, self.peek().start, self.visibility_here()
         item = self.reader_of_item()(line, docs, attributes, visibility, ())
-        item.tokens = self.since(start)
+        item.tokens, item.source, item.lead, item.start = self.since(first), self.text, lead, start
         return item
 
     def visibility_here(self):
@@ -440,15 +557,15 @@ class Reader:
         return Module(*common, name, items)
 
     def constant(self, *common):
-        kind = self.take().text
-        kind += " mut" if self.accept("mut") else ""
+        word = self.take().text
+        word += " mut" if self.accept("mut") else ""
         name = self.name_here()
         self.expect(":")
-        kind_of_value, value = self.until("=", ";"), None
+        kind, value = self.until("=", ";"), None
         if self.accept("="):
             value = self.until(";", angles=False)
         self.expect(";")
-        return Constant(*common, kind, name, kind_of_value, value)
+        return Constant(*common, word, name, kind, value)
 
     def alias(self, *common):
         self.expect("type")

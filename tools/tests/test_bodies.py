@@ -127,6 +127,38 @@ class Items(unittest.TestCase):
         self.assertIsNone(found.items[2].body)
         self.assertEqual(found.items[3].body, ())
 
+    def test_places(self):
+        text = (
+            "//! A.\n\n// B.\n/// C.\n#[inline]\npub fn f(a: u8)\n    ensures { a ≡ '}' } { { a } } // D.\n\n"
+            "impl<T> S<T> {\n    // E.\n    const F: [u8; 1] = [{ 1 }];\n\n    ghost use G.{h};\n}\nstruct I;\n"
+        )
+        found = rattle.file_of(text, "text").items
+        inner = found[1].members()
+        comments = [one.comment() for one in (*found, *inner)]
+        self.assertEqual(comments, ["// B.\n/// C.\n", "// D.\n", "", "    // E.\n", ""])
+        heads = [one.code(one.brace) for one in (*found, *inner)]
+        self.assertEqual(heads, [
+            "pub fn f(a: u8)\n    ensures { a ≡ '}' }", "impl<T> S<T>", "struct I;",
+            "    const F: [u8; 1] = [{ 1 }];", "    ghost use G.{h};",
+        ])
+        self.assertEqual(text[found[0].brace : found[0].end], "{ { a } }")
+        self.assertEqual([one.is_public for one in found], [True, False, False])
+        self.assertEqual([one.word for one in (*found, *inner)], ["fn", "impl", "struct", "const", "ghost use"])
+
+    def test_names(self):
+        found = item("#[derive(A, b::C)] #[repr(C)] struct S<'a> { pub a: Map<u8, [T; 2]>, pub(crate) b: &'a u8, c: u8 }")
+        fields = [(*rattle.name_and_type(part.tokens), part.is_public) for part in found.parts]
+        self.assertEqual(fields, [("a", "Map<u8, [T; 2]>", True), ("b", "&'a u8", False), ("c", "u8", False)])
+        self.assertEqual([rattle.text_of(name) for name in rattle.derives_of(found.attributes)], ["A", "b::C"])
+        self.assertTrue(rattle.is_laid_out_as_in_c(found))
+        heads = {"impl<T> A<T> for b::C<D<T>, 2> {}": "impl A for b::C", "impl F<fn(u8) -> u8> {}": "impl F"}
+        self.assertEqual({text: item(text).name for text in heads}, heads)
+
+    def test_exports(self):
+        export = '#[unsafe(no_mangle)] pub extern "C" fn f() {}'
+        items = rattle.file_of(f"{export} #[no_mangle] fn g() {{}} #[inline] fn h() {{}}", "text").items
+        self.assertEqual([one.name for one in rattle.exports_of(items)], ["f", "g"])
+
     def test_what_is_not_understood(self):
         for text in ("fn f() { (] }", "what is this", "fn f(", "struct", "#[inline]", "#[] fn f() {}", "use a::{b;",
                      "use a::b};", "enum E { A,, }", "impl A {", "fn f() {}}", "#![] fn f() {}", "use ;", "const A"):
