@@ -18,14 +18,15 @@ and writes the table of `rust/PROVED.md`. `./test` runs this.
 import functools
 import sys
 import tomllib
+from collections import Counter
 from dataclasses import dataclass, field, replace
 from pathlib import Path
 
 import proved_table
 from departures import WHOLE_FILE, Listed
-from entries import digest, entries_of, inherent_functions, normal_body
-from rattle import Unreadable, file_of, text_of, tokens_of
-from translation import Setting, Untranslated, in_rust
+from entries import digest, entries_of, inherent_functions, joined, normal_body
+from rattle import Unreadable, file_of, tokens_of
+from translation import Setting, in_rust
 
 ROOT = Path(__file__).resolve().parent.parent
 LIST = "rust/departures.toml"
@@ -44,17 +45,16 @@ class Package:
     """A package of Rust: the folder of its sources and its proved crates.
 
     `crates` gives the name that each proved crate has in the package's source. `with_std` are the modules whose `mod`
-    line has the feature std; `needs_std` says that the whole package needs it.
+    line has the feature std, or None if the whole package needs it.
     """
 
     folder: str
     proved: tuple
     crates: tuple
     with_std: tuple = ()
-    needs_std: bool = False
 
     def is_without_std(self, module):
-        return not self.needs_std and module.partition("/")[0] not in self.with_std
+        return self.with_std is not None and module.partition("/")[0] not in self.with_std
 
 
 PACKAGES = (
@@ -63,45 +63,25 @@ PACKAGES = (
         (("nanorand_core", "crate"), ("nanorand_replay", "crate"), ("nanorand", "crate")),
     ),
     Package("rust/lots/src", ("lots_core",), (("nanorand", "nanorand_proved"),), ("arguments", "run", "text")),
-    Package("rust/draw/src", ("draw_core",), (("nanorand", "nanorand_proved"),), needs_std=True),
+    Package("rust/draw/src", ("draw_core",), (("nanorand", "nanorand_proved"),), None),
 )
-
-
-@dataclass
-class Module:
-    """What was found of a module of Rust. `rows` are those of the list that it needs."""
-
-    file: str
-    proved: list
-    equal: int = 0
-    rows: list = field(default_factory=list)
-
-
-@dataclass
-class Need:
-    """A row that the list has to have, and the digests that it has to have."""
-
-    kind: str
-    file: str
-    item: str
-    digests: dict
 
 
 @dataclass
 class Report:
     """What a comparison found.
 
-    `clauses` are the preconditions that were found, `by_hand` the files that are written by hand, and `methods` the
-    names of the proved functions of traits.
+    `modules` are the files of Rust that have proved ones, with these; `counts` says how many items of a file are equal
+    and how many rows it needs of each kind. `needs` are the rows that the list has to have: kind, file, item and
+    digests. `by_hand` are the files without a digest, and `methods` the names of the proved functions of traits.
     """
 
     listed: Listed
     passed: int = 0
     differences: list = field(default_factory=list)
-    modules: list = field(default_factory=list)
+    modules: dict = field(default_factory=dict)
+    counts: Counter = field(default_factory=Counter)
     needs: list = field(default_factory=list)
-    strangers: list = field(default_factory=list)
-    clauses: set = field(default_factory=set)
     by_hand: set = field(default_factory=set)
     methods: set = field(default_factory=set)
 
@@ -111,23 +91,25 @@ class Report:
 
 def read_tree(root):
     """The texts of all files that are compared, by their path."""
-    names = [LIST, TABLE]
-    for package in PACKAGES:
-        for folder in (package.folder, *(f"crates/{crate}/src" for crate in package.proved)):
-            paths = (path for path in sorted((root / folder).rglob("*")) if path.is_file())
-            names += [path.relative_to(root).as_posix() for path in paths]
-    return {name: (root / name).read_text(encoding="utf-8") for name in names if (root / name).exists()}
+    folders = [folder for one in PACKAGES for folder in (one.folder, *(f"crates/{crate}/src" for crate in one.proved))]
+    paths = [root / LIST, root / TABLE, *(path for folder in folders for path in sorted((root / folder).rglob("*")))]
+    return {path.relative_to(root).as_posix(): path.read_text(encoding="utf-8") for path in paths if path.is_file()}
 
 
 def compared(tree):
     """The report on a tree."""
     report = Report(Listed.read(tree.get(LIST, "")))
-    modules = {package: modules_of(tree, package) for package in PACKAGES}
     for package in PACKAGES:
-        for module, names in modules[package].items():
-            compare_module(report, tree, package, module, names)
+        for module, names in modules_of(tree, package).items():
+            try:
+                compare_module(report, tree, package, module, names)
+            except Unreadable as unreadable:
+                report.differences.append(str(unreadable))
     for package in PACKAGES:
-        compare_other_files(report, tree, package, modules[package])
+        modules = {f"{package.folder}/{module}.rs" for module in modules_of(tree, package)}
+        for name in tree:
+            if name.startswith(f"{package.folder}/") and name not in modules:
+                check_file(report, tree, name)
     check_list(report)
     return report
 
@@ -149,251 +131,177 @@ def compare_module(report, tree, package, module, names):
     if file not in tree:
         report.differs(names[0], 1, f"{file} should have the counterpart of this module")
         return
-    try:
-        proved = by_name(report, proved_entries_of(report, tree, package, module, names))
-        rust = by_name(report, rust_entries(tree[file], file))
-    except Unreadable as unreadable:
-        report.differences.append(str(unreadable))
-        return
+    checks = tuple((row.get("clause"), row.get("rust")) for row in report.listed.of("precondition"))
+    entries = [entry for name in names for entry in proved_entries(tree[name], name, package, module, checks)]
+    for row in report.listed.of("precondition"):
+        row.matches |= any(row.get("clause") in entry.requires for entry in entries)
+    proved, rust = by_name(report, entries), by_name(report, rust_entries(tree[file], file))
     report.methods |= {name.rpartition(" ")[2] for name in proved if name.startswith("trait ") or " for " in name}
-    found = Module(file, names)
-    report.modules.append(found)
+    report.modules[file] = names
     if report.listed.find("departure", file, WHOLE_FILE):
-        need = Need("departure", file, WHOLE_FILE, {"proved": digest(whole(proved)), "rust": digest(whole(rust))})
-        check_row(report, found, need, 1, "", f"; its proved side is {names[0]}")
+        digests = {"proved": digest(whole(proved)), "rust": digest(whole(rust))}
+        check_row(report, ("departure", file, WHOLE_FILE), digests, 1, "", f"; its proved side is {names[0]}")
         return
-    compare_entries(report, found, proved, rust)
+    for name, entry in proved.items():
+        if name in rust:
+            compare_entry(report, entry, rust[name])
+        else:
+            report.differs(entry.file, entry.line, f"{name}: {file} has no counterpart")
+    for name, entry in rust.items():
+        if name not in proved:
+            what = f"it has no proved counterpart in {' or '.join(names)}"
+            check_row(report, ("hand_written", file, name), {"rust": digest(entry.text())}, entry.line, what)
 
 
 def whole(entries):
     return "\n".join(f"{name}\n{entry.text()}" for name, entry in sorted(entries.items()))
 
 
-def proved_entries_of(report, tree, package, module, names):
-    """The entries that a module should have, of all its proved files."""
-    checks = tuple((row.get("clause"), row.get("rust")) for row in report.listed.of("precondition"))
-    found = []
-    for name in names:
-        entries, used = proved_entries(tree[name], name, package, module, checks)
-        found += entries
-        report.clauses |= used
-    return found
-
-
 @functools.lru_cache(maxsize=None)
 def proved_entries(text, name, package, module, checks):
-    """The entries that Rust should have of a proved file, and the preconditions that it has."""
-    path, tokens = "::".join(["crate", *module.split("/")]), {clause: tuple(tokens_of(rust)) for clause, rust in checks}
-    setting = Setting(path, dict(package.crates), package.is_without_std(module), tokens, set())
-    file = file_of(text, name)
-    try:
-        return entries_of(in_rust(file.items, setting), file.attributes, name), setting.used
-    except Untranslated as unknown:
-        raise Unreadable(f"{name}:{unknown.line}: {unknown}") from unknown
+    """The entries that Rust should have of a proved file."""
+    texts = {clause: joined(normal_body(tokens_of(rust))) for clause, rust in checks}
+    path = "::".join(["crate", *module.split("/")])
+    setting = Setting(path, dict(package.crates), package.is_without_std(module), texts)
+    return in_rust(entries_of(file_of(text, name)), setting)
 
 
 @functools.lru_cache(maxsize=None)
 def rust_entries(text, name):
     """The entries of a file of Rust."""
-    file = file_of(text, name)
-    return entries_of(file.items, file.attributes, name)
-
-
-@functools.lru_cache(maxsize=None)
-def inherent_functions_of(text):
-    return list(inherent_functions(tokens_of(text)))
+    return entries_of(file_of(text, name))
 
 
 def by_name(report, entries):
-    """The entries by their names. Uses of several files are one entry, and all others of one name are equal."""
+    """The entries by their names. Uses, and traits of one name, are one entry; all others of one name are equal."""
     found = {}
     for entry in entries:
         first = found.setdefault(entry.name, entry)
-        if first is not entry and entry.name == "use":
-            found["use"] = replace(first, facets=dict(sorted({**first.facets, **entry.facets}.items())))
+        if entry.name == "use" or entry.name.startswith("trait ") and ": " not in entry.name:
+            facets = dict(first.facets)
+            for facet, parts in entry.facets.items():
+                facets[facet] = list(dict.fromkeys([*facets.get(facet, ()), *parts]))
+            found[entry.name] = replace(first, facets=facets)
         elif first.text() != entry.text():
             report.differs(entry.file, entry.line, f"{entry.name}: stands in {first.file}:{first.line} too")
     return found
 
 
-def compare_entries(report, module, proved, rust):
-    for name, entry in proved.items():
-        if name not in rust:
-            report.listed.find("departure", module.file, name)
-            report.differs(entry.file, entry.line, f"{name}: {module.file} has no counterpart")
-            continue
-        compare_entry(report, module, entry, rust[name])
-    for name, entry in rust.items():
-        if name not in proved:
-            need = Need("hand_written", module.file, name, {"rust": digest(entry.text())})
-            check_row(report, module, need, entry.line, f"it has no proved counterpart in {' or '.join(module.proved)}")
-
-
-def compare_entry(report, module, proved, rust):
+def compare_entry(report, proved, rust):
     """Compares two entries of one name; if they differ, with the row of the list."""
     rust = without_const(proved, rust)
-    difference = first_difference(proved, rust)
-    if difference is None:
-        module.equal += 1
-        if row := report.listed.find("departure", module.file, rust.name):
-            report.differs(LIST, row.line, f"{module.file}: {rust.name}: departs no more, so this row should go")
-        else:
-            report.passed += 1
-        return
-    line, what = difference
-    digests = {"proved": digest(proved.text()), "rust": digest(rust.text())}
-    need = Need("departure", module.file, rust.name, digests)
-    check_row(report, module, need, line, what, f"; its proved side is {proved.file}:{proved.line}")
+    if difference := first_difference(proved, rust):
+        digests = {"proved": digest(proved.text()), "rust": digest(rust.text())}
+        other = f"; its proved side is {proved.file}:{proved.line}"
+        check_row(report, ("departure", rust.file, rust.name), digests, rust.line, difference, other)
+    elif row := report.listed.find("departure", rust.file, rust.name):
+        row.matches = True
+        report.differs(LIST, row.line, f"{rust.file}: {rust.name}: departs no more, so this row should go")
+    else:
+        report.counts[rust.file, "equal"] += 1
+        report.passed += 1
 
 
 def without_const(proved, rust):
     """The Rust entry without `const`, if the proved function has none."""
-    words = rust.facets.get("words", ())
-    if not rust.name.rpartition(": ")[2].startswith("fn ") or "const" in texts_of(proved.facets["words"]):
+    if "body" not in rust.facets or proved.facets["words"] or rust.facets["words"] != ["const"]:
         return rust
-    return replace(rust, facets={**rust.facets, "words": tuple(word for word in words if word.text != "const")})
-
-
-def texts_of(tokens):
-    return [token.text for token in tokens]
+    return replace(rust, facets={**rust.facets, "words": []})
 
 
 def first_difference(proved, rust):
-    """The line in Rust and the description of the first difference of two entries, or None."""
+    """The description of the first difference of two entries, or None."""
     for facet in dict.fromkeys((*proved.facets, *rust.facets)):
-        ours, theirs = rust.facets.get(facet, ()), proved.facets.get(facet, ())
-        if texts_of(ours) == texts_of(theirs):
-            continue
-        place = next(
-            (place for place, (a, b) in enumerate(zip(ours, theirs)) if a.text != b.text), min(len(ours), len(theirs))
-        )
-        here, there = excerpt(rust, facet, place), excerpt(proved, facet, place)
-        line = theirs[place].line if place < len(theirs) else proved.line
-        verb = "differ" if facet.endswith("s") else "differs"
-        what = f"{facet.partition(' ')[0]} {verb} from {proved.file}:{line}: {here} here, {there} there"
-        return (ours[place].line if place < len(ours) else rust.line), what
+        here, there = (" , ".join(entry.facets.get(facet, ())).split(" ") for entry in (rust, proved))
+        if here != there:
+            differing = (place for place, (a, b) in enumerate(zip(here, there)) if a != b)
+            start = max(0, next(differing, min(len(here), len(there))) - BEFORE)
+            shown = [" ".join(tokens[start : start + SHOWN]).replace(r"\x20", " ") for tokens in (here, there)]
+            first, second = (f"'{text}'" if text else "nothing" for text in shown)
+            verb = "differ" if facet.endswith("s") else "differs"
+            return f"{facet} {verb} from {proved.file}:{proved.line}: {first} here, {second} there"
     return None
 
 
-def excerpt(entry, facet, place):
-    """The tokens around a place, in quotes; of a use all of it."""
-    tokens = entry.facets.get(facet, ())
-    if facet.startswith("use "):
-        return f"'{text_of(tokens)} {facet[4:]}'" if tokens else "nothing"
-    shown = tokens[max(0, place - BEFORE) : place - BEFORE + SHOWN if place > BEFORE else SHOWN]
-    return f"'{text_of(shown)}'" if place < len(tokens) else f"the end after '{text_of(shown)}'" if shown else "nothing"
-
-
-def check_row(report, module, need, line, what, other=""):
+def check_row(report, key, digests, line, what, other=""):
     """Checks that the list has a row, with the digests of now. `what` says why it needs one."""
-    report.needs.append(need)
-    row = report.listed.find(need.kind, need.file, need.item)
-    name = need.item or "the file"
+    report.needs.append((key, digests))
+    kind, file, item = key
+    row, name = report.listed.find(*key), item or "the file"
     if row is None:
-        report.differs(need.file, line, f"{name}: {what}")
+        report.differs(file, line, f"{name}: {what}")
         return
-    module.rows.append(row)
-    changed = [side for side, value in need.digests.items() if row.get(side) != value]
-    if not changed:
+    row.matches = True
+    report.counts[file, kind] += 1
+    changed = [side for side, value in digests.items() if row.get(side) != value]
+    if changed:
+        sides = " and ".join({"proved": "the proved side", "rust": "the Rust side"}[side] for side in changed)
+        listed = f"{sides} changed since it was listed in {LIST}:{row.line} ('{row.get('reason')}')"
+        report.differs(file, line, f"{name}: {listed}{other}")
+    else:
         report.passed += 1
-        return
-    sides = " and ".join({"proved": "the proved side", "rust": "the Rust side"}[side] for side in changed)
-    listed = f"{sides} changed since it was listed in {LIST}:{row.line} ('{row.get('reason')}')"
-    report.differs(need.file, line, f"{name}: {listed}{other}")
-
-
-def compare_other_files(report, tree, package, modules):
-    """Checks that each file without a proved module is listed as written by hand."""
-    by_hand, folder = report.listed.files(), f"{package.folder}/"
-    for name in tree:
-        if not name.startswith(folder) or name.removeprefix(folder).removesuffix(".rs") in modules:
-            continue
-        if name in by_hand:
-            report.passed += 1
-            report.by_hand.add(name)
-        elif report.listed.find("hand_written", name, WHOLE_FILE):
-            check_file(report, tree, name)
-        else:
-            report.strangers.append(name)
-            report.differs(name, 1, f"no row of {LIST} has this file, and no proved module")
-        check_shadows(report, tree, name)
-
-
-def check_shadows(report, tree, name):
-    """Checks that no method that is written by hand takes the place of a proved one of a trait.
-
-    Rust prefers a method of the type to one of a trait, so that a call in a compared body would mean another one.
-    """
-    for head, method, tokens in inherent_functions_of(tree[name]):
-        if method.text in report.methods:
-            text = " ".join(token.text for token in normal_body(tokens))
-            need = Need("hand_written", name, f"impl {head}: fn {method.text}", {"rust": digest(text)})
-            what = "a method of a type takes the place of the proved one of a trait"
-            check_row(report, Module(name, []), need, method.line, what)
 
 
 def check_file(report, tree, name):
-    """Checks a file that is written by hand and has a digest."""
-    try:
-        entries = by_name(report, rust_entries(tree[name], name))
-    except Unreadable as unreadable:
-        report.differences.append(str(unreadable))
-        return
-    module = Module(name, [])
-    need = Need("hand_written", name, WHOLE_FILE, {"rust": digest(whole(entries))})
-    check_row(report, module, need, 1, "")
+    """Checks that a file without a proved module is listed as written by hand.
+
+    No method in it may take the place of a proved one of a trait: Rust prefers a method of the type to one of a trait,
+    so that a call in a compared body would mean another one.
+    """
+    if any(name in row.get("files") for row in report.listed.of("hand_written")):
+        report.passed += 1
+        report.by_hand.add(name)
+    elif report.listed.find("hand_written", name, WHOLE_FILE):
+        try:
+            entries = by_name(report, rust_entries(tree[name], name))
+        except Unreadable as unreadable:
+            report.differences.append(str(unreadable))
+            return
+        check_row(report, ("hand_written", name, WHOLE_FILE), {"rust": digest(whole(entries))}, 1, "")
+    else:
+        report.differs(name, 1, f"no row of {LIST} has this file, and no proved module")
+        report.needs.append((("hand_written", name, WHOLE_FILE), {}))
+    for item, tokens, line in inherent_functions(tree[name]):
+        if item.rpartition(" ")[2] in report.methods:
+            what = "a method of a type takes the place of the proved one of a trait"
+            check_row(report, ("hand_written", name, item), {"rust": digest(joined(normal_body(tokens)))}, line, what)
 
 
 def check_list(report):
     """Checks that each row of the list has a reason and matches something."""
     for row in report.listed.rows:
-        name = row.get("clause") or ": ".join(part for part in row.key if part) or ", ".join(row.get("files"))
         if not row.get("reason"):
-            report.differs(LIST, row.line, f"{name}: a person should write the reason")
-        if row.kind == "precondition":
-            matches = row.get("clause") in report.clauses
-        elif "files" in row.values:
-            matches = report.by_hand.issuperset(row.values["files"])
-        else:
-            matches = row.place in report.listed.used
-        if not matches:
-            report.differs(LIST, row.line, f"{name}: this row matches nothing, or not all of it")
+            report.differs(LIST, row.line, f"{row.name}: a person should write the reason")
+        if not (row.matches or row.get("files") and report.by_hand.issuperset(row.get("files"))):
+            report.differs(LIST, row.line, f"{row.name}: this row matches nothing, or not all of it")
 
 
 def checked(tree):
     """The report on a tree; if nothing differs, also on the table, which is that of such a tree."""
     report = compared(tree)
     if not report.differences:
-        check_table(report, tree)
+        text = tree.get(TABLE, "")
+        if proved_table.BEGIN not in text or proved_table.END not in text:
+            report.differs(TABLE, 1, f"the lines '{proved_table.BEGIN}' and '{proved_table.END}' should stand here")
+        elif text != proved_table.with_table(text, report):
+            report.differs(TABLE, 1, "the table is stale: python3 tools/bodies.py --write")
+        else:
+            report.passed += 1
     return report
-
-
-def check_table(report, tree):
-    """Checks that the table of the modules is that of now."""
-    text = tree.get(TABLE, "")
-    wanted = proved_table.with_table(text, report)
-    if wanted is None:
-        report.differs(TABLE, 1, f"the lines '{proved_table.BEGIN}' and '{proved_table.END}' should stand here")
-    elif text != wanted:
-        report.differs(TABLE, 1, "the table is stale: python3 tools/bodies.py --write")
-    else:
-        report.passed += 1
 
 
 def write(report, tree, root):
     """Writes the list with the digests of now, and the table."""
-    for need in report.needs:
-        row = report.listed.find(need.kind, need.file, need.item)
-        if row is not None:
-            report.listed.set(row, **need.digests)
+    for (kind, file, item), digests in report.needs:
+        if row := report.listed.find(kind, file, item):
+            row.values.update(digests)
+        elif digests:
+            report.listed.add(kind, file=file, item=item, **digests)
         else:
-            report.listed.add(need.kind, file=need.file, item=need.item, **need.digests)
-    for name in report.strangers:
-        report.listed.add("hand_written", files=[name])
+            report.listed.add(kind, files=[file])
     (root / LIST).write_text(report.listed.text(), encoding="utf-8")
     text = proved_table.with_table(tree.get(TABLE, ""), compared({**tree, LIST: report.listed.text()}))
-    if text is not None:
-        (root / TABLE).write_text(text, encoding="utf-8")
+    (root / TABLE).write_text(text, encoding="utf-8")
 
 
 def main(arguments):

@@ -1,14 +1,14 @@
 """Reads and writes `rust/departures.toml`, the list of what differs between the proved sources and the Rust ones.
 
-Each row is a block of the file: `[[departure]]` for a function or another item that differs, `[[hand_written]]` for
-what has no proved counterpart, `[[precondition]]` for a clause of a contract and the statement that checks it.
-`tools/bodies.py` uses this module.
+A row is `[[departure]]` for a function or another item that differs, `[[hand_written]]` for what has no proved
+counterpart, `[[precondition]]` for a clause of a contract and the statement that checks it. `tools/bodies.py` uses this
+module.
 """
 
 import json
 import re
 import tomllib
-from dataclasses import dataclass, field
+from dataclasses import dataclass
 
 # What stands for a file as a whole.
 WHOLE_FILE = ""
@@ -16,76 +16,65 @@ WHOLE_FILE = ""
 
 @dataclass
 class Row:
-    """A row of the list. `place` is the number of its block in the file."""
+    """A row of the list. `matches` says whether a comparison needed it."""
 
     kind: str
-    place: int
     line: int
     values: dict
+    matches: bool = False
 
     def get(self, key):
         return self.values.get(key, "")
 
     @property
     def key(self):
-        return self.get("file"), self.get("item")
+        return self.kind, self.get("file"), self.get("item")
+
+    @property
+    def name(self):
+        parts = [self.get("clause"), self.get("file"), self.get("item"), *self.get("files")]
+        return ": ".join(filter(None, parts))
+
+    def text(self):
+        lines = [f"{key} = {toml_of(value)}\n" for key, value in self.values.items() if value or key == "reason"]
+        return f"[[{self.kind}]]\n{''.join(lines)}"
+
+
+def toml_of(value):
+    if isinstance(value, list):
+        return "".join(["[\n", *(f"    {toml_of(one)},\n" for one in value), "]"])
+    if '"' in value and "'" not in value:
+        return f"'''\n{value}'''" if "\n" in value else f"'{value}'"
+    return json.dumps(value, ensure_ascii=False)
 
 
 @dataclass
 class Listed:
-    """The list. `blocks` are the texts of its blocks, in order."""
+    """The list: the comment at its head, and its rows."""
 
-    blocks: list
+    head: str
     rows: list
-    used: set = field(default_factory=set)
 
     @classmethod
     def read(cls, text):
-        blocks = re.split(r"(?m)^(?=\[\[)", text)
-        rows, line = [], 1
-        for place, block in enumerate(blocks):
-            for kind, values in tomllib.loads(block).items():
-                rows.append(Row(kind, place, line, values[0]))
+        head, *blocks = re.split(r"(?m)^(?=\[\[)", text)
+        rows, line = [], 1 + head.count("\n")
+        for block in blocks:
+            [(kind, [values])] = tomllib.loads(block).items()
+            rows.append(Row(kind, line, values))
             line += block.count("\n")
-        return cls(blocks, rows)
+        return cls(head, rows)
 
     def of(self, kind):
         return [row for row in self.rows if row.kind == kind]
 
-    def find(self, kind, file, item):
-        """The row of an item, or None. It then counts as used."""
-        for row in self.rows:
-            if row.kind == kind and row.key == (file, item):
-                self.used.add(row.place)
-                return row
-        return None
-
-    def files(self):
-        """The row of each file that is written by hand as a whole."""
-        found = {}
-        for row in self.of("hand_written"):
-            for file in row.values.get("files", ()):
-                found[file] = row
-        return found
-
-    def set(self, row, **digests):
-        """Puts other digests into the block of a row."""
-        for key, value in digests.items():
-            row.values[key] = value
-            block = self.blocks[row.place]
-            line = f'{key} = "{value}"'
-            pattern = rf'(?m)^{key} = ".*"$'
-            if re.search(pattern, block):
-                self.blocks[row.place] = re.sub(pattern, line, block)
-            else:
-                self.blocks[row.place] = f"{block.rstrip()}\n{line}\n\n"
+    def find(self, *key):
+        """The row of a kind, a file and an item, or None."""
+        return next((row for row in self.rows if row.key == key), None)
 
     def add(self, kind, **values):
         """Adds a row, whose reason a person has to write."""
-        lines = [f"{key} = {json.dumps(value, ensure_ascii=False)}" for key, value in values.items() if value]
-        self.blocks[-1] = self.blocks[-1].rstrip("\n") + "\n\n"
-        self.blocks.append("\n".join([f"[[{kind}]]", *lines, 'reason = ""']) + "\n")
-        self.rows.append(Row(kind, len(self.blocks) - 1, 0, {**values, "reason": ""}))
+        self.rows.append(Row(kind, 0, {**values, "reason": ""}))
 
     def text(self):
-        return "".join(self.blocks)
+        return self.head + "\n".join(row.text() for row in self.rows)

@@ -7,17 +7,12 @@ BEGIN, END = "<!-- written by tools/bodies.py -->", "<!-- end -->"
 
 
 def with_table(text, report):
-    """The document with the table of this report between its two markers, or None if it has no such markers."""
-    if BEGIN not in text or END not in text:
-        return None
-    head, rest = text.split(BEGIN, 1)
-    tail = rest.split(END, 1)[1]
-    return f"{head}{BEGIN}\n\n{table(report)}\n{END}{tail}"
-
-
-def table(report):
-    parts = [modules(report), departures(report), items_by_hand(report), files_by_hand(report)]
-    return "\n".join([*parts, preconditions(report), languages()])
+    """The document with the tables of this report between its two markers; without these it stays as it is."""
+    head, begin, rest = text.partition(BEGIN)
+    _, end, tail = rest.partition(END)
+    sections = (modules, departures, items_by_hand, files_by_hand, preconditions, languages)
+    tables = "\n".join(section(report) for section in sections)
+    return f"{head}{BEGIN}\n\n{tables}\n{END}{tail}" if begin and end else text
 
 
 def rows_of(heading, text, columns, rows):
@@ -47,10 +42,9 @@ def place(row):
 
 def modules(report):
     rows = []
-    for module in report.modules:
-        counts = [sum(row.kind == kind for row in module.rows) for kind in ("departure", "hand_written")]
-        proved = ", ".join(code(name.removeprefix("crates/")) for name in module.proved)
-        rows.append((short(module.file), proved, module.equal, *counts))
+    for file, names in report.modules.items():
+        counts = [report.counts[file, kind] for kind in ("equal", "departure", "hand_written")]
+        rows.append((short(file), ", ".join(code(name.removeprefix("crates/")) for name in names), *counts))
     total = [sum(row[column] for row in rows) for column in (2, 3, 4)]
     text = (
         "Each file of Rust here has the items of a module of the proved crates. An item is a function, a constant, a"
@@ -82,9 +76,8 @@ def files_by_hand(report):
 
 
 def preconditions(report):
-    rows = []
-    for row in report.listed.of("precondition"):
-        rows.append((code(row.get("clause")), code(row.get("rust")) if row.get("rust") else "", row.get("reason")))
+    listed = report.listed.of("precondition")
+    rows = [(code(row.get("clause")), row.get("rust") and code(row.get("rust")), row.get("reason")) for row in listed]
     text = (
         "A contract of Rattle may require something of the caller, which the prover checks at each call. A public"
         " function in Rust checks it first, where it can be checked and matters."
@@ -92,6 +85,6 @@ def preconditions(report):
     return rows_of("Preconditions", text, ("Clause", "Check in Rust", "Why"), rows)
 
 
-def languages():
+def languages(_report):
     text = "These differences of the two languages are the same everywhere, and are no departures."
     return rows_of("Rattle and Rust", text, ("Rattle", "Rust", "Why"), SENTENCES)

@@ -19,7 +19,7 @@ import proved_table
 import rattle
 import translation
 from departures import Listed
-from entries import entries_of, inherent_functions, normal, normal_body
+from entries import entries_of, inherent_functions, joined, normal, normal_body
 from planted import HARMLESS, PLANTED
 
 ROOT = Path(__file__).resolve().parent.parent.parent
@@ -37,8 +37,11 @@ def text_of(tokens):
 
 
 def entries(text):
-    file = rattle.file_of(text, "text")
-    return {entry.name: entry for entry in entries_of(file.items, file.attributes, "text")}
+    """The entries of a text by their names. All those of one name say the same."""
+    found = {}
+    for entry in entries_of(rattle.file_of(text, "text")):
+        assert found.setdefault(entry.name, entry).text() == entry.text(), entry
+    return found
 
 
 class Tokens(unittest.TestCase):
@@ -146,7 +149,9 @@ class Items(unittest.TestCase):
         self.assertEqual([one.word for one in (*found, *inner)], ["fn", "impl", "struct", "const", "ghost use"])
 
     def test_names(self):
-        found = item("#[derive(A, b::C)] #[repr(C)] struct S<'a> { pub a: Map<u8, [T; 2]>, pub(crate) b: &'a u8, c: u8 }")
+        found = item(
+            "#[derive(A, b::C)] #[repr(C)] struct S<'a> { pub a: Map<u8, [T; 2]>, pub(crate) b: &'a u8, c: u8 }"
+        )
         fields = [(*rattle.name_and_type(part.tokens), part.is_public) for part in found.parts]
         self.assertEqual(fields, [("a", "Map<u8, [T; 2]>", True), ("b", "&'a u8", False), ("c", "u8", False)])
         self.assertEqual([rattle.text_of(name) for name in rattle.derives_of(found.attributes)], ["A", "b::C"])
@@ -220,20 +225,19 @@ class Normal(unittest.TestCase):
             "impl<T: A<B>> S<T> { pub fn f(&self) {} } impl A for S { fn g() {} } impl B { const fn h() {} }"
             " macro_rules! m { ($t:ty) => { impl $t { fn i() { j() } } impl<'a> X for $t { fn k() {} } } }"
         )
-        found = [(head, name.text) for head, name, _ in inherent_functions(rattle.tokens_of(text))]
-        self.assertEqual(found, [("S<T>", "f"), ("B", "h"), ("$ t", "i")])
+        found = [name for name, _, _ in inherent_functions(text)]
+        self.assertEqual(found, ["impl S<T>: fn f", "impl B: fn h", "impl $ t: fn i"])
 
 
 class Rules(unittest.TestCase):
     """Each rule of the translation, and what it leaves alone."""
 
-    CHECKS = {"1 ≤ n": tuple(rattle.tokens_of("assert!(1 <= n);")), "F.IsCallable f": ()}
+    CHECKS = {"1 ≤ n": joined(rattle.tokens_of("assert!(1 <= n);")), "F.IsCallable f": ""}
 
     def rust(self, text, module="crate::a", without_std=False):
         crates = {"nanorand_core": "crate", "nanorand": "nanorand_proved"}
-        setting = translation.Setting(module, crates, without_std, self.CHECKS, set())
-        file = rattle.file_of(text, "text")
-        return entries_of(translation.in_rust(file.items, setting), file.attributes, "text")
+        setting = translation.Setting(module, crates, without_std, self.CHECKS)
+        return translation.in_rust(entries_of(rattle.file_of(text, "text")), setting)
 
     def becomes(self, rattle_text, rust_text, **setting):
         found = {entry.name: entry.text() for entry in self.rust(rattle_text, **setting)}
@@ -254,7 +258,7 @@ class Rules(unittest.TestCase):
             "pub trait T { fn f(n: u8) requires { 1 ≤ n } { n } }", "pub trait T { fn f(n: u8) { assert!(1 <= n); n } }"
         )
         for text in ("pub fn f() requires { 2 ≤ n } {}", "pub trait T { fn f(n: u8) requires { 1 ≤ n }; }"):
-            with self.assertRaises(translation.Untranslated):
+            with self.assertRaises(rattle.Unreadable):
                 self.rust(text)
 
     def test_allocators(self):
@@ -287,7 +291,7 @@ class Rules(unittest.TestCase):
             "impl<T: Clone> Clone for S<T> { fn clone(&self) -> Self { S { a: self.a.clone(), b: g()? } } }",
         )
         for body in ("g(self)", "Ok(a); Ok(b)", "Ok(a).map(b)"):
-            with self.subTest(body), self.assertRaises(translation.Untranslated):
+            with self.subTest(body), self.assertRaises(rattle.Unreadable):
                 self.rust(f"impl Clone for S {{ fn clone(&self) -> Result<Self, AllocError> {{ {body} }} }}")
 
     def test_errors(self):
@@ -300,10 +304,10 @@ class Rules(unittest.TestCase):
         )
         body = self.rust('enum E { #[error("a")] A, #[error("b {0}")] B(u8), #[error("{c}")] C { c: u8 } }')[2].text()
         self.assertIn('E :: A => f . write_str ( "a" )', body)
-        self.assertIn('E :: B ( field ) => write ! ( f , "b {field}" )', body)
+        self.assertIn(r'E :: B ( field ) => write ! ( f , "b\x20{field}" )', body)
         self.assertIn('E :: C { c } => write ! ( f , "{c}" )', body)
         for line in ('#[error("a", b)]', "#[error(a)]", "#[error]"):
-            with self.subTest(line), self.assertRaises(translation.Untranslated):
+            with self.subTest(line), self.assertRaises(rattle.Unreadable):
                 self.rust(f"{line} struct E;")
 
     def test_refused_memory(self):
@@ -366,7 +370,7 @@ class Rules(unittest.TestCase):
         self.becomes("final fn f(a: u32x4) -> u32x8 { u32x4::splat(a) }", "fn f(a: U32x4) -> U32x8 { U32x4::splat(a) }")
 
     def test_what_no_rule_has(self):
-        with self.assertRaises(translation.Untranslated):
+        with self.assertRaises(rattle.Unreadable):
             self.rust("m! { a }")
 
     def test_each_rule_has_a_sentence(self):
@@ -475,8 +479,8 @@ class List(InTree):
         listed = Listed.read(self.tree[bodies.LIST])
         for row in listed.rows:
             with self.subTest(row.values):
-                blocks = [block for place, block in enumerate(listed.blocks) if place != row.place]
-                self.assertTrue(self.differences({bodies.LIST: "".join(blocks)}))
+                others = Listed(listed.head, [one for one in listed.rows if one is not row])
+                self.assertTrue(self.differences({bodies.LIST: others.text()}))
 
     def test_a_digest_is_another(self):
         listed = Listed.read(self.tree[bodies.LIST])
