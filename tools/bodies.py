@@ -44,13 +44,11 @@ BEFORE, SHOWN = 2, 7
 class Package:
     """A package of Rust: the folder of its sources and its proved crates.
 
-    `crates` gives the name that each proved crate has in the package's source. `with_std` are the modules whose `mod`
-    line has the feature std, or None if the whole package needs it.
+    `with_std` are the modules whose `mod` line has the feature std, or None if the whole package needs it.
     """
 
     folder: str
     proved: tuple
-    crates: tuple
     with_std: tuple = ()
 
     def is_without_std(self, module):
@@ -58,12 +56,9 @@ class Package:
 
 
 PACKAGES = (
-    Package(
-        "rust/nanorand-proved/src", ("nanorand_core", "nanorand_replay", "nanorand"),
-        (("nanorand_core", "crate"), ("nanorand_replay", "crate"), ("nanorand", "crate")),
-    ),
-    Package("rust/lots/src", ("lots_core",), (("nanorand", "nanorand_proved"),), ("arguments", "run", "text")),
-    Package("rust/draw/src", ("draw_core",), (("nanorand", "nanorand_proved"),), None),
+    Package("rust/nanorand-proved/src", ("nanorand_core", "nanorand_replay", "nanorand")),
+    Package("rust/lots/src", ("lots_core",), ("arguments", "run", "text")),
+    Package("rust/draw/src", ("draw_core",), None),
 )
 
 
@@ -162,7 +157,8 @@ def proved_entries(text, name, package, module, checks):
     """The entries that Rust should have of a proved file."""
     texts = {clause: joined(normal_body(tokens_of(rust))) for clause, rust in checks}
     path = "::".join(["crate", *module.split("/")])
-    setting = Setting(path, dict(package.crates), package.is_without_std(module), texts)
+    crates = {"nanorand": "nanorand_proved", **dict.fromkeys(package.proved, "crate")}
+    setting = Setting(path, crates, package.is_without_std(module), texts)
     return in_rust(entries_of(file_of(text, name)), setting)
 
 

@@ -459,6 +459,16 @@ class List(InTree):
     def of_list(self, old, new):
         return self.differences(self.changed(bodies.LIST, old, new))
 
+    def test_rows_are_read_as_they_are_written(self):
+        self.assertEqual(Listed.read(self.tree[bodies.LIST]).text(), self.tree[bodies.LIST])
+        texts = ["plain", 'some "quoted"', "it's", 'it\'s "both"', 'two\n"lines"', "a \\ b", "1 ≤ 2"]
+        listed = Listed("# Head.\n\n", [])
+        for text in texts:
+            listed.add("departure", file=text, files=[text])
+        again = Listed.read(listed.text())
+        self.assertEqual([row.values for row in again.rows], [row.values for row in listed.rows])
+        self.assertEqual([row.line for row in again.rows[:2]], [3, 10])
+
     def test_a_reason_is_missing(self):
         reason = 'reason = "SHA-256, which Rattle has as a crate."'
         for text in ('reason = ""', ""):
