@@ -413,8 +413,8 @@ class Tree(InTree):
                 self.assertLess(len(found), 12, found)
 
     def test_planted_differences_are_of_all_kinds(self):
-        for folder in ("rust/nanorand-proved/src/", "rust/lots/", "rust/draw/", "crates/nanorand/", "crates/nanorand_core/",
-                       "crates/nanorand_replay/", "crates/lots_core/", "crates/draw_core/"):
+        crates = ("nanorand", "nanorand_core", "nanorand_replay", "lots_core", "draw_core")
+        for folder in ("rust/nanorand-proved/src/", "rust/lots/", "rust/draw/", *(f"crates/{one}/" for one in crates)):
             self.assertGreater(sum(name.startswith(folder) for name, _, _ in PLANTED), 2, folder)
 
     def test_harmless_changes_are_not_found(self):
@@ -423,7 +423,8 @@ class Tree(InTree):
                 self.assertEqual(self.differences(self.changed(name, old, new)), [])
 
     def test_a_message_names_both_places(self):
-        found = self.differences(self.changed("rust/nanorand-proved/src/values/word.rs", "low >= size ||", "low > size ||"))
+        change = self.changed("rust/nanorand-proved/src/values/word.rs", "low >= size ||", "low > size ||")
+        found = self.differences(change)
         self.assertRegex(
             found[0],
             r"^rust/nanorand-proved/src/values/word\.rs:\d+: fn pick_below: body differs from"
@@ -436,7 +437,8 @@ class Tree(InTree):
         self.assertIn("rust/draw/src/table.txt", self.differences({"rust/draw/src/table.txt": ""})[0])
         self.assertIn("rust/departures.toml", self.differences({"rust/nanorand-proved/src/simd.rs": None})[0])
         self.assertIn("crates/lots_core/src/text.rt", self.differences({"rust/lots/src/text.rs": None})[0])
-        self.assertIn("rust/nanorand-proved/src/rand/new.rs", self.differences({"crates/nanorand/src/rand/new.rt": "fn f() {}"})[0])
+        found = self.differences({"crates/nanorand/src/rand/new.rt": "fn f() {}"})
+        self.assertIn("rust/nanorand-proved/src/rand/new.rs", found[0])
         self.assertTrue(self.differences({"crates/draw_core/src/kinds.rt": None}))
 
     def test_files_that_are_not_understood(self):
@@ -447,8 +449,9 @@ class Tree(InTree):
     def test_methods_that_take_the_place_of_proved_ones(self):
         method = "impl Pcg64 {\n    pub fn fill_bytes(&mut self, buffer: &mut [u8]) {}\n}\n"
         macro = f"macro_rules! m {{ () => {{ {method} }} }}\n"
+        name = "rust/nanorand-proved/src/system.rs"
         for text in (method, macro):
-            found = self.differences({"rust/nanorand-proved/src/system.rs": self.tree["rust/nanorand-proved/src/system.rs"] + text})
+            found = self.differences({name: self.tree[name] + text})
             self.assertEqual(len(found), 1)
             self.assertRegex(found[0], r"^rust/nanorand-proved/src/system\.rs:\d+: impl Pcg64: fn fill_bytes: ")
 
@@ -478,7 +481,8 @@ class List(InTree):
         for text in (
             '[[departure]]\nfile = "rust/nanorand-proved/src/swap.rs"\nitem = "fn swop"\n',
             '[[hand_written]]\nfile = "rust/nanorand-proved/src/swap.rs"\nitem = "fn swop"\n',
-            '[[hand_written]]\nfiles = ["rust/nanorand-proved/src/gone.rs"]\n', '[[precondition]]\nclause = "1 ≤ 2"\n', "[[typo]]\n",
+            '[[hand_written]]\nfiles = ["rust/nanorand-proved/src/gone.rs"]\n',
+            '[[precondition]]\nclause = "1 ≤ 2"\n', "[[typo]]\n",
             '[[departure]]\nfile = "rust/nanorand-proved/src/swap.rs"\nitem = "fn swap"\n',
         ):
             found = self.differences({bodies.LIST: f'{self.tree[bodies.LIST]}\n{text}reason = "It is."\n'})
