@@ -12,7 +12,7 @@ file, and the attributes that `entries.IGNORED` names.
 
 Each difference is one line, and the last line is `N passed, M failed`. `--check` is the same. `--write` puts the
 digests of now into the list, adds a row for each difference that has none, whose reason a person then has to write,
-and writes the table of `rust/PROVED.md`. `./test` runs this.
+removes the rows that nothing needs, says so of each, and writes the table of `rust/PROVED.md`. `./test` runs this.
 """
 
 import functools
@@ -35,6 +35,9 @@ TABLE = "rust/PROVED.md"
 # Files of each proved crate that have no counterpart: its root, which Rust writes by hand, and its laws, whose
 # functions do nothing.
 WITHOUT_COUNTERPART = ("lib.rt", "laws.rt")
+
+# What to do with an item that Rust alone has.
+CURE = "run tools/bodies.py --write, and write its reason"
 
 # How many tokens a message shows before the first that differs, and in all.
 BEFORE, SHOWN = 2, 7
@@ -144,7 +147,7 @@ def compare_module(report, tree, package, module, names):
             report.differs(entry.file, entry.line, f"{name}: {file} has no counterpart")
     for name, entry in rust.items():
         if name not in proved:
-            what = f"it has no proved counterpart in {' or '.join(names)}"
+            what = f"it has no proved counterpart in {' or '.join(names)}; if Rust alone has it, {CURE}"
             check_row(report, ("hand_written", file, name), {"rust": digest(entry.text())}, entry.line, what)
 
 
@@ -255,7 +258,7 @@ def check_file(report, tree, name):
             return
         check_row(report, ("hand_written", name, WHOLE_FILE), {"rust": digest(whole(entries))}, 1, "")
     else:
-        report.differs(name, 1, f"no row of {LIST} has this file, and no proved module")
+        report.differs(name, 1, f"no row of {LIST} has this file, and no proved module; if Rust alone has it, {CURE}")
         report.needs.append((("hand_written", name, WHOLE_FILE), {}))
     for item, tokens, line in inherent_functions(tree[name]):
         if item.rpartition(" ")[2] in report.methods:
@@ -287,14 +290,19 @@ def checked(tree):
 
 
 def write(report, tree, root):
-    """Writes the list with the digests of now, and the table."""
+    """Writes the list with the digests of now, and the table, and prints which rows are new, renewed or gone."""
     for (kind, file, item), digests in report.needs:
-        if row := report.listed.find(kind, file, item):
+        row, name = report.listed.find(kind, file, item), f"{file}: {item or 'the file'}"
+        if row is None:
+            report.listed.add(kind, **({"file": file, "item": item, **digests} if digests else {"files": [file]}))
+            print(f"{name}: a new row; write its reason, then run this again")
+        elif any(row.get(side) != value for side, value in digests.items()):
             row.values.update(digests)
-        elif digests:
-            report.listed.add(kind, file=file, item=item, **digests)
-        else:
-            report.listed.add(kind, files=[file])
+            print(f"{name}: renewed; does its reason still hold? '{row.get('reason')}'")
+    needed = {key for key, _ in report.needs}
+    for row in [row for row in report.listed.rows if row.get("file") and row.key not in needed]:
+        report.listed.rows.remove(row)
+        print(f"{row.name}: gone, as nothing needs it")
     (root / LIST).write_text(report.listed.text(), encoding="utf-8")
     text = proved_table.with_table(tree.get(TABLE, ""), compared({**tree, LIST: report.listed.text()}))
     (root / TABLE).write_text(text, encoding="utf-8")

@@ -73,8 +73,9 @@ class Listed:
         return next((row for row in self.rows if row.key == key), None)
 
     def add(self, kind, **values):
-        """Adds a row, whose reason a person has to write."""
-        self.rows.append(Row(kind, 0, {**values, "reason": ""}))
+        """Adds a row after those of its kind and file. A person has to write its reason."""
+        alike = [at for at, row in enumerate(self.rows, 1) if (row.kind, row.get("file")) == (kind, values.get("file", ""))]
+        self.rows.insert(alike[-1] if alike else len(self.rows), Row(kind, 0, {**values, "reason": ""}))
 
     def text(self):
         return self.head + "\n".join(row.text() for row in self.rows)

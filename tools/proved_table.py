@@ -61,7 +61,7 @@ def departures(report):
 
 def items_by_hand(report):
     rows = [(place(row), row.get("reason")) for row in report.listed.of("hand_written") if row.get("item")]
-    text = f"{len(rows)} items of the files above."
+    text = f"{len(rows)} items."
     return rows_of("Items that are written by hand", text, ("Item", "What it is"), rows)
 
 

@@ -6,6 +6,7 @@ nothing.
 
 import contextlib
 import io
+import re
 import sys
 import tempfile
 import unittest
@@ -579,13 +580,29 @@ class Command(unittest.TestCase):
         (self.root / "rust/nanorand-proved/src/new.rs").write_text("")
         status, lines = self.run_with("--write")
         self.assertEqual(status, 1)
-        self.assertEqual(len(lines), 4, lines)
-        for line, name in zip(lines, ("samples.rs: fn link", "samples.rs: fn more", "rust/nanorand-proved/src/new.rs")):
-            self.assertRegex(line, rf"^{bodies.LIST}:\d+: .*{name}: a person should write the reason$")
+        self.assertEqual(sum("a new row; write its reason" in line for line in lines[:4]), 3, lines)
+        self.assertEqual(sum("renewed; does its reason still hold?" in line for line in lines[:4]), 1, lines)
+        self.assertEqual(len(lines), 8, lines)
+        for name in ("samples.rs: fn link", "samples.rs: fn more", "rust/nanorand-proved/src/new.rs"):
+            asks = rf"^{bodies.LIST}:\d+: .*{name}: a person should write the reason$"
+            self.assertEqual(sum(bool(re.search(asks, line)) for line in lines[4:7]), 1, name)
         path = self.root / bodies.LIST
         path.write_text(path.read_text().replace('reason = ""', 'reason = "It is."'))
         self.assertEqual(self.run_with("--write")[0], 0)
         self.assertIn("`fn more`", (self.root / bodies.TABLE).read_text())
+
+    def test_write_removes_what_nothing_needs(self):
+        before = (self.root / bodies.LIST).read_text()
+        self.change("rust/nanorand-proved/src/samples.rs", "slot + 1", "slot + 2")
+        self.run_with("--write")
+        rows = (self.root / bodies.LIST).read_text()
+        self.assertIn('samples.rs"\nitem = "fn link"', rows)
+        self.assertLess(rows.index('item = "fn link"'), rows.index('file = "rust/nanorand-proved/src/swap.rs"'))
+        self.change("rust/nanorand-proved/src/samples.rs", "slot + 2", "slot + 1")
+        status, lines = self.run_with("--write")
+        self.assertEqual(status, 0)
+        self.assertTrue(lines[0].endswith("fn link: gone, as nothing needs it"), lines)
+        self.assertEqual((self.root / bodies.LIST).read_text(), before)
 
     def test_a_stale_table(self):
         for old, new in (("## Modules", "## Module"), (proved_table.END, "")):
