@@ -44,6 +44,30 @@ macro_rules! check_all {
     })+ };
 }
 
+/// What generators show of seeds whose halves, bytes or bits are zeros or ones, before a draw and after it.
+#[test]
+fn texts_of_plain_seeds() {
+    for bit in 0..128 {
+        for seed in [
+            0,
+            1_u128 << bit,
+            (1 << bit) - 1,
+            u128::MAX << bit,
+            0x2a << bit,
+        ] {
+            let low = u64::try_from(seed & u128::from(u64::MAX)).expect("64 bits");
+            let mut pair = (new::Pcg64::new_seed(seed), old::Pcg64::new_seed(seed));
+            let mut small = (new::WyRand::new_seed(low), old::WyRand::new_seed(low));
+            for _ in 0..2 {
+                assert_eq!(pair.0.state(), pair.1.state());
+                assert_eq!(small.0.state(), small.1.state());
+                assert_eq!(new::Rng::rand(&mut pair.0), old::Rng::rand(&mut pair.1));
+                assert_eq!(new::Rng::rand(&mut small.0), old::Rng::rand(&mut small.1));
+            }
+        }
+    }
+}
+
 #[test]
 fn ten_million_calls() {
     quiet();
