@@ -48,6 +48,21 @@ fn check<G: Rng<OUTPUT> + Clone + PartialEq + Debug, const OUTPUT: usize>(fresh:
     }
 }
 
+/// A generator with blocks of any size: no byte of a block is as the one before, nor as in the block before.
+#[derive(Clone, Debug, PartialEq)]
+struct Blocks<const SIZE: usize>(u8);
+
+impl<const SIZE: usize> Rng<SIZE> for Blocks<SIZE> {
+    fn rand(&mut self) -> [u8; SIZE] {
+        self.0 = self.0.wrapping_add(101);
+        let mut byte = self.0;
+        [(); SIZE].map(|()| {
+            byte = byte.wrapping_add(1);
+            byte
+        })
+    }
+}
+
 /// A generator of a user's own, and what holds or borrows another.
 #[test]
 fn generators() {
@@ -61,6 +76,11 @@ fn generators() {
         }
     }
 
+    check(&Blocks::<1>(0));
+    check(&Blocks::<7>(0));
+    check(&Blocks::<100>(0));
+    check(&Blocks::<512>(0));
+    check(&Blocks::<4096>(0));
     for seed in [0, 1, 42, u64::MAX] {
         check(&WyRand::new_seed(seed));
         check(&Pcg64::new_seed(u128::from(seed) << 60));

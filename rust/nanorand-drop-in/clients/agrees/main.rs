@@ -44,6 +44,33 @@ macro_rules! check_all {
     })+ };
 }
 
+/// No width, precision or flag changes what a generator displays, which names its address.
+fn displays_plainly(generator: &impl std::fmt::Display) {
+    let plain = generator.to_string();
+    for text in [
+        format!("{generator:60}"),
+        format!("{generator:<60}"),
+        format!("{generator:060}"),
+        format!("{generator:#}"),
+        format!("{generator:+}"),
+        format!("{generator:.1}"),
+    ] {
+        assert_eq!(text, plain);
+    }
+}
+
+#[test]
+fn displays() {
+    displays_plainly(&new::WyRand::new_seed(1));
+    displays_plainly(&old::WyRand::new_seed(1));
+    displays_plainly(&new::Pcg64::new_seed(1));
+    displays_plainly(&old::Pcg64::new_seed(1));
+    displays_plainly(&new::ChaCha8::new_key([1; 32], [1; 8]));
+    displays_plainly(&old::ChaCha8::new_key([1; 32], [1; 8]));
+    displays_plainly(&new::ChaCha20::new_key([1; 32], [1; 8]));
+    displays_plainly(&old::ChaCha20::new_key([1; 32], [1; 8]));
+}
+
 /// What generators show of seeds whose halves, bytes or bits are zeros or ones, before a draw and after it.
 #[test]
 fn texts_of_plain_seeds() {
