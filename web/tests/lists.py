@@ -66,6 +66,10 @@ TIDY = {
     ("unique", b"a\n\na"): (b"a\n\n", 1), ("unique", b"\n\n\na"): (b"\na", 2), ("trim", b"a\n "): (b"a\n\n", 1),
     ("trim", b"\t"): (b"\n", 1), ("trim", b" \na"): (b"\na", 1), ("empty", b"\na\n\n"): (b"a\n", 2),
 }
+# No byte of another letter is a space: each letter of Latin-1, and each byte that is none of ASCII, at both ends.
+for whole in ("".join(f"{chr(code)}x{chr(code)}\n" for code in range(0xa0, 0x100)).encode(), b"voil\xc3\xa0\n",
+              b"".join(bytes([byte, 120, byte, 10]) for byte in range(128, 256))):
+    TIDY["trim", whole] = (whole, 0)
 # What stands in a list, and how the page shows it.
 SHOWN = {
     "\U0001f468\u200d\U0001f469\u200d\U0001f467": "\U0001f468\u200d\U0001f469\u200d\U0001f467",
