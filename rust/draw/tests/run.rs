@@ -392,3 +392,24 @@ fn errors_are_reported_in_one_line() {
         assert!(boxed.source().is_none());
     }
 }
+
+/// A seed has the digits of its generator's seed: 16, 32 or 80, and no other number, however great.
+#[test]
+fn lengths_of_seeds() {
+    let lengths = (0..=700).chain([4112, 65_536, 65_552, 65_568, 65_616, 1 << 20]);
+    for length in lengths {
+        let seed = "7".repeat(length);
+        for (generator, digits) in [
+            ("wyrand", 16),
+            ("pcg64", 32),
+            ("chacha8", 80),
+            ("chacha12", 80),
+            ("chacha20", 80),
+        ] {
+            let found = text_of(&[generator, &seed, "plain", "0", "u8"]);
+            let wanted = length == digits;
+            assert_eq!(found.is_ok(), wanted, "{generator} {length}");
+            assert!(wanted || found == Err(DrawError::BadWord(2)), "{length}");
+        }
+    }
+}
