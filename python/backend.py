@@ -1,4 +1,4 @@
-"""Builds the wheel of the Python package, for pip (PEP 517) and for python/build.
+"""Builds the wheel of the Python package, for pip (PEP 517) and for python/build.py.
 
 The C files of python/native and the static library become one extension module, which exports `PyInit__native`
 alone. Equal sources and libraries give equal bytes, by the same compiler and linker. The library is the first there
@@ -22,7 +22,10 @@ from pathlib import Path
 HERE = Path(__file__).resolve().parent
 TOP = HERE.parent
 PACKAGE = HERE / "nanorand"
-VERSION = re.search(r'__version__ = "(.*)"', (PACKAGE / "__init__.py").read_text(encoding="utf-8"))[1]
+INCLUDE = TOP / "include"
+# The version of the header, which has 1.2.3 as 10203.
+NUMBER = int(re.search(r"^#define NANORAND_VERSION (\d+)$", (INCLUDE / "nanorand.h").read_text("ascii"), re.M)[1])
+VERSION = f"{NUMBER // 10000}.{NUMBER // 100 % 100}.{NUMBER % 100}"
 INFORMATION = f"nanorand-{VERSION}.dist-info"
 MODULE = f"_native{sysconfig.get_config_var('EXT_SUFFIX')}"
 # What every Linux of today has: the symbols of glibc 2.17.
@@ -98,7 +101,7 @@ def link(includes, archive, module):
     """Compiles the extension module. No time or path is in it."""
     run(
         *[*compiler(), "-shared", "-fPIC", "-std=c11", "-O2", "-DNDEBUG", "-fvisibility=hidden", "-o", str(module)],
-        *[f"-I{folder}" for folder in [TOP / "include", *includes]],
+        *[f"-I{folder}" for folder in [INCLUDE, *includes]],
         *[str(source) for source in sorted((HERE / "native").glob("*.c"))],
         *[str(archive), "-s", "-Wl,--exclude-libs,ALL", "-Wl,--gc-sections", "-Wl,-z,now"],
     )

@@ -74,7 +74,8 @@ class Listed:
 
     def add(self, kind, **values):
         """Adds a row after those of its kind and file. A person has to write its reason."""
-        alike = [at for at, row in enumerate(self.rows, 1) if (row.kind, row.get("file")) == (kind, values.get("file", ""))]
+        wanted = kind, values.get("file", "")
+        alike = [at for at, row in enumerate(self.rows, 1) if (row.kind, row.get("file")) == wanted]
         self.rows.insert(alike[-1] if alike else len(self.rows), Row(kind, 0, {**values, "reason": ""}))
 
     def text(self):

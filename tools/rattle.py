@@ -6,8 +6,7 @@ tuple of tokens. Each item and each token knows its line, for messages, and its 
 returns its comment and its code as they are laid out. White space, comments and docs are no tokens; docs are kept with
 their items. Text that is not understood raises `Unreadable`, with the file and the line.
 
-Whatever reads the sources imports this module: `tools/bodies.py`, `docs/contracts`, `docs/definitions.py`, `c/header`,
-and several scripts of `tests/`.
+Whatever reads the sources imports this module: other tools, and several scripts of `tests/`.
 """
 
 import re

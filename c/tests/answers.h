@@ -1,4 +1,4 @@
-/* What the program that c/tests/answers writes is made of: the table's states, and guarded arrays. */
+/* What the program that c/tests/answers.py writes is made of: the table's states, and guarded arrays. */
 #ifndef ANSWERS_H
 #define ANSWERS_H
 

@@ -1,6 +1,6 @@
 /*
  * One program with two releases of the library: this one, and one whose symbols and header have
- * another number. tests/c makes the other, and compares the addresses of all exports.
+ * another number. tests/c.sh makes the other, and compares the addresses of all exports.
  *
  * It is compiled twice. With OTHER_RELEASE it gives the functions of the other release; without, it is
  * the program.

@@ -1,4 +1,4 @@
-"""Tests percolation.py: its parts, its lattices, and Dask with a worker that is killed. tests/cluster runs it.
+"""Tests percolation.py: its parts, its lattices, and Dask with a worker that is killed. tests/cluster.sh runs it.
 
 It runs with the folder of the program `job` as its working folder, which has to give the same sums.
 """

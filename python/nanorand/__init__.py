@@ -39,7 +39,7 @@ except ImportError as error:
 from nanorand import lots, randoms
 from nanorand.generators import ChaCha8, ChaCha12, ChaCha20, Generator, Pcg64, Stream, WyRand
 
-__version__ = "1.0.0"
+__version__ = _native.__version__
 
 __all__ = [
     "ChaCha8",

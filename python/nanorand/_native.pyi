@@ -9,6 +9,8 @@ _Octets = bytes  # `bytes` is a method below
 _Buffer = Union[bytes, bytearray, memoryview]
 _Weights = Iterable[Union[SupportsIndex, SupportsFloat]]
 
+__version__: str
+
 class Generator:
     state: _Octets
     __hash__: ClassVar[None]  # type: ignore[assignment]

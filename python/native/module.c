@@ -66,11 +66,20 @@ static int check_version(PyObject *Py_UNUSED(module))
     return -1;
 }
 
+/* The version of the library, as a text. */
+static int add_version(PyObject *module)
+{
+    char text[16];
+    snprintf(text, sizeof text, "%d.%d.%d", NANORAND_VERSION / 10000, NANORAND_VERSION / 100 % 100, NANORAND_VERSION % 100);
+    return PyModule_AddStringConstant(module, "__version__", text);
+}
+
 /* What the module has is added part by part, each from a file beside this one. */
 static int fill_module(PyObject *module)
 {
     int (*const parts[])(PyObject *) = {
         check_version,
+        add_version,
         nanorand_add_generators,
         nanorand_add_lots,
         nanorand_add_randoms,

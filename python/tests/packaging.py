@@ -17,7 +17,7 @@ from unittest import mock
 
 import backend
 
-BUILD = backend.HERE / "build"
+BUILD = backend.HERE / "build.py"
 
 
 class Places(unittest.TestCase):
@@ -243,14 +243,14 @@ class Wheels(unittest.TestCase):
 
         for arguments in (("one", "two"), ("--help",), ("-h",)):
             done = command(*arguments)
-            self.assertEqual((done.returncode, done.stderr), (1, "usage: python/build [FOLDER]\n"))
+            self.assertEqual((done.returncode, done.stderr), (1, "usage: python/build.py [FOLDER]\n"))
         with tempfile.TemporaryDirectory() as folder:
             done = command(folder, NANORAND_LIBRARY="no.a")
-            self.assertEqual((done.returncode, done.stderr), (1, "python/build: there is no static library no.a\n"))
+            self.assertEqual((done.returncode, done.stderr), (1, "python/build.py: there is no static library no.a\n"))
             self.assertEqual(os.listdir(folder), [])
             done = command(folder, CC="no_such_compiler")
             self.assertEqual(done.returncode, 1)
-            self.assertIn("python/build: no_such_compiler: ", done.stderr)
+            self.assertIn("python/build.py: no_such_compiler: ", done.stderr)
 
 
 if __name__ == "__main__":

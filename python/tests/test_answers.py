@@ -8,7 +8,7 @@ from makers import CLASSES
 from nanorand import EmptyRange, PastPeriod, WyRand, lots
 from nanorand.errors import EmptyLine, EmptySeed, SeedNotText, TooFew
 
-TABLE = Path(__file__).resolve().parents[2] / "answers/answers.tsv"
+TABLE = Path(__file__).resolve().parents[2] / "tests/answers/answers.tsv"
 
 
 def rows():

@@ -96,7 +96,7 @@ class Lots(unittest.TestCase):
             (SeedNotText, b"seed\xc3", b"\n", 99),
             (SeedNotText, b"\xed\xa0\x80", NAMES, 1),
             *[(SeedNotText, seed, NAMES, 1) for seed in ("\ud800", "\udcc3\udca9", "a\udc80", "\ud83d\ude00"[::-1],
-                                                        "\udce2\udc82\udcac", "\ud83d\ude00")],
+                                                         "\udce2\udc82\udcac", "\ud83d\ude00")],
             (EmptyLine, "seed", b"a\n\n", 99),
             (EmptyLine, "seed", b"\n", 0),
             (TooFew, "seed", b"a\n", 2),

@@ -393,7 +393,8 @@ class NoMemory(unittest.TestCase):
     def test_a_module_that_is_loaded(self):
         """Python's own making of a class may fail and not say why: a SystemError."""
         spec = importlib.util.spec_from_file_location("nanorand._native", _native.__file__)
-        refusals = [self.is_refused(request, self.loads, importlib.util.module_from_spec(spec)) for request in range(500)]
+        refusals = [self.is_refused(request, self.loads, importlib.util.module_from_spec(spec))
+                    for request in range(500)]
         self.assertGreater(sum(refusals), 100)
         self.assertFalse(any(refusals[-50:]))
 
@@ -458,7 +459,7 @@ class Changing(unittest.TestCase):
 
         for rng in generators():
             for call in (rng.choice, rng.choices, rng.shuffle, rng.shuffle_full,
-            lambda items, rng=rng: rng.sample(items, 5)):
+                         lambda items, rng=rng: rng.sample(items, 5)):
                 with self.assertRaises(IndexError):
                     call(Shrinks("abc"))
             items = list("abcdef")

@@ -150,8 +150,9 @@ class Arguments(unittest.TestCase):
                         call(*values, **{name: good[name]})
 
     def test_each_whole_number_by_its_index(self):
-        """Of each call, each argument: an object is the number of its `__index__`, whatever else it may be taken for."""
-        good = {"first": 0, "last": 9, "count": 9, "length": 3, "population": "abc", "end": 5, "draws": 1, "a": 1, "b": 2,
+        """Of each call, each argument: an object is the number of its `__index__`, whatever else it may be."""
+        good = {"first": 0, "last": 9, "count": 9, "length": 3, "population": "abc", "end": 5, "draws": 1, "a": 1,
+                "b": 2,
                 "index": 1, "number": 7, "k": 2, "buffer": None}
         tried = set()
         for rng in generators():
@@ -162,7 +163,8 @@ class Arguments(unittest.TestCase):
                 for name in (one for one in names if good.keys() >= set(names) and type(good[one]) is int):
                     tried.add((call, name))
                     found, wanted = [], []
-                    for same, number, answers in ((rng.copy(), Index(good[name]), found), (rng.copy(), good[name], wanted)):
+                    numbers = (Index(good[name]), found), (good[name], wanted)
+                    for same, (number, answers) in ((rng.copy(), pair) for pair in numbers):
                         given = {one: good[one] for one in names}
                         if "buffer" in given:
                             given["buffer"] = array.array("Q", [0, 0])
@@ -364,9 +366,9 @@ class Imports(unittest.TestCase):
             def find_spec(name, path=None, target=None):
                 if name == "nanorand._native":
                     from nanorand.errors import LibraryRefused
-                    raise LibraryRefused("another version") if refuses else ImportError("no such file")
+                    raise LibraryRefused("another version") if is_other else ImportError("no such file")
 
-        for refuses, text in (False, "the extension module cannot be loaded: no such file"), (True, "another version"):
+        for is_other, text in (False, "the extension module cannot be loaded: no such file"), (True, "another version"):
             with mock.patch.dict(sys.modules), mock.patch.object(sys, "meta_path", [Finder, *sys.meta_path]):
                 for name in [name for name in sys.modules if name.partition(".")[0] == "nanorand"]:
                     del sys.modules[name]

@@ -83,6 +83,7 @@ LONG_CALLS = {
     "sample": lambda rng: rng.sample(range(10**9), 300_000),
 }
 
+
 class Meanwhile:
     """A call that runs in a thread of its own, and has begun."""
 

@@ -1,4 +1,4 @@
-// Runs answers/answers.tsv through the exports of a module, in a page. The arguments are the
+// Runs tests/answers/answers.tsv through the exports of a module, in a page. The arguments are the
 // module in base64, the table, and the bits of the module's memory. Returns how many rows were run,
 // those that are wrong, and how many name a number that a length of so many bits cannot hold.
 

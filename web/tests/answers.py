@@ -8,7 +8,7 @@ from counts import Counts
 from page import Page
 
 HERE = Path(__file__).resolve().parent
-TABLE = HERE.parent.parent / "answers/answers.tsv"
+TABLE = HERE.parent.parent / "tests/answers/answers.tsv"
 # Rows of the table that name a number of 33 bits and more as a length: ranges of `usize`, samples and draws.
 TOO_LARGE = {64: 0, 32: 61}
 

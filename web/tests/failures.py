@@ -223,7 +223,8 @@ def files(counts: Counts, page: Page) -> None:
         Blob.prototype.arrayBuffer = () => Promise.reject(new Error("gone"));""")
     page.open_file(b"Max\n")
     found = page.facts()
-    counts.same("a file that cannot be read", (errors(page), found["digest"]), ({"list": "The file cannot be read."}, ""))
+    wanted = {"list": "The file cannot be read."}, ""
+    counts.same("a file that cannot be read", (errors(page), found["digest"]), wanted)
     page.fill("seed", "all")
     counts.same("its draw", page.draw()["record"], "")
     page.browser.run("Blob.prototype.arrayBuffer = window.read;")

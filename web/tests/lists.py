@@ -42,9 +42,10 @@ ALIKE = {
     f"{NFC}\n{NFD}\n": [f"{ONE} but for how an accented letter is encoded: look at line 2."],
     f"x\n{NFD}\n{NFC.upper()}\n": [f"{ONE} but for small and capital letters: look at line 3."],
     "Ada\nAda \n": [f"{SPACED}: look at line 2.", f"{ONE} but for the spaces at its ends: look at line 2."],
-    "\tada\nx\nAda\n": ["1 line begins or ends with a space", f"{ONE} but for small and capital letters: look at line 3."],
+    "\tada\nx\nAda\n": ["1 line begins or ends with a space",
+                         f"{ONE} but for small and capital letters: look at line 3."],
     "a\nA\nb\nb\na\n": ["2 of the lines equal an earlier line: look at line 4.",
-                      f"{ONE} but for small and capital letters: look at line 2."],
+                         f"{ONE} but for small and capital letters: look at line 2."],
     "Ada\nAda\nada\n": [f"{ONE}: look at line 2. ", f"{ONE} but for small and capital letters: look at line 3."],
     "Ada\nx\n \n": [f"{SPACED}: look at line 3.", "Line 3 is an entrant of spaces alone."],
     "\t\nx\n  \n": ["2 lines begin or end with a space or a tab, which belongs to the entrant: look at line 1.",
@@ -258,7 +259,9 @@ def progress(counts: Counts, page: Page) -> None:
           if (text.textContent === "") first = null;
           else first ??= performance.now();
         }).observe(text, { childList: true });
-        const shown = () => { if (!text.parentElement.hidden && first !== null) waited.push(performance.now() - first); };
+        const shown = () => {
+          if (!text.parentElement.hidden && first !== null) waited.push(performance.now() - first);
+        };
         new MutationObserver(shown).observe(text.parentElement, { attributes: true });""")
     page.fill("seed", "all")
     page.open_file(b"".join(b"entrant %d\n" % number for number in range(1_500_000)))

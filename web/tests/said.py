@@ -45,7 +45,8 @@ def counts_of_draws(counts: Counts, page: Page) -> None:
             f"{grouped(drawn)} of {grouped(entrants)} drawn, in this order:" if drawn else "Nobody was drawn.",
             f"and {grouped(left)} more, in the result that you can save" if left > 0 else "", min(drawn, 1000)])
         counts.same(f"{name}: texts of nothing", page.browser.run(EMPTY), [])
-        counts.same(f"{name}: no progress", page.browser.run('return document.getElementById("progress").hidden;'), True)
+        hidden = page.browser.run('return document.getElementById("progress").hidden;')
+        counts.same(f"{name}: no progress", hidden, True)
 
 
 def hints_on_bytes(counts: Counts, page: Page) -> None:
@@ -66,7 +67,7 @@ def letters_that_nobody_sees(counts: Counts, page: Page) -> None:
 
 def texts(counts: Counts, page: Page, module: str) -> None:
     text = "return document.querySelector(arguments[0]).textContent;"
-    counts.same("the module", page.browser.run(text, "#maker"), 
+    counts.same("the module", page.browser.run(text, "#maker"),
                 f"Version 1.0.0, module SHA-256 {module}, for 64-bit memory, proved")
     document = (TOP / "docs/LOTS.md").read_text(encoding="utf-8")
     code = re.search(r"^```python\n(.*?)\n```$", document, re.M | re.S)
@@ -78,7 +79,8 @@ def texts(counts: Counts, page: Page, module: str) -> None:
 
 def descriptions(counts: Counts, page: Page) -> None:
     for field, wanted in DESCRIPTIONS.items():
-        found = page.browser.run("return document.getElementById(arguments[0]).getAttribute('aria-describedby');", field)
+        script = "return document.getElementById(arguments[0]).getAttribute('aria-describedby');"
+        found = page.browser.run(script, field)
         counts.same(f"what describes {field}", (found or "").split(), wanted)
 
 
@@ -102,7 +104,8 @@ def frame(counts: Counts, page: Page) -> None:
     counts.same("the frame", [" ".join((text or "").split()) for text in found], [
         "en", "A public draw", "width=device-width, initial-scale=1",
         '<p class="error">This page needs JavaScript. The program lots and the Python code below draw the same.</p>'])
-    levels = page.browser.run("return Array.from(document.querySelectorAll('h1,h2,h3,h4,h5,h6'), (one) => one.tagName);")
+    script = "return Array.from(document.querySelectorAll('h1,h2,h3,h4,h5,h6'), (one) => one.tagName);"
+    levels = page.browser.run(script)
     skipped = [pair for pair in zip(levels, levels[1:]) if int(pair[1][1]) > int(pair[0][1]) + 1]
     counts.same("the levels of headings", (levels[0], levels.count("H1"), skipped), ("H1", 1, []))
     counts.same("sections that another heading names", page.browser.run("""
@@ -117,7 +120,8 @@ def fields(counts: Counts, page: Page) -> None:
     read = "return document.getElementById(arguments[0]).getAttribute(arguments[1]);"
     for field in TYPED:
         counts.same(f"{field} as typed", {name: page.browser.run(read, field, name) for name in AS_TYPED}, AS_TYPED)
-    counts.same("the record is not edited", page.browser.run('return document.getElementById("record").tagName;'), "PRE")
+    tag = page.browser.run('return document.getElementById("record").tagName;')
+    counts.same("the record is not edited", tag, "PRE")
 
 
 def fresh_page(counts: Counts, page: Page) -> None:
@@ -174,7 +178,6 @@ def copies_that_fail(counts: Counts, page: Page) -> None:
         counts.same(f"{button} that failed", [page.browser.label(f"#{button}"), page.browser.run(heard)], [said] * 2)
         time.sleep(2.5)
         counts.same(f"{button} afterwards", [page.browser.label(f"#{button}"), page.browser.run(heard)], [label, ""])
-
 
 
 def run(counts: Counts, page: Page, module: str) -> None:

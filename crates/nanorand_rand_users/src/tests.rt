@@ -1,5 +1,5 @@
 //! What no clause says: values of other implementations. The numbers of the library are those that
-//! `answers/definitions.py` computes, the bytes of the kit's ChaCha20 the published keystream of the key of zeros,
+//! `tests/answers/definitions.py` computes, the bytes of the kit's ChaCha20 the published keystream of the key of zeros,
 //! and the words of its Pcg64 those of the Rust crate's tests.
 use crate::comparing::equal;
 use crate::kit_draws::{drawn_by_chacha, drawn_by_wyrand, place, server, ticket};

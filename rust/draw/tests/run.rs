@@ -42,7 +42,7 @@ fn is_request(text: &str) -> bool {
     found.is_ok()
 }
 
-/// Numbers are of the repository's `answers/definitions.py`, those of `ChaCha` are published.
+/// Numbers are of the repository's `tests/answers/definitions.py`, those of `ChaCha` are published.
 #[test]
 fn generators_modes_and_requests() {
     let zeros = "0".repeat(80);

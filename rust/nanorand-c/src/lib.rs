@@ -1,4 +1,4 @@
-//! The C library that `include/nanorand.h` declares, over the crates `nanorand-proved` and `lots`.
+//! The C library that `c/include/nanorand.h` declares, over the crates `nanorand-proved` and `lots`.
 //!
 //! Each export does what the proved one of the same name in `crates/nanorand_c` does, and the header says what that
 //! is. The state of a generator is the caller's memory, lent for the call. Nothing is allocated.

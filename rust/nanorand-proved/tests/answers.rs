@@ -1,4 +1,4 @@
-//! The table of answers that every language has to agree with: `answers/README.md` of the repository
+//! The table of answers that every language has to agree with: `tests/answers/README.md` of the repository
 //! explains its columns. The rows of `lots` are left out, as the crate has no SHA-256.
 
 use nanorand_proved::samples::sample;

@@ -32,7 +32,7 @@ fn draw_of(alloc: Global, line: &str) -> Result<Draw, AllocError> {
 }
 
 // Lines, and their texts or what is said of a line that is refused; `|` ends a line. The texts of numbers
-// without a range are of answers/definitions.py; the first bytes of ChaCha are published.
+// without a range are of tests/answers/definitions.py; the first bytes of ChaCha are published.
 const ENDS: &str = "\
 wyrand d29b42879be2895f plain 0 > \n\
 wyrand d29b42879be2895f plain 0002 > items: 0 1|\n\

@@ -1,0 +1,122 @@
+#!/usr/bin/env python3
+"""Measures the calls of the installed package beside those of Python's `random.Random`: bench/python.py [RUNS].
+
+It prints tables in Markdown: of the generators, of the classes of nanorand.randoms, and, where NumPy is, of its
+Generator over those of nanorand.numpy. The first number of a row is Python's own time of the call, or that of NumPy's
+PCG64, in nanoseconds; the others are what of that time the class takes. Each is the median of RUNS runs, 9 if not
+told, which all take one in turn.
+"""
+
+import random
+import statistics
+import sys
+import timeit
+
+sys.path.pop(0)  # beside this file are the sources, and not the package that is installed
+
+from nanorand import ChaCha8, ChaCha12, ChaCha20, Pcg64, Stream, WyRand, randoms
+
+RUNS = 9
+SECONDS = 0.02  # of a run, about
+GENERATORS = [WyRand, Pcg64, Stream, ChaCha8, ChaCha12, ChaCha20]
+RANDOMS = [getattr(randoms, f"{kind.__name__}Random") for kind in GENERATORS]
+# The call of random.Random, and that of a generator of ours; the classes of nanorand.randoms take the first.
+CALLS = [
+    ("rng.getrandbits(64)", "rng.u64()"),
+    ("rng.random()", "rng.random()"),
+    ("rng.randint(1, 100)", "rng.randint(1, 100)"),
+    ("rng.uniform(1, 100)", "rng.uniform(1, 100)"),
+    ("rng.choice(thousand)", "rng.choice(thousand)"),
+    ("rng.choices(thousand, k=1000)", "rng.choices(thousand, k=1000)"),
+    ("rng.choices(thousand, thousand, k=1000)", "rng.choices(thousand, thousand, k=1000)"),
+    ("rng.sample(thousand, 10)", "rng.sample(thousand, 10)"),
+    ("rng.sample(range(10**9), 10**4)", "rng.sample(range(10**9), 10**4)"),
+    ("rng.sample(range(10**6), 10**5)", "rng.sample(range(10**6), 10**5)"),
+    ("rng.sample(range(10**6), 10**5)", "rng.sample_below(10**6, 10**5)"),
+    ("rng.shuffle(many)", "rng.shuffle(many)"),
+    ("rng.randbytes(1000000)", "rng.bytes(1000000)"),
+    ("[rng.random() for _ in thousand]", "rng.fill_random(doubles)"),
+    ("[rng.randint(1, 100) for _ in thousand]", "rng.fill_range(words, 1, 100)"),
+]
+# The calls of a Generator of NumPy's, of a million numbers.
+NUMPY_CALLS = [
+    "rng.integers(0, 1000, 10**6)",
+    "rng.integers(0, 2**40, 10**6)",
+    "rng.random(10**6)",
+    "rng.normal(size=10**6)",
+    "rng.choice(10**6, 10**5, replace=False, shuffle=False)",
+    "rng.shuffle(many)",
+    "rng.bytes(10**6)",
+]
+VALUES = "from array import array; thousand = list(range(1, 1001)); many = list(range(100_000)); " \
+         "doubles = array('d', thousand); words = array('Q', thousand)"
+
+
+def made(kind):
+    """A generator of a class."""
+    return kind.from_entropy() if hasattr(kind, "from_entropy") else kind(42)
+
+
+def timer(call, rng):
+    """What times a call, and how often one run makes it."""
+    found = timeit.Timer(call, VALUES, globals={"rng": rng})
+    count = 1
+    while found.timeit(count) < SECONDS / 10:
+        count *= 2
+    return found, max(1, round(SECONDS / found.timeit(count) * count))
+
+
+def nanoseconds(timers, runs):
+    """The median time of a call of each timer; all take a run in turn."""
+    times = [[found.timeit(count) / count for found, count in timers] for _ in range(runs)]
+    return [statistics.median(column) * 1e9 for column in zip(*times)]
+
+
+def row(calls, rngs, runs):
+    """The nanoseconds of a call of the first one, and each other's part of them."""
+    timers = [timer(call, rng) for call, rng in zip([calls[0]] + [calls[1]] * len(rngs), rngs)]
+    own, *others = nanoseconds(timers, runs)
+    return [f"`{calls[1].removeprefix('rng.')}`", f"{own:,.0f}", *(f"{other / own:.2f}" for other in others)]
+
+
+def table(names, calls, rngs, runs):
+    """Prints a row for each call."""
+    print("|", " | ".join(["Call", f"`{names[0]}`, ns", *(f"`{name}`" for name in names[1:])]), "|")
+    print("|---" * (len(names) + 1) + "|")
+    for both in calls:
+        print("|", " | ".join(row(both, rngs, runs)), "|", flush=True)
+    print()
+
+
+def python_table(kinds, calls, runs):
+    """Classes of this package beside `random.Random`."""
+    names = ["random.Random", *(kind.__name__ for kind in kinds)]
+    table(names, calls, [random.Random(42), *map(made, kinds)], runs)
+
+
+def numpy_table(runs):
+    """NumPy's Generator over bit generators of this package beside one over its own."""
+    try:
+        from numpy.random import PCG64, Generator
+
+        from nanorand.numpy import Pcg64Bits, StreamBits, WyRandBits
+    except ImportError as error:
+        print(f"skipped: NumPy, as it is not there: {error}")
+        return
+    kinds = [PCG64, WyRandBits, Pcg64Bits, StreamBits]
+    names = [kind.__name__ for kind in kinds]
+    table(names, [(call, call) for call in NUMPY_CALLS], [Generator(kind(42)) for kind in kinds], runs)
+
+
+def main(arguments):
+    if len(arguments) > 1 or not all(one.isdigit() for one in arguments):
+        sys.exit("usage: bench/python.py [RUNS]")
+    runs = int(arguments[0]) if arguments else RUNS
+    python_table(GENERATORS, CALLS, runs)
+    of_random = dict.fromkeys(python for python, _ in CALLS if "for" not in python)
+    python_table(RANDOMS, [(call, call) for call in of_random], runs)
+    numpy_table(runs)
+
+
+if __name__ == "__main__":
+    main(sys.argv[1:])

@@ -1,0 +1,143 @@
+#!/usr/bin/env bash
+# Tests c/install: c/tests/install.sh. The PATH of the build has its tools alone, so neither the kit nor Python. What is
+# installed is the header's, and nothing else; programs are built by what pkg-config says; another folder gives equal
+# bytes.
+# shellcheck source=tests/lib.sh
+source "$(dirname "${BASH_SOURCE[0]}")/../../tests/lib.sh"
+root=$work/'a prefix'
+
+# The tools of the build, in a folder of their own.
+tools() {
+    local tool
+    mkdir "$work/bin"
+    for tool in rustc cc ld ar objcopy bash dirname realpath mktemp sed rm ln install; do
+        ln -s "$(command -v "$tool")" "$work/bin/"
+    done
+}
+
+# Runs the c/install of the folder $1, with the variables that follow.
+install_from() {
+    env PATH="$work/bin" "${@:2}" "$1/c/install" 2>&1
+}
+
+# The files below the folder $1, and where its links lead.
+files() {
+    (cd "$1" && find . ! -type d -printf '%P %m %l\n' | sort)
+}
+
+installed_files() {
+    cat >"$work/wanted" <<'END'
+include/nanorand.h 644 
+lib/libnanorand.a 644 
+lib/libnanorand.so 777 libnanorand.so.1
+lib/libnanorand.so.1 644 
+lib/pkgconfig/nanorand.pc 644 
+END
+    check 'the files' "$(files "$root" | diff - "$work/wanted")"
+    check 'the header' "$(cmp c/include/nanorand.h "$root/include/nanorand.h" 2>&1)"
+    check 'the file for pkg-config' \
+        "$(grep -v '^Version: ' "$root/lib/pkgconfig/nanorand.pc" | diff - <(grep -v '^Version: ' c/nanorand.pc.in))"
+}
+
+# The symbols of nm's lines, without the version of the interface.
+symbols() {
+    awk '$(NF - 1) != "A" { sub(/@.*/, "", $NF); print $NF }' | sort
+}
+
+# Both libraries have the header's functions, and no others. What they need is what every C library has.
+libraries() {
+    local archive=$root/lib/libnanorand.a shared=$root/lib/libnanorand.so.1
+    sed -n 's/^#define nanorand_.* \(nanorand_v1_\)/\1/p' c/include/nanorand.h | sort >"$work/names"
+    check 'names' "$([ "$(wc -l <"$work/names")" -gt 70 ] || echo 'the header has few')"
+    check 'the symbols of the archive' "$(nm -g --defined-only "$archive" | grep ' ' | symbols | diff - "$work/names")"
+    check 'the symbols of the shared library' "$(nm -D --defined-only "$shared" | symbols | diff - "$work/names")"
+    check 'their version' "$(nm -D --with-symbol-versions --defined-only "$shared" | grep -v '@@NANORAND_1$\| A NANORAND_1$')"
+    check 'what the archive needs' "$(nm -u "$archive" | grep ' U ' | grep -vE ' (abort|mem(cpy|move|set|cmp)|bcmp)$')"
+    check 'a panic ends the process' "$(nm -u "$archive" | grep -q ' U abort$' || echo 'nothing calls abort')"
+    check 'what the shared library needs' "$(readelf -d "$shared" | grep NEEDED | grep -v '\[libc\.so\.6\]')"
+    check 'soname' \
+        "$(readelf -d "$shared" | grep -q 'soname: \[libnanorand.so.1\]' || echo 'it is another')"
+    check 'no other names' "$(readelf -SW "$shared" | grep -F .symtab)"
+    check 'every processor' "$(runs_on_every_processor "$shared" || echo 'it is not for each')"
+    check 'no code on the stack' "$(readelf -lW "$shared" | grep GNU_STACK | grep -v 'RW  ')"
+    check 'no path of this machine' "$(grep -rlF -e "$PWD" -e "$work" "$root")"
+}
+
+# The example $1 is built by the flags that follow and by those of pkg-config, and prints its text. What pkg-config
+# prints is quoted for a shell.
+example() {
+    local program=$work/$1 flags
+    shift
+    eval "flags=($(pkg-config --cflags nanorand))"
+    if cc -std=c11 -Wall -Wextra -pedantic -Werror "${flags[@]}" -o "$program" c/examples/deck.c "$@" 2>"$work/errors"; then
+        check "${program##*/}" "$({ "$program" 2>&1 || echo "it ended with status $?"; } | diff - c/examples/deck.out)"
+    else
+        check "${program##*/}" "$(head -n 5 "$work/errors")"
+    fi
+}
+
+programs() {
+    local flags folder version
+    if ! available pkg-config pkg-config; then
+        skip 'programs by the installed library' 'there is no pkg-config'
+        return
+    fi
+    export PKG_CONFIG_PATH=$root/lib/pkgconfig LD_LIBRARY_PATH=$root/lib
+    eval "flags=($(pkg-config --libs nanorand))"
+    example shared "${flags[@]}"
+    check 'it needs the library' \
+        "$(readelf -d "$work/shared" | grep -q '\[libnanorand.so.1\]' || echo 'it does not')"
+    unset LD_LIBRARY_PATH
+    eval "folder=$(pkg-config --variable=libdir nanorand)"
+    example static "$folder/libnanorand.a"
+    example 'wholly static' -static "${flags[@]}"
+    version=$(awk '$2 == "NANORAND_VERSION" { print $3 }' c/include/nanorand.h)
+    check 'the version of the package' "$(pkg-config --modversion nanorand |
+        awk -F. '{ print 10000 * $1 + 100 * $2 + $3 }' | diff - <(echo "$version"))"
+}
+
+# A copy of the files of a clone, in another folder, by another umask and time zone, below DESTDIR and a relative
+# PREFIX: equal files.
+another_folder() {
+    local copy=$work/another/folder
+    mkdir -p "$copy" "$work/here"
+    git ls-files -z --cached --others --exclude-standard rust c include | xargs -0 cp -P --parents -t "$copy"
+    check 'another build' "$(cd "$work/here" && umask 077 &&
+        install_from ../another/folder PREFIX=usr DESTDIR=destination TZ=Asia/Kolkata)"
+    check 'equal bytes' "$(diff -r "$root" "$work/here/destination$work/here/usr" 2>&1)"
+    check 'the same files' "$(files "$work/here/destination$work/here/usr" | diff - <(files "$root"))"
+}
+
+# Over an installation of another release: every file is replaced, and the link too.
+over_an_older_one() {
+    local file
+    for file in include/nanorand.h lib/libnanorand.{a,so.1} lib/pkgconfig/nanorand.pc; do
+        echo older >"$root/$file"
+    done
+    ln -sf libnanorand.so.0 "$root/lib/libnanorand.so"
+    check 'an installation over another' "$(install_from . PREFIX="$root")"
+    installed_files
+    check 'its bytes' "$(diff -r "$root" "$work/here/destination$work/here/usr" 2>&1)"
+}
+
+# Where a tool fails nothing is installed.
+failures() {
+    local tool
+    for tool in rustc objcopy cc; do
+        mv "$work/bin/$tool" "$work/tool"
+        ln -s "$(command -v false)" "$work/bin/$tool"
+        check "$tool fails" "$(install_from . PREFIX="$work/nothing" >/dev/null && echo 'it is not seen')"
+        mv "$work/tool" "$work/bin/$tool"
+    done
+    check 'nothing is installed' "$(ls "$work/nothing" 2>/dev/null)"
+}
+
+tools
+check 'c/install' "$(install_from . PREFIX="$root")"
+installed_files
+libraries
+programs
+another_folder
+over_an_older_one
+failures
+finish

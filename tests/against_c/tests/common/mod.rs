@@ -1,0 +1,300 @@
+//! The functions of `c/include/nanorand.h` by any prefix of their names, for `tests/declarations.py` to compare, and the
+//! numbers by which the tests choose their calls.
+#![allow(dead_code)] // Each test takes a part.
+
+#[derive(Clone, Debug, PartialEq)]
+#[repr(C)]
+pub struct WyRand {
+    pub seed: u64,
+}
+
+#[derive(Clone, Debug, PartialEq)]
+#[repr(C)]
+pub struct Wide {
+    pub low: u64,
+    pub high: u64,
+}
+
+#[derive(Clone, Debug, PartialEq)]
+#[repr(C)]
+pub struct ChaChaState {
+    pub key: [u8; 32],
+    pub nonce: [u8; 8],
+    pub counter: u64,
+}
+
+#[derive(Clone, Debug)]
+#[repr(C)]
+pub struct Stream {
+    pub chacha: ChaChaState,
+    pub block: [u8; 64],
+    pub buffered: u64,
+}
+
+/// Bytes that were delivered do not count.
+impl PartialEq for Stream {
+    fn eq(&self, other: &Self) -> bool {
+        let rest = |stream: &Self| stream.block[64 - stream.buffered as usize..].to_vec();
+        self.chacha == other.chacha && rest(self) == rest(other)
+    }
+}
+
+#[derive(Clone, Debug)]
+#[repr(C)]
+pub struct GroupStream {
+    pub chacha: ChaChaState,
+    pub group: [u8; 512],
+    pub buffered: u64,
+}
+
+impl PartialEq for GroupStream {
+    fn eq(&self, other: &Self) -> bool {
+        let rest = |stream: &Self| stream.group[512 - stream.buffered as usize..].to_vec();
+        self.chacha == other.chacha && rest(self) == rest(other)
+    }
+}
+
+/// The nine calls that every generator has, over the state that it has in C, and that of parts, if it has it.
+pub struct Calls<S> {
+    pub u64: fn(&mut S) -> u64,
+    pub fill_bytes: fn(&mut S, &mut [u8]),
+    pub range_u32: fn(&mut S, u32, u32, &mut u32) -> u8,
+    pub range_u64: fn(&mut S, u64, u64, &mut u64) -> u8,
+    pub range_i64: fn(&mut S, i64, i64, &mut i64) -> u8,
+    pub range_usize: fn(&mut S, usize, usize, &mut usize) -> u8,
+    pub shuffle: fn(&mut S, &mut [usize]) -> u8,
+    pub shuffle_full: fn(&mut S, &mut [usize]) -> u8,
+    pub sample: fn(&mut S, usize, &mut [usize]) -> u8,
+    pub extend_sample: fn(&mut S, usize, &mut [usize], usize, &mut [usize]) -> u8,
+    pub part: Option<fn(&mut S, u64, u64) -> u8>,
+}
+
+/// The ten calls of a generator, in the library of a prefix. They are made where calls of C are safe.
+macro_rules! calls {
+    ($prefix:literal, $generator:literal, $state:ty) => {{
+        extern "C" {
+            #[link_name = concat!($prefix, $generator, "_u64")]
+            fn u64(rng: &mut $state) -> u64;
+            #[link_name = concat!($prefix, $generator, "_fill_bytes")]
+            fn fill_bytes(rng: &mut $state, buffer: *mut u8, length: usize);
+            #[link_name = concat!($prefix, $generator, "_range_u32")]
+            fn range_u32(rng: &mut $state, first: u32, last: u32, number: &mut u32) -> u8;
+            #[link_name = concat!($prefix, $generator, "_range_u64")]
+            fn range_u64(rng: &mut $state, first: u64, last: u64, number: &mut u64) -> u8;
+            #[link_name = concat!($prefix, $generator, "_range_i64")]
+            fn range_i64(rng: &mut $state, first: i64, last: i64, number: &mut i64) -> u8;
+            #[link_name = concat!($prefix, $generator, "_range_usize")]
+            fn range_usize(rng: &mut $state, first: usize, last: usize, number: &mut usize) -> u8;
+            #[link_name = concat!($prefix, $generator, "_shuffle")]
+            fn shuffle(rng: &mut $state, items: *mut usize, length: usize) -> u8;
+            #[link_name = concat!($prefix, $generator, "_shuffle_full")]
+            fn shuffle_full(rng: &mut $state, items: *mut usize, length: usize) -> u8;
+            #[link_name = concat!($prefix, $generator, "_sample")]
+            fn sample(rng: &mut $state, count: usize, places: *mut usize, length: usize) -> u8;
+            #[link_name = concat!($prefix, $generator, "_extend_sample")]
+            fn extend_sample(
+                rng: &mut $state,
+                count: usize,
+                places: *mut usize,
+                places_length: usize,
+                filled: usize,
+                table: *mut usize,
+                length: usize,
+            ) -> u8;
+        }
+        Calls::<$state> {
+            u64: |rng| u64(rng),
+            fill_bytes: |rng, buffer| fill_bytes(rng, buffer.as_mut_ptr(), buffer.len()),
+            range_u32: |rng, first, last, number| range_u32(rng, first, last, number),
+            range_u64: |rng, first, last, number| range_u64(rng, first, last, number),
+            range_i64: |rng, first, last, number| range_i64(rng, first, last, number),
+            range_usize: |rng, first, last, number| range_usize(rng, first, last, number),
+            shuffle: |rng, items| shuffle(rng, items.as_mut_ptr(), items.len()),
+            shuffle_full: |rng, items| shuffle_full(rng, items.as_mut_ptr(), items.len()),
+            sample: |rng, count, places| sample(rng, count, places.as_mut_ptr(), places.len()),
+            extend_sample: |rng, count, places, filled, table| {
+                let (slots, items) = (places.len(), table.len());
+                let (places, table) = (places.as_mut_ptr(), table.as_mut_ptr());
+                extend_sample(rng, count, places, slots, filled, table, items)
+            },
+            part: None,
+        }
+    }};
+}
+
+/// The call of parts of a generator, in the library of a prefix.
+macro_rules! part {
+    ($prefix:literal, $generator:literal, $state:ty) => {{
+        extern "C" {
+            #[link_name = concat!($prefix, $generator, "_part")]
+            fn part(rng: &mut $state, index: u64, draws: u64) -> u8;
+        }
+        Some(|rng, index, draws| part(rng, index, draws))
+    }};
+}
+
+/// A library, and its functions that are of one generator, or of none.
+pub struct Library {
+    pub wyrand: Calls<WyRand>,
+    pub pcg64: Calls<Wide>,
+    pub chacha8: Calls<ChaChaState>,
+    pub chacha12: Calls<ChaChaState>,
+    pub chacha20: Calls<ChaChaState>,
+    pub stream: Calls<Stream>,
+    pub keystream: Calls<GroupStream>,
+    pub new_seed: fn(u64) -> WyRand,
+    pub wyrand_seed: fn(&mut WyRand, u64),
+    pub pcg64_seed: fn(&mut Wide, u64),
+    pub chacha_seeds: [fn(&mut ChaChaState, u64); 3],
+    pub stream_seed: fn(&mut Stream, u64),
+    pub keystream_seed: fn(&mut GroupStream, u64),
+    pub wyrand_jump: fn(&mut WyRand, u64),
+    pub pcg64_jump: fn(&mut Wide, &Wide),
+    pub blocks: [fn(&mut ChaChaState, &mut [u8; 64]); 3],
+    pub digest: fn(&[u8], &mut [u8; 32]),
+    pub count: fn(&[u8], &mut usize) -> u8,
+    pub draw: fn(&[u8], &mut [usize], usize) -> u8,
+    pub version: fn() -> u32,
+}
+
+/// The library whose names begin with the prefix.
+macro_rules! library {
+    ($prefix:literal) => {{
+        extern "C" {
+            #[link_name = concat!($prefix, "wyrand_new_seed")]
+            fn new_seed(seed: u64) -> WyRand;
+            #[link_name = concat!($prefix, "wyrand_seed_from_u64")]
+            fn wyrand_seed(rng: &mut WyRand, number: u64);
+            #[link_name = concat!($prefix, "pcg64_seed_from_u64")]
+            fn pcg64_seed(seed: &mut Wide, number: u64);
+            #[link_name = concat!($prefix, "chacha8_seed_from_u64")]
+            fn chacha8_seed(state: &mut ChaChaState, number: u64);
+            #[link_name = concat!($prefix, "chacha12_seed_from_u64")]
+            fn chacha12_seed(state: &mut ChaChaState, number: u64);
+            #[link_name = concat!($prefix, "chacha20_seed_from_u64")]
+            fn chacha20_seed(state: &mut ChaChaState, number: u64);
+            #[link_name = concat!($prefix, "stream_seed_from_u64")]
+            fn stream_seed(stream: &mut Stream, number: u64);
+            #[link_name = concat!($prefix, "keystream_seed_from_u64")]
+            fn keystream_seed(stream: &mut GroupStream, number: u64);
+            #[link_name = concat!($prefix, "wyrand_jump")]
+            fn wyrand_jump(rng: &mut WyRand, draws: u64);
+            #[link_name = concat!($prefix, "pcg64_jump")]
+            fn pcg64_jump(seed: &mut Wide, draws: &Wide);
+            #[link_name = concat!($prefix, "chacha8_block")]
+            fn chacha8_block(state: &mut ChaChaState, out: &mut [u8; 64]);
+            #[link_name = concat!($prefix, "chacha12_block")]
+            fn chacha12_block(state: &mut ChaChaState, out: &mut [u8; 64]);
+            #[link_name = concat!($prefix, "chacha20_block")]
+            fn chacha20_block(state: &mut ChaChaState, out: &mut [u8; 64]);
+            #[link_name = concat!($prefix, "lots_digest")]
+            fn digest(text: *const u8, length: usize, digest: &mut [u8; 32]);
+            #[link_name = concat!($prefix, "lots_count")]
+            fn count(list: *const u8, length: usize, number: &mut usize) -> u8;
+            #[link_name = concat!($prefix, "lots_draw")]
+            fn draw(
+                seed: *const u8,
+                seed_length: usize,
+                places: *mut usize,
+                length: usize,
+                count: usize,
+            ) -> u8;
+            #[link_name = concat!($prefix, "version")]
+            fn version() -> u32;
+        }
+        // SAFETY: a pointer and a length are those of one slice.
+        unsafe {
+            Library {
+                wyrand: Calls {
+                    part: part!($prefix, "wyrand", WyRand),
+                    ..calls!($prefix, "wyrand", WyRand)
+                },
+                pcg64: Calls {
+                    part: part!($prefix, "pcg64", Wide),
+                    ..calls!($prefix, "pcg64", Wide)
+                },
+                chacha8: Calls {
+                    part: part!($prefix, "chacha8", ChaChaState),
+                    ..calls!($prefix, "chacha8", ChaChaState)
+                },
+                chacha12: Calls {
+                    part: part!($prefix, "chacha12", ChaChaState),
+                    ..calls!($prefix, "chacha12", ChaChaState)
+                },
+                chacha20: Calls {
+                    part: part!($prefix, "chacha20", ChaChaState),
+                    ..calls!($prefix, "chacha20", ChaChaState)
+                },
+                stream: calls!($prefix, "stream", Stream),
+                keystream: Calls {
+                    part: part!($prefix, "keystream", GroupStream),
+                    ..calls!($prefix, "keystream", GroupStream)
+                },
+                new_seed: |seed| new_seed(seed),
+                wyrand_seed: |rng, number| wyrand_seed(rng, number),
+                pcg64_seed: |seed, number| pcg64_seed(seed, number),
+                chacha_seeds: [
+                    |state, number| chacha8_seed(state, number),
+                    |state, number| chacha12_seed(state, number),
+                    |state, number| chacha20_seed(state, number),
+                ],
+                stream_seed: |stream, number| stream_seed(stream, number),
+                keystream_seed: |stream, number| keystream_seed(stream, number),
+                wyrand_jump: |rng, draws| wyrand_jump(rng, draws),
+                pcg64_jump: |seed, draws| pcg64_jump(seed, draws),
+                blocks: [
+                    |state, out| chacha8_block(state, out),
+                    |state, out| chacha12_block(state, out),
+                    |state, out| chacha20_block(state, out),
+                ],
+                digest: |text, out| digest(text.as_ptr(), text.len(), out),
+                count: |list, number| count(list.as_ptr(), list.len(), number),
+                draw: |seed, places, count| {
+                    draw(
+                        seed.as_ptr(),
+                        seed.len(),
+                        places.as_mut_ptr(),
+                        places.len(),
+                        count,
+                    )
+                },
+                version: || version(),
+            }
+        }
+    }};
+}
+
+/// The first archive that `build.rs` links: the proved library, or without the kit that by cargo.
+pub fn one_library() -> Library {
+    library!("nanorand_v1_")
+}
+
+/// `SplitMix64`, after Steele, Lea and Flood (2014), which is none of the generators.
+pub struct Chooser(pub u64);
+
+impl Chooser {
+    pub fn number(&mut self) -> u64 {
+        self.0 = self.0.wrapping_add(0x9e37_79b9_7f4a_7c15);
+        let mixed = (self.0 ^ self.0 >> 30).wrapping_mul(0xbf58_476d_1ce4_e5b9);
+        let mixed = (mixed ^ mixed >> 27).wrapping_mul(0x94d0_49bb_1331_11eb);
+        mixed ^ mixed >> 31
+    }
+
+    /// A number below the limit.
+    pub fn below(&mut self, limit: usize) -> usize {
+        self.number() as usize % limit
+    }
+
+    pub fn bytes<const SIZE: usize>(&mut self) -> [u8; SIZE] {
+        [(); SIZE].map(|()| self.number() as u8)
+    }
+
+    /// A number that is often 0, the greatest or beside a power of two. A range of a little more numbers than a
+    /// power of two rejects nearly half of the words.
+    pub fn end(&mut self) -> u64 {
+        let power = 1 << (self.number() % 64);
+        let ends = [0, u64::MAX, power - 1, power, power + 1];
+        let place = self.below(8);
+        ends.get(place).copied().unwrap_or_else(|| self.number())
+    }
+}

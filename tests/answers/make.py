@@ -1,0 +1,56 @@
+#!/usr/bin/env python3
+"""Writes answers.tsv: tests/answers/make.py. The last line is N passed, M failed.
+
+With --check it writes nothing and compares. In both cases the definitions are checked first, and nothing
+is written if they fail.
+"""
+
+import sys
+from pathlib import Path
+
+import calls
+import rows
+import vectors
+
+HERE = Path(__file__).resolve().parent
+TABLE = HERE / "answers.tsv"
+HEAD = """\
+# What each call of nanorand returns, and the state that it leaves. Written by tests/answers/make.py from
+# tests/answers/definitions.py; tests/answers/README.md explains the columns.
+# generator\tbefore\tcall\targuments\tstatus\tresult\tafter
+"""
+
+
+def table():
+    lines = []
+    for generator, before, call, arguments in rows.rows():
+        status, result, after = calls.answer(generator, before, call, arguments)
+        row = generator, before, call, arguments, str(status), result, after
+        lines.append("\t".join(row) + "\n")
+    return HEAD + "".join(lines)
+
+
+def outcome(name, good):
+    if not good:
+        print(f"FAILED {name}")
+    return good
+
+
+def main(arguments):
+    if arguments not in ([], ["--check"]):
+        sys.exit("usage: tests/answers/make.py [--check]")
+    checks = [outcome(f"{name}: {given}", given == wanted) for name, given, wanted in vectors.checks()]
+    if all(checks):
+        text = table()
+        lines = text.splitlines()
+        checks.append(outcome("a row stands twice", len(set(lines)) == len(lines)))
+        if not arguments:
+            TABLE.write_text(text, encoding="ascii", newline="\n")
+        good = TABLE.exists() and TABLE.read_bytes() == text.encode("ascii")
+        checks.append(outcome(f"{TABLE.name} is not what tests/answers/make.py writes", good))
+    print(f"{sum(checks)} passed, {checks.count(False)} failed")
+    return 0 if all(checks) else 1
+
+
+if __name__ == "__main__":
+    sys.exit(main(sys.argv[1:]))

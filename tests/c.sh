@@ -1,0 +1,255 @@
+#!/usr/bin/env bash
+# Tests the C interface of two libraries: that which c/install builds and, where the kit is, the proved one, which is
+# proved and built first. The header is that of the exports and of the archives' symbols. By four compilers, warnings
+# as errors, the header stands alone and warns, structs lie in memory as declared, and the table of known answers, the
+# edges and the example are compiled once and linked with both. Then come two releases in one program, what c/install
+# installs, the crate of the exports, and whether the tests run all its code. `tests/c.sh kit` tests what is linked with the
+# proved library alone, and `tests/c.sh cargo` all else.
+# shellcheck source=tests/lib.sh
+source "$(dirname "${BASH_SOURCE[0]}")/lib.sh"
+# The static libraries, by what built them.
+declare -A archives=()
+warnings=(-Wall -Wextra -pedantic -Werror)
+# Each compiler, and the standards that it is asked for, the widest test with the first of them.
+standards=('gcc c99 c11 c17' 'clang c99 c11 c17' 'g++ c++11 c++17' 'clang++ c++11 c++17')
+sanitizers=(-g '-fsanitize=address,undefined' -fno-sanitize-recover=all)
+
+# Builds and installs the library by rustc and cc.
+by_cargo() {
+    if ! available cc gcc || ! available rustc rustc || ! available cargo cargo; then
+        skip 'the C interface of the library by cargo' 'there is no cc, rustc or cargo'
+    elif PREFIX=$work/installed c/install >"$work/log" 2>&1; then
+        archives[cargo]=$work/installed/lib/libnanorand.a
+    else
+        check 'c/install' "$(cat "$work/log")"
+    fi
+}
+
+# Builds the proved library, where the kit is.
+by_the_kit() {
+    if ! command -v rt >/dev/null; then
+        skip 'the C interface of the proved library' 'there is no kit'
+    elif tests/build.sh library >"$work/log" 2>&1; then
+        archives[kit]=$PWD/crates/nanorand_c/out/libnanorand_c.a
+    else
+        check 'the proved library' "$(cat "$work/log")"
+    fi
+}
+
+# Compiles for the compiler and standard of the words $1; the rest are files and flags.
+compile() {
+    local words=$1 language=c
+    shift
+    set -- "${words#* }" "$@"
+    [[ $1 == c++* ]] && language=c++
+    "${words%% *}" -x "$language" "-std=$1" "${warnings[@]}" "${@:2}" -Ic/include -Ic/tests \
+        2>"$work/errors"
+}
+
+# Compiles the source $2 for $1, with the flags that follow, and links it with each library. A program has the
+# name of its library.
+build() {
+    local words=$1 source=$2 library
+    shift 2
+    compile "$words" "$@" -c -o "$work/program.o" "$source" || return
+    for library in "${!archives[@]}"; do
+        "${words%% *}" "$@" -o "$work/$library" "$work/program.o" "${archives[$library]}" \
+            2>"$work/errors" || return
+    done
+}
+
+# Builds the source $2 for $1 with the flags that follow, and runs its tests.
+tests_of() {
+    local library name="$1 ${2##*/} ${*:3}"
+    if ! build "$@"; then
+        check "$name" "$(head -n 5 "$work/errors")"
+        return
+    fi
+    for library in "${!archives[@]}"; do
+        quiet_part "$name, $library" "$work/$library"
+    done
+}
+
+# The program of the source $2, built for $1, prints what the file $3 has.
+prints() {
+    local library
+    if ! build "$1" "$2"; then
+        check "$1 ${2##*/}" "$(head -n 5 "$work/errors")"
+        return
+    fi
+    for library in "${!archives[@]}"; do
+        check "$1 ${2##*/}, $library" \
+            "$({ "$work/$library" 2>&1 || echo "it ended with status $?"; } | diff - "$3")"
+    done
+}
+
+# All tests by one compiler, which $1 names with its standards.
+compiler() {
+    local name=${1%% *} package standard first
+    package=${name/clang++/clang}
+    if ! available "$name" "$package"; then
+        skip "the C interface by $name" 'it is not there'
+        return
+    fi
+    read -r _ first _ <<<"$1"
+    for standard in ${1#* }; do
+        prints "$name $standard" c/tests/alone.c /dev/null
+        prints "$name $standard" c/examples/deck.c c/examples/deck.out
+        tests_of "$name $standard" c/tests/layout.c
+        tests_of "$name $standard" c/tests/edges.c -O2
+        tests_of "$name $standard" c/tests/guards.c -O2
+    done
+    tests_of "$name $first" "$work/answers.c"
+    ! asked_for cargo || warnings_of "$name $first"
+    sanitized "$name $first"
+}
+
+# The same under the sanitizers, where the compiler has them.
+sanitized() {
+    printf 'int main(void) { return 0; }\n' >"$work/empty.c"
+    if ! compile "$1" "${sanitizers[@]}" -o "$work/empty" "$work/empty.c" || ! "$work/empty"; then
+        skip "the sanitizers of ${1%% *}" 'they are not there'
+        return
+    fi
+    tests_of "$1" c/tests/layout.c "${sanitizers[@]}"
+    tests_of "$1" c/tests/edges.c "${sanitizers[@]}"
+    tests_of "$1" c/tests/guards.c "${sanitizers[@]}"
+    tests_of "$1" "$work/answers.c" "${sanitizers[@]}"
+}
+
+# The compiler of the words $1 meets the statement $2 by the warning $3, or by none.
+warns() {
+    cat >"$work/warns.c" <<END
+#include "nanorand.h"
+void run(nanorand_pcg64 *rng, nanorand_chacha *state, size_t *items, uint8_t *text);
+void run(nanorand_pcg64 *rng, nanorand_chacha *state, size_t *items, uint8_t *text)
+{
+    (void)rng, (void)state, (void)items, (void)text;
+    $2
+}
+END
+    if compile "$1" -c -o "$work/warns.o" "$work/warns.c"; then
+        check "$1: $2" "${3:+it warns of nothing}"
+    elif [ -z "$3" ] || ! grep -qF "$3" "$work/errors"; then
+        check "$1: $2" "$(head -n 5 "$work/errors")"
+    else
+        check "$1: $2" ''
+    fi
+}
+
+# Null in place of a state, a number or a block is met by a warning, and so is a status that nobody reads. Null for
+# an array of no items is met by none.
+warnings_of() {
+    local call
+    for call in 'pcg64_u64(NULL)' 'pcg64_fill_bytes(NULL, text, 1)' 'pcg64_jump(rng, NULL)' \
+        'chacha8_block(state, NULL)' 'lots_digest(text, 1, NULL)'; do
+        warns "$1" "nanorand_$call;" nonnull
+    done
+    for call in 'pcg64_range_usize(rng, 1, 6, NULL)' 'pcg64_shuffle(NULL, items, 1)' 'pcg64_part(NULL, 1, 1)' \
+        'lots_count(text, 1, NULL)'; do
+        warns "$1" "if (nanorand_$call != 0) { return; }" nonnull
+    done
+    for call in 'pcg64_range_usize(rng, 1, 6, items)' 'pcg64_shuffle(rng, items, 1)' \
+        'pcg64_sample(rng, 1, items, 1)' 'pcg64_part(rng, 1, 1)' 'lots_count(text, 1, items)' \
+        'lots_draw(text, 1, items, 1, 1)'; do
+        warns "$1" "nanorand_$call;" unused-result
+    done
+    for call in 'pcg64_shuffle(rng, NULL, 0)' 'pcg64_sample(rng, 1, NULL, 0)' 'lots_count(NULL, 0, items)' \
+        'lots_draw(NULL, 0, NULL, 0, 0)'; do
+        warns "$1" "if (nanorand_$call != 0) { return; }" ''
+    done
+    warns "$1" 'nanorand_pcg64_fill_bytes(rng, NULL, 0);' ''
+    warns "$1" 'nanorand_lots_digest(NULL, 0, text);' ''
+}
+
+# Where a size_t has 32 bits the header is refused, in its own words. A compiler that has no attributes finds none.
+other_compilers() {
+    local clang=(clang -ffreestanding -fsyntax-only -Ic/include c/tests/alone.c)
+    if ! command -v clang >/dev/null; then
+        skip 'the header for 32 bits' 'there is no clang'
+        return
+    fi
+    "${clang[@]}" --target=i386 2>"$work/errors"
+    check 'the header for 32 bits' \
+        "$(grep -q 'error: "nanorand needs a size_t of 64 bits"' "$work/errors" || echo 'it is not refused')"
+    check 'the header for 64 bits' "$("${clang[@]}" --target=x86_64 2>&1)"
+    check 'the header without attributes' "$("${clang[@]}" --target=x86_64 -U__GNUC__ 2>&1)"
+    check 'no attribute' "$("${clang[@]}" --target=x86_64 -U__GNUC__ -E 2>&1 | grep -m 1 'nonnull\|warn_unused')"
+}
+
+# Both releases whole in one program, in the order of these archives: the exports of each, none at an address of the
+# other's.
+both_releases() {
+    local shared
+    if ! cc -o "$work/both" "$work/ours.o" "$work/theirs.o" -Wl,--whole-archive "$@" -Wl,--no-whole-archive \
+        2>"$work/errors"; then
+        check 'two releases' "$(head -n 5 "$work/errors")"
+        return
+    fi
+    quiet_part 'two releases' "$work/both"
+    nm "$work/both" | grep ' nanorand_v[12]_' >"$work/exports"
+    check 'all exports' "$(tr ' ' '\n' <"$work/renamed" | sort | diff - <(cut -d ' ' -f 3 "$work/exports" | sort))"
+    shared=$(sed -E 's/(_v[12]_).*/\1/' "$work/exports" | sort -u | cut -d ' ' -f 1 | uniq -d)
+    check 'a body for each release' "$shared"
+}
+
+# Another release has the number 2 in the names of the header and of the archive.
+two_releases() {
+    local source=c/tests/two_releases.c archive other=$work/libother.a
+    mkdir "$work/other"
+    sed 's/nanorand_v1_/nanorand_v2_/' c/include/nanorand.h >"$work/other/nanorand.h"
+    tools/header.py --symbols | sed 's/nanorand_v1_\(.*\)/& nanorand_v2_\1/' >"$work/renamed"
+    if ! compile 'cc c11' -c -o "$work/ours.o" "$source" ||
+        ! compile 'cc c11' "-I$work/other" -DOTHER_RELEASE -c -o "$work/theirs.o" "$source"; then
+        check 'two releases' "they are not built: $(cat "$work/errors")"
+        return
+    fi
+    for archive in "${archives[@]}"; do
+        objcopy --redefine-syms="$work/renamed" "$archive" "$other"
+        both_releases "$archive" "$other"
+        both_releases "$other" "$archive"
+    done
+}
+
+# The tests run all code of the exports: it is compiled here so that LLVM counts what runs.
+all_exports_run() {
+    local source command package target=$work/coverage
+    read -r command package < <(tools/uncovered.py --tools)
+    if ! available "$command" "$package" || ! available cc gcc; then
+        skip 'whether the tests of C run all exports' "there is no $command or cc"
+        return
+    fi
+    export LLVM_PROFILE_FILE=$target/profiles/%m-%p.profraw
+    RUSTFLAGS=-Cinstrument-coverage cargo build --quiet --offline --target-dir "$target" --manifest-path rust/nanorand-c/Cargo.toml
+    # It has no std, so nothing unwinds.
+    for source in c/tests/edges.c c/tests/guards.c c/tests/layout.c "$work/answers.c"; do
+        cc -DFEW -Ic/include -Ic/tests -o "$target/debug/deps/$(basename "$source" .c)" "$source" "$target/debug/libnanorand.a" \
+            -Wl,--defsym=rust_eh_personality=0 -Wl,--undefined=__llvm_profile_runtime
+        quiet_part "$source, counted" "$target/debug/deps/$(basename "$source" .c)"
+    done
+    unset LLVM_PROFILE_FILE
+    part tools/uncovered.py "$target" rust/nanorand-c/src
+}
+
+! asked_for cargo || by_cargo
+! asked_for kit || by_the_kit
+part tools/header.py --check "${archives[@]}"
+c/tests/answers.py tests/answers/answers.tsv >"$work/answers.c" || check 'the table of answers' 'it is not read'
+rows=$(awk -F '\t' '!/^#/ { rows += $1 == "stream" && $3 != "part" ? 2 : 1 } END { print rows }' tests/answers/answers.tsv)
+check 'every row' "$([ "$(grep -c '^    row_[0-9]*();$' "$work/answers.c")" -eq "$rows" ] || echo 'a row is not called')"
+for words in "${standards[@]}"; do
+    compiler "$words"
+done
+! asked_for cargo || other_compilers
+if available cc gcc; then
+    two_releases
+fi
+if [ -n "${archives[cargo]-}" ]; then
+    part c/tests/install.sh
+    # Debian's rustc is old, and stands beside a newer one.
+    available /usr/bin/rustc rustc
+    available /usr/bin/cargo cargo
+    part tests/c_crate.sh
+    all_exports_run
+fi
+finish

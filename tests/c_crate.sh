@@ -1,0 +1,41 @@
+#!/usr/bin/env bash
+# Tests the crate of the C library, rust/nanorand-c, with cargo. Its exports are tested from C, by tests/c.sh.
+# shellcheck source=tests/lib.sh
+source "$(dirname "${BASH_SOURCE[0]}")/lib.sh"
+cd rust/nanorand-c || exit
+oldest=$(sed -n 's/^rust-version = "\(.*\)"$/\1/p' Cargo.toml)
+
+# Unsafe code is in one file, and each use says why it is safe.
+unsafe_in_one_file() {
+    [ "$(grep -lw 'unsafe {' src/*)" = src/boundary.rs ] &&
+        [ "$(grep -cw 'unsafe {' src/boundary.rs)" -eq "$(grep -c '// SAFETY: ' src/boundary.rs)" ] &&
+        ! grep -w unsafe src/* | grep -vE 'unsafe \{|^src/boundary.rs://!'
+}
+
+# Each struct lies in memory as C has it.
+laid_out_as_in_c() {
+    ! awk '/^pub struct/ && before !~ /^#\[repr\((C|transparent)\)\]$/ { print FILENAME ": " $0 } { before = $0 }' \
+        src/*.rs | grep .
+}
+
+# What cargo links exports the header's functions alone.
+exports_the_header() {
+    cargo build --offline --release &&
+        diff <(nm -D --defined-only target/release/libnanorand.so | awk '{ print $3 }' | sort) \
+            <(sed -n 's/^#define nanorand_.* \(nanorand_v1_\)/\1/p' ../../c/include/nanorand.h | sort)
+}
+
+step cargo test --offline
+step cargo test --offline --release
+step unsafe_in_one_file
+step laid_out_as_in_c
+step exports_the_header
+step runs_on_every_processor target/release/libnanorand.so
+if is_version "$oldest" "$oldest_bin/rustc"; then
+    step env RUSTC="$oldest_bin/rustc" "$oldest_bin/cargo" test --offline --target-dir target/oldest
+    step env RUSTC="$oldest_bin/rustc" PREFIX="$PWD/target/oldest/installed" ../../c/install
+else
+    skip "the C library by rustc $oldest, the oldest that Cargo.toml names" "$oldest_bin has none"
+fi
+clippy_and_format --all-targets
+finish

@@ -1,0 +1,163 @@
+#!/usr/bin/env bash
+# Tests examples/cluster, over the library that c/install builds: that a plain loop, Dask, MPI with 1, 2 and 4 processes
+# and a job array give the committed sums; that Dask with 1 and 2 workers and the loop over one generator, which take
+# minutes for all tasks, give those of the first 100; that a worker which is killed changes none, and that a part past
+# the period is refused.
+# shellcheck source=tests/lib.sh
+source "$(dirname "${BASH_SOURCE[0]}")/lib.sh"
+examples=$PWD/examples/cluster
+trap end EXIT
+unset ROOM PYTHONPATH
+mkdir "$work/room" "$work/temporary"
+warnings=(-std=c11 -O2 -Wall -Wextra -pedantic -Werror "-I$work/room/include")
+# The index of a part of the greatest length that is past the period of 2^126 draws, and sed's change to such parts.
+past_period=$((1 << 62))
+long_parts='s/index, DRAWS)/index, UINT64_MAX)/'
+
+# The processes that were started in the folder of this test and still run.
+running() {
+    grep -lsF "$work" /proc/[0-9]*/environ | cut -d / -f 3
+}
+
+# Ends what an interrupted test has left.
+end() {
+    local process
+    for process in $(running); do
+        kill -KILL "$process"
+    done
+    rm -rf "$work"
+}
+
+# Runs a command over what was built, with all its files in the folder of this test. Dask and Matplotlib would write
+# into the user's.
+in_room() {
+    env ROOM="$work/room" TMPDIR="$work/temporary" DASK_CONFIG="$work/dask" DASK_TEMPORARY_DIRECTORY="$work" \
+        MPLCONFIGDIR="$work/matplotlib" PYTHONDONTWRITEBYTECODE=1 timeout 600 "$@" </dev/null
+}
+
+# The case $1: the command ends well, and the last that it prints is the table in the file $2. A progress bar stands
+# before it.
+prints() {
+    local case=$1 table=$2 status=0
+    shift 2
+    printf '== %s\n' "$case"
+    in_room "$@" >"$work/printed" 2>"$work/errors" || status=$?
+    if [ "$status" -ne 0 ]; then
+        check "$case" "status $status: $(tail -n 5 "$work/errors")"
+    else
+        check "$case" "$(tail -n "$(wc -l <"$table")" "$work/printed" | sed '1s/.*side/side/' | diff - "$table")"
+    fi
+}
+
+# The case $1: the command ends with an error, and says so by the text $2.
+refuses() {
+    local case=$1 text=$2 status=0
+    shift 2
+    in_room "$@" >"$work/printed" 2>&1 || status=$?
+    if [ "$status" -eq 0 ] || [ "$status" -eq 124 ] || ! grep -qF "$text" "$work/printed"; then
+        check "$case" "status $status: $(tail -n 5 "$work/printed")"
+    else
+        check "$case" ''
+    fi
+}
+
+# The loop in C, which takes a second, and the job array, which leaves no file behind where it has no folder.
+by_c() {
+    prints 'a job array' "$table" "$examples/run" array
+    prints 'the same jobs again' "$table" "$examples/run" array
+    prints 'a loop in C' "$table" "$work/room/job" 0 1000
+    prints 'the one command' "$table" env -u ROOM "$examples/run" array
+    check 'what it leaves' "$(ls -A "$work/temporary")"
+    check 'C finds nothing' "$(cc "${warnings[@]}" -c -o /dev/null "$examples/percolation.c" 2>&1 &&
+        cc "${warnings[@]}" -c -o /dev/null "$examples/job.c" 2>&1)"
+    refuses 'a job without tasks' 'usage: ' "$work/room/job"
+    refuses 'a way that there is not' 'usage: ' "$examples/run" mpi
+}
+
+# Builds the program $1, by the compiler $2, from sources that sed has changed by $3, in the folder $work/changed.
+changed() {
+    mkdir -p "$work/changed"
+    ln -sfn "$work/room/lib" "$work/changed/lib"
+    cp "$examples"/*.[ch] "$work/changed"
+    sed -i "$3" "$work/changed"/*.c
+    check "$1, changed by $3" "$("$2" "${warnings[@]}" -o "$work/changed/$1" "$work/changed/$1.c" \
+        "$work/changed/percolation.c" "$work/room/lib/libnanorand.a" -lm 2>&1)"
+}
+
+# Parts of the greatest length, of which the last within the period has the index 2^61; and a shuffle that is refused.
+refused_by_c() {
+    changed job cc "$long_parts"
+    check 'a part within the period' "$(in_room "$work/changed/job" $((past_period / 2)) 1 2>&1 >"$work/printed")"
+    refuses 'a part past the period' "job: task $past_period was refused with status 3" \
+        "$work/changed/job" "$past_period" 1
+    changed job cc 's/nanorand_pcg64_shuffle(/NANORAND_EXHAUSTED | &/'
+    refuses 'a refused shuffle' 'job: task 7 was refused with status 2' "$work/changed/job" 7 1
+}
+
+by_mpi() {
+    local processes
+    if ! available mpirun openmpi-bin ||
+        ! available '/usr/lib/*/openmpi/include/mpi.h' libopenmpi-dev; then
+        skip 'the examples by MPI' 'there is no Open MPI'
+        return
+    fi
+    for processes in 1 2 4; do
+        prints "MPI, $processes processes" "$table" "$examples/run" mpi "$processes"
+    done
+    changed mpi mpicc "$long_parts; s/(uint64_t)task,/$past_period * &/"
+    refuses 'MPI, past the period' 'mpi: task 1 was refused with status 3' \
+        env ROOM="$work/changed" "$examples/run" mpi 2
+    changed mpi mpicc 's/print_table(all)/printf("side of %d\\n", processes)/'
+    echo 'side of 3' >"$work/side"
+    prints 'how many processes' "$work/side" env ROOM="$work/changed" "$examples/run" mpi 3
+}
+
+# The committed picture, where the version of Matplotlib is that which drew it.
+picture() {
+    local version
+    version=$(grep -o 'Matplotlib v[0-9.]*[0-9]' "$work/percolation.svg")
+    if grep -qF "$version" docs/percolation.svg; then
+        check 'docs/percolation.svg' "$(cmp "$work/percolation.svg" docs/percolation.svg 2>&1)"
+    else
+        skip "the picture of the estimates" "$version did not draw it"
+    fi
+}
+
+by_python() {
+    local workers
+    if ! available '/usr/include/python3.*/Python.h' python3-dev ||
+        ! available /usr/lib/python3/dist-packages/distributed python3-distributed ||
+        ! available /usr/lib/python3/dist-packages/matplotlib python3-matplotlib; then
+        skip "the examples by Python" "there is no Dask, no Matplotlib or no python3-dev"
+        return
+    fi
+    prints 'Dask, 4 workers' "$table" "$examples/run" dask --picture "$work/percolation.svg"
+    picture
+    in_room "$work/room/job" 0 100 >"$work/first"
+    for workers in 1 2; do
+        prints "Dask, $workers workers" "$work/first" "$examples/run" dask --workers "$workers" --tasks 100
+    done
+    unit_tests
+    prints 'a loop in Python' "$work/first" "$examples/run" plain --tasks 100
+}
+
+# The processes that do not end by themselves within some seconds.
+left_over() {
+    for _ in {1..100}; do
+        [ -n "$(running)" ] || return
+        sleep 0.1
+    done
+    running
+}
+
+if ! available cc gcc || ! available rustc rustc; then
+    skip_all 'the examples of a cluster' 'there is no cc or no rustc'
+fi
+table=$examples/percolation.out
+by_c
+refused_by_c
+by_mpi
+by_python
+check 'the table of the README' "$(grep -xFf "$table" "$examples/README.md" | diff - "$table")"
+check 'processes left' "$(left_over)"
+finish

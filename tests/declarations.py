@@ -1,0 +1,331 @@
+#!/usr/bin/env python3
+"""Compares each declaration of an export, in Rust and in C, with the function in the proved crate.
+
+No compiler sees both: the linker knows names alone. So are the exports of the library by cargo, what the header
+tells compilers of null and of statuses, the structs that the exports take or give, the version that each part says, and
+the functions and statuses of C that documents name. The last line counts the cases.
+"""
+
+import re
+import sys
+from pathlib import Path
+
+ROOT = Path(__file__).resolve().parent.parent
+sys.path.insert(0, str(ROOT / "tools"))
+from rattle import exports_of, is_laid_out_as_in_c, items_at, name_and_type, text_of  # noqa: E402
+
+CALLED = "tests/against_c/tests/common/mod.rs"
+BY_CARGO = "rust/nanorand-c/src"
+C_NUMBERS = {
+    "uint8_t": "u8",
+    "uint32_t": "u32",
+    "uint64_t": "u64",
+    "int64_t": "i64",
+    "size_t": "usize",
+}
+C_STRUCTS = {
+    "nanorand_wyrand": "WyRand",
+    "nanorand_pcg64": "Wide",
+    "nanorand_chacha": "ChaChaState",
+    "nanorand_stream": "Stream",
+    "nanorand_keystream": "GroupStream",
+}
+STRUCTS = sorted(C_STRUCTS.values())
+# Where the library's version is written, as a text or as the number that is exported.
+VERSIONS = {
+    "c/include/nanorand.h": r"^#define NANORAND_VERSION (\d+)$",
+    "Cargo.toml": r'^version = "(.*)"$',
+    "rust/nanorand-c/Cargo.toml": r'^version = "(.*)"$',
+    "docs/PAGE.md": r"^version: (.*)$",
+}
+# Documents that name functions of C and their statuses: how a name is written, and the row of a status.
+NAMES = {
+    "c/README.md": r"\bnanorand_(?!v1_|c\b)(\w+)",
+    "docs/LANGUAGES.md": r"`(?:nanorand_(?!c`)|(?=(?:wyrand|pcg64|chacha\d+|keystream|lots)_)|\.\._(?=range_))(\w+)",
+}
+STATUS = r"^\| (?:status )?(\d+) \| `NANORAND_(\w+)`"
+
+
+def read(path):
+    return (ROOT / path).read_text(encoding="utf-8")
+
+
+def without_comments(text):
+    return re.sub(r"//[^\n]*|/\*.*?\*/", "", text, flags=re.S)
+
+
+def parameters(text):
+    """The names and the types between the parentheses, as written."""
+    pairs = [part.split(":", 1) for part in text.split(",") if ":" in part]
+    return [(name.strip(), " ".join(kind.split())) for name, kind in pairs]
+
+
+def rust_type(text):
+    """A type of Rust or Rattle as the C interface passes it: a number, or a pointer. Parameters of a state go."""
+    if match := re.fullmatch(r"&mut (\w+)(?:<\w+>)?|(?:&mut |\*mut |NonNull<|ArrayMut<)(.+?)>?", text):
+        return f"mut {next(filter(None, match.groups()))}"
+    if match := re.fullmatch(r"(?:&|\*const |Array<)(.+?)>?", text):
+        return f"const {match[1]}"
+    return text
+
+
+def rust_parameter(name, text):
+    """What a parameter passes: one value, or a slice's pointer and then its length."""
+    if match := re.fullmatch(r"&(mut )?\[(\w+)\]", text):
+        return [(name, f"{'mut' if match[1] else 'const'} {match[2]}"), ("length", "usize")]
+    return [("length" if name.endswith("length") else name, rust_type(text))]
+
+
+def rust_signature(pairs, result):
+    passed = [item for name, kind in pairs for item in rust_parameter(name, kind)]
+    return passed, result or "()"
+
+
+def rust_functions(text, pattern):
+    found = re.findall(pattern + r"\s*\(([^)]*)\)(?:\s*->\s*(\w+))?", text)
+    return [(name, rust_signature(parameters(arguments), result)) for name, arguments, result in found]
+
+
+def exports(crate):
+    """The functions that the crate exports."""
+    paths = sorted((ROOT / "crates" / crate / "src").rglob("*.rt"))
+    functions = [function for path in paths for function in exports_of(items_at(path))]
+    return [(one.name, rust_signature(map(name_and_type, one.parameters), text_of(one.result))) for one in functions]
+
+
+def rust_declarations(path):
+    text = without_comments(read(path))
+    found = []
+    macros = r"macro_rules! (\w+) \{\n.*?=> \{ unsafe extern \"C\" \{ \$\((.*?)\)\+ \} \};"
+    for macro, body in re.findall(macros, text):
+        [(_, signature)] = rust_functions(body, r"fn (\$name)")
+        for names in re.findall(rf"^{macro}!\((.*?)\);", text, re.S | re.M):
+            found += [(name.strip(), signature) for name in names.split(",") if name.strip()]
+    for block in re.findall(r"^(?:unsafe )?extern \"C\" \{\n(.*?)^\}", text, re.S | re.M):
+        found += rust_functions(block, r"fn (\w+)")
+    return found
+
+
+def generator_declarations(text, macro):
+    """The functions that a macro declares, or exports, for each generator and its state that it is called with."""
+    [body] = re.findall(rf"^macro_rules! {macro} \{{\n(.*?)^\}}", text, re.S | re.M)
+    functions = rust_functions(body, r'"_(\w+)"\)\]\s*(?:extern "C" )?fn \w+')
+    for generator, state in re.findall(macro + r'!\((?:\$prefix, )?"(\w+)", (\w+)', text):
+        for name, (passed, result) in functions:
+            passed = [(one, kind.replace("$state", state)) for one, kind in passed]
+            yield f"nanorand_v1_{generator}_{name}", (passed, result)
+
+
+def called_declarations():
+    """The functions that the tests of tests/against_c call: those of each generator, and those of one alone."""
+    text = without_comments(read(CALLED))
+    alone = rust_functions(text, r'\$prefix, "(\w+)"\)\]\s*fn \w+')
+    named = [(f"nanorand_v1_{name}", signature) for name, signature in alone]
+    return [*generator_declarations(text, "calls"), *generator_declarations(text, "part"), *named]
+
+
+def exports_by_cargo():
+    """The functions that rust/nanorand-c exports: those of each generator, and those of one alone."""
+    files = sorted((ROOT / BY_CARGO).glob("*.rs"))
+    text = without_comments("".join(path.read_text(encoding="utf-8") for path in files))
+    alone = rust_functions(text, r'#\[no_mangle\]\s*(?:pub )?extern "C" fn (\w+)')
+    shared = [*generator_declarations(text, "export_calls"), *generator_declarations(text, "export_part")]
+    return [*shared, *alone]
+
+
+def rust_structs(paths):
+    """The structs that lie in memory as in C, and their fields in order."""
+    structs = [item for path in paths for item in items_at(path) if is_laid_out_as_in_c(item)]
+    return {one.name: [name_and_type(part.tokens) for part in one.parts] for one in structs}
+
+
+def c_base(text):
+    return C_NUMBERS.get(text) or C_STRUCTS.get(text) or text
+
+
+def c_parameter(text):
+    """The name of a parameter of C, and its type as the interface passes it."""
+    text = " ".join(text.replace("*", " * ").split())
+    match = re.fullmatch(r"(const )?(\w+) (\* )?(\w+)(?:\[(\d+)\])?", text)
+    if match is None:
+        return text, text
+    constant, base, pointer, name, length = match.groups()
+    name, base = "length" if name.endswith("length") else name, c_base(base)
+    if length:
+        base = f"[{base}; {length}]"
+    if pointer or length:
+        base = ("const " if constant else "mut ") + base
+    return name, base
+
+
+def c_macros(text):
+    """The macros that name an export."""
+    return re.findall(r"^#define (nanorand_\w+) (nanorand_\w+)$", text, re.M)
+
+
+def c_prototypes(path):
+    """The prototypes of a header, under the names that its macros give them: result, parameters and attributes."""
+    text = without_comments(read(path))
+    macros = dict(c_macros(text))
+    found = re.findall(r"^(\w+)\s+(nanorand_\w+)\(([^)]*)\)([^;]*);", text, re.M)
+    return [(macros.get(name, name), result, arguments, attributes) for result, name, arguments, attributes in found]
+
+
+def c_declarations(path):
+    found = []
+    for name, result, arguments, _ in c_prototypes(path):
+        kind = "()" if result == "void" else c_base(result)
+        listed = [] if arguments.strip() == "void" else arguments.split(",")
+        found.append((name, ([c_parameter(part) for part in listed], kind)))
+    return found
+
+
+def wanted_attributes(signature):
+    """What a header tells compilers: a pointer that no length follows is not null, and a byte is a status."""
+    passed, result = signature
+    after = [name for name, _ in passed[1:]] + [""]
+    places = [str(place) for place, ((_, kind), name) in enumerate(zip(passed, after), 1)
+              if kind.startswith(("mut ", "const ")) and name != "length"]
+    words = [f"NANORAND_NOT_NULL(({', '.join(places)}))"] if places else []
+    return words + ["NANORAND_USE_STATUS"] * (result == "u8")
+
+
+def attribute_problems(path, exported):
+    known = dict(exported)
+    for name, _, _, attributes in c_prototypes(path):
+        found, wanted = " ".join(attributes.split()), " ".join(wanted_attributes(known[name]))
+        yield [] if found == wanted else [f"{path}: {name} has {found or 'no attributes'}, not {wanted}"]
+
+
+def macro_problems(path):
+    """The macros whose name is not the export's own without the version."""
+    return [
+        f"{path}: {name} stands for {symbol}"
+        for name, symbol in c_macros(without_comments(read(path)))
+        if symbol != name.replace("nanorand_", "nanorand_v1_", 1)
+    ]
+
+
+def c_structs(path):
+    text = without_comments(read(path))
+    found = re.findall(r"^typedef struct \w* ?\{(.*?)\} (\w+);", text, re.S | re.M)
+    return {c_base(name): c_fields(body) for body, name in found}
+
+
+def c_fields(body):
+    return [c_field(part) for part in body.split(";") if part.strip()]
+
+
+def c_field(text):
+    match = re.fullmatch(r"\s*(\w+) (\w+)(?:\[(\d+)\])?\s*", text)
+    if match is None:
+        return text, text
+    base, name, length = match.groups()
+    return name, f"[{c_base(base)}; {length}]" if length else c_base(base)
+
+
+def types(signature):
+    passed, result = signature
+    return [kind for _, kind in passed], result
+
+
+def comparable(signature):
+    """A signature without the name of the state, which callers name as they like."""
+    passed, result = signature
+    named = [(kind if kind.split()[-1] in STRUCTS else name, kind) for name, kind in passed]
+    return named, result
+
+
+def problems(path, declared, exported, seen):
+    """What is wrong with the declarations of a file: a list of texts for each of them."""
+    names = [name for name, _ in declared]
+    known = dict(exported)
+    for name, signature in declared:
+        wrong = []
+        if name not in known:
+            wrong.append(f"{path}: {name} is not exported")
+        elif seen(signature) != seen(known[name]):
+            wrong.append(f"{path}: {name} is declared as {signature} and exported as {known[name]}")
+        if names.count(name) > 1:
+            wrong.append(f"{path}: {name} is declared {names.count(name)} times")
+        yield wrong
+    for name in sorted(set(known) - set(names)):
+        yield [f"{path}: {name} is exported and not declared"]
+
+
+def exported_twice(exported):
+    names = [name for name, _ in exported]
+    twice = sorted({name for name in names if names.count(name) > 1})
+    return [f"{name} is exported {names.count(name)} times" for name in twice]
+
+
+def struct_problems(path, declared, proved):
+    for name in STRUCTS:
+        here, there = declared.get(name), proved.get(name)
+        same = here is not None and here == there
+        yield [] if same else [f"{path}: {name} is declared as {here} and proved as {there}"]
+
+
+def version_problems():
+    """Version 1.2.3 is exported as 10203."""
+    [number] = re.findall(r"result ≡ (\d+)", read("crates/nanorand_c/src/version.rt"))
+    parts = int(number) // 10000, int(number) // 100 % 100, int(number) % 100
+    wanted = {number, ".".join(map(str, parts))}
+    for path, pattern in VERSIONS.items():
+        found = re.findall(pattern, read(path), re.M)
+        yield [] if found and set(found) <= wanted else [f"{path}: version {found}, and {number} is exported"]
+
+
+def name_problems(header):
+    """What documents name of C, and the numbers of its statuses, are in the header."""
+    text = without_comments(read(header))
+    words = set(re.findall(r"\bnanorand_(\w+)", text))
+    words |= {name.split("_", 1)[1] for name in words if "_range_" in name}
+    words |= {word[: word.rindex("_") + 1] for word in words if "_" in word}
+    numbers = set(re.findall(r"^#define NANORAND_(\w+) (\d+)", text, re.M))
+    for path, pattern in NAMES.items():
+        names = set(re.findall(pattern, read(path)))
+        statuses = {(status, number) for number, status in re.findall(STATUS, read(path), re.M)}
+        yield [] if len(names) > 8 and len(statuses) > 2 else [f"{path}: it names {sorted(names)}, {sorted(statuses)}"]
+        yield [f"{path}: {name} is not in {header}" for name in sorted(names - words)]
+        yield [f"{path}: {status} is no status {number}" for status, number in sorted(statuses - numbers)]
+
+
+def size_problems(header):
+    """The sizes of the two streams, which c/README.md compares. No field is padded."""
+    structs = c_structs(header)
+
+    def size(kind):
+        if match := re.fullmatch(r"\[(\w+); (\d+)\]", kind):
+            return size(match[1]) * int(match[2])
+        return sum(size(field) for _, field in structs[kind]) if kind in structs else {"u8": 1, "u64": 8}[kind]
+
+    wanted = f"{size('Stream')} bytes in place of {size('GroupStream')}"
+    return [[] if wanted in read("c/README.md") else [f"c/README.md: it does not say {wanted}"]]
+
+
+def main():
+    library, bench, header = exports("nanorand_c"), exports("nanorand_bench"), "c/include/nanorand.h"
+    cases = [exported_twice(library + bench), macro_problems(header)]
+    cases += problems(CALLED, called_declarations(), library, comparable)
+    cases += problems(header, c_declarations(header), library, comparable)
+    cases += attribute_problems(header, library)
+    cases += problems(BY_CARGO, exports_by_cargo(), library, comparable)
+    cases += problems("bench/kit/src/calls.rs", rust_declarations("bench/kit/src/calls.rs"), bench, types)
+    # The structs of `nanorand_calls`, and `WyRand` of `nanorand`.
+    calls = sorted((ROOT / "crates/nanorand_calls/src").rglob("*.rt"))
+    proved = rust_structs([ROOT / "crates/nanorand/src/rand/wyrand.rt", *calls])
+    cases += struct_problems(CALLED, rust_structs([ROOT / CALLED]), proved)
+    cases += struct_problems(header, c_structs(header), proved)
+    cases += version_problems()
+    cases += name_problems(header)
+    cases += size_problems(header)
+    for text in (text for case in cases for text in case):
+        print(text)
+    failed = sum(map(bool, cases))
+    print(f"{len(cases) - failed} passed, {failed} failed")
+    return failed != 0
+
+
+if __name__ == "__main__":
+    sys.exit(main())

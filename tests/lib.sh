@@ -1,0 +1,193 @@
+# shellcheck shell=bash
+# What the test scripts share. A script sources this file first: it then stands at the top of the repository, has a
+# temporary folder $work, and counts its cases in $passed and $failed. Its last command is `finish`.
+set -uo pipefail
+cd "$(dirname "${BASH_SOURCE[0]}")/.." || exit
+work=$(mktemp -d)
+trap 'rm -rf "$work"' EXIT
+passed=0
+failed=0
+# No test reads debug information, which takes a fifth of rustc's time.
+export CARGO_PROFILE_DEV_DEBUG=0 CARGO_PROFILE_TEST_DEBUG=0
+# The bin folder of the oldest compiler that the packages support.
+# shellcheck disable=SC2034
+oldest_bin=${NANORAND_OLDEST:-/usr}/bin
+
+# Prints the sum, and ends the script: with status 0 if nothing failed.
+finish() {
+    printf '%s passed, %s failed\n' "$passed" "$failed"
+    [ "$failed" -eq 0 ]
+    exit
+}
+
+# Whether the script is asked to test what $1 built, cargo or kit: by its argument, or without one.
+asked=${1:-}
+asked_for() {
+    [ -z "$asked" ] || [ "$asked" = "$1" ]
+}
+
+# Says that the tests of $1 are skipped, because $2.
+skip() {
+    printf 'skipped: %s, as %s\n' "$1" "$2"
+}
+
+# The same, and nothing else is left to test.
+skip_all() {
+    skip "$@"
+    finish
+}
+
+# Counts the case $1. It failed if $2 says what was wrong.
+check() {
+    if [ -z "$2" ]; then
+        passed=$((passed + 1))
+    else
+        failed=$((failed + 1))
+        printf 'FAILED %s: %s\n' "$1" "$2"
+    fi
+}
+
+# Counts the case $1, in which $3 was found where $2 was expected.
+expect() {
+    check "$1" "$([ "$2" = "$3" ] || printf 'expected %q, found %q' "$2" "$3")"
+}
+
+# Counts a command by its status alone, and shows what it printed if it failed.
+step() {
+    printf '== %s\n' "$*"
+    if "$@" >"$work/log" 2>&1 </dev/null; then
+        passed=$((passed + 1))
+    else
+        cat "$work/log"
+        printf 'FAILED %s\n' "$*"
+        failed=$((failed + 1))
+        return 1
+    fi
+}
+
+# Adds the sum in the last line of the file $1. A file without a sum counts as a failure, and so does the status $2 of
+# the command that printed it.
+add_sum() {
+    if [[ $(tail -n 1 "$1") =~ ^([0-9]+)\ passed,\ ([0-9]+)\ failed$ ]]; then
+        passed=$((passed + BASH_REMATCH[1]))
+        failed=$((failed + BASH_REMATCH[2]))
+        [ "$2" -eq 0 ] || [ "${BASH_REMATCH[2]}" -gt 0 ] || failed=$((failed + 1))
+    else
+        printf 'FAILED: status %s, and no sum in the last line\n' "$2"
+        failed=$((failed + 1))
+    fi
+}
+
+# Runs a command whose last line is its own sum, shows what it prints, and adds the sum.
+part() {
+    printf '== %s\n' "$*"
+    "$@" 2>&1 </dev/null | tee "$work/log"
+    add_sum "$work/log" "${PIPESTATUS[0]}"
+}
+
+# The same for one of many short parts: shows only what it skips or what failed, after the name $1. A part of no tests
+# failed.
+quiet_part() {
+    local name=$1 status=0
+    shift
+    "$@" >"$work/log" 2>&1 </dev/null || status=$?
+    sed -n '/^skipped: /p' "$work/log"
+    sed '/^skipped: /d; /^[0-9]* passed, [0-9]* failed$/d' "$work/log" | sed "s|^|$name: |"
+    ! grep -qx '0 passed, 0 failed' "$work/log" || status=1
+    add_sum "$work/log" "$status"
+}
+
+# Runs tests by cargo, as the words say, and counts each. A run without a test failed.
+cargo_tests() {
+    local good bad status=0
+    printf '== %s\n' "$*"
+    "$@" >"$work/log" 2>&1 </dev/null || status=$?
+    good=$(awk '/^test result:/ { sum += $4 } END { print sum + 0 }' "$work/log")
+    bad=$(awk '/^test result:/ { sum += $6 } END { print sum + 0 }' "$work/log")
+    if [ "$status" -ne 0 ] || [ "$good" -eq 0 ]; then
+        cat "$work/log"
+        bad=$((bad > 0 ? bad : 1))
+    fi
+    passed=$((passed + good))
+    failed=$((failed + bad))
+}
+
+# Runs tests of Python's unittest after the name $1, counts each, and names those that are skipped. A run without a test
+# failed.
+unit_tests() {
+    local ran bad left status=0
+    printf '== %s\n' "$1"
+    shift
+    "$@" -v >"$work/log" 2>&1 </dev/null || status=$?
+    ran=$(sed -n 's/^Ran \([0-9]*\) tests* in .*/\1/p' "$work/log")
+    bad=$(grep -c '^FAIL: \|^ERROR: ' "$work/log")
+    left=$(sed -n 's/.*skipped=\([0-9]*\).*/\1/p' "$work/log" | tail -n 1)
+    if [ "$status" -ne 0 ] || [ "${ran:-0}" -eq 0 ]; then
+        cat "$work/log"
+        bad=$((bad > 0 ? bad : 1))
+    fi
+    ran=$((${ran:-0} > bad ? ran : bad))
+    passed=$((passed + ran - bad - ${left:-0}))
+    failed=$((failed + bad))
+    sed -n "s/^\(\w*\) (.*skipped ['\"]\(.*\)['\"]\$/skipped: \1, as \2/p" "$work/log" | sort -u
+}
+
+# Whether a command is on the PATH. In place of a command $1 may be a pattern of absolute paths.
+is_there() {
+    case $1 in
+    /*) compgen -G "$1" >/dev/null ;;
+    *) command -v "$1" >/dev/null ;;
+    esac
+}
+
+# Whether the command $1 is there. If it is not, and CI is `true`, root installs the package $2 of Debian, one script at
+# a time, by new lists of packages if the old ones do not have it. Everybody else is told what to install.
+available() {
+    is_there "$1" && return
+    if [ "${CI:-}" = true ] && [ "$(id -u)" -eq 0 ] && command -v apt-get >/dev/null; then
+        apt_get install --yes "$2" || { apt_get update && apt_get install --yes "$2"; }
+        is_there "$1" && return
+    fi
+    printf 'to install: %s\n' "$2"
+    return 1
+}
+
+apt_get() {
+    DEBIAN_FRONTEND=noninteractive flock "${TMPDIR:-/tmp}/nanorand-tests-install" apt-get --quiet "$@" \
+        >/dev/null 2>&1 </dev/null
+}
+
+# The PATH without the folders that hold the kit.
+path_without_kit() {
+    local folder kept=()
+    while IFS= read -r -d : folder; do
+        [ -x "$folder/rt" ] || kept+=("$folder")
+    done <<<"$PATH:"
+    (IFS=: && printf '%s\n' "${kept[*]}")
+}
+
+# Whether all instructions of a library are those of every x86-64: none of AVX, nor what x86-64-v2 and v3 add for bytes,
+# counts, products and shifts. Prints the first that is not.
+runs_on_every_processor() {
+    local later='\<(v[a-z0-9]+ .*%[xyz]mm|pshufb|p(ins|ext)r[bdq]|popcnt|mulx|rorx|andn|s[ahl][lr]x)\>'
+    objdump -d --no-show-raw-insn "$1" >"$work/code" && ! grep -m 1 -E "$later" "$work/code"
+}
+
+# Whether the version of the command $2 is $1, whatever comes after it.
+is_version() {
+    grep -qF " $1." <<<"$("$2" --version 2>/dev/null)"
+}
+
+# Lints a package and checks its format by cargo. The words are options of clippy.
+clippy_and_format() {
+    if cargo clippy --version >/dev/null 2>&1; then
+        step cargo clippy --offline "$@" -- -D warnings -W clippy::pedantic
+    else
+        skip clippy 'it is not there'
+    fi
+    if cargo fmt --version >/dev/null 2>&1; then
+        step cargo fmt --all --check
+    else
+        skip 'the format of Rust' 'there is no rustfmt'
+    fi
+}

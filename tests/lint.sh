@@ -1,0 +1,30 @@
+#!/usr/bin/env bash
+# Lints the scripts and the Python code by what the files at the top configure: .flake8, .shellcheckrc, pyproject.toml.
+# Rust is linted with its packages (clippy.toml, rustfmt.toml), C by the warnings of its compilers.
+# shellcheck source=tests/lib.sh
+source "$(dirname "${BASH_SOURCE[0]}")/lib.sh"
+
+# The files that a clone has, whose first line says that bash reads them, or sh.
+shell_scripts() {
+    git ls-files -z --cached --others --exclude-standard | xargs -0 grep -lIE -m 1 '^(#!.*[/ ](ba)?sh|# shellcheck shell=)' |
+        xargs awk 'FNR == 1 { if (/^#!.*sh$|^# shellcheck shell=/) print FILENAME; nextfile }'
+}
+
+if available flake8 flake8; then
+    step flake8
+else
+    skip 'flake8' 'it is not there'
+fi
+if available shellcheck shellcheck; then
+    mapfile -t scripts < <(shell_scripts)
+    check 'scripts are found' "$([ "${#scripts[@]}" -gt 20 ] || echo "${#scripts[@]}")"
+    step shellcheck --severity=warning "${scripts[@]}"
+else
+    skip 'shellcheck' 'it is not there'
+fi
+if available mypy mypy; then
+    step mypy --cache-dir "$work/mypy"
+else
+    skip 'the types of Python code' 'there is no mypy'
+fi
+finish

@@ -1,0 +1,77 @@
+# shellcheck shell=bash
+# What the tests of the programs `draw` and `lots` share, to be sourced after lib.sh. The builds of a program stand in
+# $work, by what built them, and so do the streams of a case: `out` and `err`.
+# shellcheck disable=SC2154
+
+# Puts the builds of the program $1 that the script is asked for into $work: `rattle` and `llvm` are those of the kit's
+# two compilers, and `cargo` is what `cargo install` installs from the package in rust/.
+builds_of() {
+    local name=$1
+    if ! asked_for kit; then
+        true
+    elif [ -z "${BUILT:-}" ] && ! command -v rt >/dev/null; then
+        skip "the program $name of the kit's compilers" 'there is no kit'
+    elif step tests/build.sh "$name"; then
+        cp "crates/$name/out/$name" "$work/llvm"
+        cp "crates/$name/out/$name.by-rattle" "$work/rattle"
+    fi
+    if ! asked_for cargo; then
+        true
+    elif ! available cargo cargo || ! available rustc rustc; then
+        skip "the program $name that cargo installs" 'there is no cargo or no rustc'
+    elif step cargo install --quiet --offline --path "rust/$name" --root "$work/installed"; then
+        mv "$work/installed/bin/$name" "$work/cargo"
+    fi
+}
+
+# The builds that are there.
+builds() {
+    local build
+    for build in rattle llvm cargo; do
+        [ ! -x "$work/$build" ] || echo "$build"
+    done
+}
+
+# Counts the case $1 of the program that is tested.
+count() {
+    check "$1, by $compiler" "$2"
+}
+
+# Says that $1 is $2, if it should be $3 and is not.
+differs() {
+    [ "$2" = "$3" ] || printf ' %s is %q and not %q;' "$1" "$2" "$3"
+}
+
+# Says that $1, in the file $2, has not exactly the text $3, whose escapes are those of printf's %b.
+differs_in() {
+    printf '%b' "$3" | cmp -s - "$work/$2" || printf ' %s is %q;' "$1" "$(head -c 300 "$work/$2" | tr '\0' '?')"
+}
+
+# Says that $1, in the file $2, is not the file $3.
+differs_from() {
+    cmp -s "$work/$2" "$work/$3" || printf ' %s is %q;' "$1" "$(head -c 300 "$work/$2" | tr '\0' '?')"
+}
+
+# Empties the two streams of a case.
+begin() {
+    : >"$work/out"
+    : >"$work/err"
+    status=0
+}
+
+# Compares the case $1 with the wanted status, standard output and standard error.
+end() {
+    count "$1" "$(
+        differs 'status' "$status" "$2"
+        differs_in 'standard output' out "$3"
+        differs_in 'standard error' err "$4"
+    )"
+}
+
+# The builds of a program are different files, as none is a copy of another.
+all_different() {
+    local kinds
+    kinds=$(builds | sed "s|^|$work/|" | xargs sha256sum | cut -c -64 | sort -u | wc -l)
+    compiler=all
+    count 'builds' "$(differs 'how many differ' "$kinds" "$(builds | wc -l)")"
+}

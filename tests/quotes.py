@@ -1,0 +1,216 @@
+#!/usr/bin/env python3
+"""Compares what the documents quote with the source: tests/quotes.py [--write].
+
+A quoted block stands under a line that names its file, from the document's folder on, and its items:
+
+    <!-- src/callers.rt: imports, pick, roll -->
+    ```rust
+    ..
+    ```
+
+An item is the name of a function, type or constant, quoted with its comment and without attributes; `imports` are the
+lines that import, and `the whole file` is a file of Rattle or Rust, or of definitions in a block of `antt`.
+
+A table whose first column links a file of `specs/` names definitions in its second: each has to be
+declared in that file. Of docs/PROMISES.md each clause (`function: clause, clause`) and mutant has to exist;
+each promise has to name a mutant, or to say `none` and why; and each mutant of the crates has to be named there, to
+name what refuses it, and to apply.
+
+The last line is N passed, M failed. With --write the blocks are written from the source first.
+"""
+
+import re
+import sys
+from pathlib import Path
+
+ROOT = Path(__file__).resolve().parent.parent
+sys.path.insert(0, str(ROOT / "tools"))
+from rattle import bare, items_at  # noqa: E402
+
+DOCUMENTS = ["README.md", "crates/nanorand/CALLING.md", "docs/LANGUAGES.md"]
+MARK = re.compile(r"^<!-- (?P<path>\S+\.(rt|rs|antt)): (?P<items>.+) -->$")
+WORDS = re.compile(r"^\| \[[^\]]*\]\((?P<path>\S+\.antt)\) \| (?P<words>[^|]*) \|")
+
+
+class Missing(Exception):
+    """The source has no such item."""
+
+
+def quoted(items, name):
+    """The item of this name, with its comment; or the lines that import."""
+    if name == "imports":
+        groups = [[one for one in items if one.word == word and not one.visibility] for word in ("ghost use", "use")]
+        return "\n\n".join("\n".join(one.code() for one in group) for group in groups if group)
+    for item in items:
+        if item.word in ("fn", "struct", "enum", "type", "const") and item.name == name:
+            return item.comment() + item.code()
+    raise Missing(name)
+
+
+def quote(path, selected):
+    """The text of a block: the selected items of a file, or the file."""
+    if selected == "the whole file":
+        return path.read_text(encoding="utf-8").rstrip("\n")
+    items = items_at(path)
+    return "\n\n".join(quoted(items, name) for name in selected.split(", "))
+
+
+def first_difference(wanted, found):
+    """The first line of the source that the block lacks, or the first of the block that the source lacks."""
+    squeezed = "".join(found.split())
+    for line in wanted.splitlines():
+        if "".join(line.split()) not in squeezed:
+            return f"the source has `{line.strip()}`"
+    squeezed = "".join(wanted.split())
+    for line in found.splitlines():
+        if "".join(line.split()) not in squeezed:
+            return f"the source has no `{line.strip()}`"
+    return "the items stand in another order"
+
+
+def check(document, write):
+    """How many quotes of a document are right, and what is wrong with the others."""
+    lines = document.read_text(encoding="utf-8").split("\n")
+    passed, wrong, out, marked, i = 0, [], [], False, 0
+    has_marks = any(MARK.match(line) for line in lines)
+    while i < len(lines):
+        place = f"{document}:{i + 1}"
+        mark, words = MARK.match(lines[i]), WORDS.match(lines[i])
+        out.append(lines[i])
+        i += 1
+        if words:
+            declared = document.parent / words["path"]
+            text = declared.read_text(encoding="utf-8") if declared.exists() else None
+            for word in re.findall(r"`([^`]+)`", words["words"]):
+                if text is not None and re.search(rf"^\s*(\w+ )*{re.escape(word)}(?![\w-])", text, re.M):
+                    passed += 1
+                else:
+                    wrong.append(f"{place}: {declared} declares no `{word}`")
+        if lines[i - 1] == "```rust" and has_marks and not marked:
+            wrong.append(f"{place}: a block that names no source")
+        marked = bool(mark)
+        if not mark:
+            continue
+        fence = "```antt" if mark["path"].endswith(".antt") else "```rust"
+        if i >= len(lines) or lines[i] != fence:
+            wrong.append(f"{place}: no block {fence} follows")
+            continue
+        end = lines.index("```", i)
+        block = "\n".join(lines[i + 1 : end])
+        try:
+            wanted = quote(document.parent / mark["path"], mark["items"])
+        except (Missing, OSError) as error:
+            said = f"{mark['path']} has no `{error}`" if isinstance(error, Missing) else error
+            wrong.append(f"{place}: {said}")
+            continue
+        if write and wanted != block:
+            block = wanted
+        if "".join(block.split()) == "".join(wanted.split()):
+            passed += 1
+        else:
+            wrong.append(f"{place}: {mark['path']}: {mark['items']}: {first_difference(wanted, block)}")
+        out += [fence, *block.split("\n"), "```"]
+        i = end + 1
+        marked = False
+    if write and out != lines:
+        document.write_text("\n".join(out), encoding="utf-8")
+    return passed, wrong
+
+
+def functions_of(root):
+    """Of each name the functions: the type or trait, whether it is a trait's, and the names of the clauses."""
+    functions = {}
+    for path in sorted(root.glob("crates/*/src/**/*.rt")):
+        for item in items_at(path):
+            owner = bare(item.type) if item.word == "impl" else item.name if item.word == "trait" else None
+            for one in (item, *item.members()):
+                if one.word == "fn":
+                    clauses = {clause.name for clause in one.ensures}
+                    functions.setdefault(one.name, []).append((owner, item.word == "trait", clauses))
+    return functions
+
+
+def has_clauses(functions, name, wanted):
+    """Whether a function, which may stand behind `Type::`, has the clauses; an impl has those of its trait."""
+    owner, _, name = name.rpartition("::")
+    of_name = functions.get(name, [])
+    if not any(not owner or one[0] == owner for one in of_name):
+        return False
+    clauses = [one[2] for one in of_name if one[1] or not owner or one[0] == owner]
+    return any(wanted <= one for one in clauses)
+
+
+def check_promises(root):
+    """What the page of promises names, and the source does not have."""
+    page = root / "docs/PROMISES.md"
+    if not page.exists():
+        return 0, []
+    functions = functions_of(root)
+    words = set()
+    for path in root.glob("crates/*/src/**/*.rt"):
+        words |= set(re.findall(r"\w+", path.read_text(encoding="utf-8")))
+    edits = {path.stem for folder in ("mutants", "must-fail") for path in root.glob(f"crates/*/{folder}/*.edit")}
+    text = page.read_text(encoding="utf-8")
+    passed, wrong, named = 0, [], set(re.findall(r"`([^`]+)`", re.sub(r"\s+", " ", text)))
+    for entry in re.finditer(r"^- (Clauses|Mutants refused): (.*(?:\n  .*)*)", text, re.M):
+        line = text.count("\n", 0, entry.start()) + 1
+        for span in re.findall(r"`([^`]+)`", re.sub(r"\s+", " ", entry[2])):
+            if entry[1] == "Mutants refused":
+                right = span in edits
+            elif ": " in span:
+                name, _, clauses = span.partition(": ")
+                right = has_clauses(functions, name, set(clauses.split(", ")))
+            else:
+                right = set(span.split("::")) <= words or span.endswith("_")
+            passed += right
+            if not right:
+                wrong.append(f"{page}:{line}: the source has no `{span}`")
+    for edit in sorted(edits - named):
+        wrong.append(f"{page}: the mutant `{edit}` is missing")
+    for promise in re.split(r"^### ", text, flags=re.M)[1:]:
+        if "\n- Clauses:" in promise:
+            refused = re.search(r"^- Mutants refused: (?=.*`\w+`|none: )", promise, re.M) is not None
+            passed += refused
+            if not refused:
+                wrong.append(f"{page}: no mutant of the promise: {promise.splitlines()[0]}")
+    return passed + len(edits & named), wrong
+
+
+def check_mutants(root):
+    """The mutants whose texts no longer stand once in the file that they name, or that name no clause."""
+    passed, wrong = 0, []
+    for edit in sorted([*root.glob("crates/*/mutants/*.edit"), *root.glob("crates/*/must-fail/*.edit")]):
+        said, file = edit.read_text(encoding="utf-8"), None
+        applies = re.search(r"^# refused: \S", said, re.M) is not None
+        for word, text in re.findall(r"^(file|old): (.*)$", said, re.M):
+            if word == "file":
+                file = edit.parent.parent / text
+            else:
+                applies = applies and file.exists() and file.read_text(encoding="utf-8").count(text) == 1
+        passed += applies
+        if not applies:
+            wrong.append(f"{edit}: it names no clause, or a text that does not stand once in its file")
+    return passed, wrong
+
+
+def main():
+    root = ROOT
+    if sys.argv[1:] not in ([], ["--write"]):
+        sys.exit(__doc__)
+    passed, wrong = 0, []
+    for name in DOCUMENTS:
+        if (root / name).exists():
+            right, others = check(root / name, sys.argv[1:] == ["--write"])
+            passed += right
+            wrong += [line.replace(f"{root}/", "") for line in others]
+    for right, others in (check_promises(root), check_mutants(root)):
+        passed += right
+        wrong += [line.replace(f"{root}/", "") for line in others]
+    for line in wrong:
+        print(f"FAILED {line}")
+    print(f"{passed} passed, {len(wrong)} failed")
+    return 1 if wrong else 0
+
+
+if __name__ == "__main__":
+    sys.exit(main())

@@ -1,0 +1,110 @@
+#!/usr/bin/env bash
+# Tests the Rust packages: the comparer of their sources with the proved ones; the workspace and the library's build.rs,
+# in a copy that has neither this repository nor the kit; the adapter for rand_core, the drop-in for nanorand 0.7.0, and
+# what is taken from a clone. The workspace's tests have to run all its code, as tools/uncovered.py finds by Debian's
+# tools of LLVM.
+# shellcheck source=tests/lib.sh
+source "$(dirname "${BASH_SOURCE[0]}")/lib.sh"
+
+# Copies what the tests of the workspace need: the files that a clone has, and those that are not yet committed.
+copy_of_workspace() {
+    mkdir "$1"
+    git ls-files -z --cached --others --exclude-standard Cargo.{toml,lock} {clippy,rustfmt}.toml rust tests/answers \
+        tests/{lib,workspace,hints,targets}.sh tools/uncovered.{py,txt} | xargs -0 cp -P --parents -t "$1"
+}
+
+# What compiles, links and runs programs of other targets, as far as it can be had.
+other_targets() {
+    local command package
+    while read -r command package; do
+        available "$command" "$package"
+    done <<'END'
+/usr/lib/rustlib/wasm32-unknown-unknown libstd-rust-dev-wasm32
+/usr/lib/rustlib/x86_64-pc-windows-gnu libstd-rust-dev-windows
+x86_64-w64-mingw32-gcc gcc-mingw-w64-x86-64
+/usr/lib/wine/wine64 wine64
+i686-linux-gnu-gcc gcc-i686-linux-gnu
+arm-linux-gnueabihf-gcc gcc-arm-linux-gnueabihf
+aarch64-linux-gnu-gcc gcc-aarch64-linux-gnu
+s390x-linux-gnu-gcc gcc-s390x-linux-gnu
+qemu-arm qemu-user
+rust-lld lld
+END
+    [ "${CI:-}" != true ] || std_of_other_architectures "$work/std" >/dev/null 2>&1
+    export NANORAND_STD=$work/std/usr/lib/rustlib
+}
+
+# Unpacks into the folder $1 Debian's std of Rust for other architectures than this machine's, whose packages could not be
+# installed without making these architectures the system's own. Their lists and packages are read apart from the
+# system's.
+std_of_other_architectures() {
+    local architectures=(i386 armhf arm64 s390x) package
+    local apt=(apt-get -qq -o "APT::Architectures=$(IFS=,; echo "${architectures[*]}")"
+        -o "Dir::State::Lists=$1/lists" -o "Dir::Cache=$1/cache")
+    mkdir -p "$1/lists/partial" "$1/cache/archives/partial"
+    # A list that fails may be one that is not needed.
+    "${apt[@]}" update
+    (cd "$1" && "${apt[@]}" download "${architectures[@]/#/libstd-rust-dev:}") || return
+    for package in "$1"/*.deb; do
+        dpkg -x "$package" "$1" || return
+    done
+}
+
+# The adapter is built over rand_core as Debian has it.
+adapter() {
+    local registry=/usr/share/cargo/registry
+    if ! available "$registry/rand_core-0.6*" librust-rand-core-dev; then
+        skip 'the adapter for rand_core' 'that crate is not there'
+        return
+    fi
+    cargo_tests cargo test --offline --manifest-path "$work/copy/rust/nanorand-rand-core/Cargo.toml" \
+        --config 'source.crates-io.replace-with="debian"' --config "source.debian.directory=\"$registry\""
+}
+
+# A program takes the crate from a clone, as a user does from the repository's address.
+added_from_a_clone() {
+    cargo new --quiet --vcs none "$work/program" &&
+        (cd "$work/program" && cargo add --quiet --git "file://$work/clone" nanorand-proved &&
+            cp "$work/clone/rust/nanorand-proved/examples/die.rs" src/main.rs && cargo run --quiet)
+}
+
+# The programs are installed from a clone, as a user does it.
+installed_from_a_clone() {
+    cargo install --quiet --root "$work/installed" --git "file://$work/clone" lots draw &&
+        [ "$(printf 'a\nb\n' | "$work/installed/bin/lots" seed all)" = $'b\na' ] &&
+        [ "$("$work/installed/bin/draw" wyrand d29b42879be2895f plain 0 u64)" = 16646288086500911322 ]
+}
+
+# A program that asks for nanorand 0.7 takes the drop-in from a clone, by the two lines of its README. No registry has
+# the crate here.
+patched_from_a_clone() {
+    local program=$work/patched registry=$work/empty
+    mkdir "$registry" && cargo new --quiet --vcs none "$program" || return
+    printf 'nanorand = "0.7"\n[patch.crates-io]\nnanorand = { git = "file://%s" }\n' "$work/clone" >>"$program/Cargo.toml"
+    printf 'fn main() {\n    println!("{:?}", nanorand::WyRand::new_seed(42));\n}\n' >"$program/src/main.rs"
+    [ "$(cd "$program" && cargo run --quiet --config 'source.crates-io.replace-with="empty"' \
+        --config "source.empty.directory=\"$registry\"")" = 'WyRand { seed: 0x2a }' ]
+}
+
+if ! available cargo cargo || ! available rustc rustc; then
+    skip_all 'the tests of the Rust packages' 'there is no cargo or no rustc'
+fi
+
+unit_tests 'tools/tests' python3 -W error -m unittest discover -s tools/tests
+# Debian's rustc is old, and stands beside a newer one.
+available /usr/bin/rustc rustc
+available /usr/bin/cargo cargo
+other_targets
+read -r command package < <(tools/uncovered.py --tools)
+available "$command" "$package"
+copy_of_workspace "$work/copy"
+part env PATH="$(path_without_kit)" "$work/copy/tests/workspace.sh"
+part env PATH="$(path_without_kit)" "$work/copy/tests/hints.sh"
+adapter
+part tests/drop_in.sh
+git clone --quiet . "$work/clone"
+export CARGO_HOME=$work/cargo
+step added_from_a_clone
+step installed_from_a_clone
+step patched_from_a_clone
+finish

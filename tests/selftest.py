@@ -1,0 +1,532 @@
+#!/usr/bin/env python3
+"""Tests the script ./test and what compares files: tests/selftest.py. The last line is N passed, M failed.
+
+The script runs in a folder where each of its parts is a stand-in that passes, fails, or ends without a
+count; so does tests/workspace.sh, over a stand-in of cargo. Then a copy of the repository gets one change
+at a time, and the script that compares what was changed has to refuse it, and the one that writes it to restore it.
+"""
+
+import os
+import re
+import shutil
+import subprocess
+import sys
+import tempfile
+from pathlib import Path
+
+ROOT = Path(__file__).resolve().parent.parent
+# What stands in tests/ and is no part: what the parts call or read.
+NO_PARTS = {
+    "lib.sh", "program.sh", "build.sh", "workspace.sh", "hints.sh", "targets.sh", "drop_in.sh", "c_crate.sh",
+    "second_opinion.py", "nanorand-0.7.0.txt", "answers", "against_c",
+}
+
+# What a part may do: its last lines and its status, and what of it the sum has to have.
+KINDS = {
+    "it fails": ("6 passed, 2 failed", 1, (6, 2)),
+    "it fails with status 0": ("6 passed, 2 failed", 0, (6, 2)),
+    "its status alone fails": ("6 passed, 0 failed", 3, (6, 1)),
+    "no count": ("all is well", 0, (0, 1)),
+    "a count that is not last": ("6 passed, 0 failed\nTraceback", 1, (0, 1)),
+    "nothing": ("", 0, (0, 1)),
+    "a skip": ("skipped: a compiler\n6 passed, 0 failed", 0, (6, 0)),
+}
+
+# The changes: what has to refuse each, the file, a text that stands in it, what replaces its first place, and what the
+# refusal has to name, where more than the status is wanted.
+CHANGES = [
+    ("tests/quotes.py", "README.md", "(pips ≤ 6)", "(pips ≤ 7)"),
+    ("tests/quotes.py", "README.md", "let pips: u64", "let pips: u32"),
+    ("tests/quotes.py", "docs/PROMISES.md", "`wyrand_seed_stays`", "`wyrand_seed_stay`"),
+    ("tests/quotes.py", "docs/PROMISES.md", "- Mutants refused: `clone_always_refused`\n", ""),
+    ("tests/quotes.py", "docs/PROMISES.md", "refused: none: a law", "refused: a law"),
+    ("tests/quotes.py", "docs/PROMISES.md", "`buffers_equal_by_their_generators`", "`wyrand_seed_stays`"),
+    ("tests/quotes.py", "crates/nanorand/CALLING.md", "ensures", "requires"),
+    ("tests/quotes.py", "crates/dice/src/main.rt", "pips ≤ 6", "pips ≤ 7"),
+    ("tests/declarations.py", "c/include/nanorand.h", "const uint8_t *list", "uint8_t *list"),
+    ("tests/declarations.py", "c/include/nanorand.h", "uint32_t first, uint32_t last", "uint32_t first, uint64_t last"),
+    ("tests/declarations.py", "c/include/nanorand.h", "uint64_t low;\n    uint64_t high;", "uint64_t high;\n    uint64_t low;"),
+    ("tests/declarations.py", "c/include/nanorand.h", "#define nanorand_version nanorand_v1_version\n", ""),
+    ("tests/declarations.py", "crates/nanorand_c/src/lots.rt", "count: usize", "count: u32"),
+    ("tests/declarations.py", "c/include/nanorand.h", "NANORAND_NOT_NULL((1, 4))", "NANORAND_NOT_NULL((1))"),
+    ("tests/declarations.py", "c/include/nanorand.h", " NANORAND_USE_STATUS;", ";"),
+    ("tests/declarations.py", "tests/against_c/tests/common/mod.rs", "#[repr(C)]\n", ""),
+    ("tests/declarations.py", "tests/against_c/tests/common/mod.rs", "places: *mut usize", "places: *const usize"),
+    ("tests/declarations.py", "tests/against_c/tests/common/mod.rs", "index: u64", "index: u32"),
+    ("tests/declarations.py", "rust/nanorand-c/src/calls.rs", "last: u32", "last: u64"),
+    ("tests/declarations.py", "rust/nanorand-c/src/calls.rs", "$state, index: u64", "$state, index: u32"),
+    ("tests/declarations.py", "rust/nanorand-c/src/stream.rs", 'export_part!("keystream", GroupStream);\n', ""),
+    ("tests/declarations.py", "rust/nanorand-c/src/lots.rs", "text: Array<u8>", "text: ArrayMut<u8>"),
+    ("tests/declarations.py", "rust/nanorand-c/src/stream.rs", '"stream", Stream', '"stream", GroupStream'),
+    ("tests/declarations.py", "rust/nanorand-c/Cargo.toml", 'version = "1', 'version = "2'),
+    ("tests/declarations.py", "Cargo.toml", 'version = "1', 'version = "2'),
+    ("tests/declarations.py", "c/include/nanorand.h", "#define NANORAND_VERSION 1", "#define NANORAND_VERSION 2"),
+    ("tests/declarations.py", "docs/PAGE.md", "\nversion: 1", "\nversion: 2"),
+    ("tests/declarations.py", "c/README.md", "| 3 | `NANORAND_PAST", "| 2 | `NANORAND_PAST"),
+    ("tests/declarations.py", "c/README.md", "`nanorand_stream_...`", "`nanorand_streams_...`"),
+    ("tests/declarations.py", "c/README.md", "120 bytes", "112 bytes"),
+    ("tests/declarations.py", "docs/LANGUAGES.md", "| status 4 |", "| status 3 |"),
+    ("tests/declarations.py", "docs/LANGUAGES.md", "`wyrand_range_usize`", "`wyrand_range_size`"),
+    ("tests/declarations.py", "docs/LANGUAGES.md", "`.._range_i64`", "`.._range_i46`"),
+    ("tools/record.py --check", "docs/PAGE.md", "3: Chidi", "3: Ada"),
+    ("tools/record.py --check", "docs/LOTS.md", "Jun\nChidi", "Jun\nAda"),
+    ("tools/record.py --check", "docs/nanorand.html", 'id="module">AGFzbQE', 'id="module">AGFzbQI'),
+    ("tests/links.py", "README.md", "(docs/LOTS.md)", "(docs/LOT.md)"),
+    ("tests/links.py", "docs/PAGE.md", "#the-rule-of-the-draw", "#the-rules-of-the-draw"),
+    ("tests/links.py", "docs/PAGE.md", "## The record", "## A record"),
+    ("tests/links.py", "crates/nanorand/CALLING.md", "](../../docs/DIFFERENCES.md", "](../../docs/DIFFERENCE.md"),
+    ("tests/differences.py", "crates/nanorand/src/parts.rt", "/// The error", "pub fn spare() {}\n\n/// The error",
+     "`parts::spare`: the library alone"),
+    ("tests/differences.py", "crates/nanorand_core/src/choices.rt", "{below, ", "{below as under, ",
+     "`choices::under`: the library alone", "`choices::below`: it is listed as added"),
+    ("tests/differences.py", "crates/nanorand/src/rand/chacha_groups.rt", "pub fn counter(", "pub fn count(",
+     "`ChaChaGroups::count`: the library alone", "`ChaChaGroups::counter`: it is listed as added"),
+    ("tests/differences.py", "crates/nanorand_core/src/values/range.rt", "    Exhausted,\n", "    Exhausted,\n    Late,\n",
+     "`RangeError::Late`: the library alone"),
+    ("tests/differences.py", "crates/nanorand/src/parts.rt", "    fn part(", "    fn period() -> u128;\n\n    fn part(",
+     "`Parts::period`: the library alone"),
+    ("tests/differences.py", "crates/nanorand/src/rand/wyrand.rt", "#[derive(Drop)]", "#[derive(Drop, Hash)]",
+     "`impl Hash for WyRand`: the library alone"),
+    ("tests/differences.py", "docs/DIFFERENCES.md", "`at_index`, `key`, `nonce`, `counter`", "`at_index`, `key`, `nonce`",
+     "`ChaChaGroups::counter`: the library alone"),
+    ("tests/differences.py", "docs/DIFFERENCES.md", "`Short`, ", "`Short`, `Long`, ",
+     "`entropy::EntropyError::Long`: it is listed as added"),
+    ("tests/differences.py", "docs/DIFFERENCES.md", "| `samples` | `sample`", "| `Rng` | `shuffle`",
+     "`Rng::shuffle`: it is listed as added", "`samples::sample`: the library alone"),
+    ("tests/differences.py", "docs/DIFFERENCES.md", "`impl Default`", "`impl Hash`",
+     "`impl Default for Pcg64`: 0.7.0 alone", "`impl Hash for Pcg64`: it is listed as of 0.7.0"),
+    ("tests/differences.py", "docs/DIFFERENCES.md", "| `gen` | `values` |", "| `gen` | `value` |",
+     "`value`: it is listed as a name here"),
+    ("tests/differences.py", "tests/nanorand-0.7.0.txt", ", windows_uwp, backup", ", backup",
+     "`entropy::windows_uwp`: it is listed as of 0.7.0"),
+    ("tests/differences.py", "crates/nanorand/src/entropy.rt", "pub fn rdseed", "fn rdseed",
+     "`entropy::rdseed`: 0.7.0 alone"),
+    ("tests/differences.py", "crates/nanorand/src/rand.rt", "pub use wyrand::", "use wyrand::",
+     "`rand::WyRand`: 0.7.0 alone"),
+    ("tests/differences.py", "crates/nanorand/src/rand/pcg64.rt", "impl Eq for Pcg64", "impl Default for Pcg64",
+     "`impl Default for Pcg64`: it is listed as left out", "`impl Eq for Pcg64`: it is listed as added"),
+    ("tests/answers/make.py --check", "tests/answers/answers.tsv", "12558987674375533620", "12558987674375533621"),
+    ("tests/answers/make.py --check", "tests/answers/definitions.py", "0xE7037ED1A0B428DB", "0xE7037ED1A0B428DA"),
+    ("tests/answers/make.py --check", "tests/answers/definitions.py", "return EMPTY_LINE, lines.index(b\"\") + 1",
+     "return EMPTY_LINE, lines.index(b\"\")"),
+    ("tools/contracts.py --check", "tools/contracts.py", 'one.word in ("fn", "ghost")', 'one.word in ("ghost",)'),
+    ("tools/contracts.py --check", "tools/contracts.py", 'item.brace).split("\\n")', 'item.brace).split("\\n")[:4]'),
+    ("tools/contracts.py --check", "tools/contracts.py", "unfoldable )*pub (?:record |data )?(?P<name>", "unfoldable )*pub (?:data )?(?P<name>"),
+    ("tools/contracts.py --check", "crates/nanorand_core/specs/values/Runs.antt", "pub quota :", "quota :"),
+    ("tools/contracts.py --check", "crates/nanorand/src/laws.rt", "PartsAreApart (2 ^ 126)", "PartsAreApart (2 ^ 125)"),
+    ("tools/contracts.py --check", "crates/nanorand/specs/generators/Parts.antt", "(i * draws)", "(i * draws + 1)"),
+    ("tools/contracts.py --check", "crates/lots_core/src/lib.rt", "pub mod run;", "pub mod run;\npub const FEW: u8 = 1;"),
+    ("tools/contracts.py --check", "tools/contracts.sums", "nanorand/src/laws.rt", "nanorand/src/law.rt"),
+    ("tools/bodies.py", "rust/lots/src/draws.rs", "number(places);", ""),
+    ("tools/bodies.py", "crates/draw_core/src/command.rt", "1000", "999"),
+    ("tools/bodies.py", "rust/nanorand-proved/src/samples.rs", "count - places.len()", "count - places.len() - 1"),
+    ("tools/bodies.py", "crates/nanorand_core/src/samples.rt", "Ok(())", "Ok(Default::default())"),
+    ("tools/pictures.py --check", "docs/runs.svg", "first", "second"),
+    ("tools/pictures.py --check", "docs/layers.svg", "nanorand_core", "nanorand_cor"),
+    ("tools/pictures.py --check", "docs/delivery.svg", "first", "second"),
+]
+# What writes files: the command, each file, and a text in it that is taken out.
+WRITERS = {
+    "tests/quotes.py --write": {"README.md": "(pips ≤ 6)"},
+    "tests/answers/make.py": {"tests/answers/answers.tsv": "12558987674375533620"},
+    "tools/contracts.py --sums": {"tools/contracts.sums": "  crates/nanorand/src/laws.rt\n"},
+    "tools/record.py": {"docs/PAGE.md": "3: Chidi\n"},
+    "tools/pictures.py": {"docs/layers.svg": "nanorand_core", "docs/runs.svg": "first"},
+    "tools/header.py": {"c/include/nanorand.h": "const uint8_t *list"},
+    "tools/bodies.py --write": {"rust/PROVED.md": "nanorand-proved/src/system.rs"},
+}
+# Modules that the page does not take, and those that it takes: no import, and memory of 64 bits, or of 32.
+MODULE = b"\0asm\1\0\0\0"
+IMPORT, WIDE, NARROW = b"\2\7\1\1a\1b\0\0", b"\5\3\1\4\1", b"\5\3\1\0\1"
+BAD_MODULES = [b"", b"<html>", MODULE, MODULE + NARROW, MODULE + IMPORT + WIDE]
+BAD_MODULES32 = [b"", MODULE, MODULE + WIDE, MODULE + IMPORT + NARROW]
+# What no script of the page may have: the end of a script, its other beginning, a name of another file.
+BAD_SCRIPTS = ["// </SCRIPT>", "// <!--", "function hex() {}"]
+
+
+class Counts:
+    def __init__(self):
+        self.passed = self.failed = 0
+
+    def same(self, name, found, wanted):
+        self.passed += found == wanted
+        self.failed += found != wanted
+        if found != wanted:
+            print(f"FAILED {name}: {found!r} and not {wanted!r}")
+
+
+def ran(command, folder, **environment):
+    return subprocess.run(command, cwd=folder, env={**os.environ, **environment}, stdin=subprocess.DEVNULL,
+                          stdout=subprocess.PIPE, stderr=subprocess.STDOUT, text=True)
+
+
+def stand_in(path, first=""):
+    """A program that notes its call and passes; the call of BAD prints TEXT and ends with STATUS."""
+    path.parent.mkdir(parents=True, exist_ok=True)
+    path.write_text(f"#!/bin/sh\n{first}\n" + """
+echo "$0 $*" >>"$CALLS"
+case "$0 $*" in
+    "$BAD" | */"$BAD" | "$BAD " | */"$BAD ") printf '%s\\n' "$TEXT"; exit "$STATUS" ;;
+esac
+echo '7 passed, 0 failed'
+""")
+    path.chmod(0o755)
+
+
+def calls_of_whole(room):
+    """What ./test calls, where all that it could call is a stand-in. That of rt wants to be in a copy of the room."""
+    copy_of_repository(room, "test", "tests/lib.sh")
+    programs = re.findall(r"^    (?:part|begin) (\S+)", (ROOT / "test").read_text(encoding="utf-8"), re.M)
+    functions = {"alone", "ended", "proofs", "pieces", "mutants"}
+    for name in sorted({*programs, "tests/build.sh", "tools/mutants.py"} - functions):
+        stand_in(room / name)
+    stand_in(room / "bin/rt", f"[ $PWD != {room} ] && [ -e tracked ] && [ -e new ] && [ ! -e built ] || exit 9")
+    for name in ["tracked", "new", "built"]:
+        (room / name).write_text("")
+    (room / ".gitignore").write_text("/built\n")
+    ran(["git", "init", "-q"], room)
+    ran(["git", "add", "tracked"], room)
+
+
+def whole(room, bad, text, status):
+    calls = room / "calls"
+    calls.write_text("")
+    done = ran(["./test"], room, PATH=f"{room / 'bin'}:{os.environ['PATH']}", CALLS=str(calls), BAD=bad, TEXT=text,
+               STATUS=str(status))
+    made = [line.strip().removeprefix(f"{room}/bin/") for line in calls.read_text().splitlines()]
+    return made, done.stdout.splitlines(), done.returncode
+
+
+def sums(counts, room):
+    """Each part is called, and whatever it does is in the sum."""
+    calls_of_whole(room)
+    made, lines, status = whole(room, "none", "", 0)
+    names = {f"tests/{path.name}" for path in (ROOT / "tests").iterdir() if path.name not in NO_PARTS}
+    # The parts that test what the kit and what cargo builds are run for each.
+    by_library = {"tests/c.sh", "tests/draw.sh", "tests/lots.sh", "tests/python.sh"}
+    parts = names - by_library | {f"{name} {library}" for name in by_library for library in ("cargo", "kit")}
+    others = {"rt ci", "tests/build.sh library page draw lots", "tests/answers/make.py --check",
+              "tools/contracts.py --check", "tools/pictures.py --check", "tools/bodies.py", "tools/mutants.py"}
+    counts.same("the parts that are called", sorted(made), sorted(parts | others))
+    # The pieces count as one, whatever the script that builds them prints.
+    all_passed = 7 * (len(made) - 1) + 1
+    counts.same("the sum", (lines[-1], status), (f"{all_passed} passed, 0 failed", 0))
+    times = [line for line in lines if re.fullmatch(r".+: [\d.]+ minutes, [\d.]+ processor-minutes", line)]
+    counts.same("the times, and the ten dearest again", len(times), len(made) + 10)
+    counts.same("the ten dearest are the last", lines[-11:-1], times[-10:])
+    for call in made:
+        # One part has every kind of end, and each of the others the one that is easily overlooked.
+        for kind in KINDS if call == "tests/quotes.py" else ["its status alone fails"]:
+            text, ended, (passed, failed) = KINDS[kind]
+            _, lines, status = whole(room, call, text, ended)
+            of_call = 1 if call.startswith("tests/build.sh") else 7
+            passed = 0 if of_call == 1 else passed
+            wanted = f"{all_passed - of_call + passed} passed, {failed} failed", int(failed > 0)
+            counts.same(f"{call}: {kind}", (lines[-1], status), wanted)
+            if "skipped: " in text:
+                counts.same(f"{call}: the skip is named again", lines[-13], "skipped: a compiler")
+
+
+def quick(counts, room):
+    """./test quick takes the crates that differ from the last commit on main, and the crates of tests above them."""
+    calls = room / "calls"
+    copy_of_repository(room, "test", "tests/lib.sh", "tools/crates.py")
+    for name in ["tests/quotes.py", "tests/links.py", "tests/differences.py", "tests/declarations.py", "tools/contracts.py",
+                 "tools/bodies.py"]:
+        stand_in(room / name)
+    stand_in(room / "bin/rt", 'echo "${PWD##*/} $*" >>"$CALLS"')
+    for name, text in {"low": "", "of_low": "#[test]", "other": "#[test]", "low_alike": "#[test]",
+                       "top": "#[test]"}.items():
+        (room / "crates" / name / "src").mkdir(parents=True)
+        (room / "crates" / name / "src/lib.rt").write_text(text)
+    (room / "crates.txt").write_text("low: thiserror\nof_low staticlib: hex low\nother:\nlow_alike: other\ntop: of_low\n")
+    (room / ".gitignore").write_text("/calls\n/bin/\n")
+    for command in ["init -q -b main", "add .", "-c user.name=n -c user.email=e commit -q -m c"]:
+        ran(["git", *command.split()], room)
+    checked, tested = "check", "try --test --seconds 500"
+    for change, arguments, wanted in [
+        (None, [], []),
+        ("low", [], [f"low {checked}", f"of_low {tested}", f"top {tested}"]),
+        ("new", [], [f"low {checked}", f"new {checked}", f"of_low {tested}", f"top {tested}"]),
+        (None, ["other"], [f"other {checked}", f"low_alike {tested}", f"other {tested}"]),
+    ]:
+        if change:
+            (room / "crates" / change / "src").mkdir(parents=True, exist_ok=True)
+            (room / "crates" / change / "src/lib.rt").write_text("// changed")
+        calls.write_text("")
+        done = ran(["./test", "quick", *arguments], room, PATH=f"{room / 'bin'}:{os.environ['PATH']}",
+                   CALLS=str(calls), BAD="none", TEXT="", STATUS="0")
+        made = [line for line in calls.read_text().splitlines() if re.match(r"\w+ (check|try)", line)]
+        counts.same(f"./test quick {arguments}, after a change of {change}", (made, done.returncode), (wanted, 0))
+
+
+# The same stand-in for cargo and rustc: its call of the number BAD ends as the call of KIND. It has all parts, but no
+# tools of LLVM.
+STAND_IN = """#!/bin/sh
+case "$*" in *--version | *--verbose | --print*) printf 'rustc 1.63.0\nhost: none\nLLVM version: 0\n'; exit 0 ;; esac
+echo "${0##*/} $*" >>"$CALLS"
+if [ "$(wc -l <"$CALLS")" -eq "$BAD" ]; then
+    [ "$KIND" = "nothing" ] && exit 0
+    echo 'test result: FAILED. 2 passed; 1 failed'
+    exit 1
+fi
+case "$*" in *targets/program.rs) install -D /bin/true ../../target/targets/x86_64-unknown-linux-gnu/program ;; esac
+case "$*" in *--list*) cd rust/nanorand-proved && find src benches examples tests *.md LICENSE -type f ! -name answers.rs ;; esac
+echo 'test result: ok. 3 passed; 0 failed'
+"""
+
+
+def crate_tested(room, bad, kind):
+    """The calls of tests/workspace.sh, its last line and its status, where one call ends badly."""
+    calls = room / "calls"
+    calls.write_text("")
+    done = ran(["tests/workspace.sh"], room, PATH=f"{room / 'bin'}:{os.environ['PATH']}", CALLS=str(calls), BAD=str(bad),
+               KIND=kind, NANORAND_OLDEST=str(room))
+    return calls.read_text().splitlines(), done.stdout.splitlines()[-1], done.returncode
+
+
+def crate(counts, room):
+    """The tests of packages count each call that fails, and each run of tests that had none. One example and one
+    target do."""
+    copy_of_repository(room, "rust", "Cargo.toml", "tests", "tools")
+    for example in sorted((room / "rust/nanorand-proved/examples").iterdir())[1:]:
+        example.unlink()
+    for name in ["cargo", "rustc"]:
+        (room / "bin").mkdir(exist_ok=True)
+        (room / "bin" / name).write_text(STAND_IN)
+        (room / "bin" / name).chmod(0o755)
+    std = room / "lib/rustlib/x86_64-unknown-linux-gnu/lib/libstd-1.rlib"
+    std.parent.mkdir(parents=True)
+    std.touch()
+    made, last, status = crate_tested(room, 0, "")
+    counts.same("tests/workspace.sh passes", (bool(re.fullmatch(r"\d+ passed, 0 failed", last)), status), (True, 0))
+    for number, call in enumerate(made, 1):
+        for kind in ["", "nothing"] if re.match(r"cargo (miri )?test ", call) else [""]:
+            _, last, status = crate_tested(room, number, kind)
+            counts.same(f"tests/workspace.sh: {call}: {kind or 'it fails'}", (last.split(", ")[1], status), ("1 failed", 1))
+
+
+def in_lib(script, room, **environment):
+    """What a script prints that sources tests/lib.sh, and its status. The programs of the room come first."""
+    done = ran(["bash", "-c", f"source tests/lib.sh; {script}"], ROOT, PATH=f"{room}:{os.environ['PATH']}", **environment)
+    return done.stdout.splitlines(), done.returncode
+
+
+def cargo(counts, room):
+    """cargo_tests adds up what cargo prints. A status alone fails it, and so does a run without a test."""
+    good, bad = "test result: ok. 3 passed; 0 failed", "test result: FAILED. 2 passed; 1 failed"
+    for text, status, wanted in [(good, 0, "3 passed, 0 failed"), (f"{bad}\n{good}\n{bad}", 101, "7 passed, 2 failed"),
+                                 (good, 101, "3 passed, 1 failed"), ("", 0, "0 passed, 1 failed")]:
+        program(room / "cargo", f"printf '%s\\n' '{text}'\nexit {status}\n")
+        lines, found = in_lib("cargo_tests cargo test; finish", room)
+        case = f"cargo_tests: {text!r}, status {status}"
+        counts.same(case, (lines[-1], found), (wanted, int("0 failed" not in wanted)))
+
+
+def parts(counts, room):
+    """`part`, `quiet_part` and `step` count what their commands say and how they end."""
+    for text, status, wanted in [("6 passed, 2 failed", 1, "6 passed, 2 failed"), ("6 passed, 0 failed", 3, "6 passed, 1 failed"),
+                                 ("6 passed, 0 failed\nlate", 0, "0 passed, 1 failed"), ("", 0, "0 passed, 1 failed")]:
+        program(room / "said", f"printf '%s\\n' '{text}'\nexit {status}\n")
+        for script in ["part said", "quiet_part name said"]:
+            lines, found = in_lib(f"{script}; finish", room)
+            counts.same(f"{script}: {text!r}, {status}", (lines[-1], found), (wanted, int(", 0" not in wanted)))
+    program(room / "said", "echo '0 passed, 0 failed'\n")
+    counts.same("a quiet part of no test", in_lib("quiet_part name said; finish", room)[0][-1], "0 passed, 1 failed")
+    for status, wanted in [(0, "1 passed, 0 failed"), (3, "0 passed, 1 failed")]:
+        program(room / "said", f"exit {status}\n")
+        counts.same(f"a step of status {status}", in_lib("step said; finish", room)[0][-1], wanted)
+    for script, wanted in [("check case ''", "1 passed, 0 failed"), ("check case wrong", "0 passed, 1 failed"),
+                           ("expect case a a", "1 passed, 0 failed"), ("expect case a b", "0 passed, 1 failed"),
+                           ("skip tests reason", "0 passed, 0 failed")]:
+        counts.same(script, in_lib(f"{script}; finish", room)[0][-1], wanted)
+
+
+def program(path, script):
+    path.write_text(f"#!/bin/sh\n{script}", encoding="utf-8")
+    path.chmod(0o755)
+
+
+def copy_of_repository(room, *folders):
+    names = ran(["git", "ls-files", "-z", "--cached", "--others", "--exclude-standard", *folders], ROOT).stdout
+    for name in filter(lambda name: name and (ROOT / name).exists(), names.split("\0")):
+        (room / name).parent.mkdir(parents=True, exist_ok=True)
+        shutil.copy(ROOT / name, room / name, follow_symlinks=False)
+
+
+def changes(counts, room):
+    """Each script passes over the copy as it is, and refuses each change, by name where names are wanted. No file is
+    read by the locale's letters."""
+    letters = {"PYTHONWARNDEFAULTENCODING": "1", "PYTHONWARNINGS": "error::EncodingWarning"}
+    for command in sorted({change[0] for change in CHANGES}):
+        counts.same(f"{command} of no change", ran(command.split(), room, **letters).returncode, 0)
+    for command, name, old, new, *wanted in CHANGES:
+        path = room / name
+        text = path.read_text(encoding="utf-8")
+        case = f"{command} of {name}, {old!r} changed"
+        counts.same(f"{case}: it stands there", old in text, True)
+        path.write_text(text.replace(old, new, 1), encoding="utf-8")
+        done = ran(command.split(), room)
+        last = done.stdout.splitlines()[-1:] or [""]
+        refused = done.returncode != 0 and not re.search(r"\b0 failed$", last[0])
+        counts.same(case, refused, True)
+        for words in wanted:
+            counts.same(f"{case}: it says {words}", words in done.stdout, True)
+        path.write_text(text, encoding="utf-8")
+
+
+def writers(counts, room):
+    """Each writes again what was taken out, to the byte; and nothing where its sources are wrong."""
+    for command, files in WRITERS.items():
+        wanted = {name: (room / name).read_bytes() for name in files}
+        for name, text in files.items():
+            (room / name).write_bytes(wanted[name].replace(text.encode(), b"", 1))
+        status = ran(command.split(), room).returncode
+        found = {name: (room / name).read_bytes() for name in files}
+        counts.same(f"{command}, after a text was taken out", (status, found == wanted), (0, True))
+    definitions, table = room / "tests/answers/definitions.py", room / "tests/answers/answers.tsv"
+    before = definitions.read_bytes(), table.read_bytes()
+    definitions.write_bytes(before[0].replace(b"0xE703", b"0xE704"))
+    counts.same("tests/answers/make.py of wrong definitions", ran(["tests/answers/make.py"], room).returncode, 1)
+    counts.same("the table after that", table.read_bytes() == before[1], True)
+    definitions.write_bytes(before[0])
+
+
+def page(counts, room):
+    """web/build.py takes no module that is not alone, and no script that ends itself."""
+    module, module32, script = room / "module.wasm", room / "module32.wasm", room / "web/src/list.js"
+    build = ["web/build.py", module.name, module32.name]
+    module32.write_bytes(MODULE + NARROW)
+    for code in BAD_MODULES:
+        module.write_bytes(code)
+        counts.same(f"a page of {code!r}", ran(build, room).returncode, 1)
+    module.write_bytes(MODULE + WIDE)
+    for code in BAD_MODULES32:
+        module32.write_bytes(code)
+        counts.same(f"a page of {code!r} for 32 bits", ran(build, room).returncode, 1)
+    module32.write_bytes(MODULE + NARROW)
+    counts.same("a page", ran(build, room).returncode, 0)
+    committed_module(counts, room, module.name)
+    text = script.read_text(encoding="utf-8")
+    for line in BAD_SCRIPTS:
+        script.write_text(f"{text}{line}\n", encoding="utf-8")
+        counts.same(f"a page with {line}", ran(build, room).returncode, 1)
+
+
+def committed_module(counts, room, module):
+    """Where no compiler is to be had, the module for 32-bit memory is that of the committed page."""
+    done = ran(["web/build.py", module], room, NANORAND_OLDEST="/none")
+    counts.same("a page without a compiler", (done.returncode, "skipped: " in done.stdout), (0, True))
+    pages = [(room / name).read_text(encoding="utf-8") for name in ("web/dist/nanorand.html", "docs/nanorand.html")]
+    held = [re.search(r'id="module32">(.*?)<', text)[1] for text in pages]
+    counts.same("its module for 32-bit memory", held[0] == held[1], True)
+
+
+# A crate of two functions, of which the second calls the first, and a stand-in of its check: a 7 in a body is refused
+# for itself, in the second only where the first is proved; an 8 is refused at another clause.
+LOW = """pub fn one() -> u8
+    ensures value { result \u2261 1 }
+{
+    1 + 0
+}
+
+pub fn two() -> u8
+    ensures value { result \u2261 2 }
+    ensures even { true \u2261 true }
+{
+    one() + 1
+}
+"""
+RT = """#!/bin/sh
+[ "$1" = doc ] && echo "${0%/bin/rt}/page" || "${0%rt}rattle" "$@"
+"""
+CHECK = """#!/bin/sh
+echo called >>"$CALLS"
+refused() { echo "./proofs/$1/Answers.antt:1:1: error: \\`$2\\`: no"; echo "fn low::$1: not proved"; status=1; }
+status=0
+case $(sed -n 4p src/lib.rt) in *7*) refused one returns ;; *) echo 'fn low::one: proved' ;; esac
+case $(sed -n 11p src/lib.rt) in
+    *7*) [ $status = 0 ] && refused two returns-clause-value || echo 'fn low::two: no proof: it calls `low::one`' ;;
+    *8*) refused two returns-clause-even ;;
+    *) echo 'fn low::two: proved' ;;
+esac
+exit $status
+"""
+
+
+def mutants(counts, room):
+    """tools/mutants.py plants both mutants at once, takes each refusal for itself, and fails one that is let through."""
+    copy_of_repository(room, "tools")
+    texts = {"crates.txt": "low:\n", "crates/low/src/lib.rt": LOW, "bin/rt": RT, "bin/rattle": CHECK}
+    for name, text in texts.items():
+        (room / name).parent.mkdir(parents=True, exist_ok=True)
+        (room / name).write_text(text, encoding="utf-8")
+        (room / name).chmod(0o755)
+    (room / "crates/low/mutants").mkdir()
+    for of_one, of_two, clause, checks, wanted in [
+        (7, 2, "value", 2, "1 passed, 1 failed"), (7, 7, "value", 3, "2 passed, 0 failed"),
+        (1, 7, "value", 2, "1 passed, 1 failed"), (7, 8, "value", 3, "1 passed, 1 failed"),
+        (7, 8, "even", 2, "2 passed, 0 failed"), (7, 7, "", 3, "1 passed, 1 failed"),
+    ]:
+        for name, line, old, new in [("one", "value", "1 + 0", of_one), ("two", clause, "one() + 1", of_two)]:
+            text = f"# refused: {line}\nfile: src/lib.rt\nold: {old}\nnew: {old[:-1]}{new}\n"
+            (room / f"crates/low/mutants/{name}.edit").write_text(text, encoding="utf-8")
+        calls = room / "calls"
+        calls.write_text("")
+        done = ran(["tools/mutants.py"], room, PATH=f"{room / 'bin'}:{os.environ['PATH']}", CALLS=str(calls))
+        found = len(calls.read_text().splitlines()), done.stdout.splitlines()[-1], done.returncode
+        case = f"tools/mutants.py of {of_one} and {of_two}, refused at {clause}"
+        counts.same(case, found, (checks, wanted, int(" 0 failed" not in wanted)))
+
+
+# Definitions and lemmas of a crate, and what each rests on.
+FILES = {
+    "specs/Sums.antt": "use A.{four}\n\npub one : ℕ\none = 1\n\nabbrev pub two : ℕ\ntwo =\n    1 + 1 -- one\n\n"
+                       "module _ (n : one) where\n  pub four : ℕ\n  four = n\n\npub three : ℕ\nthree = two\n",
+    "proofs/lemmas/Equal.antt": "use A.{four}\n\npub of_two : two ≡ 2\nof_two = refl\n\npub of_six : ℕ\nof_six = 6\n",
+    "src/lib.rt": "fn five() -> u8\n    ensures { result ≡ four }\n{\n    5\n}\n",
+}
+BEHIND = {"one": {"one"}, "(three)": {"one", "three", "two"}, "of_six": {"of_six", "of_two", "two", "one"},
+          "five();": {"five", "four", "one"}, "// one": set(), "use A.{one}": set()}
+
+
+def definitions(counts, room):
+    """What a text rests on: all that its names lead to, and no comment or import."""
+    for name, text in FILES.items():
+        (room / name).parent.mkdir(parents=True)
+        (room / name).write_text(text, encoding="utf-8")
+    sys.path.insert(0, str(ROOT / "tools"))
+    from definitions import Definitions
+    for text, wanted in BEHIND.items():
+        counts.same(f"what {text!r} rests on", Definitions(room).behind(text), wanted)
+
+
+def installs(counts, room):
+    """`available` finds a command that is there. It installs others as root where CI is true, and else says what to
+    install."""
+    program(room / "apt-get", "echo called >>$CALLS\n")
+    calls = room / "calls"
+    for command, environment, wanted in [("bash", {}, ([], 0, 0)), ("none", {"CI": ""}, (["to install: of-none"], 1, 0)),
+                                         ("none", {"CI": "true"}, (["to install: of-none"], 1, int(os.getuid() == 0)))]:
+        calls.write_text("")
+        lines, status = in_lib(f"available {command} of-{command}", room, CALLS=str(calls), **environment)
+        found = lines, status, len(calls.read_text().splitlines())
+        counts.same(f"available {command}, {environment}", found, wanted)
+
+
+def main():
+    counts = Counts()
+    with tempfile.TemporaryDirectory() as name:
+        room = Path(name).resolve()
+        for part in (sums, quick, crate, cargo, parts, mutants, definitions, installs):
+            (room / part.__name__).mkdir()
+            part(counts, room / part.__name__)
+        copy_of_repository(room / "copy")
+        for part in (changes, writers, page):
+            part(counts, room / "copy")
+    print(f"{counts.passed} passed, {counts.failed} failed")
+    return 1 if counts.failed else 0
+
+
+if __name__ == "__main__":
+    sys.exit(main())

@@ -1,0 +1,88 @@
+#!/usr/bin/env bash
+# Compiles rust/nanorand-proved for each target whose std the oldest compiler has, without its feature std and with it,
+# and runs its tests/targets/program.rs where that can be. NANORAND_OLDEST names the folder that has bin/rustc, and
+# NANORAND_STD one that has the std of further targets.
+# shellcheck source=tests/lib.sh
+source "$(dirname "${BASH_SOURCE[0]}")/lib.sh"
+oldest=${NANORAND_OLDEST:-/usr}
+out=../../target/targets
+cd rust/nanorand-proved || exit
+export PATH=$PATH:/usr/lib/wine WINEPREFIX=$work/wine WINEDEBUG=-all WINEDLLOVERRIDES='mscoree,mshtml='
+
+# The target, what links its programs, and what runs them.
+targets='
+x86_64-unknown-linux-gnu      cc                      env
+i686-unknown-linux-gnu        i686-linux-gnu-gcc      qemu-i386 -L /usr/i686-linux-gnu
+armv7-unknown-linux-gnueabihf arm-linux-gnueabihf-gcc qemu-arm -L /usr/arm-linux-gnueabihf
+aarch64-unknown-linux-gnu     aarch64-linux-gnu-gcc   qemu-aarch64 -L /usr/aarch64-linux-gnu
+s390x-unknown-linux-gnu       s390x-linux-gnu-gcc     qemu-s390x -L /usr/s390x-linux-gnu
+x86_64-pc-windows-gnu         x86_64-w64-mingw32-gcc  wine64
+wasm32-unknown-unknown        rust-lld                node tests/targets/load.mjs
+wasm32-wasi                   rust-lld                node tests/targets/load.mjs
+'
+
+# The folder with the std of a target.
+std_of() {
+    local folder
+    for folder in "$oldest/lib/rustlib" "${NANORAND_STD:-}"; do
+        if compgen -G "$folder/$1/lib/libstd-*.rlib" >/dev/null; then
+            printf '%s\n' "$folder/$1/lib"
+            return
+        fi
+    done
+    return 1
+}
+
+# Compiles with the checks of a debug build: compile TARGET ARGUMENT.. Debian's i686 lacks SSE2, which rustc's own has:
+# without it floats are rounded twice.
+compile() {
+    local processor=()
+    case $1 in i686-*) processor=(-C target-cpu=pentium4) ;; esac
+    "$oldest/bin/rustc" --edition 2021 --target "$1" -L "$(std_of "$1")" --out-dir "$out/$1" -D warnings \
+        -C opt-level=1 -C debug-assertions "${processor[@]}" "${@:2}"
+}
+
+compile_crate() {
+    local crate=(--crate-name nanorand_proved --crate-type lib src/lib.rs)
+    step compile "$1" "${crate[@]}" --emit metadata &&
+        step compile "$1" "${crate[@]}" --cfg 'feature="std"'
+}
+
+# Wine 8 lacks Windows' library of random bytes: another stands for it.
+put_library() {
+    x86_64-w64-mingw32-gcc -shared -o "$WINEPREFIX/drive_c/windows/system32/bcryptprimitives.dll" \
+        tests/targets/process_prng.c
+}
+
+# run_program TARGET LINKER RUNNER..
+run_program() {
+    step compile "$1" -C "linker=$2" --extern "nanorand_proved=$out/$1/libnanorand_proved.rlib" \
+        tests/targets/program.rs || return
+    case $1 in *windows*)
+        if ! timeout 300 "$3" cmd /c exit >/dev/null 2>&1; then
+            skip "a program on $1" "Wine does not start here"
+            return
+        fi
+        step put_library
+        ;;
+    esac
+    step timeout 300 "${@:3}" "$(ls "$out/$1"/program{,.exe,.wasm} 2>/dev/null)"
+    case $1 in *windows*) timeout 60 wineserver64 -w ;; esac
+}
+
+while read -r target linker runner; do
+    [ -n "$target" ] || continue
+    if ! std_of "$target" >/dev/null; then
+        skip "$target" "the oldest compiler has no std of it"
+        continue
+    fi
+    printf '== %s\n' "$target"
+    compile_crate "$target" || continue
+    read -ra words <<<"$runner"
+    if command -v "$linker" >/dev/null && command -v "${words[0]}" >/dev/null; then
+        run_program "$target" "$linker" "${words[@]}"
+    else
+        skip "a program on $target" "there is no $linker or no ${words[0]}"
+    fi
+done <<<"$targets"
+finish

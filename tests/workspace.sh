@@ -1,0 +1,202 @@
+#!/usr/bin/env bash
+# Tests the packages of the workspace with cargo alone. NANORAND_OLDEST names the folder with the oldest compiler's bin,
+# else it is /usr.
+# shellcheck source=tests/lib.sh
+source "$(dirname "${BASH_SOURCE[0]}")/lib.sh"
+library=rust/nanorand-proved
+programs=(-p nanorand-program -p lots -p draw)
+oldest=$(sed -n 's/^rust-version = "\(.*\)"$/\1/p' Cargo.toml)
+
+# The version of the library, the oldest compiler and the license are those that its documents say, and it has no
+# dependency.
+library_says_what_it_is() {
+    local version
+    version=$(sed -n 's/^version = "\(.*\)"$/\1/p' "$library/Cargo.toml")
+    holds "CHANGELOG.md begins with the version $version" \
+        [ "$(sed -n 's/^## //p' "$library/CHANGELOG.md" | head -n 1)" = "$version" ] &&
+        holds "README.md names Rust $oldest" grep -qF "Rust $oldest." "$library/README.md" &&
+        holds "CHANGELOG.md names Rust $oldest" grep -qF "Rust $oldest or newer." "$library/CHANGELOG.md" &&
+        holds 'the workspace has the license Zlib' grep -qx 'license = "Zlib"' Cargo.toml &&
+        holds 'LICENSE is that of zlib' grep -qim 1 zlib "$library/LICENSE" &&
+        holds 'Cargo.toml has no dependencies' eval '! grep -q dependencies "$library/Cargo.toml"'
+}
+
+# Runs a command, and says what does not hold if it fails: holds WHAT COMMAND..
+holds() {
+    "${@:2}" || { echo "it does not hold that $1"; return 1; }
+}
+
+# The package $1 takes from the workspace what all share, and depends on packages of this repository alone.
+shares_what_the_workspace_says() {
+    local manifest=rust/$1/Cargo.toml word
+    for word in edition rust-version license repository; do
+        grep -qxF "$word.workspace = true" "$manifest" || return
+    done
+    [ "$(sed -n '/^\[lints\]$/,$p' "$manifest")" = $'[lints]\nworkspace = true' ] &&
+        ! sed '1,/^\[dependencies\]$/d; /^$/,$d' "$manifest" | grep -vF 'path = "../'
+}
+
+# The package $1, which stands outside the workspace, says what the workspace says.
+agrees_with_the_workspace() {
+    local word
+    for word in edition rust-version license; do
+        grep -qxF "$(grep "^$word = " Cargo.toml)" "rust/$1/Cargo.toml" || return
+    done
+}
+
+# The program $1 has a page that says how it is installed, and the license.
+has_a_page() {
+    cmp "$library/LICENSE" "rust/$1/LICENSE" && grep -qF "cargo install --git URL $1" "rust/$1/README.md"
+}
+
+# A value of a type that has none is met by a hint.
+hints_at_mistakes() {
+    cargo build --quiet --offline -p nanorand-proved
+    grep -qF 'is no type whose values can be drawn' <<<"$(rustc --edition 2021 --crate-type lib --emit metadata \
+        --out-dir target/hints --extern nanorand_proved=target/debug/libnanorand_proved.rlib - 2>&1 \
+        <<<'pub fn f(rng: &mut nanorand_proved::WyRand) -> &str { nanorand_proved::Rng::generate(rng) }')"
+}
+
+# Has a program without std take the library without its feature std: were std linked, it would bring a second panic
+# handler. Warnings are failures.
+library_without_std() {
+    local folder=target/without_std
+    cargo rustc --offline -p nanorand-proved --lib --no-default-features --target-dir "$folder" -- -D warnings &&
+        rustc --edition 2021 --crate-type staticlib -C panic=abort -o "$folder/program.a" \
+            -L "dependency=$folder/debug/deps" --extern nanorand_proved="$folder/debug/libnanorand_proved.rlib" \
+            "$library/tests/without_std/program.rs"
+}
+
+# Has a library without std take lots without its feature std.
+lots_without_std() {
+    local folder=target/without_std
+    cargo rustc --offline -p lots --lib --no-default-features --target-dir "$folder" -- -D warnings &&
+        rustc --edition 2021 --crate-type staticlib -C panic=abort -o "$folder/lots.a" \
+            -L "dependency=$folder/debug/deps" --extern "lots=$folder/debug/liblots.rlib" - <<'END'
+#![no_std]
+#[panic_handler]
+fn panic(_: &core::panic::PanicInfo) -> ! {
+    loop {}
+}
+#[no_mangle]
+pub extern "C" fn draw(places: &mut [usize; 9]) -> u8 {
+    lots::draw_places("a seed", places, 1).map_or_else(lots::LotsError::status, |()| 0)
+}
+END
+}
+
+# Unsafe code of the library is in two files alone, as its README says, whatever the attributes say.
+unsafe_in_two_files() {
+    [ "$(cd "$library" && grep -rlw unsafe src | sort)" = $'src/simd.rs\nsrc/system.rs' ]
+}
+
+# The processor is asked for what is compiled for it: one that has AVX2 runs whatever is asked for.
+asks_for_what_it_uses() {
+    local found
+    found=$(grep -oE '(enable = |detected!\(|target_feature = )"[a-z0-9.]+"' "$library/src/simd.rs" |
+        grep -oE '"[^"]*"' | grep -vE 'sse2|neon' | sort -u)
+    [ "$found" = '"avx2"' ] && is_compiled_for_avx2
+}
+
+# Each function for AVX2 says so: else it would run all the same, and forty times as long.
+is_compiled_for_avx2() {
+    [ "$(grep -c 'unsafe fn [a-z_]*with_avx2' "$library/src/simd.rs")" = 2 ] &&
+        [ "$(grep -B 1 'unsafe fn [a-z_]*with_avx2' "$library/src/simd.rs" |
+            grep -c '#\[target_feature(enable = "avx2")\]')" = 2 ]
+}
+
+# The library's package has what its users need, and not the test that reads the repository's table of answers.
+packs_what_it_should() {
+    local file outside='^tests/answers\.rs$'
+    cargo package --offline --allow-dirty --quiet --list -p nanorand-proved >target/packed || return
+    (cd "$library" && ls LICENSE README.md CHANGELOG.md src/lib.rs benches/speed.rs examples/*.rs tests/*.*) |
+        grep -vE "$outside" | while read -r file; do
+        grep -qxF "$file" target/packed || { echo "the package lacks $file"; return 1; }
+    done || return
+    ! grep -E "$outside" target/packed
+}
+
+# Runs tests of cargo, and records in this target folder which code they run. Where the compiler's LLVM has no tools here,
+# it runs the tests alone.
+covered() {
+    if tools/uncovered.py --tools >/dev/null; then
+        cargo_tests env RUSTFLAGS=-Cinstrument-coverage LLVM_PROFILE_FILE="$1/profiles/%m-%p.profraw" \
+            cargo test --offline --target-dir "$1" "${@:2}"
+    else
+        cargo_tests cargo test --offline "${@:2}"
+    fi
+}
+
+# Counts the code of these folders that the tests have run, and fails for any that none has.
+all_covered() {
+    if tools/uncovered.py --tools >/dev/null; then
+        part tools/uncovered.py "$@"
+    else
+        skip 'whether tests run all code' "there is no $(tools/uncovered.py --tools | cut -d ' ' -f 1)"
+    fi
+}
+
+# Tests all packages by the oldest compiler, without the sweeps, and compiles the programs for each target whose std is
+# there.
+by_the_oldest() {
+    local words=(env "RUSTC=$oldest_bin/rustc" "RUSTDOC=$oldest_bin/rustdoc" "$oldest_bin/cargo") std target
+    cargo_tests "${words[@]}" test --offline -p nanorand-proved --target-dir target/oldest -- --skip sweeps::
+    cargo_tests "${words[@]}" test --offline "${programs[@]}" --target-dir target/oldest -- --skip all_
+    for std in "${oldest_bin%/bin}"/lib/rustlib/*/lib/libstd-*.rlib; do
+        target=${std#*/lib/rustlib/}
+        step "${words[@]}" check --offline "${programs[@]}" --target-dir target/oldest --target "${target%%/*}"
+    done
+    part tests/targets.sh
+}
+
+step library_says_what_it_is
+for name in nanorand-proved nanorand-program lots draw; do
+    step shares_what_the_workspace_says "$name"
+done
+for name in nanorand-c nanorand-drop-in nanorand-rand-core; do
+    step agrees_with_the_workspace "$name"
+done
+step has_a_page lots
+step has_a_page draw
+clippy_and_format --workspace --all-targets
+step env RUSTDOCFLAGS='-D warnings' cargo doc --offline --workspace --no-deps
+coverage=$PWD/target/coverage
+rm -rf "$coverage/profiles"
+covered "$coverage" --workspace --lib --bins --tests
+covered "$coverage" --release -p nanorand-proved --no-default-features --lib --test chacha_lanes
+sources=(rust/{nanorand-program,lots,draw}/src)
+if grep -qw avx2 /proc/cpuinfo 2>/dev/null; then
+    sources+=("$library/src")
+else
+    skip 'whether tests run all code of the library' 'this processor has no AVX2'
+fi
+all_covered "$coverage" "${sources[@]}"
+cargo_tests cargo test --offline --workspace --doc
+cargo_tests cargo test --offline --release -p nanorand-proved
+cargo_tests cargo test --offline --no-default-features --doc -p nanorand-proved
+cargo_tests cargo test --offline --no-default-features -p lots
+step library_without_std
+step lots_without_std
+step unsafe_in_two_files
+step asks_for_what_it_uses
+if [ "$(rustc --version | sed -nE 's/^rustc 1\.([0-9]+)\..*/\1/p')" -ge 78 ]; then
+    step hints_at_mistakes
+else
+    echo 'skipped: hints at mistakes, which rustc has from 1.78 on'
+fi
+if is_version "$oldest" "$oldest_bin/rustc"; then
+    by_the_oldest
+else
+    skip "rustc $oldest, the oldest that Cargo.toml names, and other targets" "$oldest_bin has none"
+fi
+for example in "$library"/examples/*.rs; do
+    step cargo run --offline --quiet -p nanorand-proved --example "$(basename "$example" .rs)"
+done
+step cargo package --offline --allow-dirty --quiet -p nanorand-proved
+step packs_what_it_should
+if cargo miri --version >/dev/null 2>&1; then
+    cargo_tests cargo miri test --offline --lib -p nanorand-proved
+else
+    skip 'Miri' 'it is not there'
+fi
+finish

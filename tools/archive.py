@@ -1,0 +1,165 @@
+#!/usr/bin/env python3
+"""Builds dist/nanorand-VERSION-x86_64-linux.tar.gz, which holds the library for every language.
+
+    tools/archive.py             proves and builds each piece, by tests/build.sh, and packs them; minutes the first time
+    tools/archive.py --pack      packs the pieces as they were built last
+
+Equal sources and pieces give equal bytes, by the same tools. The last line is the SHA-256 of the archive.
+"""
+
+from __future__ import annotations
+
+import gzip
+import hashlib
+import io
+import os
+import re
+import shutil
+import subprocess
+import sys
+import tarfile
+import tempfile
+from pathlib import Path
+
+HERE = Path(__file__).resolve().parent
+TOP = HERE.parent
+sys.path.append(str(TOP / "python"))
+import backend  # noqa: E402
+
+NAME = f"nanorand-{backend.VERSION}-x86_64-linux"
+OUT = TOP / "dist" / f"{NAME}.tar.gz"
+LIBRARY = TOP / "crates/nanorand_c/out/libnanorand_c.a"
+PAGE = TOP / "web/dist"
+PROGRAMS = ["draw", "lots"]
+# The workspace of Rust, whose tests run in the archive too, the adapter for rand_core and the drop-in.
+WORKSPACE = re.compile(r"Cargo\.(toml|lock)$|rust/(nanorand-(proved|program|rand-core)|draw|lots)/"
+                       r"|rust/nanorand-drop-in/(src/|Cargo\.toml$|README\.md$)")
+# What pip builds the Python package from, over the archive's library.
+PACKAGE = re.compile(r"pyproject\.toml$|python/((native|nanorand)/|backend\.py$|README\.md$)")
+# The time of every file: 2026-01-01, 00:00 UTC.
+TIME = 1767225600
+
+
+def run(*command: str, folder: Path = TOP, **variables: str) -> str:
+    """The standard output of a command. One that fails ends the build."""
+    environment = {**os.environ, "LC_ALL": "C", "TZ": "UTC", **variables}
+    done = subprocess.run(command, cwd=folder, env=environment, stdin=subprocess.DEVNULL,
+                          capture_output=True, encoding="utf-8")
+    if done.returncode != 0:
+        sys.exit(f"{done.stdout}{done.stderr}\ntools/archive.py: {' '.join(command[:3])} failed")
+    return done.stdout
+
+
+def copy(source: Path, target: Path) -> None:
+    if not source.exists():
+        sys.exit(f"tools/archive.py: there is no {source.relative_to(TOP)}: build its piece first")
+    target.parent.mkdir(parents=True, exist_ok=True)
+    shutil.copyfile(source, target)
+
+
+def fill(source: Path, target: Path) -> None:
+    """Copies a text, with the version for its mark."""
+    copy(source, target)
+    target.write_text(target.read_text(encoding="utf-8").replace("@VERSION@", backend.VERSION), encoding="utf-8")
+
+
+def put_c(root: Path) -> None:
+    """Both libraries, the header, the pkg-config file and the example."""
+    copy(TOP / "c/include/nanorand.h", root / "include/nanorand.h")
+    copy(LIBRARY, root / "lib/libnanorand.a")
+    fill(TOP / "c/nanorand.pc.in", root / "lib/pkgconfig/nanorand.pc")
+    for name in ["deck.c", "deck.out"]:
+        copy(TOP / "c/examples" / name, root / "c" / name)
+    run("cc", "-shared", "-nostdlib", "-s", "-o", str(root / "lib/libnanorand.so.1"),
+        "-Wl,-soname,libnanorand.so.1", "-Wl,--version-script=c/nanorand.map",
+        "-Wl,--whole-archive", str(root / "lib/libnanorand.a"), "-Wl,--no-whole-archive", "-lc",
+        "-Wl,--no-undefined", "-Wl,--build-id=none", "-Wl,-z,now")
+    (root / "lib/libnanorand.so").symlink_to("libnanorand.so.1")
+
+
+def put_programs(root: Path) -> None:
+    for name in PROGRAMS:
+        copy(TOP / "crates" / name / "out" / name, root / "bin" / name)
+
+
+def put_committed(root: Path, names: re.Pattern[str]) -> None:
+    """The files with such names, of those that are committed."""
+    for name in run("git", "ls-files", "-z").split("\0"):
+        if names.match(name):
+            copy(TOP / name, root / name)
+
+
+def put_rust(root: Path) -> None:
+    put_committed(root, WORKSPACE)
+
+
+def put_python(root: Path) -> None:
+    """The wheel for this Python, and what pip builds it from for another one."""
+    run("python/build.py", str(root / "python"), NANORAND_LIBRARY=str(LIBRARY))
+    put_committed(root, PACKAGE)
+
+
+def put_rest(root: Path) -> None:
+    """The page and its module, the answers, and what to read."""
+    for name in ["nanorand.html", "nanorand_c.wasm"]:
+        copy(PAGE / name, root / "web" / name)
+    for name in ["answers.tsv", "README.md"]:
+        copy(TOP / "answers" / name, root / "answers" / name)
+    copy(TOP / "LICENSE", root / "LICENSE")
+    fill(HERE / "archive.md", root / "README.md")
+    run("tools/contracts.py", str(root / "contracts.html"))
+
+
+def put_digests(root: Path) -> None:
+    """SHA256SUMS, as sha256sum -c reads it."""
+    files = sorted(path for path in root.rglob("*") if path.is_file() and not path.is_symlink())
+    lines = [f"{hashlib.sha256(path.read_bytes()).hexdigest()}  {path.relative_to(root)}\n"
+             for path in files]
+    (root / "SHA256SUMS").write_text("".join(lines), encoding="utf-8")
+
+
+def entry(root: Path, path: Path) -> tarfile.TarInfo:
+    """The head of a file, folder or link, which says nothing of this machine."""
+    info = tarfile.TarInfo(str(Path(NAME) / path.relative_to(root)))
+    info.mtime = TIME
+    if path.is_symlink():
+        info.type, info.linkname, info.mode = tarfile.SYMTYPE, os.readlink(path), 0o777
+    elif path.is_dir():
+        info.type, info.mode = tarfile.DIRTYPE, 0o755
+    else:
+        info.size = path.stat().st_size
+        info.mode = 0o755 if path.parent.name == "bin" else 0o644
+    return info
+
+
+def packed(root: Path) -> bytes:
+    """The archive: entries in the order of their names, and no time in the head of gzip."""
+    content = io.BytesIO()
+    with tarfile.open(fileobj=content, mode="w", format=tarfile.USTAR_FORMAT) as archive:
+        for path in [root, *sorted(root.rglob("*"))]:
+            info = entry(root, path)
+            archive.addfile(info, io.BytesIO(path.read_bytes()) if info.isreg() else None)
+    return gzip.compress(content.getvalue(), compresslevel=9, mtime=0)
+
+
+def pack() -> None:
+    with tempfile.TemporaryDirectory() as room:
+        root = Path(room) / NAME
+        root.mkdir()
+        for put in [put_c, put_programs, put_rust, put_python, put_rest, put_digests]:
+            put(root)
+        OUT.parent.mkdir(exist_ok=True)
+        OUT.write_bytes(packed(root))
+    print(f"{hashlib.sha256(OUT.read_bytes()).hexdigest()}  {OUT.relative_to(TOP)}")
+
+
+def main() -> None:
+    if sys.argv[1:] not in ([], ["--pack"]):
+        sys.exit(__doc__)
+    if not sys.argv[1:]:
+        run("tests/build.sh", "library", "page", *PROGRAMS)
+    pack()
+
+
+if __name__ == "__main__":
+    main()

@@ -1,0 +1,310 @@
+#!/usr/bin/env python3
+"""Writes c/include/nanorand.h from the exports of crates/nanorand_c: tools/header.py.
+
+tools/header.py --check ARCHIVE.. compares the committed header with what would be written, its functions with the
+symbols of each static library, and prints N passed, M failed.
+tools/header.py --symbols prints the symbols of the exports.
+"""
+
+from __future__ import annotations
+
+import re
+import subprocess
+import sys
+import textwrap
+from pathlib import Path
+from typing import NamedTuple
+
+ROOT = Path(__file__).resolve().parent.parent
+sys.path.insert(0, str(ROOT / "tools"))
+from rattle import exports_of, is_laid_out_as_in_c, items_at, name_and_type, text_of  # noqa: E402
+
+SOURCES = sorted((ROOT / "crates/nanorand_c/src").rglob("*.rt"))
+# Structs of the libraries below that cross as they are.
+BORROWED = [path for crate in ("nanorand_calls/src", "nanorand/src/rand")
+            for path in sorted((ROOT / "crates" / crate).rglob("*.rt"))]
+HEADER = ROOT / "c/include/nanorand.h"
+FRAME = ROOT / "c/include/nanorand.h.in"
+
+PREFIX = "nanorand_v1_"
+NUMBERS = {"u8": "uint8_t", "u32": "uint32_t", "u64": "uint64_t", "i64": "int64_t", "usize": "size_t"}
+STRUCTS = {"WyRand": "wyrand", "Wide": "pcg64", "ChaChaState": "chacha", "Stream": "stream",
+           "GroupStream": "keystream"}
+
+# What a generator is, above its functions. The states are described at their structs.
+SECTIONS = {
+    "wyrand": "WyRand: 64 bits of state, the fastest. Not cryptographically secure.",
+    "pcg64": "Pcg64: a seed of 128 bits. Not cryptographically secure.",
+    "chacha8": "ChaCha with 8 rounds. Each call begins a new block, also for a number: fill many bytes at once.",
+    "chacha12": "ChaCha with 12 rounds. Each call begins a new block, also for a number: fill many bytes at once.",
+    "chacha20": "ChaCha with 20 rounds. Each call begins a new block, also for a number: for many, take keystream.",
+    "stream": "The keystream of ChaCha with 20 rounds, without a gap between calls.",
+    "keystream": "The same keystream, eight blocks at once: the one to take where speed counts.",
+    "lots": "The public draw by lot.",
+    "version": "The version.",
+}
+GENERATORS = [name for name in SECTIONS if name not in ("lots", "version")]
+
+# The comments of the source in C's words. What has none is an error: see `in_c_words`.
+WORDS = [
+    (r"`first\.\.=last`", "`first` to `last`, both included"),
+    (r"\b[Tt]he slice\b", "`buffer`"),
+    (r"`(u8|u32|u64|i64|usize)`", lambda found: f"`{NUMBERS[found[1]]}`"),
+]
+RUST_WORDS = re.compile(r"::|\.\.=|\bslices?\b|\b[ui](size|8|16|32|64|128)\b|&mut|\bOk\b|\bErr\b")
+
+
+class Function(NamedTuple):
+    symbol: str
+    comment: str
+    parameters: str
+    attributes: str
+    result: str
+
+    @property
+    def name(self) -> str:
+        return self.symbol.replace(PREFIX, "nanorand_", 1)
+
+    @property
+    def section(self) -> str:
+        return self.symbol.removeprefix(PREFIX).split("_")[0]
+
+    @property
+    def call(self) -> str:
+        """The name without the generator's."""
+        return self.symbol.removeprefix(f"{PREFIX}{self.section}").lstrip("_")
+
+
+class Struct(NamedTuple):
+    name: str
+    comment: str
+    fields: list[tuple[str, str, str]]
+
+
+def paragraphs_of(docs: list[str]) -> str:
+    """The paragraphs of an item's docs, each a line."""
+    text = "\n".join(line.strip() for line in docs)
+    return "\n".join(" ".join(paragraph.split()) for paragraph in text.split("\n\n"))
+
+
+def in_c_words(name: str, comment: str) -> str:
+    """The comment of the source, as a C programmer reads it."""
+    text = comment
+    for pattern, word in WORDS:
+        text = re.sub(pattern, word, text)
+    if not text or (found := RUST_WORDS.search(text)):
+        reason = f"it has {found[0]}" if text else "it is empty"
+        sys.exit(f"tools/header.py: the comment of {name} is no text of C: {reason}")
+    return text[0].upper() + text[1:]
+
+
+def parameter(name: str, kind: str, length: str) -> str:
+    """A parameter in C. A slice is a pointer and then a length."""
+    constant = "" if kind.startswith("&mut ") or not kind.startswith("&") else "const "
+    inner = re.sub(r"^&(mut )?", "", kind)
+    if match := re.fullmatch(r"\[(\w+); (\d+)\]", inner):
+        return f"{constant}{c_type(match[1])} {name}[{match[2]}]"
+    if match := re.fullmatch(r"\[(\w+)\]", inner):
+        return f"{constant}{c_type(match[1])} *{name}, size_t {length}"
+    return f"{constant}{c_type(inner)} {'*' if kind.startswith('&') else ''}{name}"
+
+
+def is_slice(kind: str) -> bool:
+    return re.fullmatch(r"&(mut )?\[\w+\]", kind) is not None
+
+
+def parameters(pairs: list[tuple[str, str]]) -> str:
+    """The parameters in C. The last slice's length is `length`, another's has the slice's name."""
+    slices = [name for name, kind in pairs if is_slice(kind)]
+    lengths = {name: f"{name}_length" for name in slices[:-1]}
+    written = [parameter(name, kind, lengths.get(name, "length")) for name, kind in pairs]
+    return ", ".join(written) or "void"
+
+
+def attributes(pairs: list[tuple[str, str]], result: str) -> str:
+    """What compilers are told. A reference is never null; a slice, which is two parameters, may be if it is empty."""
+    places, place = [], 1
+    for _, kind in pairs:
+        if kind.startswith("&") and not is_slice(kind):
+            places.append(str(place))
+        place += 2 if is_slice(kind) else 1
+    words = [f"NANORAND_NOT_NULL(({', '.join(places)}))"] if places else []
+    # A byte that is returned is a status.
+    words += ["NANORAND_USE_STATUS"] if result == "u8" else []
+    return " ".join(words)
+
+
+def c_type(kind: str) -> str:
+    if kind in STRUCTS:
+        return f"nanorand_{STRUCTS[kind]}"
+    if kind not in NUMBERS:
+        sys.exit(f"tools/header.py: {kind} is no type that crosses to C")
+    return NUMBERS[kind]
+
+
+def functions() -> list[Function]:
+    """The exports, in the order of SECTIONS and then of the source."""
+    found = []
+    for export in (export for path in SOURCES for export in exports_of(items_at(path))):
+        words, result = in_c_words(export.name, paragraphs_of(export.docs)), text_of(export.result)
+        returned, pairs = c_type(result) if result else "void", list(map(name_and_type, export.parameters))
+        found.append(Function(export.name, words, parameters(pairs), attributes(pairs, result), returned))
+    if len(found) != sum(path.read_text(encoding="utf-8").count("no_mangle") for path in SOURCES):
+        sys.exit("tools/header.py: not every export is a function of a file")
+    if odd := [function.symbol for function in found if function.section not in SECTIONS]:
+        sys.exit(f"tools/header.py: no section for {', '.join(odd)}")
+    return sorted(found, key=lambda function: list(SECTIONS).index(function.section))
+
+
+def structs() -> list[Struct]:
+    """The structs that cross, in the order of STRUCTS, with the first paragraph of their comments."""
+    found = {}
+    for item in (item for path in SOURCES + BORROWED for item in items_at(path)):
+        if is_laid_out_as_in_c(item) and item.name in STRUCTS:
+            comment = in_c_words(item.name, paragraphs_of(item.docs).split("\n")[0])
+            fields = [(*name_and_type(part.tokens), paragraphs_of(part.docs)) for part in item.parts]
+            found[item.name] = Struct(STRUCTS[item.name], comment, fields)
+    return [found[name] for name in STRUCTS if name in found]
+
+
+def comment_of(text: str) -> str:
+    """A comment of C, filled to 100 columns; an empty line is between its paragraphs."""
+    if len(text) <= 93 and "\n" not in text:
+        return f"/* {text} */"
+    paragraphs = ["\n".join(f" * {line}" for line in textwrap.wrap(paragraph, 97))
+                  for paragraph in text.splitlines()]
+    return "/*\n" + "\n *\n".join(paragraphs) + "\n */"
+
+
+def declaration(function: Function) -> str:
+    """The declaration: on one line, or with the parameters and the attributes on lines of their own."""
+    start = f"{function.result} {function.name}("
+    end = f" {function.attributes}".rstrip() + ";"
+    if len(line := f"{start}{function.parameters}){end}") <= 100:
+        return line
+    if len(line := f"    {function.parameters}){end}") <= 100:
+        return f"{start}\n{line}"
+    # No line ends within a parameter.
+    taken = function.parameters.replace(" ", "\0").replace(",\0", ", ") + ")"
+    lines = textwrap.fill(taken, 100, initial_indent="    ", subsequent_indent="    ").replace("\0", " ")
+    return f"{start}\n{lines}\n   {end}"
+
+
+def lacking(found: list[Function], call: str) -> list[str]:
+    """The generators that have no such call."""
+    having = {one.section for one in found if one.call == call}
+    return [name for name in GENERATORS if name not in having]
+
+
+def shared_comments(found: list[Function]) -> dict[str, str]:
+    """The calls that every generator has, or every one but one, each with the comment that it has for the first
+    generator."""
+    return {one.call: one.comment for one in found
+            if one.section == GENERATORS[0] and len(lacking(found, one.call)) <= 1}
+
+
+def shared_text(found: list[Function], shared: dict[str, str]) -> str:
+    """One comment for all generators, a paragraph for each call."""
+    names = ", ".join(GENERATORS[:-1])
+    first = [f"`..` stands for the name of a generator: {names} or {GENERATORS[-1]}."]
+    first += [f"{name} has no {call}." for call in shared for name in lacking(found, call)]
+    calls = [f"nanorand_.._{call}: {comment}" for call, comment in shared.items()]
+    return comment_of("\n".join([" ".join(first), *calls]))
+
+
+def struct_text(struct: Struct) -> str:
+    lines = []
+    for name, kind, comment in struct.fields:
+        text = parameter(name, kind, "") + ";"
+        lines.append(f"    {text}" + (f" /* {comment} */" if comment else ""))
+    body = "\n".join(lines)
+    tag = f"{PREFIX}{struct.name}"
+    definition = f"typedef struct {tag} {{\n{body}\n}} nanorand_{struct.name};"
+    return f"{comment_of(struct.comment)}\n{definition}\n"
+
+
+def version() -> str:
+    """The number that nanorand_v1_version returns: the last of its body."""
+    for export in (export for path in SOURCES for export in exports_of(items_at(path))):
+        if export.name == f"{PREFIX}version":
+            return export.body[-1].text.replace("_", "")
+    return sys.exit("tools/header.py: no version is exported")
+
+
+def section(name: str, members: list[Function], shared: dict[str, str]) -> str:
+    """The declarations of a section. Those with a comment of their own stand apart."""
+    lines = [f"/* ---- {SECTIONS[name]} ---- */", ""]
+    for one, after in zip(members, [*members[1:], None]):
+        if (own := one.comment != shared.get(one.call)):
+            lines.append(comment_of(one.comment))
+        lines.append(declaration(one))
+        if own or after is None or after.comment != shared.get(after.call):
+            lines.append("")
+    return "\n".join(lines) + "\n"
+
+
+def header() -> str:
+    found = functions()
+    shared = shared_comments(found)
+    sections = [section(name, members, shared) for name in SECTIONS
+                if (members := [function for function in found if function.section == name])]
+    names = "\n".join(f"#define {function.name} {function.symbol}" for function in found)
+    text = FRAME.read_text(encoding="utf-8")
+    for mark, part in [("VERSION", version()), ("NAMES", names), ("CALLS", shared_text(found, shared)),
+                       ("FUNCTIONS", "".join(sections)), ("STRUCTS", "\n".join(map(struct_text, structs())))]:
+        text = text.replace(f"@{mark}@", part)
+    return text
+
+
+def archived(archive: str) -> set[str]:
+    """What the archive defines for others: no symbol that another library could meet."""
+    listed = subprocess.run(["nm", "--defined-only", "--extern-only", "--format=posix", archive],
+                            check=True, capture_output=True, encoding="utf-8").stdout
+    return {line.split()[0] for line in listed.splitlines() if len(line.split()) > 1}
+
+
+def is_explained(function: Function, words: str) -> bool:
+    """The words of the header have its comment above the declaration, or at its call in the shared comment."""
+    comment = " ".join(function.comment.split())
+    places = f"{comment} {function.result} {function.name}(", f"nanorand_.._{function.call}: {comment}"
+    return any(place in words for place in places)
+
+
+def check(archives: list[str]) -> int:
+    """Compares header and archives with the source. One test for the text, and one for each comment and symbol."""
+    found = functions()
+    symbols = {function.symbol for function in found}
+    text = HEADER.read_text(encoding="utf-8") if HEADER.exists() else ""
+    words = " ".join(re.sub(r"^ \*/?|/\*|\*/", "", text, flags=re.M).split())
+    wrong = [f"{one.symbol} is not explained" for one in found if not is_explained(one, words)]
+    wrong += [f"{symbol} has no version" for symbol in sorted(symbols) if not symbol.startswith(PREFIX)]
+    if text != header():
+        wrong.append("c/include/nanorand.h is not what tools/header.py writes")
+    cases = 1 + len(found)
+    for archive in archives:
+        exported = archived(archive)
+        wrong += [f"{symbol} is not in {archive}" for symbol in sorted(symbols - exported)]
+        wrong += [f"{symbol} is in {archive} alone" for symbol in sorted(exported - symbols)]
+        cases += len(symbols | exported)
+    for line in wrong:
+        print(f"FAILED {line}")
+    print(f"{cases - len(wrong)} passed, {len(wrong)} failed")
+    return 1 if wrong else 0
+
+
+def main() -> int:
+    if sys.argv[1:2] == ["--check"]:
+        return check(sys.argv[2:])
+    if sys.argv[1:] == ["--symbols"]:
+        print("\n".join(sorted(function.symbol for function in functions())))
+        return 0
+    if sys.argv[1:]:
+        print("usage: tools/header.py [--check ARCHIVE.. | --symbols]", file=sys.stderr)
+        return 2
+    HEADER.parent.mkdir(exist_ok=True)
+    HEADER.write_text(header(), encoding="utf-8")
+    return 0
+
+
+if __name__ == "__main__":
+    sys.exit(main())

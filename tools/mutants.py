@@ -1,0 +1,328 @@
+#!/usr/bin/env python3
+"""Tries the mutants: tools/mutants.py [CRATE | CRATE/NAME]..; without arguments, all of them.
+
+A mutant is a file crates/CRATE/mutants/NAME.edit, or in must-fail/, where rt ci tries it too: pairs of lines `old:` and
+`new:`, and a line `# refused:` with the clauses that refuse it, or else the goals, as the check prints them. Those of a
+crate that change different functions are planted together in a copy of the crate, and a check of these functions and
+what they call has to refuse each for itself, at every clause that its file names. What is refused there only for a
+function that it calls goes into a further group. A mutant of a definition names the function that refuses it, most
+often a law, `# refused: laws::draws_are_fair: shares`; none that is planted with it changes a definition on which that
+law rests. What changes a body and names its function, as a loop with its invariant, is tried alone; so is what changes
+anything else.
+
+A line for each group has its processor-seconds, and one for each mutant the clauses and goals that refused it. The last
+line is N passed, M failed. Where PROVED names a checkout in which rt ci has passed, its libraries are taken; else each
+crate is proved first, as it stands. LANES is how many crates are tried side by side. LOGS names a folder for what the
+checks said.
+"""
+
+import os
+import re
+import shutil
+import subprocess
+import sys
+import tempfile
+from concurrent.futures import ThreadPoolExecutor
+from functools import cache, cached_property
+from pathlib import Path
+
+import crates
+from definitions import Definitions, declarations_of
+from rattle import bare, items_at, text_of
+
+ROOT = Path(__file__).resolve().parent.parent
+PROVED = Path(os.environ.get("PROVED", ROOT))
+KIT = crates.kit()
+LANES = int(os.environ.get("LANES", "1"))
+
+LINE = re.compile(r"^(file|old|new|# refused):(?: (.*))?$", re.M)
+VERDICT = re.compile(r"^fn (\S+): (.*)$", re.M)
+PASSED, FAILED, AGAIN = "", "FAILED ", "again: "
+# A goal that an answer does not prove: by the file of answers, and what is said of it.
+ANSWER = re.compile(r"^\./proofs/(\S+)/\w+\.antt:\d+:\d+: error: (.*)$", re.M)
+
+
+class Function:
+    """A function of a crate: its file and place, its name as the check prints it, and its clauses."""
+
+    def __init__(self, file, item, name):
+        self.file, self.item, self.name = file, item, name
+        self.clauses = [clause.name for clause in item.ensures]
+
+    def has(self, file, start, end):
+        return self.file == file and self.item.body is not None and self.item.brace < start and end <= self.item.end
+
+
+def owner_of(item):
+    """How the check prints a trait or an impl: an impl of `Rng<8>` for `WyRand` is WyRandRng8. Parameters, whose names
+    are in capitals, are left out."""
+    if item.word == "trait":
+        return item.name
+    # Of a trait the last part of its path; of a type alone no parameters.
+    types = f"{text_of(item.type)} {text_of(item.trait).rpartition('::')[2]}" if item.trait else bare(item.type)
+    words = [word for word in re.findall(r"\w+", types) if not word.isupper()]
+    is_array = item.trait and item.type[0].text == "["
+    return ("Array" if is_array else "") + "".join(word[0].upper() + word[1:] for word in words)
+
+
+@cache
+def functions_of(crate):
+    """The functions of a crate."""
+    functions = []
+    for path in sorted((crate / "src").glob("**/*.rt")):
+        file = str(path.relative_to(crate))
+        modules = [one for one in re.sub(r"^src/|\.rt$", "", file).split("/") if one != "lib"]
+        for item in items_at(path):
+            owner = [owner_of(item)] if item.members() else []
+            functions += [Function(file, one, "::".join([crate.name, *modules, *owner, one.name]))
+                          for one in (item, *item.members()) if one.word == "fn"]
+    return functions
+
+
+definitions_of = cache(Definitions)
+
+
+class Mutant:
+    """A mutant: the texts that it replaces, the functions in whose bodies they stand, or the definitions, and what
+    refuses it."""
+
+    def __init__(self, path):
+        self.crate = path.parent.parent
+        self.name = f"{self.crate.name}/{path.stem}"
+        self.places, self.functions, self.definitions, self.is_elsewhere, wanted = [], [], set(), False, ""
+        for word, said in LINE.findall(path.read_text(encoding="utf-8")):
+            if word == "file":
+                file = said
+            elif word == "old":
+                old = said
+            elif word == "new":
+                self.change(file, old, said)
+            else:
+                wanted = said
+        function, _, clauses = wanted.rpartition(": ")
+        self.function, self.clauses = function, set(filter(None, clauses.split(", ")))
+
+    def change(self, file, old, new):
+        text = (self.crate / file).read_text(encoding="utf-8")
+        if text.count(old) != 1:
+            sys.exit(f"tools/mutants.py: {self.name}: a text is in {file} {text.count(old)} times, and not once: {old}")
+        start, end = text.index(old), text.index(old) + len(old)
+        self.places.append((file, start, end, new))
+        if file.endswith(".antt"):
+            found = {name for name, first, last in declarations_of(text) if first <= start and end <= last}
+            self.definitions |= found
+        else:
+            found = [one for one in functions_of(self.crate) if one.has(file, start, end)]
+            self.functions += found
+        self.is_elsewhere |= not found
+
+    def asked(self):
+        """What a check of the functions that have to be refused asks for."""
+        return {self.function} if self.function else {one.name.partition("::")[2] for one in self.functions}
+
+    def is_alone(self):
+        """Whether it changes more than definitions, or than bodies of functions that it need not name."""
+        return self.is_elsewhere or bool(self.functions and (self.definitions or self.function))
+
+    @cached_property
+    def behind(self):
+        """The names that the functions rest on which have to be refused: by their texts and their answers."""
+        texts = []
+        for one in functions_of(self.crate):
+            if self.is_refused_at(one.name):
+                answers = self.crate.joinpath("proofs", *one.name.split("::")[1:]).glob("*.antt")
+                texts += [one.item.code(), *(file.read_text(encoding="utf-8") for file in answers)]
+        return definitions_of(self.crate).behind("\n".join(texts))
+
+    def is_apart(self, other):
+        """Whether the two change different functions, and neither what a law rests on that has to refuse the other."""
+        different = self.asked().isdisjoint(other.asked()) and set(self.functions).isdisjoint(other.functions)
+        return different and not self.spoils(other) and not other.spoils(self)
+
+    def spoils(self, other):
+        """Whether it changes a definition on which what refuses the other rests, or, if that is a law, a function."""
+        functions = {one.item.name for one in self.functions} if other.definitions else set()
+        return not other.behind.isdisjoint(self.definitions | functions)
+
+    def is_refused_at(self, function):
+        """Whether this function, by the name that the check prints, is the one that has to be refused."""
+        if self.function:
+            return function.endswith(f"::{self.function}")
+        return any(one.name == function for one in self.functions)
+
+
+CRATES = crates.crates()
+
+
+@cache
+def libraries_of(name):
+    """The arguments that name the libraries below a crate."""
+    return crates.words(name, CRATES, PROVED)
+
+
+def command(name, asked):
+    """What checks these functions of a crate, and what they call, over the libraries below it as they were built."""
+    kind = CRATES[name].kind
+    words = [KIT / "bin/rattle", "check", "--crate-name", name, "src/lib.rt", *libraries_of(name)]
+    words += ["--crate-type", *kind] if kind else []
+    return [*words, "--incremental", "out/incremental", "--jobs", "1", *(word for path in sorted(asked) for word in ("--only", path))]
+
+
+def run(words, folder):
+    """Runs a command in a folder, and returns whether it ended well, the processor-seconds and what is said."""
+    with tempfile.TemporaryFile("w+", encoding="utf-8", errors="replace") as said:
+        started = subprocess.Popen(words, cwd=folder, stdin=subprocess.DEVNULL, stdout=said, stderr=subprocess.STDOUT)
+        _, status, used = os.wait4(started.pid, 0)
+        started.returncode = os.waitstatus_to_exitcode(status)
+        said.seek(0)
+        return started.returncode == 0, used.ru_utime + used.ru_stime, said.read()
+
+
+def copy_crate(name, crate):
+    """Copies the texts of a crate, and what checks of it kept, if any did."""
+    for part in ("src", "specs", "proofs", "out/incremental"):
+        folder = (PROVED if part.startswith("out") else ROOT) / "crates" / name / part
+        if folder.is_dir():
+            shutil.copytree(folder, crate / part)
+
+
+def planted(crate, mutants):
+    """The files that the mutants change, and their texts then."""
+    texts, places = {}, sorted((place for one in mutants for place in one.places), reverse=True)
+    for file, start, end, new in places:
+        path = crate / file
+        text = texts.setdefault(path, path.read_text(encoding="utf-8"))
+        texts[path] = text[:start] + new + text[end:]
+    return texts
+
+
+def check_planted(crate, mutants):
+    """Checks the functions that these mutants change, with the changes. The crate gets its own texts back."""
+    texts = planted(crate, mutants)
+    own = {path: path.read_text(encoding="utf-8") for path in texts}
+    try:
+        for path, text in texts.items():
+            path.write_text(text, encoding="utf-8")
+        return run(command(crate.name, set().union(*(one.asked() for one in mutants))), crate)
+    finally:
+        for path, text in own.items():
+            path.write_text(text, encoding="utf-8")
+
+
+def goals_of(said, function, is_its_own):
+    """The goals of a function that are not proved: its answers are refused, or none was found. Where all that is
+    refused is its own, also those whose answers depend on that; in a group it can be another's."""
+    folder, goals = "/".join(function.split("::")[1:]), []
+    for place, error in ANSWER.findall(said):
+        if place == folder:
+            goals += re.findall(r"^`([^`]+)`: ", error)
+            unchecked = error.partition(" not checked: ")[2] if is_its_own else ""
+            goals += re.findall(r"[\w-]+", re.sub(r"\([^)]*\)| and \d+ more", "", unchecked))
+    verdict = dict(VERDICT.findall(said))[function]
+    unfound = verdict.partition(" did not prove ")[2].partition("; it ")[0]
+    return goals + re.findall(r"`([^`]+)`", unfound)
+
+
+def clause_of(goal, function, crate):
+    """The clause that a goal is of; of a function's only one its name, or `ensures`. Of what is no clause, the goal."""
+    named = re.search(r"-clause-(.+)$", goal)
+    if named or not goal.startswith("returns"):
+        return named[1] if named else goal
+    clauses = next((one.clauses for one in functions_of(crate) if one.name == function), [])
+    return (clauses[0] or "ensures") if len(clauses) == 1 else goal
+
+
+def refusal_of(mutant, said, is_alone):
+    """The clauses and goals that refused a mutant, or None if its function is proved; and what to print."""
+    verdicts = [one for one in VERDICT.findall(said) if mutant.is_refused_at(one[0])]
+    is_its_own = is_alone or bool(mutant.definitions)
+    goals = [(function, goal) for function, _ in verdicts for goal in goals_of(said, function, is_its_own)]
+    refused = {clause_of(goal, function, mutant.crate) for function, goal in goals}
+    if refused:
+        return refused, ", ".join(sorted(refused))
+    if verdicts and all(verdict == "proved" for _, verdict in verdicts):
+        return None, "NOT REFUSED"
+    return refused, f"not refused for itself: {verdicts[0][1][:160]}" if verdicts else "the check does not name it"
+
+
+def verdict_of(mutant, said, is_alone):
+    """PASSED, FAILED, or AGAIN in a further group; and what to print."""
+    refused, shown = refusal_of(mutant, said, is_alone)
+    if refused and mutant.clauses and mutant.clauses <= refused:
+        return PASSED, shown
+    if refused:
+        shown += f", and its file names {', '.join(sorted(mutant.clauses)) or 'no clause'}"
+    return FAILED if refused is None or is_alone else AGAIN, shown
+
+
+def first_group(mutants):
+    """The first mutant, and with it those that are apart from it and from each other, if none is to be alone. Those of
+    bodies come first: most of them are apart."""
+    first, *others = sorted(mutants, key=lambda one: bool(one.definitions))
+    group = [first]
+    for one in others:
+        if not one.is_alone() and not group[0].is_alone() and all(one.is_apart(other) for other in group):
+            group.append(one)
+    return group
+
+
+def try_group(crate, group):
+    """Plants a group and checks once. Returns those that passed and those that failed."""
+    _, seconds, said = check_planted(crate, group)
+    if os.environ.get("LOGS"):
+        Path(os.environ["LOGS"], f"{group[0].name.replace('/', '-')}.log").write_text(said, encoding="utf-8")
+    lines, found = [f"{seconds:6.1f}  {crate.name}, {len(group)} planted"], {PASSED: [], FAILED: [], AGAIN: []}
+    for one in group:
+        verdict, shown = verdict_of(one, said, len(group) == 1)
+        found[verdict].append(one)
+        lines.append(f"        {verdict}{one.name}: {shown}")
+    print("\n".join(lines), flush=True)
+    return found[PASSED], found[FAILED]
+
+
+def is_proved(name):
+    """Whether the crate is proved as it stands."""
+    proved, seconds, said = (True, 0, "") if "PROVED" in os.environ else run(["rt", "check"], ROOT / "crates" / name)
+    print(f"{seconds:6.1f}  {name}, unchanged" if proved else said, flush=True)
+    return proved
+
+
+def try_crate(name, mutants):
+    """Tries the mutants of a crate, and returns those that passed and those that failed."""
+    if not is_proved(name):
+        return [], mutants
+    with tempfile.TemporaryDirectory() as room:
+        crate = Path(room) / name
+        copy_crate(name, crate)
+        passed, failed, left = [], [], mutants
+        while left:
+            group = first_group(left)
+            right, wrong = try_group(crate, group)
+            if not right and not wrong:
+                right, wrong = try_group(crate, group[:1])
+            passed, failed = passed + right, failed + wrong
+            left = [one for one in left if one not in right and one not in wrong]
+        return passed, failed
+
+
+def chosen(names):
+    """The mutants of each crate that the arguments name."""
+    mutants = {}
+    for path in sorted(ROOT.glob("crates/*/mutants/*.edit")) + sorted(ROOT.glob("crates/*/must-fail/*.edit")):
+        crate = path.parent.parent.name
+        if not names or crate in names or f"{crate}/{path.stem}" in names:
+            mutants.setdefault(crate, []).append(Mutant(path))
+    return mutants or sys.exit(__doc__.partition("\n")[0])
+
+
+def main():
+    with ThreadPoolExecutor(LANES) as pool:
+        tried = list(pool.map(lambda one: try_crate(*one), chosen(sys.argv[1:]).items()))
+    failed = [one.name for _, wrong in tried for one in wrong]
+    for name in failed:
+        print(f"FAILED {name}")
+    print(f"{sum(len(passed) for passed, _ in tried)} passed, {len(failed)} failed")
+    sys.exit(bool(failed))
+
+
+main()

@@ -1,0 +1,73 @@
+#!/usr/bin/env python3
+"""Writes the record in docs/PAGE.md: of the example in docs/LOTS.md, by the page docs/nanorand.html.
+
+    tools/record.py            writes it
+    tools/record.py --check    says whether it stands there
+
+The example's list, seed and lines drawn are those of LOTS, which tests/second_opinion.py draws again. The last
+line of the check is "N passed, M failed".
+"""
+
+import base64
+import hashlib
+import json
+import re
+import sys
+from pathlib import Path
+
+DOCS = Path(__file__).resolve().parent.parent / "docs"
+DOCUMENT = DOCS / "PAGE.md"
+RECORD = re.compile(r"(?<=^```\n)nanorand public draw 1\n.*?(?=^```$)", re.M | re.S)
+VERSION = re.compile(r"^version: (.*)$", re.M)
+
+
+def sha256(data: bytes) -> str:
+    return hashlib.sha256(data).hexdigest()
+
+
+def module_digest() -> str:
+    """That of the page's module for 64-bit memory."""
+    page = (DOCS / "nanorand.html").read_text(encoding="utf-8")
+    code = re.search(r'<script type="text/plain" id="module">([^<]*)</script>', page)[1]
+    return sha256(base64.b64decode(code))
+
+
+def record(version: str) -> str:
+    """The record of the first draw in LOTS."""
+    text = (DOCS / "LOTS.md").read_text(encoding="utf-8")
+    entrants = re.search(r"<!-- example: entrants -->\n```\n(.*?)^```$", text, re.M | re.S)[1]
+    seed, drawn = re.search(r'^\$ lots "([^"\n]*)" \d+ < entrants\n(.*?)^```$', text, re.M | re.S).groups()
+    names = drawn.splitlines()
+    lines = [
+        "nanorand public draw 1",
+        f"seed: {json.dumps(seed)}",
+        f"list SHA-256: {sha256(entrants.encode())}",
+        f"entrants: {len(entrants.splitlines())}",
+        f"drawn: {len(names)}",
+        f"version: {version}",
+        f"module SHA-256: {module_digest()}",
+        f"result SHA-256: {sha256(drawn.encode())}",
+        *(f"{number}: {name}" for number, name in enumerate(names, 1)),
+    ]
+    return "".join(f"{line}\n" for line in lines)
+
+
+def main() -> int:
+    if sys.argv[1:] not in ([], ["--check"]):
+        print(__doc__.strip())
+        return 2
+    text = DOCUMENT.read_text(encoding="utf-8")
+    wanted = RECORD.sub(lambda _: record(VERSION.search(text)[1]), text, count=1)
+    if not sys.argv[1:]:
+        DOCUMENT.write_text(wanted, encoding="utf-8")
+        return 0
+    if text == wanted:
+        print("1 passed, 0 failed")
+        return 0
+    print("FAILED the record of docs/PAGE.md is another: tools/record.py writes it")
+    print("0 passed, 1 failed")
+    return 1
+
+
+if __name__ == "__main__":
+    sys.exit(main())

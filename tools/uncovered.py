@@ -1,0 +1,100 @@
+#!/usr/bin/env python3
+"""Lists the code that no test has run: tools/uncovered.py TARGET SOURCE.. With --tools it prints what it needs.
+
+TARGET is a target folder of cargo in which tests ran with RUSTFLAGS=-Cinstrument-coverage, and its folder `profiles`
+has their profiles. A region is the smallest piece of code that the compiler counts: a condition, an arm, an operand of
+`&&`. Each of the SOURCE folders that no test ran is a failure, unless uncovered.txt names its line; so is a line that
+uncovered.txt names and tests run. The last line is N passed, M failed.
+
+It takes llvm-profdata and llvm-cov of the compiler's own LLVM: Debian's package, whose commands end in the version, or
+rustup's component llvm-tools. --tools prints the first command and that package, and fails where they are not there.
+"""
+
+import json
+import re
+import shutil
+import subprocess
+import sys
+from collections import Counter
+from pathlib import Path
+
+HERE = Path(__file__).resolve().parent
+RUST = HERE.parent / "rust"
+CODE = 0
+PROGRAMS = ("debug", "debug/deps", "release", "release/deps")
+
+
+def printed(*command):
+    return subprocess.run(command, stdout=subprocess.PIPE, encoding="utf-8", check=True).stdout
+
+
+def tools():
+    """The names of both commands, or none, and the version of LLVM."""
+    said = printed("rustc", "--version", "--verbose")
+    version, host = (re.search(rf"^{word}: ([\w-]+)", said, re.M)[1] for word in ("LLVM version", "host"))
+    of_rustup = Path(printed("rustc", "--print", "sysroot").strip()) / "lib/rustlib" / host / "bin"
+    for names in ([f"{name}-{version}" for name in ("llvm-profdata", "llvm-cov")],
+                  [str(of_rustup / name) for name in ("llvm-profdata", "llvm-cov")]):
+        if all(map(shutil.which, names)):
+            return names, version
+    return None, version
+
+
+def programs_of(target):
+    """The programs that cargo built there: tests, and what they start."""
+    for path in [path for folder in PROGRAMS if (target / folder).is_dir() for path in (target / folder).iterdir()]:
+        if path.is_file() and path.stat().st_mode & 0o100 and path.suffix != ".so":
+            yield path
+
+
+def regions_of(target, sources):
+    """How often tests ran each region of these folders: a file, a line, and where it begins and ends there."""
+    (merge, show), _ = tools()
+    profile = target / "profiles/all"
+    printed(merge, "merge", "-sparse", "-o", str(profile), *map(str, (target / "profiles").glob("*.profraw")))
+    objects = [word for path in programs_of(target) for word in ("-object", str(path))]
+    found = json.loads(printed(show, "export", "-skip-expansions", "-instr-profile", str(profile), *objects))
+    runs = Counter()
+    for function in found["data"][0]["functions"]:
+        for line, start, last, end, count, number, _, kind in function["regions"]:
+            file = Path(function["filenames"][number])
+            if kind == CODE and any(folder in file.parents for folder in sources):
+                runs[file, line, start, last, end] += count
+    return runs
+
+
+def code_at(file, line):
+    """The line of a region. A brace that closes counts to the code before it."""
+    lines = file.read_text(encoding="utf-8").splitlines()
+    while lines[line - 1].strip() == "}":
+        line -= 1
+    return lines[line - 1].strip()
+
+
+def exceptions(sources):
+    """The lines that uncovered.txt names below these folders."""
+    lines = (HERE / "uncovered.txt").read_text(encoding="utf-8").splitlines()
+    named = [line.partition(": ") for line in lines if line and not line.startswith("#")]
+    return {(RUST / path, code) for path, _, code in named if any(one in (RUST / path).parents for one in sources)}
+
+
+def main():
+    if sys.argv[1:] == ["--tools"]:
+        found, version = tools()
+        print(f"llvm-cov-{version} llvm-{version}")
+        return 0 if found else 1
+    target, *sources = (Path(word).resolve() for word in sys.argv[1:])
+    runs = regions_of(target, sources)
+    left = {(file, code_at(file, line)): line for (file, line, *_), count in sorted(runs.items()) if count == 0}
+    wanted = exceptions(sources)
+    for file, code in sorted(left.keys() - wanted):
+        print(f"FAILED {file.relative_to(RUST)}:{left[file, code]}: no test runs all of: {code}")
+    for file, code in sorted(wanted - left.keys()):
+        print(f"FAILED uncovered.txt: {file.relative_to(RUST)}: {code}: tests run it, or it is not there")
+    failed = len(left.keys() ^ wanted)
+    print(f"{sum(count > 0 for count in runs.values())} passed, {failed} failed")
+    return 1 if failed else 0
+
+
+if __name__ == "__main__":
+    sys.exit(main())

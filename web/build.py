@@ -1,0 +1,178 @@
+#!/usr/bin/env python3
+"""Proves the module and builds the page web/dist/nanorand.html, one file that works offline.
+
+    web/build.py                             proves the module, in a folder of its own, and builds the page
+    web/build.py MODULE.wasm                 builds the page with a module that is there already
+    web/build.py MODULE.wasm MODULE32.wasm   and with the module for 32-bit memory, too
+
+By itself web/module32.sh compiles the module for 32-bit memory; where it cannot, the page takes the one that
+docs/nanorand.html holds. The page is the same for equal sources and equal modules. The last lines are the
+SHA-256 of the modules and of the page.
+"""
+
+import base64
+import hashlib
+import html
+import re
+import shutil
+import subprocess
+import sys
+import tempfile
+from pathlib import Path
+from typing import Iterator
+
+HERE = Path(__file__).resolve().parent
+TOP = HERE.parent
+SOURCES = HERE / "src"
+OUT = HERE / "dist"
+sys.path.append(str(TOP / "tools"))
+import crates  # noqa: E402
+
+NAME = "nanorand_c"
+COMMITTED = TOP / "docs" / "nanorand.html"
+NO_COMPILER = 3
+IMPORT = re.compile(r'^import [^;]*? from "\./([a-z0-9]+)\.js";\n', re.M)
+
+
+def prove_module(folder: Path) -> Path:
+    """Copies the crates to a folder, with what is proved of them already, and builds the module there."""
+    all_crates = crates.crates()
+    for name in [NAME, *crates.below(NAME, all_crates)]:
+        if name in all_crates:
+            shutil.copytree(TOP / "crates" / name, folder / "crates" / name)
+            kind = ["wasm64"] if name == NAME else []
+            with open(folder / "crates.txt", "a", encoding="utf-8") as lines:
+                print(all_crates[name]._replace(kind=kind).line(), file=lines)
+    done = subprocess.run(["rt", "lib"], cwd=folder / "crates" / NAME, stdin=subprocess.DEVNULL,
+                          stdout=subprocess.PIPE, stderr=subprocess.STDOUT, encoding="utf-8")
+    if done.returncode != 0:
+        sys.exit(f"{done.stdout}\nweb/build.py: the module was not proved")
+    return folder / "crates" / NAME / "out" / f"{NAME}.wasm"
+
+
+def number_at(code: bytes, place: int) -> tuple[int, int]:
+    """A number in LEB128, and the place after it."""
+    value = shift = 0
+    while True:
+        byte = code[place]
+        value |= (byte & 127) << shift
+        place, shift = place + 1, shift + 7
+        if byte < 128:
+            return value, place
+
+
+def sections(code: bytes) -> Iterator[tuple[int, bytes]]:
+    """The sections of a module: number and content."""
+    if code[:8] != b"\0asm\1\0\0\0":
+        sys.exit("web/build.py: this is no WebAssembly module")
+    place = 8
+    while place < len(code):
+        number, (length, begin) = code[place], number_at(code, place + 1)
+        yield number, code[begin:begin + length]
+        place = begin + length
+
+
+def look_at_module(code: bytes, bits: int) -> None:
+    """Refuses a module that imports anything, or whose memory is of other bits."""
+    found = dict(sections(code))
+    if number_at(found.get(2, b"\0"), 0)[0] != 0:
+        sys.exit("web/build.py: the module has imports")
+    if 5 not in found or (64 if found[5][1] & 4 else 32) != bits:
+        sys.exit(f"web/build.py: the module's memory is not of {bits} bits")
+
+
+def module_of_page(page: Path, name: str) -> bytes:
+    """The module that a page holds in its element of this name."""
+    found = re.search(rf'<script type="text/plain" id="{name}">([^<]*)</script>', page.read_text(encoding="utf-8"))
+    return base64.b64decode(found[1])
+
+
+def compile_module32(path: Path) -> bytes:
+    """The module for 32-bit memory, compiled, or else that of the committed page."""
+    done = subprocess.run([HERE / "module32.sh", path], stdin=subprocess.DEVNULL, stderr=subprocess.PIPE,
+                          encoding="utf-8")
+    if done.returncode == NO_COMPILER:
+        print("skipped: compiling the module for 32-bit memory, as there is no Debian rustc: docs/nanorand.html has it")
+        return module_of_page(COMMITTED, "module32")
+    if done.returncode != 0:
+        sys.exit(f"{done.stderr}\nweb/build.py: the module for 32-bit memory was not compiled")
+    return path.read_bytes()
+
+
+def joined(name: str, seen: set[str]) -> str:
+    """The code of web/src/NAME.js after that of all it imports, each once, as one script."""
+    source = (SOURCES / f"{name}.js").read_text(encoding="utf-8")
+    parts = []
+    for other in IMPORT.findall(source):
+        if other not in seen:
+            seen.add(other)
+            parts.append(joined(other, seen))
+    code = re.sub(r"^export ", "", IMPORT.sub("", source), flags=re.M)
+    return "".join(parts) + code
+
+
+def script(name: str) -> str:
+    """A joined script, strict as modules are. A script in a page must not hold the tag that ends it."""
+    code = '"use strict";\n' + joined(name, {name})
+    names = re.findall(r"^(?:const|let|class|function|async function) (\w+)", code, re.M)
+    if len(set(names)) < len(names):
+        sys.exit(f"web/build.py: twice below {name}.js: {sorted(set(filter(lambda one: names.count(one) > 1, names)))}")
+    if "</script" in code.lower() or "<!--" in code:
+        sys.exit(f"web/build.py: {name}.js has what ends a script")
+    return code
+
+
+def document() -> str:
+    return (TOP / "docs" / "LOTS.md").read_text(encoding="utf-8")
+
+
+def python_code() -> str:
+    return re.search(r"^```python\n(.*?)\n```$", document(), re.M | re.S)[1]
+
+
+def rule() -> str:
+    """The list under the heading of the rule, as a list of the page without links."""
+    section = re.search(r"^## The rule of the draw\n(.*?)^## ", document(), re.M | re.S)[1]
+    items = re.findall(r"^- (.*\n(?:  .*\n)*)", section, re.M)
+    text = "".join(f"<li>{html.escape(item.strip(), quote=False)}</li>\n" for item in items)
+    text = re.sub(r"\[([^]]*)\]\([^)]*\)", r"\1", text)
+    text = re.sub(r"\*\*(.*?)\*\*", r"<strong>\1</strong>", text)
+    text = re.sub(r"`(.*?)`", r"<code>\1</code>", text)
+    return f"<ul>\n{text}</ul>"
+
+
+def source_of(text: str) -> str:
+    """The source of a policy that admits exactly this script or style."""
+    return f"'sha256-{base64.b64encode(hashlib.sha256(text.encode()).digest()).decode()}'"
+
+
+def page_with(module: bytes, module32: bytes) -> str:
+    style, main = (SOURCES / "style.css").read_text(encoding="utf-8"), script("main")
+    policy = ["default-src 'none'", f"script-src {source_of(main)} 'wasm-unsafe-eval'", "worker-src blob:",
+              f"style-src {source_of(style)}", "img-src data:", "base-uri 'none'", "form-action 'none'"]
+    values = {"policy": "; ".join(policy), "style": style, "main": main, "worker": script("worker"),
+              "module": base64.b64encode(module).decode(), "module32": base64.b64encode(module32).decode(),
+              "rule": rule(), "python": html.escape(python_code(), quote=False)}
+    template = (SOURCES / "page.html").read_text(encoding="utf-8")
+    return re.sub(r"\{\{(\w+)\}\}", lambda mark: values[mark[1]], template)
+
+
+def main() -> None:
+    given = [Path(path) for path in sys.argv[1:]]
+    if len(given) > 2 or sys.argv[1:2] == ["--help"]:
+        sys.exit(__doc__)
+    with tempfile.TemporaryDirectory() as name:
+        folder = Path(name)
+        module = (given[0] if given else prove_module(folder)).read_bytes()
+        look_at_module(module, 64)
+        module32 = given[1].read_bytes() if len(given) == 2 else compile_module32(folder / "module32.wasm")
+        look_at_module(module32, 32)
+    page = page_with(module, module32).encode()
+    OUT.mkdir(exist_ok=True)
+    for name, content in ((f"{NAME}.wasm", module), (f"{NAME}32.wasm", module32), ("nanorand.html", page)):
+        (OUT / name).write_bytes(content)
+        print(f"{hashlib.sha256(content).hexdigest()}  web/dist/{name}")
+
+
+if __name__ == "__main__":
+    main()

@@ -1,0 +1,28 @@
+#!/usr/bin/env bash
+# Compiles the module for 32-bit memory: web/module32.sh FILE. It is rust/nanorand-c and the two crates
+# below it, by Debian's rustc with its std for WebAssembly. Equal sources and an equal rustc give equal bytes, wherever they lie. With status 3 the compiler cannot be had.
+set -euo pipefail
+into=$(realpath -m "$1")
+cd "$(dirname "$0")/.."
+target=wasm32-unknown-unknown
+bin=${NANORAND_OLDEST:-/usr}
+std="$bin/lib/rustlib/$target/lib/libstd-*.rlib"
+
+if [ ! -x "$bin/bin/rustc" ] || ! compgen -G "$std" >/dev/null; then
+    echo "web/module32.sh: there is no $bin/bin/rustc with the std of $target" >&2
+    exit 3
+fi
+room=$(mktemp -d)
+trap 'rm -rf "$room"' EXIT
+
+# compile CRATE SOURCE ARGUMENT..
+compile() {
+    "$bin/bin/rustc" --crate-name "$1" "$2" --edition 2021 --target "$target" --out-dir "$room" -L "$room" \
+        -C opt-level=3 -C panic=abort -C codegen-units=1 --remap-path-prefix "$PWD=." "${@:3}"
+}
+
+compile nanorand_proved rust/nanorand-proved/src/lib.rs --crate-type rlib -C embed-bitcode=yes
+compile lots rust/lots/src/lib.rs --crate-type rlib -C embed-bitcode=yes --extern nanorand_proved
+compile nanorand rust/nanorand-c/src/lib.rs --crate-type cdylib -C lto=fat -C strip=symbols --extern nanorand_proved --extern lots
+mkdir -p "$(dirname "$into")"
+cp "$room/nanorand.wasm" "$into"

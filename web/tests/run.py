@@ -1,0 +1,106 @@
+#!/usr/bin/env python3
+"""Tests the built page in browsers: web/tests/run.py LOTS BROWSER... [--pictures FOLDER] [--only PART]
+
+LOTS is the program that the page is compared with; each BROWSER is chromium or firefox, and all work side
+by side. The parts are answers, glue, pieces, draws, sizes, refusals, checks, failures, said, heard, late, steps,
+lists, looks, files, copies, long and old. The last line is N passed, M failed.
+"""
+
+import argparse
+import sys
+import tempfile
+import traceback
+from concurrent.futures import ThreadPoolExecutor
+from pathlib import Path
+
+import answers
+import checks
+import draws
+import failures
+import glue
+import heard
+import late
+import lists
+import looks
+import old
+import pieces
+import refusals
+import said
+import steps
+from counts import Counts, sha256
+from drivers import Chromium, Firefox
+from page import Page
+
+OUT = Path(__file__).resolve().parent.parent / "out"
+BROWSERS = {"chromium": Chromium, "firefox": Firefox}
+
+
+def in_browser(kind: type, program: str, pictures: Path, only: str) -> Counts:
+    """Tries the parts in a browser of its own."""
+    counts = Counts()
+    address = (OUT / "nanorand.html").as_uri()
+    modules = {64: (OUT / "nanorand_c.wasm").read_bytes(), 32: (OUT / "nanorand_c32.wasm").read_bytes()}
+    digests = {bits: sha256(code) for bits, code in modules.items()}
+    module = digests[64]
+    with tempfile.TemporaryDirectory() as name:
+        folder = Path(name)
+        downloads = folder / "downloads"
+        downloads.mkdir()
+        browser = kind(downloads)
+        page = Page(browser, address, folder)
+        parts = {
+            "answers": lambda: answers.run(counts, page, modules),
+            "glue": lambda: glue.run(counts, page, modules),
+            "pieces": lambda: pieces.run(counts, page),
+            "draws": lambda: draws.random_draws(counts, page, program, module, 200),
+            "sizes": lambda: draws.sizes(counts, page, program, module),
+            "refusals": lambda: refusals.run(counts, page, program),
+            "checks": lambda: checks.run(counts, page, program, digests),
+            "failures": lambda: failures.run(counts, page),
+            "said": lambda: said.run(counts, page, module),
+            "heard": lambda: heard.run(counts, page),
+            "late": lambda: late.run(counts, page),
+            "steps": lambda: steps.run(counts, page),
+            "lists": lambda: lists.run(counts, page),
+            "looks": lambda: looks.run(counts, page, pictures),
+            "files": lambda: draws.files(counts, page, program, downloads),
+            "copies": lambda: draws.copies(counts, page),
+            "long": lambda: draws.long_lists(counts, page, program, module),
+            "old": lambda: old.run(counts, kind, address, folder, program, digests),
+        }
+        try:
+            for part, run in parts.items():
+                if only in ("", part):
+                    counts.place = f"{browser.name} {browser.version}, {part}"
+                    page.load()
+                    try:
+                        run()
+                    except Exception:
+                        counts.case(part, traceback.format_exc()[-600:])
+                    counts.same("no error of the console", browser.errors(), [])
+        finally:
+            browser.close()
+    return counts
+
+
+def main() -> int:
+    reader = argparse.ArgumentParser(usage=__doc__)
+    reader.add_argument("program")
+    reader.add_argument("browsers", nargs="+", choices=sorted(BROWSERS))
+    reader.add_argument("--pictures", type=Path)
+    reader.add_argument("--only", default="")
+    wanted = reader.parse_args()
+    program = str(Path(wanted.program).resolve())
+    with tempfile.TemporaryDirectory() as folder, ThreadPoolExecutor() as pool:
+        pictures = wanted.pictures or Path(folder)
+        pictures.mkdir(exist_ok=True)
+        begun = [pool.submit(in_browser, BROWSERS[browser], program, pictures, wanted.only)
+                 for browser in wanted.browsers]
+        found = [browser.result() for browser in begun]
+    failed = sum(counts.failed for counts in found)
+    print(f"{sum(counts.passed for counts in found)} passed, {failed} failed")
+    return 1 if failed else 0
+
+
+if __name__ == "__main__":
+    sys.exit(main())
