@@ -12,8 +12,6 @@ import statistics
 import sys
 import timeit
 
-sys.path.pop(0)  # beside this file are the sources, and not the package that is installed
-
 from nanorand import ChaCha8, ChaCha12, ChaCha20, Pcg64, Stream, WyRand, randoms
 
 RUNS = 9

@@ -1,11 +1,14 @@
 #!/usr/bin/env python3
-"""Follows the links within the repository of its documents: tests/links.py.
+"""Follows the links within the repository of its documents, and compares its map with the tree: tests/links.py.
 
-A link names a file or a folder, and after `#` a heading of that document. For information, the number of words of each
-document is printed first, without blocks of code. The last line is N passed, M failed, of the links.
+A link names a file or a folder, and after `#` a heading of that document. Of a script that a document names between
+backticks the file has to be there. The map of docs/ARCHITECTURE.md has each file at the top, each folder below it that
+holds more than files, and nothing else. For information, the number of words of each document is printed first, without
+blocks of code. The last line is N passed, M failed.
 """
 
 import re
+import subprocess
 import sys
 from pathlib import Path
 
@@ -37,6 +40,35 @@ def wrong_with(document, link):
     return ""
 
 
+def tree():
+    """What git has at the top, and the folders in its folders: a folder ends in a slash."""
+    names = subprocess.run(["git", "ls-files", "--cached", "--others", "--exclude-standard"], cwd=ROOT, check=True,
+                           stdout=subprocess.PIPE, text=True).stdout.splitlines()
+    names = [name.split("/") for name in names if (ROOT / name).is_symlink() or (ROOT / name).exists()]
+    files = {name[0] for name in names if len(name) == 1}
+    return files | {f"{name[0]}/{name[1]}/" for name in names if len(name) > 2}, {f"{name[0]}/" for name in names}
+
+
+def map_problems():
+    """What the map lacks, and what it has that is not there. A folder that its folders stand for need not be named."""
+    text = (ROOT / "docs/ARCHITECTURE.md").read_text(encoding="utf-8").partition("## The map\n")[2]
+    columns = re.findall(r"^\| ([^|]*) \|", text, re.M)
+    mapped = {path for column in columns if " of a crate" not in column for path in re.findall(r"`([^`]+)`", column)}
+    wanted, folders = tree()
+    for path in sorted(wanted - mapped):
+        yield f"docs/ARCHITECTURE.md: its map lacks {path}"
+    for path in sorted(mapped - wanted - folders):
+        if not (ROOT / path).exists():
+            yield f"docs/ARCHITECTURE.md: its map has {path}, which is not there"
+
+
+def absent_scripts(document):
+    """The scripts that a document names and that are not there, from the top or from the document's folder."""
+    for path in re.findall(r"`\.?/?((?:[\w-]+/)+[\w-]+\.(?:sh|py))\b", document.read_text(encoding="utf-8")):
+        if not (ROOT / path).exists() and not (document.parent / path).exists():
+            yield f"{document.relative_to(ROOT)}: {path}: no such script"
+
+
 def print_lengths(documents):
     for document in documents:
         words = re.findall(r"\S*[^\W\d_]\S*", prose_of(document))
@@ -54,6 +86,10 @@ def main():
             failed += bool(wrong)
             if wrong:
                 print(f"FAILED {document.relative_to(ROOT)}: {link[0][1:]}: {wrong}")
+    problems = [*map_problems(), *(one for document in documents for one in absent_scripts(document))]
+    for problem in problems:
+        print(f"FAILED {problem}")
+    passed, failed = passed + (not problems), failed + len(problems)
     print(f"{passed} passed, {failed} failed")
     return 1 if failed else 0
 

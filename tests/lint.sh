@@ -6,8 +6,9 @@ source "$(dirname "${BASH_SOURCE[0]}")/lib.sh"
 
 # The files that a clone has, whose first line says that bash reads them, or sh.
 shell_scripts() {
-    git ls-files -z --cached --others --exclude-standard | xargs -0 grep -lIE -m 1 '^(#!.*[/ ](ba)?sh|# shellcheck shell=)' |
-        xargs awk 'FNR == 1 { if (/^#!.*sh$|^# shellcheck shell=/) print FILENAME; nextfile }'
+    git grep --untracked -lE '^#!.*[/ ](ba)?sh$|^# shellcheck shell=' | while read -r file; do
+        ! head -n 1 "$file" 2>/dev/null | grep -qaE '^#!.*[/ ](ba)?sh$|^# shellcheck shell=' || echo "$file"
+    done
 }
 
 if available flake8 flake8; then

@@ -165,7 +165,8 @@ def command(name, asked):
     kind = CRATES[name].kind
     words = [KIT / "bin/rattle", "check", "--crate-name", name, "src/lib.rt", *libraries_of(name)]
     words += ["--crate-type", *kind] if kind else []
-    return [*words, "--incremental", "out/incremental", "--jobs", "1", *(word for path in sorted(asked) for word in ("--only", path))]
+    words += ["--incremental", "out/incremental", "--jobs", "1"]
+    return [*words, *(word for path in sorted(asked) for word in ("--only", path))]
 
 
 def run(words, folder):

@@ -4,7 +4,7 @@
 #
 # A short loop is faster or slower by its place, so each begins a line of the cache.
 set -euo pipefail
-cd "$(dirname "$0")/.."
+cd "$(dirname "$0")/../.."
 work=$(mktemp -d)
 trap 'rm -rf "$work"' EXIT
 turns=21

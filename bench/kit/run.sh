@@ -1,5 +1,5 @@
 #!/bin/sh
-# Times nanorand and prints a table: bench/kit/run.sh [FOLDER]. FOLDER holds the old Rust crate (Cargo.toml and
+# Times the kit's build of nanorand and prints a table: bench/kit/run.sh [FOLDER]. FOLDER holds the old Rust crate (Cargo.toml and
 # src/), which is compared too. It is used in place; nothing of it is copied.
 #
 # Both sides are compiled for the same processor and fully optimized: the static library by `rt lib`, at
@@ -16,7 +16,7 @@ here=$(cd "$(dirname "$0")" && pwd)
 work=$here/target/project
 mkdir -p "$work"
 
-(cd "$here/../crates/nanorand_bench" && rt lib) > "$work/lib.log" 2>&1 || {
+(cd "$here/../../crates/nanorand_bench" && rt lib) > "$work/lib.log" 2>&1 || {
     cat "$work/lib.log" >&2
     exit 1
 }
@@ -35,7 +35,7 @@ grep -q "^logic=proved .* cpu=$cpu " "$work/lib.log" || {
 } > "$work/Cargo.toml"
 cp "$here/build.rs" "$work/build.rs"
 
-NANORAND_ARCHIVES=$here/../crates/nanorand_bench/out
+NANORAND_ARCHIVES=$here/../../crates/nanorand_bench/out
 RUSTFLAGS="-C target-cpu=$cpu"
 export NANORAND_ARCHIVES RUSTFLAGS
 features=

@@ -3,7 +3,7 @@
 # holds the old Rust crate nanorand 0.7.0 (Cargo.toml and src/). It is used in place; nothing of it is copied.
 #
 # Without `programs` each work is in a function of its own, with its generator in a variable. With it, each
-# work is timed wherever a program keeps a generator (nanorand-proved/benches/programs/contexts.rs), by the profiles
+# work is timed wherever a program keeps a generator (programs/contexts.rs), by the profiles
 # NANORAND_PROFILES, which are release, fat (lto "fat", one codegen unit) and dev if it is not set.
 #
 # It also times rand 0.8, rand_chacha 0.3, rand_pcg 0.3 and fastrand 1.8 where the folder NANORAND_PEERS has
@@ -27,7 +27,8 @@ runs=${2:-5}
 registry=${NANORAND_PEERS:-/usr/share/cargo/registry}
 shifts="0 16 32 48"
 
-target=${CARGO_TARGET_DIR:-$here/../target}
+rust=$(realpath "$here/../../rust")
+target=${CARGO_TARGET_DIR:-$rust/../target}
 work=$target/$program
 mkdir -p "$work/works"
 
@@ -53,7 +54,7 @@ publish = false
 
 [dependencies]
 nanorand = { path = "$original", features = ["chacha", "pcg64", "wyrand"] }
-nanorand-proved = { path = "$here/nanorand-proved" }
+nanorand-proved = { path = "$rust/nanorand-proved" }
 $(printf '%s\n' "${peers[@]}")
 END
 }
@@ -63,7 +64,7 @@ write_speed() {
     options+=(--features "${NANORAND_TIMED:-library}")
     cat > "$work/Cargo.toml" <<END
 $(package speed)
-drop_in = { package = "nanorand", path = "$here/nanorand-drop-in", optional = true }
+drop_in = { package = "nanorand", path = "$rust/nanorand-drop-in", optional = true }
 
 [features]
 library = []
@@ -71,7 +72,7 @@ peers = []
 
 [[bin]]
 name = "speed"
-path = "$here/against_original/speed.rs"
+path = "$here/speed.rs"
 
 [profile.release]
 opt-level = 3
@@ -90,7 +91,7 @@ $(package works)
 peers = []
 
 [lib]
-path = "$here/nanorand-proved/benches/programs/works.rs"
+path = "$here/programs/works.rs"
 END
     cat > "$work/Cargo.toml" <<END
 $(package programs)
@@ -101,7 +102,7 @@ peers = ["works/peers"]
 
 [[bin]]
 name = "programs"
-path = "$here/nanorand-proved/benches/programs/program.rs"
+path = "$here/programs/program.rs"
 
 [profile.release]
 opt-level = 3

@@ -2,20 +2,20 @@
 //! `fastrand` where they are there: `bench/rust/run.sh FOLDER` builds and starts it. Prints the times of this build, or,
 //! as `speed table FILE..`, the table of the builds whose times the files have.
 
-#[path = "../nanorand-proved/benches/parts/least.rs"]
+#[path = "../../rust/nanorand-proved/benches/parts/least.rs"]
 mod least;
-#[path = "../nanorand-proved/benches/parts/mixing.rs"]
+#[path = "../../rust/nanorand-proved/benches/parts/mixing.rs"]
 mod mixing;
-#[path = "../nanorand-proved/benches/parts/row.rs"]
+#[path = "../../rust/nanorand-proved/benches/parts/row.rs"]
 mod row;
-#[path = "../nanorand-proved/benches/parts/table.rs"]
+#[path = "../../rust/nanorand-proved/benches/parts/table.rs"]
 mod table;
 
 #[cfg(not(feature = "drop_in"))]
 mod here {
-    include!("../nanorand-proved/benches/parts/here.rs");
-    include!("../nanorand-proved/benches/parts/works.rs");
-    include!("../nanorand-proved/benches/parts/samples.rs");
+    include!("../../rust/nanorand-proved/benches/parts/here.rs");
+    include!("../../rust/nanorand-proved/benches/parts/works.rs");
+    include!("../../rust/nanorand-proved/benches/parts/samples.rs");
 }
 
 /// The works by the calls of the old crate.
@@ -42,7 +42,7 @@ macro_rules! by_its_calls {
             rng.shuffle(items);
         }
 
-        include!("../nanorand-proved/benches/parts/works.rs");
+        include!("../../rust/nanorand-proved/benches/parts/works.rs");
     };
 }
 

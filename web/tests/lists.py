@@ -43,9 +43,9 @@ ALIKE = {
     f"x\n{NFD}\n{NFC.upper()}\n": [f"{ONE} but for small and capital letters: look at line 3."],
     "Ada\nAda \n": [f"{SPACED}: look at line 2.", f"{ONE} but for the spaces at its ends: look at line 2."],
     "\tada\nx\nAda\n": ["1 line begins or ends with a space",
-                         f"{ONE} but for small and capital letters: look at line 3."],
+                        f"{ONE} but for small and capital letters: look at line 3."],
     "a\nA\nb\nb\na\n": ["2 of the lines equal an earlier line: look at line 4.",
-                         f"{ONE} but for small and capital letters: look at line 2."],
+                        f"{ONE} but for small and capital letters: look at line 2."],
     "Ada\nAda\nada\n": [f"{ONE}: look at line 2. ", f"{ONE} but for small and capital letters: look at line 3."],
     "Ada\nx\n \n": [f"{SPACED}: look at line 3.", "Line 3 is an entrant of spaces alone."],
     "\t\nx\n  \n": ["2 lines begin or end with a space or a tab, which belongs to the entrant: look at line 1.",
@@ -206,7 +206,8 @@ def alike_bytes(counts: Counts, page: Page) -> None:
     each = [bytes([66, byte, 110]) for byte in range(128, 256)]
     for lines, begins in ((each, []), (each + each, ["128 of the lines equal an earlier line: look at line 129."]),
                           ([b"B\xe4n", b"B\xf6n", b"B\xef\xbf\xbdn"], []), ([b"\xe4", b"\xc4"], []),
-                          ([b"\xe4 ", b"\xe4"], [f"{SPACED}: look at line 1.", f"{ONE} but for the spaces at its ends"])):
+                          ([b"\xe4 ", b"\xe4"],
+                           [f"{SPACED}: look at line 1.", f"{ONE} but for the spaces at its ends"])):
         page.open_file(b"\n".join(lines))
         found = [one for one in page.facts()["warnings"] if "equal" in one or "space" in one]
         right = len(found) == len(begins) and all(one.startswith(begin) for one, begin in zip(found, begins))

@@ -6,11 +6,11 @@
 mod contexts;
 #[path = "generators.rs"]
 mod generators;
-#[path = "../parts/least.rs"]
+#[path = "../../../rust/nanorand-proved/benches/parts/least.rs"]
 mod least;
-#[path = "../parts/mixing.rs"]
+#[path = "../../../rust/nanorand-proved/benches/parts/mixing.rs"]
 mod mixing;
-#[path = "../parts/row.rs"]
+#[path = "../../../rust/nanorand-proved/benches/parts/row.rs"]
 mod row;
 #[path = "worst.rs"]
 mod worst;
