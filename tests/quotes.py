@@ -25,6 +25,7 @@ from pathlib import Path
 
 ROOT = Path(__file__).resolve().parent.parent
 sys.path.insert(0, str(ROOT / "tools"))
+from edits import all_edits  # noqa: E402
 from rattle import bare, items_at  # noqa: E402
 
 DOCUMENTS = ["README.md", "crates/nanorand/CALLING.md", "docs/LANGUAGES.md"]
@@ -149,7 +150,7 @@ def check_promises(root):
     words = set()
     for path in root.glob("crates/*/src/**/*.rt"):
         words |= set(re.findall(r"\w+", path.read_text(encoding="utf-8")))
-    edits = {path.stem for folder in ("mutants", "must-fail") for path in root.glob(f"crates/*/{folder}/*.edit")}
+    edits = {edit.name for edit in all_edits(root)}
     text = page.read_text(encoding="utf-8")
     passed, wrong, named = 0, [], set(re.findall(r"`([^`]+)`", re.sub(r"\s+", " ", text)))
     for entry in re.finditer(r"^- (Clauses|Mutants refused): (.*(?:\n  .*)*)", text, re.M):
@@ -178,19 +179,11 @@ def check_promises(root):
 
 def check_mutants(root):
     """The mutants whose texts no longer stand once in the file that they name, or that name no clause."""
-    passed, wrong = 0, []
-    for edit in sorted([*root.glob("crates/*/mutants/*.edit"), *root.glob("crates/*/must-fail/*.edit")]):
-        said, file = edit.read_text(encoding="utf-8"), None
-        applies = re.search(r"^# refused: \S", said, re.M) is not None
-        for word, text in re.findall(r"^(file|old): (.*)$", said, re.M):
-            if word == "file":
-                file = edit.parent.parent / text
-            else:
-                applies = applies and file.exists() and file.read_text(encoding="utf-8").count(text) == 1
-        passed += applies
-        if not applies:
-            wrong.append(f"{edit}: it names no clause, or a text that does not stand once in its file")
-    return passed, wrong
+    edits = all_edits(root)
+    names = [edit.name for edit in edits]
+    wrong = [f"{edit.crate}: {edit.name}: {edit.problem()}" for edit in edits if edit.problem()]
+    wrong += [f"two mutants are called {name}" for name in sorted(set(names)) if names.count(name) > 1]
+    return len(edits) - len(wrong), wrong
 
 
 def main():

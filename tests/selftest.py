@@ -468,9 +468,9 @@ def mutants(counts, room):
         (1, 7, "value", 2, "1 passed, 1 failed"), (7, 8, "value", 3, "1 passed, 1 failed"),
         (7, 8, "even", 2, "2 passed, 0 failed"), (7, 7, "", 3, "1 passed, 1 failed"),
     ]:
-        for name, line, old, new in [("one", "value", "1 + 0", of_one), ("two", clause, "one() + 1", of_two)]:
-            text = f"# refused: {line}\nfile: src/lib.rt\nold: {old}\nnew: {old[:-1]}{new}\n"
-            (room / f"crates/low/mutants/{name}.edit").write_text(text, encoding="utf-8")
+        edits = [f"mutant: {name}\nrefused: {line}\nold: {old}\nnew: {old[:-1]}{new}\n" for name, line, old, new in
+                 [("one", "value", "1 + 0", of_one), ("two", clause, "one() + 1", of_two)]]
+        (room / "crates/low/mutants/lib.edits").write_text("\n".join(edits), encoding="utf-8")
         calls = room / "calls"
         calls.write_text("")
         done = ran(["tools/mutants.py"], room, PATH=f"{room / 'bin'}:{os.environ['PATH']}", CALLS=str(calls))

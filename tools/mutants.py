@@ -1,12 +1,11 @@
 #!/usr/bin/env python3
 """Tries the mutants: tools/mutants.py [CRATE | CRATE/NAME]..; without arguments, all of them.
 
-A mutant is a file crates/CRATE/mutants/NAME.edit, or in must-fail/, where rt ci tries it too: pairs of lines `old:` and
-`new:`, and a line `# refused:` with the clauses that refuse it, or else the goals, as the check prints them. Those of a
+edits.py says how a mutant is written, and what refuses it. Those of a
 crate that change different functions are planted together in a copy of the crate, and a check of these functions and
 what they call has to refuse each for itself, at every clause that its file names. What is refused there only for a
 function that it calls goes into a further group. A mutant of a definition names the function that refuses it, most
-often a law, `# refused: laws::draws_are_fair: shares`; none that is planted with it changes a definition on which that
+often a law, `refused: laws::draws_are_fair: shares`; none that is planted with it changes a definition on which that
 law rests. What changes a body and names its function, as a loop with its invariant, is tried alone; so is what changes
 anything else.
 
@@ -28,6 +27,7 @@ from pathlib import Path
 
 import crates
 from definitions import Definitions, declarations_of
+from edits import all_edits
 from rattle import bare, items_at, text_of
 
 ROOT = Path(__file__).resolve().parent.parent
@@ -35,7 +35,6 @@ PROVED = Path(os.environ.get("PROVED", ROOT))
 KIT = crates.kit()
 LANES = int(os.environ.get("LANES", "1"))
 
-LINE = re.compile(r"^(file|old|new|# refused):(?: (.*))?$", re.M)
 VERDICT = re.compile(r"^fn (\S+): (.*)$", re.M)
 PASSED, FAILED, AGAIN = "", "FAILED ", "again: "
 # A goal that an answer does not prove: by the file of answers, and what is said of it.
@@ -86,26 +85,19 @@ class Mutant:
     """A mutant: the texts that it replaces, the functions in whose bodies they stand, or the definitions, and what
     refuses it."""
 
-    def __init__(self, path):
-        self.crate = path.parent.parent
-        self.name = f"{self.crate.name}/{path.stem}"
-        self.places, self.functions, self.definitions, self.is_elsewhere, wanted = [], [], set(), False, ""
-        for word, said in LINE.findall(path.read_text(encoding="utf-8")):
-            if word == "file":
-                file = said
-            elif word == "old":
-                old = said
-            elif word == "new":
-                self.change(file, old, said)
-            else:
-                wanted = said
-        function, _, clauses = wanted.rpartition(": ")
+    def __init__(self, edit):
+        self.crate = edit.crate
+        self.name = f"{self.crate.name}/{edit.name}"
+        if edit.problem():
+            sys.exit(f"tools/mutants.py: {self.name}: {edit.problem()}")
+        self.places, self.functions, self.definitions, self.is_elsewhere = [], [], set(), False
+        for change in edit.changes:
+            self.change(*change)
+        function, _, clauses = edit.refused.rpartition(": ")
         self.function, self.clauses = function, set(filter(None, clauses.split(", ")))
 
     def change(self, file, old, new):
         text = (self.crate / file).read_text(encoding="utf-8")
-        if text.count(old) != 1:
-            sys.exit(f"tools/mutants.py: {self.name}: a text is in {file} {text.count(old)} times, and not once: {old}")
         start, end = text.index(old), text.index(old) + len(old)
         self.places.append((file, start, end, new))
         if file.endswith(".antt"):
@@ -309,10 +301,10 @@ def try_crate(name, mutants):
 def chosen(names):
     """The mutants of each crate that the arguments name."""
     mutants = {}
-    for path in sorted(ROOT.glob("crates/*/mutants/*.edit")) + sorted(ROOT.glob("crates/*/must-fail/*.edit")):
-        crate = path.parent.parent.name
-        if not names or crate in names or f"{crate}/{path.stem}" in names:
-            mutants.setdefault(crate, []).append(Mutant(path))
+    for edit in all_edits(ROOT):
+        crate = edit.crate.name
+        if not names or crate in names or f"{crate}/{edit.name}" in names:
+            mutants.setdefault(crate, []).append(Mutant(edit))
     return mutants or sys.exit(__doc__.partition("\n")[0])
 
 

@@ -1,0 +1,71 @@
+"""Reads the mutants of a crate: bodies and definitions with one planted bug.
+
+Those of a file of `src/` stand together in `mutants/`, at the same path: `mutants/rand/wyrand.edits` has those of
+`src/rand/wyrand.rt`; those of `specs/` are in `mutants/specs/`. Each is a paragraph of lines:
+
+    mutant: its name
+    refused: the clauses that refuse it, or else the goals, as the check prints them
+    old: a text that stands once in the file
+    new: what takes its place
+
+Pairs of `old:` and `new:` may follow, and `file:` names another file for those after it. `must-fail/` is read by `rt ci`
+too: there each mutant has a file of its own, NAME.edit, in which `# refused:` names the clauses.
+"""
+
+import re
+from pathlib import Path
+from typing import NamedTuple
+
+LINE = re.compile(r"^(mutant|file|old|new|(?:# )?refused):(?: (.*))?$")
+
+
+class Edit(NamedTuple):
+    """A mutant: its name, what refuses it, and its changes, each a file of the crate, an old text and a new one."""
+
+    crate: Path
+    name: str
+    refused: str
+    changes: list
+
+    def problem(self):
+        """What is wrong with it, or nothing."""
+        if not self.refused:
+            return "it names no clause"
+        for file, old, _ in self.changes:
+            path = self.crate / file
+            count = path.read_text(encoding="utf-8").count(old) if path.is_file() else 0
+            if count != 1:
+                return f"a text is in {file} {count} times, and not once: {old}"
+        return "" if self.changes else "it changes nothing"
+
+
+def edit_of(crate, name, lines, file):
+    """The mutant of these lines, which change a file until they name another."""
+    refused, changes, old = "", [], ""
+    for word, said in (match.groups() for match in map(LINE.match, lines) if match):
+        if word == "file":
+            file = said
+        elif word == "old":
+            old = said
+        elif word == "new":
+            changes.append((file, old, said or ""))
+        elif word != "mutant":
+            refused = said
+    return Edit(crate, name, refused, changes)
+
+
+def edits_of(crate):
+    """The mutants of a crate, those of `must-fail/` last."""
+    for path in sorted(crate.glob("mutants/**/*.edits")):
+        module = path.relative_to(crate / "mutants").with_suffix("")
+        file = f"{module}.antt" if module.parts[0] == "specs" else f"src/{module}.rt"
+        for text in path.read_text(encoding="utf-8").split("\n\n"):
+            lines = text.strip("\n").split("\n")
+            yield edit_of(crate, lines[0].removeprefix("mutant: "), lines, file)
+    for path in sorted(crate.glob("must-fail/*.edit")):
+        yield edit_of(crate, path.stem, path.read_text(encoding="utf-8").splitlines(), "")
+
+
+def all_edits(root):
+    """The mutants of all crates."""
+    return [edit for crate in sorted((root / "crates").iterdir()) for edit in edits_of(crate)]
