@@ -122,7 +122,6 @@ CHANGES = [
     ("tools/bodies.py", "rust/nanorand-proved/src/samples.rs", "count - places.len()", "count - places.len() - 1"),
     ("tools/bodies.py", "crates/nanorand_core/src/samples.rt", "Ok(())", "Ok(Default::default())"),
     ("tools/pictures.py --check", "docs/runs.svg", "first", "second"),
-    ("tools/pictures.py --check", "docs/layers.svg", "nanorand_core", "nanorand_cor"),
     ("tools/pictures.py --check", "docs/delivery.svg", "first", "second"),
 ]
 # What writes files: the command, each file, and a text in it that is taken out.
@@ -131,7 +130,7 @@ WRITERS = {
     "tests/answers/make.py": {"tests/answers/answers.tsv": "12558987674375533620"},
     "tools/contracts.py --sums": {"tools/contracts.sums": "  crates/nanorand/src/laws.rt\n"},
     "tools/record.py": {"docs/PAGE.md": "3: Chidi\n"},
-    "tools/pictures.py": {"docs/layers.svg": "nanorand_core", "docs/runs.svg": "first"},
+    "tools/pictures.py": {"docs/runs.svg": "first"},
     "tools/header.py": {"c/include/nanorand.h": "const uint8_t *list"},
     "tools/bodies.py --write": {"rust/PROVED.md": "nanorand-proved/src/system.rs"},
 }

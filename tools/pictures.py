@@ -1,7 +1,7 @@
 #!/usr/bin/env python3
-"""Draws docs/layers.svg, docs/runs.svg and docs/delivery.svg from the definitions' formulas.
+"""Draws docs/runs.svg and docs/delivery.svg from the definitions' formulas.
 
-    tools/pictures.py            writes the three files
+    tools/pictures.py            writes both files
     tools/pictures.py --check    says whether the files are what the script draws
 
 The last line of the check is "N passed, M failed". Each picture has its own background, for a light
@@ -25,10 +25,6 @@ text { font-family: sans-serif; font-size: 13px; fill: #1f2328; }
 .on { fill: #ffffff; text-anchor: middle; }
 .dark-on { fill: #1f2328; text-anchor: middle; }
 .page { fill: #ffffff; }
-.box { fill: #eef3fa; stroke: #8c959f; }
-.frame { fill: none; stroke: #8c959f; stroke-dasharray: 5 4; }
-.line { fill: none; stroke: #57606a; stroke-width: 1.3; }
-.head { fill: #57606a; }
 .dropped { fill: #d8dee4; stroke: #8c959f; }
 .buffered { fill: none; stroke: #57606a; stroke-width: 1.3; stroke-dasharray: 3 2; }
 .first { fill: #0072b2; }
@@ -42,10 +38,6 @@ text { fill: #e6edf3; }
 .on { fill: #ffffff; }
 .dark-on { fill: #1f2328; }
 .page { fill: #0d1117; }
-.box { fill: #1b2330; stroke: #6e7681; }
-.frame { stroke: #6e7681; }
-.line { stroke: #9da7b1; }
-.head { fill: #9da7b1; }
 .dropped { fill: #30363d; stroke: #6e7681; }
 .buffered { stroke: #9da7b1; }
 }
@@ -62,17 +54,6 @@ def rect(x, y, width, height, kind, round_by=0):
     return f'<rect x="{x}" y="{y}" width="{width}" height="{height}"{corner} class="{kind}"/>'
 
 
-def arrow(path, end, way):
-    """A line along `path`, with a head at `end`; `way` is where it points."""
-    x, y = end
-    heads = {
-        "down": f"M{x} {y} l-5 -9 h10 z",
-        "left": f"M{x} {y} l9 -5 v10 z",
-        "right": f"M{x} {y} l-9 -5 v10 z",
-    }
-    return f'<path d="{path}" class="line"/><path d="{heads[way]}" class="head"/>'
-
-
 def picture(title, description, width, height, parts):
     body = "\n".join(parts)
     return (
@@ -86,82 +67,6 @@ def picture(title, description, width, height, parts):
 
 def div_ceil(number, divisor):
     return -(-number // divisor)
-
-
-# ---- layers.svg: the modules, by the `use` lines of crates/*/src ----
-
-
-def module(x, y, width, height, name, *lines):
-    parts = [rect(x, y, width, height, "box", 6), text(x + 10, y + 20, name, "bold")]
-    parts += [text(x + 10, y + 38 + 16 * n, line, "quiet") for n, line in enumerate(lines)]
-    return parts
-
-
-def layers():
-    programs, modules, traits, specs = 44, 178, 322, 462
-    parts = [text(MARGIN, 28, "An arrow goes from a module to what it uses.", "quiet")]
-
-    parts += module(MARGIN, programs, 140, 54, "draw, draw_core", "arguments to a text")
-    parts += module(172, programs, 140, 54, "nanorand_users", "programs of users")
-    parts += module(324, programs, 140, 54, "nanorand_rand", "for the kit's rand")
-    parts += module(476, programs, 150, 54, "lots, lots_core", "a public draw by lot")
-    parts += module(662, programs, 184, 54, "nanorand_c", "exports: C, Python, a page")
-    parts += module(858, programs, 162, 54, "rust/", "without contracts")
-    parts.append(arrow(f"M662 {programs + 27} H634", (627, programs + 27), "left"))
-
-    line = 140
-    parts.append(f'<path d="M{MARGIN} {line} H1020" class="frame"/>')
-    parts.append(text(MARGIN, line - 8, "public contracts", "quiet"))
-    for x in (140, 242, 394, 551, 754, 939):
-        parts.append(arrow(f"M{x} {programs + 54} V{line - 9}", (x, line - 1), "down"))
-    parts.append(text(MARGIN, line + 20, "crates/nanorand_core: for every generator", "quiet"))
-    parts.append(text(378, line + 20, "crates/nanorand_replay: over any generator", "quiet"))
-    parts.append(rect(370, line + 6, 340, 116, "frame", 8))
-    parts.append(text(734, line + 20, "crates/nanorand: the generators, and their laws", "quiet"))
-    parts.append(f'<path d="M726 {line} V{specs - 14}" class="frame"/>')
-
-    parts += module(MARGIN, modules, 150, 70, "laws", "laws of definitions;", "nothing to run")
-    parts += module(184, modules, 178, 70, "shuffles", "from all indices, recorded;", "stored choices")
-    parts += module(378, modules, 134, 70, "replay", "a list of calls,", "one answer each")
-    parts += module(526, modules, 176, 70, "buffer", "BufferedRng: a generator", "over any generator")
-    parts += module(734, modules, 286, 70, "rand::wyrand, pcg64, chacha", "WyRand, Pcg64, ChaCha: each implements", "the traits by its blocks")
-
-    parts.append(rect(190, traits - 24, 528, 124, "frame", 8))
-    parts.append(text(204, traits - 7, "call each other", "quiet"))
-    parts += module(202, traits, 178, 88, "values", "13 types of values, 10 of", "ranges; draw_below,", "draw_number, pick_word")
-    parts += module(540, traits, 166, 88, "rand", "the traits Blocks, Rng,", "SeedableRng; and", "fill_by_blocks")
-    parts += module(734, traits, 128, 88, "entropy", "a reader's bytes", "as a seed")
-    parts += module(878, traits, 142, 88, "crypto::chacha", "initial state,", "blocks, rounds,", "counter")
-
-    parts.append(text(389, traits + 16, "fill_bytes", "quiet"))
-    parts.append(arrow(f"M380 {traits + 26} H532", (539, traits + 26), "right"))
-    parts.append(arrow(f"M540 {traits + 50} H388", (381, traits + 50), "left"))
-    parts.append(text(389, traits + 67, "RandomGen::random,", "quiet"))
-    parts.append(text(389, traits + 83, "random_range", "quiet"))
-
-    below = modules + 70
-    for x in (273, 445):
-        parts.append(arrow(f"M{x} {below} V{traits - 32}", (x, traits - 25), "down"))
-    parts.append(arrow(f"M596 {below} V{traits - 8}", (596, traits - 1), "down"))
-    parts.append(arrow(f"M750 {below} V{below + 22} H660 V{traits - 8}", (660, traits - 1), "down"))
-    parts.append(arrow(f"M798 {below} V{traits - 8}", (798, traits - 1), "down"))
-    parts.append(text(806, below + 44, "new", "quiet"))
-    parts.append(arrow(f"M948 {below} V{traits - 8}", (948, traits - 1), "down"))
-    parts.append(text(956, below + 44, "ChaCha", "quiet"))
-
-    parts.append(rect(MARGIN, specs, 1000, 44, "box", 6))
-    parts.append(text(MARGIN + 10, specs + 27, "specs/", "bold"))
-    parts.append(text(MARGIN + 64, specs + 27, "the definitions. All contracts above cite them; laws cites nothing else but the members of the traits.", "quiet"))
-    parts.append(arrow(f"M95 {below} V{specs - 8}", (95, specs - 1), "down"))
-    return picture(
-        "The layers",
-        "The programs use the public contracts alone. replay and shuffles both use values and rand, "
-        "which call each other. The generators and the buffer implement the traits of rand. The crates "
-        "nanorand_core and nanorand_replay name no generator; nanorand has the generators, entropy and crypto.",
-        1040,
-        specs + 44 + MARGIN,
-        parts,
-    )
 
 
 # ---- runs.svg: the words of a byte, and the number that each names ----
@@ -398,7 +303,7 @@ def delivery():
     )
 
 
-PICTURES = {"layers.svg": layers, "runs.svg": runs, "delivery.svg": delivery}
+PICTURES = {"runs.svg": runs, "delivery.svg": delivery}
 
 
 def check():

@@ -3,60 +3,42 @@
 
 #include <string.h>
 
-/* The functions that every generator of nanorand.h has, and that of parts. */
-#define FUNCTIONS(name)                                                                                       \
-    static void name##_seed(void *state, uint64_t number)                                                     \
+/* A function of nanorand.h that takes its state as a `void *`: one with a result, and one without. */
+#define FUNCTION(result, name, call, parameters, arguments)                                                   \
+    static result name##_##call parameters                                                                    \
     {                                                                                                         \
-        nanorand_##name##_seed_from_u64(state, number);                                                       \
-    }                                                                                                         \
-    static uint64_t name##_u64(void *state)                                                                   \
-    {                                                                                                         \
-        return nanorand_##name##_u64(state);                                                                  \
-    }                                                                                                         \
-    static void name##_fill_bytes(void *state, uint8_t *buffer, size_t length)                                \
-    {                                                                                                         \
-        nanorand_##name##_fill_bytes(state, buffer, length);                                                  \
-    }                                                                                                         \
-    static uint8_t name##_range_u32(void *state, uint32_t first, uint32_t last, uint32_t *number)             \
-    {                                                                                                         \
-        return nanorand_##name##_range_u32(state, first, last, number);                                       \
-    }                                                                                                         \
-    static uint8_t name##_range_u64(void *state, uint64_t first, uint64_t last, uint64_t *number)             \
-    {                                                                                                         \
-        return nanorand_##name##_range_u64(state, first, last, number);                                       \
-    }                                                                                                         \
-    static uint8_t name##_range_i64(void *state, int64_t first, int64_t last, int64_t *number)                \
-    {                                                                                                         \
-        return nanorand_##name##_range_i64(state, first, last, number);                                       \
-    }                                                                                                         \
-    static uint8_t name##_shuffle(void *state, size_t *items, size_t length)                                  \
-    {                                                                                                         \
-        return nanorand_##name##_shuffle(state, items, length);                                               \
-    }                                                                                                         \
-    static uint8_t name##_shuffle_full(void *state, size_t *items, size_t length)                             \
-    {                                                                                                         \
-        return nanorand_##name##_shuffle_full(state, items, length);                                          \
-    }                                                                                                         \
-    static uint8_t name##_extend_sample(void *state, size_t count, size_t *places, size_t length,             \
-                                        size_t filled, size_t *table, size_t room)                            \
-    {                                                                                                         \
-        return nanorand_##name##_extend_sample(state, count, places, length, filled, table, room);            \
-    }                                                                                                         \
-    static uint8_t name##_part(void *state, uint64_t index, uint64_t draws)                                   \
-    {                                                                                                         \
-        return nanorand_##name##_part(state, index, draws);                                                   \
+        return nanorand_##name##_##call arguments;                                                            \
     }
+#define PROCEDURE(name, call, parameters, arguments)                                                          \
+    static void name##_##call parameters                                                                      \
+    {                                                                                                         \
+        nanorand_##name##_##call arguments;                                                                   \
+    }
+#define RANGE(name, call, type)                                                                               \
+    FUNCTION(uint8_t, name, call, (void *state, type first, type last, type *number), (state, first, last, number))
 
-#define BLOCKS(name)                                                                                          \
-    static void name##_block(void *state, uint8_t *block)                                                     \
-    {                                                                                                         \
-        nanorand_##name##_block(state, block);                                                                \
-    }
+/* Those that every generator has, and that of parts. */
+#define FUNCTIONS(name)                                                                                       \
+    PROCEDURE(name, seed_from_u64, (void *state, uint64_t number), (state, number))                           \
+    FUNCTION(uint64_t, name, u64, (void *state), (state))                                                     \
+    PROCEDURE(name, fill_bytes, (void *state, uint8_t *buffer, size_t length), (state, buffer, length))       \
+    RANGE(name, range_u32, uint32_t)                                                                          \
+    RANGE(name, range_u64, uint64_t)                                                                          \
+    RANGE(name, range_i64, int64_t)                                                                           \
+    FUNCTION(uint8_t, name, shuffle, (void *state, size_t *items, size_t length), (state, items, length))     \
+    FUNCTION(uint8_t, name, shuffle_full, (void *state, size_t *items, size_t length), (state, items, length))\
+    FUNCTION(uint8_t, name, extend_sample, (void *state, size_t count, size_t *places, size_t length,         \
+                                            size_t filled, size_t *table, size_t room),                       \
+             (state, count, places, length, filled, table, room))                                             \
+    FUNCTION(uint8_t, name, part, (void *state, uint64_t index, uint64_t draws), (state, index, draws))
+
+#define BLOCKS(name) PROCEDURE(name, block, (void *state, uint8_t *block), (state, block))
 
 #define TABLE(name)                                                                                           \
-    .seed = name##_seed, .u64 = name##_u64, .fill_bytes = name##_fill_bytes, .range_u32 = name##_range_u32,   \
-    .range_u64 = name##_range_u64, .range_i64 = name##_range_i64, .shuffle = name##_shuffle,                  \
-    .shuffle_full = name##_shuffle_full, .extend_sample = name##_extend_sample, .part = name##_part
+    .seed = name##_seed_from_u64, .u64 = name##_u64, .fill_bytes = name##_fill_bytes,                         \
+    .range_u32 = name##_range_u32, .range_u64 = name##_range_u64, .range_i64 = name##_range_i64,              \
+    .shuffle = name##_shuffle, .shuffle_full = name##_shuffle_full, .extend_sample = name##_extend_sample,    \
+    .part = name##_part
 
 /* A state whose bytes are those of its structure. */
 #define PLAIN(structure)                                                                                      \

@@ -18,14 +18,14 @@ const MOMENT = 500;
 const LARGE = 100000;
 
 /**
- * `file` is what was opened, null where the pasted text counts; `bytes` the list itself; `sent`
- * says whether the worker has it, `pending` is the timer before it gets a changed one, `showing`
- * that before the progress is shown. `turn`
- * counts the changes of all fields and `listTurn` those of the list: an answer to an earlier turn
- * is not shown.
+ * `file` is what was opened, null where the pasted text counts, and `name` what the page calls it;
+ * `bytes` is the list itself. `sent` says whether the worker has it, `pending` is the timer before
+ * it gets a changed one, `showing` that before the progress is shown. `turn` counts the changes of
+ * all fields and `listTurn` those of the list: an answer to an earlier turn is not shown. `result`
+ * is that of the draw that is shown, null where none is.
  */
 const state = {
-  file: null, bytes: new Uint8Array(0), sent: Promise.resolve(false), pending: 0,
+  file: null, name: "", bytes: new Uint8Array(0), sent: Promise.resolve(false), pending: 0,
   turn: 0, listTurn: 0, result: null, showing: 0,
 };
 

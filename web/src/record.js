@@ -106,14 +106,13 @@ export function readRecord(text) {
     if (first < 0) throw new RecordError(1, "the text is empty.");
     throw new RecordError(first + 1, `a record begins with “${TITLE}”.`);
   }
-  const record = {};
+  const values = {};
   for (const form of LINES) {
     const { value, next } = readLine(lines, at, form);
-    record[form[0]] = value;
+    values[form[0]] = value;
     at = next;
   }
-  record.named = readNamed(lines, at, record.drawn);
-  return record;
+  return { ...values, named: readNamed(lines, at, values.drawn) };
 }
 
 /** A line without the marks of a quotation in a mail, and without spaces at its end. */

@@ -1,279 +1,119 @@
--- `swap` meets its contract, for items of every type: its code is followed step by step, once where
--- the indices differ and once where they are equal.
-use Rattle.std.proofs.Common.{◌≡◌, ◌≢◌, ℕ, zero, suc, ◌+◌, ◌*◌, ◌^◌, ◌<◌, ◌≤◌, List, [], ◌∷◌, length, get_or, set, sym}
-use Rattle.std.proofs.Common.{refl, ap, ◌∙◌, subst, inl, inr, arith, length-set, w64, MutBor}
+-- `swap` meets its contract, for items of every type: its code is followed step by step. The items' cells are read and
+-- written at both indices, which may be equal. After that the items have changed places.
+use Rattle.std.proofs.Common.{◌≡◌, ℕ, ◌*◌, ◌^◌, ◌<◌, ◌≤◌, List, [], ◌∷◌, length, get_or, set}
+use Rattle.std.proofs.Common.{sym, refl, ap, ◌∙◌, subst, arith, w64}
 use Rattle.std.specs.List.{swap}
-use Rattle.std.proofs.lemmas.Bool.{cases_lt}
-use Rattle.std.proofs.mem.Timeless.{timeless, timeless_laws}
-use Rattle.std.proofs.mem.Param.{El, R, args, el_x, elτ, Good}
-use Rattle.std.proofs.SliceLists.{hd, swap_is, exchanged_same}
-use native.Mathlib.Nat.{mul-le-mul_right, zero-mul, suc-mul}
-use seplogic.Ra.Ura.{Ura}
+use Rattle.std.proofs.lemmas.List.{length-map, length-set}
+use Rattle.std.proofs.lemmas.List.Edits.{length-swap}
+use Rattle.std.proofs.mem.Param.{El, R, args, el_x}
+use Rattle.std.proofs.raw_atomic.Walks.{proved}
+use Rattle.std.proofs.SliceLists.{hd}
+use Rattle.nanorand_core.proofs.lemmas.shuffles.ItemLemmas.{Item, values, bits_of, cells, owned, opened}
+use Rattle.nanorand_core.proofs.lemmas.shuffles.ItemLemmas.{cell_at, item_at, swapped}
+use native.Mathlib.Nat.{mul-le-mul_right}
 use base.Fraction.{full_share}
-use base.Logic.{SProp, ent}
-use base.Fml.{Fml, Lft, GName, Share, ftrue, fat, flft, fobs, fbor}
-use mir.Syntax.{Fn, Body, named, seq, assign, place, rv_opd, opd_unit, return}
-use mir.MapTy.{inst_fn}
-use mir.Val.{Val, vunit, vint}
-use prog.Capped.{capped_is}
-use prog.Memory.{capped}
-use prog.Wp.{Env, Calls, Loops, WpFn, Tables}
-use types.Logic.{Logic}
-use types.Kit.{‵, ◌⊛◌, ⋆, some, given, at_ret, ◌$◌, ◌∵◌, !, qed, by, move, keep, use1, use2, use3, drop, split, split3}
-use types.Kit.{join, pick, learn, fsplit, fjoin, feq_i, suffices, frame, done}
-use types.Part.{whole, sub}
-use types.Run.{look, store, stop, fld, load, addr, hop, from, size_word, unit_lit, of_opd, bin, assigns, assigns_last, first, blocks, exec, returns, enter}
-use types.ByLocal.{alloc_all, pass_all, free_all, look_at, look_in_at, get, is, through, sets, env}
+use base.Fml.{ftrue, flft}
+use base.Logic.{SProp}
+use contract.BorrowLft.{◌⊑◌}
 use contract.Monad.{fact}
-use contract.Running.{tables, tables_of}
-use sound.WpLaws.{WpFn-mono}
+use contract.Running.{tables}
+use mir.Syntax.{Fn, named}
+use mir.Val.{Val, Fits, vunit, vint}
+use mir.MapTy.{inst_fn}
+use denote.Builtin.{usize}
 use denote.Exit.{yes}
-use denote.RattleType.{owns}
-use denote.Memory.{part_at, mem}
-use denote.Plain.{uint_vals, uint_Tells}
-use denote.Slice.{MutSlice, Room, slice_val, mut_slice_vals, mut_slice_Tells, mut_slice_at, coded_holeys, heres}
-use denote.Lend.{Held}
 use denote.Index.{row, opens_slice, closes_slice}
+use denote.Memory.{mem}
+use denote.Plain.{uint_vals, uint_Tells}
+use denote.RattleType.{owns}
 use denote.Shadow.{pure_i}
-use denote.Builtin.{SliceRefMutOf, usize, unit}
-use denote.Signature.{plain}
-use denote.Steps.{nothing}
-use denote.Triple.Carry.{spared}
-use denote.Triple.Clauses.{Clauses, Ended, closing}
-use denote.Triple.Entry.{on_entry}
-use denote.Triple.Spec.{Meets, triple_of}
-use denote.Triple.Table.{entered, run_framed}
-use denote.Triple.Walked.{says, needs, Stays, stay_dropped, stay_slice, walk_of, ends_at, walked, Goes-dropped, Goes-slice, walk_Meets}
+use denote.Signature.{plain, types_at}
+use denote.Slice.{Room, slice_val, mut_slice_vals, mut_slice_Tells, mut_slice_at}
+use denote.Steps.{nothing, heard}
+use denote.Triple.Walked.{Stays, stay_dropped, stay_slice, walk_of, says, ends_at, Goes-dropped, Goes-slice}
+use types.Kit.{‵, raw, ◌⊛◌, some, given, at_ret, ◌$◌, ◌∵◌, !, qed, move, keep, use1, use2, drop, split, join, pick}
+use types.Kit.{learn, fsplit, fjoin, feq_i, suffices, frame, done}
+use types.Part.{whole, sub, look_in, store_in}
+use types.Run.{stop, fld, load, addr, hop, from, size_lit, unit_lit, of_opd, bin, assigns, assigns_last, first, blocks}
+use types.Run.{exec, returns, enter}
+use types.ByLocal.{alloc_all, pass_all, free_all, look_at, look_in_at, get, through, sets, env}
+use Rattle.nanorand_core.specs.contracts.swap.swap as agreed
 use Rattle.nanorand_core.specs.contracts.swap.swap.Key.{name as #swap}
-use Rattle.nanorand_core.proofs.lemmas.shuffles.ItemLemmas.{item_out, item_in, but_one, but_two, one_out, one_in, two_out, two_in}
-use Rattle.nanorand_core.proofs.swap.swap.Statement as stated
+use Rattle.nanorand_core.proofs.swap.swap.Statement.{statement}
 use Rattle.nanorand_core.proofs.swap.swap.Code as code
 
-module _ (E : El) where
-  abbrev function : Fn
-  function = inst_fn (args E) code.function
-
-  abbrev ended : Ended
-  ended = record {
-    signature = record {
-      lifetimes = 1;
-      outlives = [];
-      params = SliceRefMutOf (0 ∷ []) tt (plain (λ _. R E)) (λ _. tt)
-          ∷ plain (λ _. usize) ∷ plain (λ _. usize) ∷ [];
-      result = plain (λ _. unit);
-    };
-    kept = (yes, (yes, (yes, tt)));
-  }
-
-  -- what is left of the parameters: the slice
-  abbrev stayed : Stays ended.signature.params ended.kept
-  stayed = (stay_slice (0 ∷ []) tt (plain (λ _. R E)), (stay_dropped (plain (λ _. usize)) yes, (stay_dropped (plain (λ _. usize)) yes, tt)))
-
-  abbrev spec : {M : Type 1} (𝓤 : Ura M) → Clauses 𝓤 ended
-  spec 𝓤 κs a = record {
-    ghost = Unit {0};
-    requires = λ _. fact 𝓤 ((a.1.0 < length a.0.now) × (a.1.1.0 < length a.0.now));
-    ensures = λ _ r w. fact 𝓤 (w.0.now ≡ swap a.0.now a.1.0 a.1.1.0);
-  }
-
--- the code after the `unsafe` block
-abbrev after_block : Body
-after_block = seq (assign (place 0 []) (rv_opd opd_unit)) return
-
--- the size of an item is capped in the code; the offset of an item in memory never is
-uncapped : (i k : ℕ) → i * k < 2 ^ 64 → i * capped k ≡ i * k
-uncapped zero k fits = zero-mul (capped k) ∙ sym (zero-mul k)
-uncapped (suc i) k fits = let step = suc-mul i k in ap (λ (j : ℕ). suc i * j) (capped_is k (omega arith))
-
--- The slice is lent for κ, lies at the offset o of the block b, is named γ and holds xs. The indices
--- are i and j.
-module _ (E : El) {M : Type 1} {𝓤 : Ura M} (𝓛 : Logic 𝓤) (κ : Lft) (q : Share) (b o : ℕ) (γ : GName) (xs : List (el_x E)) (i j : ℕ) where
-  open 𝓛 use {H}
-
-  abbrev size : ℕ
-  size = (mem (R E)).size
-
-  abbrev at : List (el_x E) → MutBor (List (el_x E))
-  at zs = record { ref_ptr = (b, o); ghost_name = γ; now = zs }
-
-  abbrev bound : (walk_of 𝓛 (ended E) (stayed E) (spec E 𝓤)).Ghost
-  bound = (((κ, tt), (q, tt), tt, (at xs, (i, (j, tt))), (mut_slice_vals (at xs), (vint w64 i ∷ [], (vint w64 j ∷ [], tt)))), tt)
-
-  abbrev Post : Val → SProp 𝓤
-  Post = (walk_of 𝓛 (ended E) (stayed E) (spec E 𝓤)).post bound
-
-  abbrev all : List (el_x E) → Fml
-  all zs = row (R E) full_share zs b o
-
-  abbrev item : el_x E → ℕ → Fml
-  item x k = part_at (R E) full_share x b (k * size + o)
-
-  exits : (zs : List (el_x E)) → length zs ≡ length xs → zs ≡ swap xs i j → Room (R E) (length xs)
-      → ent 𝓤 (⋆ 𝓛 (‵ (fobs γ ((coded_holeys (R E)).code (heres (R E) zs))) ∷ ‵ (fbor κ (Held (R E) (length zs) b o γ)) ∷ ‵ (flft κ q) ∷ [])) (Post vunit)
-  exits zs same swapped room =
-      qed 𝓛 (‵ (fobs γ ((coded_holeys (R E)).code (heres (R E) zs))) ∷ ‵ (fbor κ (Held (R E) (length zs) b o γ)) ∷ ‵ (flft κ q) ∷ []) ∵
-      suffices ! _ (ends_at 𝓛 (ended E) (stayed E) (spec E 𝓤) bound vunit tt (zs, (tt, (tt, tt))) (same, (tt, (tt, tt)))) $ says ! swapped $
-      nothing ! $ move ! (3 ∷ 0 ∷ []) $ join ! $ frame ! $ fjoin ! $
-      pure_i ! (mut_slice_at (R E) (at zs) (mut_slice_vals (at xs))) (tt, (tt, tt))
-      (ap (λ (n : ℕ). slice_val (b, o) n ∷ []) (sym same), subst (Room (R E)) (sym same) room) $ fjoin ! $
-      nothing ! $ nothing ! $ fjoin ! $ nothing ! $ fjoin ! $ move ! (1 ∷ 0 ∷ []) $ fjoin ! $
-      feq_i ! (List Val) (vunit ∷ []) (vunit ∷ []) refl $ move ! (1 ∷ 0 ∷ []) $ done !
-
-  module _ (C : Calls 𝓤 H) (Λ : Loops 𝓤 H) where
-    abbrev Walk : Type 1
-    Walk = ent 𝓤 (on_entry 𝓛 (ended E).signature (κ, tt) (q, tt) (at xs, (i, (j, tt))) (mut_slice_vals (at xs), (vint w64 i ∷ [], (vint w64 j ∷ [], tt))))
-        (WpFn 𝓤 H C Λ (function E) (slice_val (b, o) (length xs) ∷ vint w64 i ∷ vint w64 j ∷ []) Post)
-
-    walk_apart : Room (R E) (length xs) → i < length xs → j < length xs → i ≢ j → Walk
-    walk_apart room il jl apart =
-        let n : ℕ = length xs in
-        let d : el_x E = hd xs (omega arith) in
-        let x : el_x E = get_or xs i d in
-        let y : el_x E = get_or xs j d in
-        let ys : List (el_x E) = set (set xs i y) j x in
-        let same : length ys ≡ n = length-set (set xs i y) j x ∙ length-set xs i y in
-        let fn : n < 2 ^ 64 = room.0 in
-        let fit : n * size < 2 ^ 63 = room.1 in
-        let bi : i * size ≤ n * size = mul-le-mul_right size (omega arith) in
-        let bj : j * size ≤ n * size = mul-le-mul_right size (omega arith) in
-        let fi : i < 2 ^ 64 = omega arith in
-        let fj : j < 2 ^ 64 = omega arith in
-        let fmi : i * size < 2 ^ 64 = omega arith in
-        let fmj : j * size < 2 ^ 64 = omega arith in
-        qed 𝓛 ((‵ (flft κ q) ⊛ ‵ ftrue) ∷ ‵ (owns (MutSlice (named 0) κ (R E) ∷ usize ∷ usize ∷ [])
-        (at xs, (i, (j, tt))) (mut_slice_vals (at xs), (vint w64 i ∷ [], (vint w64 j ∷ [], tt)))) ∷ []) ∵
-        enter ! C Λ (function E) (slice_val (b, o) n ∷ vint w64 i ∷ vint w64 j ∷ []) _ $
-        alloc_all ! (λ l. pass_all ! refl ((tt, (tt, (record { fits = fn }, tt))), ((tt, record { fits = fi }), ((tt, record { fits = fj }), tt))) $
-        let En : Env 𝓤 H = env (function E).locals l in
-        move ! (1 ∷ []) $ fsplit ! $ fsplit ! $ drop ! $ fsplit ! $ move ! (3 ∷ []) $ split ! $ move ! (2 ∷ 3 ∷ 0 ∷ []) $
-        -- let start = items.as_mut_ptr();
-        sets ! (addr ! (from ! (fld ! refl (hop ! (look_in_at ! 1 (sub ! 0 refl (whole !))) (stop !))))) refl (tt, tt) $
-        opens_slice ! tt (R E) xs b o $
-        use1 𝓛 (‵ (item x i) ⊛ ‵ (item y j) ⊛ ‵ (but_two (R E) b xs i j o)) (two_out (R E) b 𝓛 xs i j d o apart il jl) $ split3 ! $
-        use1 𝓛 (some (λ (v : Val). given (Good E v)
-        (‵ (fat full_share (elτ E) b (i * size + o) v) ⊛ ‵ (E.row.own_val x (v ∷ [])))))
-        (item_out E 𝓛 b x (i * size + o)) $ pick ! (λ v. learn ! (λ vt. split ! $
-        move ! (2 ∷ []) $
-        use1 𝓛 (some (λ (w : Val). given (Good E w)
-        (‵ (fat full_share (elτ E) b (j * size + o) w) ⊛ ‵ (E.row.own_val y (w ∷ [])))))
-        (item_out E 𝓛 b y (j * size + o)) $ pick ! (λ w. learn ! (λ wt. split ! $
-        -- [the bits at b; what y owns; the bits at a; what x owns; the other items; the open borrow; ..]
-        first ! $ blocks ! $
-        -- let first = start.add(a); let second = start.add(b);
-        sets ! (is ! (bin ! (get ! refl) (size_word !)
-        (record { fits = subst (λ (k : ℕ). k < 2 ^ 64) (sym (uncapped i size fmi)) fmi }))
-        (ap (vint w64) (uncapped i size fmi))) refl (tt, record { fits = fmi }) $
-        sets ! (bin ! (get ! refl) (get ! refl) tt) refl (tt, tt) $
-        sets ! (is ! (bin ! (get ! refl) (size_word !)
-        (record { fits = subst (λ (k : ℕ). k < 2 ^ 64) (sym (uncapped j size fmj)) fmj }))
-        (ap (vint w64) (uncapped j size fmj))) refl (tt, record { fits = fmj }) $
-        sets ! (bin ! (get ! refl) (get ! refl) tt) refl (tt, tt) $
-        -- let item = first.read();
-        sets ! (of_opd ! (load ! (through ! refl (stop !)) (look ! 2 refl))) refl vt $
-        -- first.write(second.read());
-        sets ! (of_opd ! (load ! (through ! refl (stop !)) (look ! 0 refl))) refl wt $
-        assigns ! (of_opd ! (get ! refl)) (through ! refl (stop !)) (store ! 2 refl wt) $
-        -- second.write(item);
-        sets ! (of_opd ! (get ! refl)) refl vt $
-        assigns_last ! (of_opd ! (get ! refl)) (through ! refl (stop !)) (store ! 0 refl vt) $
-        exec ! C Λ En after_block (at_ret En Post) $
-        sets ! (of_opd ! (unit_lit !)) refl (tt, tt) $
-        move ! (0 ∷ 3 ∷ []) $ use2 𝓛 (‵ (item x j)) (item_in E 𝓛 b x (j * size + o) v) $
-        move ! (2 ∷ 1 ∷ []) $ use2 𝓛 (‵ (item y i)) (item_in E 𝓛 b y (i * size + o) w) $
-        use3 𝓛 (‵ (all ys)) (two_in (R E) b 𝓛 xs i j y x o apart il jl) $
-        closes_slice ! tt (R E) xs ys same b o $
-        returns ! (look_at ! 0 refl) $ free_all ! refl $
-        keep ! (0 ∷ 1 ∷ 2 ∷ []) $
-        by ! (exits ys same (swap_is xs i j d il jl) room))))))
-
-module _ (E : El) {M : Type 1} {𝓤 : Ura M} (𝓛 : Logic 𝓤) (κ : Lft) (q : Share) (b o : ℕ) (γ : GName) (xs : List (el_x E)) (i : ℕ) where
-  open 𝓛 use {H}
-
-  module _ (C : Calls 𝓤 H) (Λ : Loops 𝓤 H) where
-    walk_equal : Room (R E) (length xs) → i < length xs → Walk E 𝓛 κ q b o γ xs i i C Λ
-    walk_equal room il =
-        let n : ℕ = length xs in
-        let size : ℕ = (mem (R E)).size in
-        let at : List (el_x E) → MutBor (List (el_x E)) = λ zs. record { ref_ptr = (b, o); ghost_name = γ; now = zs } in
-        let d : el_x E = hd xs (omega arith) in
-        let x : el_x E = get_or xs i d in
-        let fn : n < 2 ^ 64 = room.0 in
-        let fit : n * size < 2 ^ 63 = room.1 in
-        let bi : i * size ≤ n * size = mul-le-mul_right size (omega arith) in
-        let fi : i < 2 ^ 64 = omega arith in
-        let fmi : i * size < 2 ^ 64 = omega arith in
-        qed 𝓛 ((‵ (flft κ q) ⊛ ‵ ftrue) ∷ ‵ (owns (MutSlice (named 0) κ (R E) ∷ usize ∷ usize ∷ [])
-        (at xs, (i, (i, tt))) (mut_slice_vals (at xs), (vint w64 i ∷ [], (vint w64 i ∷ [], tt)))) ∷ []) ∵
-        enter ! C Λ (function E) (slice_val (b, o) n ∷ vint w64 i ∷ vint w64 i ∷ []) _ $
-        alloc_all ! (λ l. pass_all ! refl ((tt, (tt, (record { fits = fn }, tt))), ((tt, record { fits = fi }), ((tt, record { fits = fi }), tt))) $
-        let En : Env 𝓤 H = env (function E).locals l in
-        move ! (1 ∷ []) $ fsplit ! $ fsplit ! $ drop ! $ fsplit ! $ move ! (3 ∷ []) $ split ! $ move ! (2 ∷ 3 ∷ 0 ∷ []) $
-        sets ! (addr ! (from ! (fld ! refl (hop ! (look_in_at ! 1 (sub ! 0 refl (whole !))) (stop !))))) refl (tt, tt) $
-        opens_slice ! tt (R E) xs b o $
-        use1 𝓛 (‵ (part_at (R E) full_share x b (i * size + o)) ⊛ ‵ (but_one (R E) b xs i o)) (one_out (R E) b 𝓛 xs i d o il) $ split ! $
-        use1 𝓛 (some (λ (v : Val). given (Good E v)
-        (‵ (fat full_share (elτ E) b (i * size + o) v) ⊛ ‵ (E.row.own_val x (v ∷ [])))))
-        (item_out E 𝓛 b x (i * size + o)) $ pick ! (λ v. learn ! (λ vt. split ! $
-        -- [the bits; what x owns; the other items; the open borrow; ..]
-        first ! $ blocks ! $
-        sets ! (is ! (bin ! (get ! refl) (size_word !)
-        (record { fits = subst (λ (k : ℕ). k < 2 ^ 64) (sym (uncapped i size fmi)) fmi }))
-        (ap (vint w64) (uncapped i size fmi))) refl (tt, record { fits = fmi }) $
-        sets ! (bin ! (get ! refl) (get ! refl) tt) refl (tt, tt) $
-        sets ! (is ! (bin ! (get ! refl) (size_word !)
-        (record { fits = subst (λ (k : ℕ). k < 2 ^ 64) (sym (uncapped i size fmi)) fmi }))
-        (ap (vint w64) (uncapped i size fmi))) refl (tt, record { fits = fmi }) $
-        sets ! (bin ! (get ! refl) (get ! refl) tt) refl (tt, tt) $
-        sets ! (of_opd ! (load ! (through ! refl (stop !)) (look ! 0 refl))) refl vt $
-        sets ! (of_opd ! (load ! (through ! refl (stop !)) (look ! 0 refl))) refl vt $
-        assigns ! (of_opd ! (get ! refl)) (through ! refl (stop !)) (store ! 0 refl vt) $
-        sets ! (of_opd ! (get ! refl)) refl vt $
-        assigns_last ! (of_opd ! (get ! refl)) (through ! refl (stop !)) (store ! 0 refl vt) $
-        exec ! C Λ En after_block (at_ret En (Post E 𝓛 κ q b o γ xs i i)) $
-        sets ! (of_opd ! (unit_lit !)) refl (tt, tt) $
-        use2 𝓛 (‵ (part_at (R E) full_share x b (i * size + o))) (item_in E 𝓛 b x (i * size + o) v) $
-        use2 𝓛 (‵ (row (R E) full_share xs b o)) (one_in (R E) b 𝓛 xs i d o il) $
-        closes_slice ! tt (R E) xs xs refl b o $
-        returns ! (look_at ! 0 refl) $ free_all ! refl $
-        keep ! (0 ∷ 1 ∷ 2 ∷ []) $
-        by ! (exits E 𝓛 κ q b o γ xs i i xs refl (exchanged_same xs i i refl) room))))
-
-module _ (E : El) {M : Type 1} {𝓤 : Ura M} (𝓛 : Logic 𝓤) (𝓣 : Tables 𝓤 𝓛.H) where
-  walk : (κ : Lft) (q : Share) (b o : ℕ) (γ : GName) (xs : List (el_x E)) (i j : ℕ) → Room (R E) (length xs) → i < length xs → j < length xs
-      → Walk E 𝓛 κ q b o γ xs i j 𝓣.C 𝓣.Λ
-  walk κ q b o γ xs i j room il jl =
-      elim (cases_lt i j) [
-        | inl below ↦ walk_apart E 𝓛 κ q b o γ xs i j 𝓣.C 𝓣.Λ room il jl (λ e. absurd (omega (arith, e)))
-        | inr above ↦ elim (cases_lt j i) [
-          | inl below ↦ walk_apart E 𝓛 κ q b o γ xs i j 𝓣.C 𝓣.Λ room il jl (λ e. absurd (omega (arith, e)))
-          | inr other ↦
-              let e : i ≡ j = omega arith in
-              subst (λ (k : ℕ). Walk E 𝓛 κ q b o γ xs i k 𝓣.C 𝓣.Λ) e (walk_equal E 𝓛 κ q b o γ xs i 𝓣.C 𝓣.Λ room il)
-        ]
-      ]
-
-  meets : Meets 𝓛 (ended E).signature (WpFn 𝓤 𝓛.H 𝓣.C 𝓣.Λ (function E)) (closing 𝓛 (ended E) (spec E 𝓤))
-  meets =
-      walk_Meets 𝓛 (ended E) (stayed E) (
-        Goes-slice 𝓛 1 0 tt (plain (λ _. R E)),
-        (
-          Goes-dropped 𝓛 1 (plain (λ _. usize)) yes (λ κs x f. refl),
-          (Goes-dropped 𝓛 1 (plain (λ _. usize)) yes (λ κs x f. refl), tt),
-        ),
-      )
-      (spec E 𝓤) (WpFn 𝓤 𝓛.H 𝓣.C 𝓣.Λ (function E)) (WpFn-mono 𝓤 𝓛.H 𝓛.laws 𝓣 (function E))
-      (walked 𝓛 (ended E) (stayed E) (spec E 𝓤) (WpFn 𝓤 𝓛.H 𝓣.C 𝓣.Λ (function E))
-      (λ κs. (mut_slice_vals, (uint_vals w64, (uint_vals w64, tt)))) (λ κs. (mut_slice_Tells (named 0) κs.0 (R E), (uint_Tells w64, (uint_Tells w64, tt))))
-      (λ κs qs bounds a g are. needs 𝓤 ((a.1.0 < length a.0.now) × (a.1.1.0 < length a.0.now)) _
-      (λ inside. walk κs.0 qs.0 a.0.ref_ptr.0 a.0.ref_ptr.1 a.0.ghost_name a.0.now a.1.0 a.1.1.0 are.0.0.1 inside.0 inside.1)))
-
-pub swap_spec : {M : Type 1} → stated.statement M
-unfolding tables_of
-swap_spec 𝓤 𝓛 𝓜 𝓡 wired X L y =
-    let E : El = record { row = timeless X; laws = timeless_laws X L } in
-    let 𝓣 : Tables 𝓤 𝓛.H = tables_of 𝓤 𝓛.H 𝓜 (tables 𝓤 𝓛.H 𝓜 𝓡 𝓡.env) in
-    spared 𝓛 (ended E).signature (𝓡.run (𝓡.env (#swap (args E)))) (run_framed 𝓤 𝓛.H 𝓜 𝓡 (𝓡.env (#swap (args E)))) 1
-    (X.lives, tt) (closing 𝓛 (ended E) (spec E 𝓤))
-    (entered 𝓤 𝓛.H (triple_of 𝓛 (ended E).signature (closing 𝓛 (ended E) (spec E 𝓤))) 𝓣.C 𝓣.Λ (#swap (args E))
-    (function E) (code.unfolded 𝓤 𝓛.H 𝓜 𝓡 wired (E.row, tt)) (meets E 𝓛 𝓣))
-    ((y.0.0, y.0.1, tt, y.0.3, y.0.4), y.1)
+pub swap_spec : {M : Type 1} → statement M
+swap_spec 𝓤 𝓛 𝓜 𝓡 wired X L =
+    let E : El = record { row = X; laws = L } in
+    let fn : Fn = inst_fn (args E) code.function in
+    let 𝓣 = tables 𝓤 𝓛.H 𝓜 𝓡 𝓡.env in
+    let ended = agreed.ended X in let clauses = agreed.clauses X 𝓛 𝓜.mem 𝓡.returns in
+    -- the slice is left of the parameters
+    let index = stay_dropped (plain (λ _. usize)) yes in
+    let stayed : Stays ended.signature.params ended.kept =
+    (stay_slice (0 ∷ []) tt (plain (λ _. R E)), (index, (index, tt))) in
+    let dropped = Goes-dropped 𝓛 2 (plain (λ _. usize)) yes (λ κs x f. refl) in
+    proved 𝓛 ended stayed clauses 𝓜 𝓡 (Goes-slice 𝓛 2 0 tt (plain (λ _. R E)), (dropped, (dropped, tt)))
+    (#swap (args E)) fn (code.unfolded 𝓤 𝓛.H 𝓜 𝓡 wired (X, tt))
+    (λ κs. (mut_slice_vals, (uint_vals w64, (uint_vals w64, tt))))
+    (λ κs. (mut_slice_Tells (named 0) κs.0 (R E), (uint_Tells w64, (uint_Tells w64, tt)))) (λ κs qs bounds a g are.
+    -- The slice lies at the offset o of the block b, and holds xs. The indices are i and j.
+    let xs : List (el_x E) = a.0.now in let b = a.0.ref_ptr.0 in let o = a.0.ref_ptr.1 in
+    let i = a.1.0 in let j = a.1.1.0 in let n : ℕ = length xs in let size : ℕ = (mem (R E)).size in
+    let bound : (walk_of 𝓛 ended stayed clauses).Ghost =
+    ((κs, qs, bounds, a, (mut_slice_vals a.0, (vint w64 i ∷ [], (vint w64 j ∷ [], tt)))), g) in
+    let Post : Val → SProp 𝓤 = (walk_of 𝓛 ended stayed clauses).post bound in
+    let Inside : Type 0 = (i < n) × (j < n) in let room : Room (R E) n = are.0.0.1 in
+    qed 𝓛 (((‵ (flft κs.0 qs.0) ⊛ ‵ (flft κs.1.0 qs.1.0) ⊛ ‵ ftrue)
+    ⊛ ‵ (owns (types_at ended.signature.params κs) a bound.0.4))
+    ∷ (raw (fact 𝓤 (κs.1.0 ⊑ X.lives)) ⊛ raw (fact 𝓤 Inside)) ∷ []) ∵
+    move ! (1 ∷ []) $ split ! $ drop ! $ heard ! Inside (λ inside.
+    let fits : (k : ℕ) → k ≤ n → k * size < 2 ^ 64 =
+    λ k few. let below : k * size ≤ n * size = mul-le-mul_right size few in omega arith in
+    let fi : Fits w64 (i * size) = record { fits = fits i (omega arith) } in
+    let fj : Fits w64 (j * size) = record { fits = fits j (omega arith) } in
+    let one = fits 1 (omega arith) in let fs : Fits w64 size = record { fits = omega arith } in
+    let wi : Fits w64 i = record { fits = omega arith } in let wj : Fits w64 j = record { fits = omega arith } in
+    split ! $ move ! (1 ∷ []) $ fsplit ! $ fsplit ! $ drop ! $ fsplit ! $ move ! (3 ∷ []) $
+    split ! $ keep ! (2 ∷ 3 ∷ 0 ∷ 1 ∷ []) $
+    enter ! 𝓣.C 𝓣.Λ fn (slice_val (b, o) n ∷ vint w64 i ∷ vint w64 j ∷ []) Post $ alloc_all ! (λ l.
+    pass_all ! refl ((tt, (tt, (record { fits = room.0 }, tt))), ((tt, wi), ((tt, wj), tt))) $
+    -- let start = items.as_mut_ptr();
+    sets ! (addr ! (from ! (fld ! refl (hop ! (look_in_at ! 1 (sub ! 0 refl (whole !))) (stop !))))) refl (tt, tt) $
+    opens_slice ! tt (R E) xs b o $
+    use1 𝓛 (some (λ (zs : List (Item E)). given (values E zs ≡ xs) (‵ (cells E (bits_of E zs) b o) ⊛ ‵ (owned E zs))))
+    (opened E 𝓛 b xs o) $ pick ! (λ zs. learn ! (λ e. split ! $
+    -- [the cells of the items; what they own; the open borrow; ..]
+    let all : length zs ≡ n = sym (length-map zs (λ (z : Item E). z.value)) ∙ ap length e in
+    let iz : i < length zs = omega arith in let jz : j < length zs = omega arith in
+    let d : Item E = hd zs (omega arith) in let x : Item E = get_or zs i d in let y : Item E = get_or zs j d in
+    let vs : List Val = set (bits_of E zs) i y.bits in
+    let jv : j < length vs =
+    omega (arith, length-set (bits_of E zs) i y.bits, length-map zs (λ (z : Item E). z.bits)) in
+    -- let first = start.add(a); let second = start.add(b);
+    first ! $ blocks ! $ sets ! (bin ! (get ! refl) (size_lit ! fs) fi) refl (tt, fi) $
+    sets ! (bin ! (get ! refl) (get ! refl) tt) refl (tt, tt) $
+    sets ! (bin ! (get ! refl) (size_lit ! fs) fj) refl (tt, fj) $
+    sets ! (bin ! (get ! refl) (get ! refl) tt) refl (tt, tt) $
+    -- let item = first.read();
+    sets ! (of_opd ! (load ! (through ! refl (stop !)) (look_in ! 0 (item_at E 𝓛 b o zs i d iz)))) refl x.good $
+    -- first.write(second.read());
+    sets ! (of_opd ! (load ! (through ! refl (stop !)) (look_in ! 0 (item_at E 𝓛 b o zs j d jz)))) refl y.good $
+    assigns ! (of_opd ! (get ! refl)) (through ! refl (stop !)) (store_in ! 0 (item_at E 𝓛 b o zs i d iz) y.good) $
+    -- second.write(item);
+    sets ! (of_opd ! (get ! refl)) refl x.good $
+    assigns_last ! (of_opd ! (get ! refl)) (through ! refl (stop !))
+    (store_in ! 0 (cell_at E 𝓛 b o vs j d.bits jv) x.good) $
+    exec ! 𝓣.C 𝓣.Λ (env fn.locals l) code.Mir.t-3 (at_ret _ Post) $ sets ! (of_opd ! (unit_lit !)) refl (tt, tt) $
+    let ys : List (el_x E) = swap xs i j in let same : length ys ≡ n = length-swap xs i j in
+    use2 𝓛 (‵ (row (R E) full_share ys b o)) (swapped E 𝓛 b o xs zs i j d e iz jz) $
+    closes_slice ! tt (R E) xs ys same b o $
+    returns ! (look_at ! 0 refl) $ free_all ! refl $
+    -- [what the slice holds; its borrow; the tokens]
+    suffices ! _ (ends_at 𝓛 ended stayed clauses bound vunit tt (ys, (tt, (tt, tt))) (same, (tt, (tt, tt)))) $
+    says ! refl $
+    move ! (2 ∷ 3 ∷ []) $ join ! $ frame ! $ fjoin ! $
+    pure_i ! (mut_slice_at (R E) (record a.0 { now = ys }) (mut_slice_vals a.0)) (tt, (tt, tt))
+    (ap (λ (k : ℕ). slice_val (b, o) k ∷ []) (sym same), subst (Room (R E)) (sym same) room) $ fjoin ! $
+    nothing ! $ nothing ! $ fjoin ! $ nothing ! $ fjoin ! $ move ! (1 ∷ 0 ∷ []) $ fjoin ! $
+    feq_i ! (List Val) (vunit ∷ []) _ refl $ move ! (1 ∷ 0 ∷ []) $ done !)))))
