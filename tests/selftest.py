@@ -521,6 +521,7 @@ def main():
             (room / part.__name__).mkdir()
             part(counts, room / part.__name__)
         copy_of_repository(room / "copy")
+        ran(["git", "init", "-q"], room / "copy")
         for part in (changes, writers, page):
             part(counts, room / "copy")
     print(f"{counts.passed} passed, {counts.failed} failed")

@@ -8,7 +8,7 @@ Those of a file of `src/` stand together in `mutants/`, at the same path: `mutan
     old: a text that stands once in the file
     new: what takes its place
 
-Pairs of `old:` and `new:` may follow, and `file:` names another file for those after it. `must-fail/` is read by `rt ci`
+More pairs of `old:` and `new:` may follow, and `file:` names another file for those after it. `rt ci` reads `must-fail/`,
 too: there each mutant has a file of its own, NAME.edit, in which `# refused:` names the clauses.
 """
 

@@ -88,7 +88,7 @@ class Mutant:
     def __init__(self, edit):
         self.crate = edit.crate
         self.name = f"{self.crate.name}/{edit.name}"
-        if edit.problem():
+        if edit.refused and edit.problem():
             sys.exit(f"tools/mutants.py: {self.name}: {edit.problem()}")
         self.places, self.functions, self.definitions, self.is_elsewhere = [], [], set(), False
         for change in edit.changes:

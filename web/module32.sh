@@ -1,6 +1,7 @@
 #!/usr/bin/env bash
-# Compiles the module for 32-bit memory: web/module32.sh FILE. It is rust/nanorand-c and the two crates
-# below it, by Debian's rustc with its std for WebAssembly. Equal sources and an equal rustc give equal bytes, wherever they lie. With status 3 the compiler cannot be had.
+# Compiles the module for 32-bit memory: web/module32.sh FILE. It is rust/nanorand-c and the two crates below it, by
+# Debian's rustc with its std for WebAssembly. Equal sources and an equal rustc give equal bytes, wherever they lie. With
+# status 3 there is no such compiler.
 set -euo pipefail
 into=$(realpath -m "$1")
 cd "$(dirname "$0")/.."
