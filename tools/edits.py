@@ -8,8 +8,8 @@ Those of a file of `src/` stand together in `mutants/`, at the same path: `mutan
     old: a text that stands once in the file
     new: what takes its place
 
-More pairs of `old:` and `new:` may follow, and `file:` names another file for those after it. `rt ci` reads `must-fail/`,
-too: there each mutant has a file of its own, NAME.edit, in which `# refused:` names the clauses.
+More pairs of `old:` and `new:` may follow, and `file:` names another file for those after it. In `must-fail/`, which
+`rt ci` reads too, each mutant has a file of its own, NAME.edit, and `# refused:` names the clauses.
 """
 
 import re
