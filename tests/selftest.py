@@ -467,7 +467,7 @@ def mutants(counts, room):
         (1, 7, "value", 2, "1 passed, 1 failed"), (7, 8, "value", 3, "1 passed, 1 failed"),
         (7, 8, "even", 2, "2 passed, 0 failed"), (7, 7, "", 3, "1 passed, 1 failed"),
     ]:
-        edits = [f"mutant: {name}\nrefused: {line}\nold: {old}\nnew: {old[:-1]}{new}\n" for name, line, old, new in
+        edits = [f"mutant {name}, refused at {line}\nold: {old}\nnew: {old[:-1]}{new}\n" for name, line, old, new in
                  [("one", "value", "1 + 0", of_one), ("two", clause, "one() + 1", of_two)]]
         (room / "crates/low/mutants/lib.edits").write_text("\n".join(edits), encoding="utf-8")
         calls = room / "calls"

@@ -3,8 +3,7 @@
 Those of a file of `src/` stand together in `mutants/`, at the same path: `mutants/rand/wyrand.edits` has those of
 `src/rand/wyrand.rt`; those of `specs/` are in `mutants/specs/`. Each is a paragraph of lines:
 
-    mutant: its name
-    refused: the clauses that refuse it, or else the goals, as the check prints them
+    mutant NAME, refused at the clauses that refuse it, or else the goals, as the check prints them
     old: a text that stands once in the file
     new: what takes its place
 
@@ -16,7 +15,8 @@ import re
 from pathlib import Path
 from typing import NamedTuple
 
-LINE = re.compile(r"^(mutant|file|old|new|(?:# )?refused):(?: (.*))?$")
+HEAD = re.compile(r"^mutant (\w+), refused at (.*)$")
+LINE = re.compile(r"^(file|old|new|# refused):(?: (.*))?$")
 
 
 class Edit(NamedTuple):
@@ -39,9 +39,9 @@ class Edit(NamedTuple):
         return "" if self.changes else "it changes nothing"
 
 
-def edit_of(crate, name, lines, file):
+def edit_of(crate, name, refused, lines, file):
     """The mutant of these lines, which change a file until they name another."""
-    refused, changes, old = "", [], ""
+    changes, old = [], ""
     for word, said in (match.groups() for match in map(LINE.match, lines) if match):
         if word == "file":
             file = said
@@ -49,7 +49,7 @@ def edit_of(crate, name, lines, file):
             old = said
         elif word == "new":
             changes.append((file, old, said or ""))
-        elif word != "mutant":
+        else:
             refused = said
     return Edit(crate, name, refused, changes)
 
@@ -60,10 +60,11 @@ def edits_of(crate):
         module = path.relative_to(crate / "mutants").with_suffix("")
         file = f"{module}.antt" if module.parts[0] == "specs" else f"src/{module}.rt"
         for text in path.read_text(encoding="utf-8").split("\n\n"):
-            lines = text.strip("\n").split("\n")
-            yield edit_of(crate, lines[0].removeprefix("mutant: "), lines, file)
+            head, *lines = text.strip("\n").split("\n")
+            name, refused = HEAD.match(head).groups()
+            yield edit_of(crate, name, refused, lines, file)
     for path in sorted(crate.glob("must-fail/*.edit")):
-        yield edit_of(crate, path.stem, path.read_text(encoding="utf-8").splitlines(), "")
+        yield edit_of(crate, path.stem, "", path.read_text(encoding="utf-8").splitlines(), "")
 
 
 def all_edits(root):

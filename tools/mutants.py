@@ -5,7 +5,7 @@ edits.py says how a mutant is written, and what refuses it. Those of a
 crate that change different functions are planted together in a copy of the crate, and a check of these functions and
 what they call has to refuse each for itself, at every clause that its file names. What is refused there only for a
 function that it calls goes into a further group. A mutant of a definition names the function that refuses it, most
-often a law, `refused: laws::draws_are_fair: shares`; none that is planted with it changes a definition on which that
+often a law, `refused at laws::draws_are_fair: shares`; none that is planted with it changes a definition on which that
 law rests. What changes a body and names its function, as a loop with its invariant, is tried alone; so is what changes
 anything else.
 
