@@ -1,8 +1,7 @@
 """The calls of web/src/module.js alone, watched in a browser."""
 
 import base64
-import importlib.machinery
-import importlib.util
+import sys
 from pathlib import Path
 from typing import Dict
 
@@ -10,9 +9,8 @@ from counts import Counts, sha256
 from page import Page
 
 HERE = Path(__file__).resolve().parent
-LOADER = importlib.machinery.SourceFileLoader("build", str(HERE.parent / "build"))
-build = importlib.util.module_from_spec(importlib.util.spec_from_loader("build", LOADER))
-LOADER.exec_module(build)
+sys.path.insert(1, str(HERE.parent))
+import build  # noqa: E402
 
 
 def run(counts: Counts, page: Page, modules: Dict[int, bytes]) -> None:

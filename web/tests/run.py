@@ -31,7 +31,7 @@ from counts import Counts, sha256
 from drivers import Chromium, Firefox
 from page import Page
 
-OUT = Path(__file__).resolve().parent.parent / "out"
+OUT = Path(__file__).resolve().parent.parent / "dist"
 BROWSERS = {"chromium": Chromium, "firefox": Firefox}
 
 
