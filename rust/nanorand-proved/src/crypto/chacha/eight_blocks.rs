@@ -6,57 +6,38 @@ use super::state::{counter, high, low};
 use super::wide::{joined, woven, woven_pairs, EightLanes};
 use crate::simd::U32x8;
 
+// A row of four words, each in all lanes.
+#[inline(always)]
+fn splat_row(lanes: EightLanes, a: u32, b: u32, c: u32, d: u32) -> Row<U32x8> {
+    (
+        lanes.splat(a),
+        lanes.splat(b),
+        lanes.splat(c),
+        lanes.splat(d),
+    )
+}
+
 // A state and the seven after it. The counter may wrap within the eight.
 #[inline(always)]
 fn eight_states(lanes: EightLanes, x: &[u32; 16]) -> Matrices<U32x8> {
     let first = counter(x);
-    let second = first.wrapping_add(1);
-    let third = first.wrapping_add(2);
-    let fourth = first.wrapping_add(3);
-    let fifth = first.wrapping_add(4);
-    let sixth = first.wrapping_add(5);
-    let seventh = first.wrapping_add(6);
-    let eighth = first.wrapping_add(7);
+    let counters = [
+        first,
+        first.wrapping_add(1),
+        first.wrapping_add(2),
+        first.wrapping_add(3),
+        first.wrapping_add(4),
+        first.wrapping_add(5),
+        first.wrapping_add(6),
+        first.wrapping_add(7),
+    ];
     (
+        splat_row(lanes, x[0], x[1], x[2], x[3]),
+        splat_row(lanes, x[4], x[5], x[6], x[7]),
+        splat_row(lanes, x[8], x[9], x[10], x[11]),
         (
-            lanes.splat(x[0]),
-            lanes.splat(x[1]),
-            lanes.splat(x[2]),
-            lanes.splat(x[3]),
-        ),
-        (
-            lanes.splat(x[4]),
-            lanes.splat(x[5]),
-            lanes.splat(x[6]),
-            lanes.splat(x[7]),
-        ),
-        (
-            lanes.splat(x[8]),
-            lanes.splat(x[9]),
-            lanes.splat(x[10]),
-            lanes.splat(x[11]),
-        ),
-        (
-            lanes.vector([
-                low(first),
-                low(second),
-                low(third),
-                low(fourth),
-                low(fifth),
-                low(sixth),
-                low(seventh),
-                low(eighth),
-            ]),
-            lanes.vector([
-                high(first),
-                high(second),
-                high(third),
-                high(fourth),
-                high(fifth),
-                high(sixth),
-                high(seventh),
-                high(eighth),
-            ]),
+            lanes.vector(counters.map(low)),
+            lanes.vector(counters.map(high)),
             lanes.splat(x[14]),
             lanes.splat(x[15]),
         ),
