@@ -162,7 +162,7 @@ pip_installs() {
 # What the unpacked archive has: the package, the header, and the library of $1.
 archive() {
     mkdir -p "$work/archive/lib" "$work/archive/python"
-    cp -r pyproject.toml LICENSE include "$work/archive/"
+    cp -r pyproject.toml LICENSE c/include "$work/archive/"
     cp -r python/backend.py python/README.md python/native python/nanorand "$work/archive/python/"
     cp "$1" "$work/archive/lib/libnanorand.a"
 }
