@@ -22,7 +22,8 @@ from pathlib import Path
 HERE = Path(__file__).resolve().parent
 TOP = HERE.parent
 PACKAGE = HERE / "nanorand"
-INCLUDE = TOP / "include"
+# In the repository and in the unpacked archive.
+INCLUDE = next(folder for folder in (TOP / "c/include", TOP / "include") if folder.exists())
 # The version of the header, which has 1.2.3 as 10203.
 NUMBER = int(re.search(r"^#define NANORAND_VERSION (\d+)$", (INCLUDE / "nanorand.h").read_text("ascii"), re.M)[1])
 VERSION = f"{NUMBER // 10000}.{NUMBER // 100 % 100}.{NUMBER % 100}"

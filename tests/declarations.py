@@ -35,7 +35,9 @@ STRUCTS = sorted(C_STRUCTS.values())
 VERSIONS = {
     "c/include/nanorand.h": r"^#define NANORAND_VERSION (\d+)$",
     "Cargo.toml": r'^version = "(.*)"$',
+    "Cargo.lock": r'^name = "(?:draw|lots|nanorand-program)"\nversion = "(.*)"$',
     "rust/nanorand-c/Cargo.toml": r'^version = "(.*)"$',
+    "rust/nanorand-c/src/lib.rs": r"^    (\d{5,})$",
     "docs/PAGE.md": r"^version: (.*)$",
 }
 # Documents that name functions of C and their statuses: how a name is written, and the row of a status.
@@ -305,6 +307,8 @@ def size_problems(header):
 
 
 def main():
+    if sys.argv[1:]:
+        sys.exit(__doc__)
     library, bench, header = exports("nanorand_c"), exports("nanorand_bench"), "c/include/nanorand.h"
     cases = [exported_twice(library + bench), macro_problems(header)]
     cases += problems(CALLED, called_declarations(), library, comparable)

@@ -3,8 +3,7 @@
 
 A link names a file or a folder, and after `#` a heading of that document. Of a script that a document names between
 backticks the file has to be there. The map of docs/ARCHITECTURE.md has each file at the top, each folder below it that
-holds more than files, and nothing else. For information, the number of words of each document is printed first, without
-blocks of code. The last line is N passed, M failed.
+holds more than files, and nothing else.
 """
 
 import re
@@ -69,16 +68,11 @@ def absent_scripts(document):
             yield f"{document.relative_to(ROOT)}: {path}: no such script"
 
 
-def print_lengths(documents):
-    for document in documents:
-        words = re.findall(r"\S*[^\W\d_]\S*", prose_of(document))
-        print(f"{document.relative_to(ROOT)}: {len(words)} words")
-
-
 def main():
+    if sys.argv[1:]:
+        sys.exit(__doc__)
     passed = failed = 0
     documents = [one for one in sorted(ROOT.rglob("*.md")) if not LEFT_OUT & set(one.relative_to(ROOT).parts)]
-    print_lengths(documents)
     for document in documents:
         for link in LINK.finditer(prose_of(document)):
             wrong = wrong_with(document, link)

@@ -10,7 +10,7 @@ source "$(dirname "${BASH_SOURCE[0]}")/lib.sh"
 copy_of_workspace() {
     mkdir "$1"
     git ls-files -z --cached --others --exclude-standard Cargo.{toml,lock} {clippy,rustfmt}.toml LICENSE rust answers \
-        tests/answers tests/{lib,workspace,hints,targets}.sh tools/uncovered.{py,txt} | xargs -0 cp -P --parents -t "$1"
+        tests/answers tests/{lib,workspace,build_script,targets}.sh tools/uncovered.{py,txt} | xargs -0 cp -P --parents -t "$1"
 }
 
 # What compiles, links and runs programs of other targets, as far as it can be had.
@@ -99,7 +99,7 @@ read -r command package < <(tools/uncovered.py --tools)
 available "$command" "$package"
 copy_of_workspace "$work/copy"
 part env PATH="$(path_without_kit)" "$work/copy/tests/workspace.sh"
-part env PATH="$(path_without_kit)" "$work/copy/tests/hints.sh"
+part env PATH="$(path_without_kit)" "$work/copy/tests/build_script.sh"
 adapter
 part tests/drop_in.sh
 git clone --quiet . "$work/clone"

@@ -17,7 +17,7 @@ from pathlib import Path
 ROOT = Path(__file__).resolve().parent.parent
 # What stands in tests/ and is no part: what the parts call or read.
 NO_PARTS = {
-    "lib.sh", "program.sh", "build.sh", "workspace.sh", "hints.sh", "targets.sh", "drop_in.sh", "c_crate.sh",
+    "lib.sh", "program.sh", "build.sh", "workspace.sh", "build_script.sh", "targets.sh", "drop_in.sh", "c_crate.sh",
     "second_opinion.py", "nanorand-0.7.0.txt", "answers", "against_c",
 }
 
@@ -60,6 +60,8 @@ CHANGES = [
     ("tests/declarations.py", "rust/nanorand-c/src/stream.rs", '"stream", Stream', '"stream", GroupStream'),
     ("tests/declarations.py", "rust/nanorand-c/Cargo.toml", 'version = "1', 'version = "2'),
     ("tests/declarations.py", "Cargo.toml", 'version = "1', 'version = "2'),
+    ("tests/declarations.py", "Cargo.lock", 'name = "draw"\nversion = "1', 'name = "draw"\nversion = "2'),
+    ("tests/declarations.py", "rust/nanorand-c/src/lib.rs", "    10000\n", "    10001\n"),
     ("tests/declarations.py", "c/include/nanorand.h", "#define NANORAND_VERSION 1", "#define NANORAND_VERSION 2"),
     ("tests/declarations.py", "docs/PAGE.md", "\nversion: 1", "\nversion: 2"),
     ("tests/declarations.py", "c/README.md", "| 3 | `NANORAND_PAST", "| 2 | `NANORAND_PAST"),
@@ -175,7 +177,7 @@ echo '7 passed, 0 failed'
 def calls_of_whole(room):
     """What ./test calls, where all that it could call is a stand-in. That of rt wants to be in a copy of the room."""
     copy_of_repository(room, "test", "tests/lib.sh")
-    programs = re.findall(r"^    (?:part|begin) (\S+)", (ROOT / "test").read_text(encoding="utf-8"), re.M)
+    programs = re.findall(r"^    (?:timed|begin) (\S+)", (ROOT / "test").read_text(encoding="utf-8"), re.M)
     functions = {"alone", "ended", "proofs", "pieces", "mutants"}
     for name in sorted({*programs, "tests/build.sh", "tools/mutants.py"} - functions):
         stand_in(room / name)
@@ -205,7 +207,8 @@ def sums(counts, room):
     by_library = {"tests/c.sh", "tests/draw.sh", "tests/lots.sh", "tests/python.sh"}
     parts = names - by_library | {f"{name} {library}" for name in by_library for library in ("cargo", "kit")}
     others = {"rt ci", "tests/build.sh library page draw lots", "tests/answers/make.py --check",
-              "tools/contracts.py --check", "tools/pictures.py --check", "tools/bodies.py", "tools/mutants.py"}
+              "tools/contracts.py --check", "tools/pictures.py --check", "tools/bodies.py", "tools/mutants.py",
+              "tools/header.py --check", "tools/record.py --check"}
     counts.same("the parts that are called", sorted(made), sorted(parts | others))
     # The pieces count as one, whatever the script that builds them prints.
     all_passed = 7 * (len(made) - 1) + 1
@@ -230,8 +233,7 @@ def quick(counts, room):
     """./test quick takes the crates that differ from the last commit on main, and the crates of tests above them."""
     calls = room / "calls"
     copy_of_repository(room, "test", "tests/lib.sh", "tools/crates.py")
-    for name in ["tests/quotes.py", "tests/links.py", "tests/differences.py", "tests/declarations.py", "tools/contracts.py",
-                 "tools/bodies.py"]:
+    for name in re.findall(r"^    timed ((?:tests|tools)/\S+)", (ROOT / "test").read_text(encoding="utf-8"), re.M):
         stand_in(room / name)
     stand_in(room / "bin/rt", 'echo "${PWD##*/} $*" >>"$CALLS"')
     for name, text in {"low": "", "of_low": "#[test]", "other": "#[test]", "low_alike": "#[test]",

@@ -106,7 +106,7 @@ def put_rest(root: Path) -> None:
     for name in ["answers.tsv", "README.md"]:
         copy(TOP / "answers" / name, root / "answers" / name)
     copy(TOP / "LICENSE", root / "LICENSE")
-    fill(HERE / "archive.md", root / "README.md")
+    fill(HERE / "templates/archive.md", root / "README.md")
     run("tools/contracts.py", str(root / "contracts.html"))
 
 

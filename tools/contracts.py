@@ -272,7 +272,7 @@ def page(book):
         names = [one.relative_to(folder).as_posix() for one in files if crate != "promises"]
         links = "".join(f'<li><a href="#{anchor_of("file", f"{crate}/{name}")}">{name}</a></li>' for name in names)
         contents.append(f'<details><summary><a href="#{crate}">{crate}</a></summary><ul>{links}</ul></details>')
-    shell = (HERE / "contracts.html").read_text(encoding="utf-8")
+    shell = (HERE / "templates/contracts.html").read_text(encoding="utf-8")
     return shell.replace("<!-- contents -->", "\n".join(contents)).replace("<!-- body -->", "\n".join(body))
 
 
@@ -341,7 +341,7 @@ def check_all(book, html):
 
 
 def main():
-    if len(sys.argv) > 2:
+    if len(sys.argv) > 2 or sys.argv[1:2] and sys.argv[1].startswith("-") and sys.argv[1] not in ("--check", "--sums"):
         sys.exit(__doc__)
     book = made()
     if sys.argv[1:] == ["--sums"]:

@@ -1,5 +1,7 @@
 #!/usr/bin/env python3
-"""Writes c/include/nanorand.h from the exports of crates/nanorand_c: tools/header.py.
+"""Writes c/include/nanorand.h from the exports of crates/nanorand_c, in the frame of nanorand.h.in: tools/header.py.
+
+cbindgen, which does this for Rust, does not read Rattle, in which the exports are proved.
 
 tools/header.py --check ARCHIVE.. compares the committed header with what would be written, its functions with the
 symbols of each static library, and prints N passed, M failed.

@@ -14,7 +14,7 @@
 /* An array of length -1, which no compiler takes, where the condition does not hold. */
 #define HOLDS(name, condition) typedef char holds_##name[(condition) ? 1 : -1]
 
-HOLDS(version, NANORAND_VERSION == 10000);
+HOLDS(version, NANORAND_VERSION >= 10000);
 HOLDS(ok, NANORAND_OK == 0);
 HOLDS(empty, NANORAND_EMPTY == 1);
 HOLDS(exhausted, NANORAND_EXHAUSTED == 2);

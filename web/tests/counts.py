@@ -4,10 +4,15 @@ import hashlib
 import re
 import subprocess
 import sys
+from pathlib import Path
 from typing import Any, List, NamedTuple
 from unicodedata import category
 
 
+# The version of the library, which the header has as a number.
+NUMBER = int(re.search(r"^#define NANORAND_VERSION (\d+)$",
+                       (Path(__file__).resolve().parents[2] / "c/include/nanorand.h").read_text("ascii"), re.M)[1])
+VERSION = f"{NUMBER // 10000}.{NUMBER // 100 % 100}.{NUMBER % 100}"
 # Some that nobody sees: control and format characters, separators, what fonts leave out, the empty Braille pattern.
 UNSEEN = ("\0\t\x7f\x85\xa0\xad\u034f\u061c\u115f\u1160\u17b4\u180b\u180e\u2003\u200b\u200d\u200e\u2028\u2029\u202e"
           "\u2060\u2066\u2800\u3000\u3164\ufe00\ufe0f\ufeff\uffa0\U0001d173\U000e0041\U000e0100")

@@ -6,7 +6,7 @@ import time
 from pathlib import Path
 from typing import Any, Dict, List
 
-from counts import Counts, bytes_of, lines_of, lots, sha256
+from counts import VERSION, Counts, bytes_of, lines_of, lots, sha256
 from drivers import CONTROL
 from page import Page
 
@@ -55,7 +55,7 @@ def record_of(seed: str, data: bytes, result: bytes, module: str) -> Dict[str, A
     drawn = lines_of(result)
     return {
         "title": "nanorand public draw 1", "seed": seed, "list SHA-256": sha256(data),
-        "entrants": str(len(lines_of(data))), "drawn": str(len(drawn)), "version": "1.0.0",
+        "entrants": str(len(lines_of(data))), "drawn": str(len(drawn)), "version": VERSION,
         "module SHA-256": module, "result SHA-256": sha256(result), "named": drawn[:NAMED],
         "more": f"and {len(drawn) - NAMED} more" if len(drawn) > NAMED else "",
     }

@@ -10,7 +10,7 @@ from urllib.request import url2pathname
 
 import checks
 import draws
-from counts import Counts
+from counts import VERSION, Counts
 from drivers import Browser
 from looks import EMPTY
 from page import Page
@@ -19,7 +19,7 @@ WORDS = ("This browser cannot draw: it has no WebAssembly, or it is switched off
          "Chrome, Edge or Chromium from version 97 on, Firefox from version 90 on, Safari from version 16 on. Or use "
          "the Python code below, which draws the same.")
 FAILED = "The module failed, and nothing is drawn: TypeError: "
-MAKER = "Version 1.0.0, module SHA-256 {}, for 32-bit memory: the same source, its proof erased"
+MAKER = f"Version {VERSION}, module SHA-256 {{}}, for 32-bit memory: the same source, its proof erased"
 OTHER = ("The record was made by this page's other module, for 64-bit memory, proved. "
          "Here runs the one for 32-bit memory: the same source, its proof erased.")
 # What is to be seen once there is something to do with it, or to say.

@@ -4,7 +4,7 @@ import re
 import time
 from pathlib import Path
 
-from counts import ALL_UNSEEN, Counts
+from counts import ALL_UNSEEN, VERSION, Counts
 from looks import EMPTY
 from page import Page
 
@@ -68,7 +68,7 @@ def letters_that_nobody_sees(counts: Counts, page: Page) -> None:
 def texts(counts: Counts, page: Page, module: str) -> None:
     text = "return document.querySelector(arguments[0]).textContent;"
     counts.same("the module", page.browser.run(text, "#maker"),
-                f"Version 1.0.0, module SHA-256 {module}, for 64-bit memory, proved")
+                f"Version {VERSION}, module SHA-256 {module}, for 64-bit memory, proved")
     document = (TOP / "docs/LOTS.md").read_text(encoding="utf-8")
     code = re.search(r"^```python\n(.*?)\n```$", document, re.M | re.S)
     counts.same("the Python code", page.browser.run(text, "pre[aria-label='The draw in Python']"), code and code[1])

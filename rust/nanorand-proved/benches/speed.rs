@@ -1,4 +1,4 @@
-//! Times the library alone: `cargo bench`. The script `bench` times it beside the old crate.
+//! Times the library alone: `cargo bench`. The repository's `bench/rust/run.sh` times it beside the old crate.
 //!
 //! Both compile with `opt-level = 3`, `lto = "fat"`, `codegen-units = 1` and the default processor.
 
