@@ -270,7 +270,10 @@ def struct_problems(path, declared, proved):
 
 def version_problems():
     """Version 1.2.3 is exported as 10203."""
-    [number] = re.findall(r"result ≡ (\d+)", read("crates/nanorand_c/src/version.rt"))
+    source = read("crates/nanorand_c/src/version.rt")
+    [number] = re.findall(r"result ≡ (\d+)", source)
+    [body] = re.findall(r"^    ([\d_]+)$", source, re.M)
+    yield [] if int(body) == int(number) else [f"crates/nanorand_c/src/version.rt: {body}, and its clause has {number}"]
     parts = int(number) // 10000, int(number) // 100 % 100, int(number) % 100
     wanted = {number, ".".join(map(str, parts))}
     for path, pattern in VERSIONS.items():

@@ -71,6 +71,10 @@ CHANGES = [
     ("tests/declarations.py", "docs/LANGUAGES.md", "`wyrand_range_usize`", "`wyrand_range_size`"),
     ("tests/declarations.py", "docs/LANGUAGES.md", "`.._range_i64`", "`.._range_i46`"),
     ("tools/record.py --check", "docs/PAGE.md", "3: Chidi", "3: Ada"),
+    ("tools/record.py --check", "docs/PAGE.md", "\nversion: 1", "\nversion: 2"),
+    ("web/build.py --check", "web/src/refusal.js", "too few entrants", "too few"),
+    ("web/build.py --check", "docs/LOTS.md", "## The rule of the draw\n\n- ", "## The rule of the draw\n\n- So: "),
+    ("tests/declarations.py", "crates/nanorand_c/src/version.rt", "10_000", "10_001"),
     ("tools/record.py --check", "docs/LOTS.md", "Jun\nChidi", "Jun\nAda"),
     ("tools/record.py --check", "docs/nanorand.html", 'id="module">AGFzbQE', 'id="module">AGFzbQI'),
     ("tests/links.py", "README.md", "(docs/LOTS.md)", "(docs/LOT.md)"),
@@ -208,7 +212,7 @@ def sums(counts, room):
     parts = names - by_library | {f"{name} {library}" for name in by_library for library in ("cargo", "kit")}
     others = {"rt ci", "tests/build.sh library page draw lots", "tests/answers/make.py --check",
               "tools/contracts.py --check", "tools/pictures.py --check", "tools/bodies.py", "tools/mutants.py",
-              "tools/header.py --check", "tools/record.py --check"}
+              "tools/header.py --check", "tools/record.py --check", "web/build.py --check"}
     counts.same("the parts that are called", sorted(made), sorted(parts | others))
     # The pieces count as one, whatever the script that builds them prints.
     all_passed = 7 * (len(made) - 1) + 1
@@ -233,7 +237,7 @@ def quick(counts, room):
     """./test quick takes the crates that differ from the last commit on main, and the crates of tests above them."""
     calls = room / "calls"
     copy_of_repository(room, "test", "tests/lib.sh", "tools/crates.py")
-    for name in re.findall(r"^    timed ((?:tests|tools)/\S+)", (ROOT / "test").read_text(encoding="utf-8"), re.M):
+    for name in re.findall(r"^    timed ((?:tests|tools|web)/\S+)", (ROOT / "test").read_text(encoding="utf-8"), re.M):
         stand_in(room / name)
     stand_in(room / "bin/rt", 'echo "${PWD##*/} $*" >>"$CALLS"')
     for name, text in {"low": "", "of_low": "#[test]", "other": "#[test]", "low_alike": "#[test]",

@@ -15,10 +15,13 @@ import re
 import sys
 from pathlib import Path
 
-DOCS = Path(__file__).resolve().parent.parent / "docs"
+ROOT = Path(__file__).resolve().parent.parent
+sys.path.append(str(ROOT / "python"))
+import backend  # noqa: E402
+
+DOCS = ROOT / "docs"
 DOCUMENT = DOCS / "PAGE.md"
 RECORD = re.compile(r"(?<=^```\n)nanorand public draw 1\n.*?(?=^```$)", re.M | re.S)
-VERSION = re.compile(r"^version: (.*)$", re.M)
 
 
 def sha256(data: bytes) -> str:
@@ -57,7 +60,7 @@ def main() -> int:
         print(__doc__.strip())
         return 2
     text = DOCUMENT.read_text(encoding="utf-8")
-    wanted = RECORD.sub(lambda _: record(VERSION.search(text)[1]), text, count=1)
+    wanted = RECORD.sub(lambda _: record(backend.VERSION), text, count=1)
     if not sys.argv[1:]:
         DOCUMENT.write_text(wanted, encoding="utf-8")
         return 0

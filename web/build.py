@@ -4,6 +4,8 @@
     web/build.py                             proves the module, in a folder of its own, and builds the page
     web/build.py MODULE.wasm                 builds the page with a module that is there already
     web/build.py MODULE.wasm MODULE32.wasm   and with the module for 32-bit memory, too
+    web/build.py --committed                 builds the page with the modules of docs/nanorand.html
+    web/build.py --check                     says whether docs/nanorand.html is that page: N passed, M failed
 
 By itself web/module32.sh compiles the module for 32-bit memory; where it cannot, the page takes the one that
 docs/nanorand.html holds. The page is the same for equal sources and equal modules. The last lines are the
@@ -157,16 +159,35 @@ def page_with(module: bytes, module32: bytes) -> str:
     return re.sub(r"\{\{(\w+)\}\}", lambda mark: values[mark[1]], template)
 
 
+def modules(given: list[Path], folder: Path) -> list[bytes]:
+    """The two modules: those that are given, and else built."""
+    module = (given[0] if given else prove_module(folder)).read_bytes()
+    look_at_module(module, 64)
+    module32 = given[1].read_bytes() if len(given) == 2 else compile_module32(folder / "module32.wasm")
+    look_at_module(module32, 32)
+    return [module, module32]
+
+
+def check() -> None:
+    """Compares the committed page with what the sources make of its modules."""
+    page = page_with(module_of_page(COMMITTED, "module"), module_of_page(COMMITTED, "module32"))
+    if page != COMMITTED.read_text(encoding="utf-8"):
+        print("FAILED docs/nanorand.html is not what the sources make: web/build.py --committed writes web/dist/")
+        sys.exit("0 passed, 1 failed")
+    print("1 passed, 0 failed")
+
+
 def main() -> None:
-    given = [Path(path) for path in sys.argv[1:]]
-    if len(given) > 2 or sys.argv[1:2] == ["--help"]:
+    words = sys.argv[1:]
+    if words == ["--check"]:
+        return check()
+    if len(words) > 2 or any(word.startswith("-") for word in words) and words != ["--committed"]:
         sys.exit(__doc__)
-    with tempfile.TemporaryDirectory() as name:
-        folder = Path(name)
-        module = (given[0] if given else prove_module(folder)).read_bytes()
-        look_at_module(module, 64)
-        module32 = given[1].read_bytes() if len(given) == 2 else compile_module32(folder / "module32.wasm")
-        look_at_module(module32, 32)
+    if words == ["--committed"]:
+        module, module32 = (module_of_page(COMMITTED, name) for name in ("module", "module32"))
+    else:
+        with tempfile.TemporaryDirectory() as name:
+            module, module32 = modules([Path(word) for word in words], Path(name))
     page = page_with(module, module32).encode()
     OUT.mkdir(exist_ok=True)
     for name, content in ((f"{NAME}.wasm", module), (f"{NAME}32.wasm", module32), ("nanorand.html", page)):
