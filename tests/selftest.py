@@ -73,7 +73,7 @@ CHANGES = [
     ("tools/record.py --check", "docs/PAGE.md", "3: Chidi", "3: Ada"),
     ("tools/record.py --check", "docs/PAGE.md", "\nversion: 1", "\nversion: 2"),
     ("web/build.py --check", "web/src/refusal.js", "too few entrants", "too few"),
-    ("web/build.py --check", "docs/LOTS.md", "## The rule of the draw\n\n- ", "## The rule of the draw\n\n- So: "),
+    ("web/build.py --check", "docs/LOTS.md", '- **Entrants.** Standa', '- So: **Entrants.** Standa'),
     ("tests/declarations.py", "crates/nanorand_c/src/version.rt", "10_000", "10_001"),
     ("tools/record.py --check", "docs/LOTS.md", "Jun\nChidi", "Jun\nAda"),
     ("tools/record.py --check", "docs/nanorand.html", 'id="module">AGFzbQE', 'id="module">AGFzbQI'),
