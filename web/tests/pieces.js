@@ -198,6 +198,47 @@ function alikes() {
   same("lines alike", differ.slice(0, 3), []);
 }
 
+/** A list without the memory for it: of so many bytes, with line feeds at these places. A part of it is its ends. */
+function listOfEnds(length, ends) {
+  return {
+    length,
+    indexOf: (_, from) => ends.find((end) => end >= from) ?? -1,
+    subarray: (first, end) => [first, end],
+  };
+}
+
+/** Lines are found at their places, however far from a list's beginning. */
+function farLines() {
+  for (const power of [16, 24, 31, 32, 33, 52]) {
+    const ends = [0, 1, 3, 6].map((more) => 2 ** power + more);
+    for (const length of [ends[3] + 1, ends[3] + 3]) {
+      const lines = length > ends[3] + 1 ? [...ends, length] : ends;
+      const list = listOfEnds(length, ends);
+      const starts = [0, ...lines.map((end) => end + 1)];
+      same(`starts about 2^${power}`, Array.from(startsOfLines(list, lines.length)), starts);
+      const module = { count: () => lines.length, draw: () => [3n, 1n, 0n, 2n] };
+      same(`a draw about 2^${power}`, draw(module, list, "a seed", "4").drawn,
+        [3, 1, 0, 2].map((place) => [starts[place], ends[place]]));
+    }
+  }
+}
+
+/** The bytes of a list's end, and how many there are, as a long list is not compared whole. */
+const endOf = (list) => [list.length, Array.from(list.slice(-7))];
+
+/** What is made of more than 2^24 bytes has each byte in its place. */
+function largeLists() {
+  const size = 2 ** 24;
+  const lines = [new Uint8Array(size).fill(97), ...["b", "", "cd"].map(utf8)];
+  const list = resultOf(lines);
+  same("a large result", endOf(list), [size + 7, [10, 98, 10, 10, 99, 100, 10]]);
+  same("its feeds", [list.indexOf(10), list.indexOf(98)], [size, size + 1]);
+  const { list: tidy, changed } = tidied(list, "empty");
+  same("a large list without its empty line", [changed, endOf(tidy)], [1, [size + 6, [97, 10, 98, 10, 99, 100, 10]]]);
+  same("a large list that is open", endOf(tidied(list.subarray(0, -1), "empty").list),
+    [size + 5, [97, 97, 10, 98, 10, 99, 100]]);
+}
+
 /** A check whose own draw fails says so, and not that the record differs. */
 function failedChecks() {
   const list = utf8("Ada\nBob\n");
@@ -334,6 +375,8 @@ continuations();
 restOfLong();
 otherTexts();
 alikes();
+farLines();
+largeLists();
 failedChecks();
 spaces();
 endings();

@@ -1,4 +1,5 @@
-"""The scripts of the page alone, in a browser: versions, errors, the worker's client, folded records, spaces, names."""
+"""The scripts of the page alone, in a browser: versions, errors, the worker's client, folded records, large lists,
+spaces, names."""
 
 import unicodedata
 from pathlib import Path
@@ -7,7 +8,7 @@ from counts import Counts
 from glue import build
 from page import Page
 
-SCRIPTS = ("record", "list", "module", "client", "check")
+SCRIPTS = ("record", "list", "module", "client", "check", "tidy")
 # Letters that Unicode has no name for, or one that says less.
 NAMES = {
     0x00: "null", 0x09: "tab", 0x0d: "carriage return", 0x7f: "delete", 0x2800: "empty Braille pattern",
