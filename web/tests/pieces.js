@@ -263,6 +263,27 @@ function failedChecks() {
     ["The list has 2 entrants, and 3 are asked for."]);
 }
 
+/** An error that is none of the record's, while it is read, is not told as a fault of it. */
+function unreadRecords() {
+  const outcomeOf = (text) => {
+    try {
+      return check({}, {}, utf8(""), text).outcome;
+    } catch (error) {
+      return refusalOf(error);
+    }
+  };
+  for (const error of [new RangeError("long"), new TypeError("none"), new Error("any"),
+    new WebAssembly.RuntimeError("trap")]) {
+    const fail = () => { throw error; };
+    same(`a text that fails by ${error}`, outcomeOf({ split: fail }), refusalOf(error));
+    same(`a line that fails by ${error}`, outcomeOf({ split: () => ["", { replace: fail }] }), refusalOf(error));
+  }
+  same("a text that is no record", outcomeOf("a\n"), "no record");
+  // Browsers differ in how long a line an expression takes. A line that is too long is no fault of the record.
+  const record = writeRecord({ ...RECORD, named: ["Ada"].map(utf8) });
+  same("a long line", outcomeOf(record.replace("Ada", "x".repeat(2e7))) === "no record", false);
+}
+
 /** Spaces and tabs at the ends of lines are told, whether the list is text or not. */
 function spaces() {
   for (const line of [[97], [0xff], [0xc3, 0xa9], [0xc3]]) {
@@ -378,6 +399,7 @@ alikes();
 farLines();
 largeLists();
 failedChecks();
+unreadRecords();
 spaces();
 endings();
 return clients().then(starts).then(() => cases);
