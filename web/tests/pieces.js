@@ -284,6 +284,30 @@ function unreadRecords() {
   same("a long line", outcomeOf(record.replace("Ada", "x".repeat(2e7))) === "no record", false);
 }
 
+/** A letter that nobody sees, bare in a record, is refused with its line wherever it stands. */
+function bareLetters(letters) {
+  const lines = writeRecord(RECORD).trimEnd().split("\n");
+  const lineOf = (place, line) => namedIn([...lines.slice(0, place), line, ...lines.slice(place + 1)].join("\n"));
+  const parts = ["", "A", "\\x41", "\\x41\\x64", "\\x41\\x64\\x61\\x41", "\\\\", "\\xe2\\x80"];
+  for (const letter of letters) {
+    // Of these two the reader takes away those at a line's end, as mail programs add them.
+    const isDropped = "\t\r".includes(letter);
+    const taken = [];
+    const refused = (place, line) => {
+      const found = lineOf(place, line);
+      if (found !== place + 1) taken.push([line, found]);
+    };
+    lines.forEach((line, place) => {
+      refused(place, letter + line);
+      if (!isDropped) refused(place, line + letter);
+    });
+    for (const before of parts) {
+      for (const after of parts.slice(isDropped ? 1 : 0)) refused(8, `1: ${before}${letter}${after}`);
+    }
+    same(`a bare U+${letter.codePointAt(0).toString(16)}`, taken, []);
+  }
+}
+
 /** Spaces and tabs at the ends of lines are told, whether the list is text or not. */
 function spaces() {
   for (const line of [[97], [0xff], [0xc3, 0xa9], [0xc3]]) {
@@ -400,6 +424,7 @@ farLines();
 largeLists();
 failedChecks();
 unreadRecords();
+bareLetters(arguments[0]);
 spaces();
 endings();
 return clients().then(starts).then(() => cases);

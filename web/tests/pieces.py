@@ -1,10 +1,10 @@
 """The scripts of the page alone, in a browser: versions, errors, the worker's client, folded records, large lists,
-spaces, names."""
+letters that nobody sees, spaces, names."""
 
 import unicodedata
 from pathlib import Path
 
-from counts import Counts
+from counts import ALL_UNSEEN, Counts
 from glue import build
 from page import Page
 
@@ -29,6 +29,6 @@ def run(counts: Counts, page: Page) -> None:
     seen = set(SCRIPTS)
     code = '"use strict";\n' + "".join(build.joined(name, seen) for name in SCRIPTS)
     tests = Path(__file__).with_suffix(".js").read_text(encoding="utf-8")
-    for name, found, wanted in page.browser.run(code + tests):
+    for name, found, wanted in page.browser.run(code + tests, ALL_UNSEEN):
         counts.same(name, found, wanted)
     names(counts, page)
