@@ -1,6 +1,7 @@
 """What goes wrong beside the page: a module that fails, memory that is missing, a worker that is lost, files that
 cannot be read, and what is dropped that is no file."""
 
+from itertools import cycle
 from pathlib import Path
 from typing import Any, Callable, Dict, Iterator, List, Tuple
 from urllib.parse import urlparse
@@ -190,6 +191,26 @@ def draws_after_draws(counts: Counts, page: Page) -> None:
     one_after_another(counts, page, "draw", kinds, ask)
 
 
+def lists_after_lists(counts: Counts, page: Page) -> None:
+    texts = cycle((LIST, LIST + LIST))
+
+    def ask() -> Tuple[Any, ...]:
+        page.paste(next(texts))
+        found = page.facts()
+        return found["page"], found["list"], found["entrants"], found["digest"], found["warnings"]
+
+    plain: Dict[str, Any] = {"entrants": 1, "digest": "d1", "warnings": []}
+    warned: Dict[str, Any] = {"entrants": 5, "digest": "d5", "warnings": ["one", "two"]}
+    values, _, words = REFUSALS["line is empty"]
+    kinds = {
+        "plain": ([ANSWER, "list", plain], ("", "", "1 entrant", "d1", [])),
+        "warned": ([ANSWER, "list", warned], ("", "", "5 entrants", "d5", ["one", "two"])),
+        "line is empty": ([SET, "list", "line is empty", values], ("", words, "", "", [])),
+    }
+    kinds.update({reason: (setting, (words, "", "", "", [])) for reason, (setting, words) in failing("list").items()})
+    one_after_another(counts, page, "list", kinds, ask)
+
+
 def lost_after_checks(counts: Counts, page: Page) -> None:
     """Of a check before the worker was lost nothing is left, whatever its outcome was."""
     for name in ("agrees", "other module", "differs", "no record", "no list"):
@@ -331,6 +352,6 @@ def prints(counts: Counts, page: Page) -> None:
 
 
 def run(counts: Counts, page: Page) -> None:
-    for part in (draws, draws_after_draws, checks, checks_after_checks, lost_after_checks, lists, errors_of_the_page,
-                 changes, lost_workers, files, prints, answers_not_copied):
+    for part in (draws, draws_after_draws, checks, checks_after_checks, lost_after_checks, lists, lists_after_lists,
+                 errors_of_the_page, changes, lost_workers, files, prints, answers_not_copied):
         part(counts, page)
