@@ -9,7 +9,7 @@ import threading
 import unittest
 from unittest import mock
 
-from makers import CHACHAS, CLASSES, KEY, NONCE, Index, generators, refuses, views_of
+from makers import CHACHAS, CLASSES, COPIES, KEY, NONCE, Index, generators, refuses, views_of
 
 from nanorand import (
     ChaCha8,
@@ -96,6 +96,18 @@ class OwnStream(Stream):
     """The same of a stream."""
 
 
+class Unseeded:
+    """Of a user, before a class of the package: made of nothing."""
+
+    def __init__(self):
+        super().__init__(*{WyRand: [7], Pcg64: [7]}.get(type(self).__bases__[1], (KEY, NONCE)))
+
+
+# One over each class, in this module, where pickles find them.
+UNSEEDED = {kind: type(f"Unseeded{kind.__name__}", (Unseeded, kind), {}) for kind in CLASSES.values()}
+globals().update({own.__name__: own for own in UNSEEDED.values()})
+
+
 class States(unittest.TestCase):
     def test_saved_and_restored(self):
         for rng in generators():
@@ -148,6 +160,18 @@ class States(unittest.TestCase):
             for made in copies:
                 self.assertIs(type(made), type(rng))
                 self.assertEqual(made, rng)
+
+    def test_copies_of_one_made_of_nothing(self):
+        """By every way, though the maker of its class takes no seed."""
+        for kind, own in UNSEEDED.items():
+            rng = own()
+            rng.bytes(5)
+            makers = [*COPIES, kind.copy, lambda rng: rng.part(0, 1), lambda rng: own.from_state(rng.state)]
+            for way in makers:
+                made = way(rng)
+                self.assertIs(type(made), own)
+                self.assertEqual((made, made.state), (rng, rng.state))
+                self.assertEqual(made.u64(), rng.copy().u64())
 
     def test_pickles_of_version_1(self):
         """As the package wrote them when it was written in Python."""

@@ -12,7 +12,7 @@ import sys
 import unittest
 import weakref
 
-from makers import KEY, RANDOMS, refuses, stays_itself
+from makers import COPIES, KEY, RANDOMS, refuses, stays_itself
 
 from nanorand import OutOfBounds, Pcg64, Stream, WrongLength, WyRand
 from nanorand.errors import ForeignState
@@ -50,6 +50,26 @@ def public_calls():
     """The calls of this Python's random.Random."""
     names = {name for name in dir(random.Random) if not name.startswith("_")}
     return {name for name in names if callable(getattr(random.Random, name))}
+
+
+class Unseeded:
+    """Of a user, before a class of the package: made of nothing, and with a state that has more."""
+
+    def __init__(self):
+        super().__init__(7)
+        self.kept = []
+
+    def getstate(self):
+        return super().getstate(), self.kept
+
+    def setstate(self, state):
+        own, self.kept = state
+        super().setstate(own)
+
+
+# One over each class, in this module, where pickles find them.
+UNSEEDED = {kind: type(f"Unseeded{kind.__name__}", (Unseeded, kind), {}) for kind in RANDOMS}
+globals().update({own.__name__: own for own in UNSEEDED.values()})
 
 
 class Twin(random.Random):
@@ -500,6 +520,21 @@ class Subclasses(unittest.TestCase):
 
         for made in (Own(), Own(newarg=1), Own(1, 2, 3, newarg=4)):
             self.assertEqual(made.random(), WyRand(7).random())
+
+    def test_copies_of_one_made_of_nothing(self):
+        """They keep what its own `getstate` gives, as those of a subclass of `random.Random` do."""
+        for own in UNSEEDED.values():
+            rng = own()
+            rng.gauss(0, 1)
+            rng.kept.append("a")
+            for way in COPIES:
+                made = way(rng)
+                self.assertIs(type(made), own)
+                self.assertEqual(made.getstate(), rng.getstate())
+                self.assertIsNot(made.generator, rng.generator)
+                twin = way(made)
+                self.assertEqual((made.gauss(0, 1), made.random(), made.kept), (twin.gauss(0, 1), twin.random(), ["a"]))
+                self.assertNotEqual(made.getstate(), rng.getstate())
 
     def test_what_is_overridden_is_called(self):
         for kind in RANDOMS:

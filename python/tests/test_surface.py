@@ -10,7 +10,7 @@ import unittest
 from pathlib import Path
 from unittest import mock
 
-from makers import CHACHAS, CLASSES, COPIES, KEY, NONCE, RANDOMS, Index, generators, refuses, stays_itself
+from makers import CHACHAS, CLASSES, COPIES, KEY, NONCE, RANDOMS, Index, generators, refuses, stays_itself, told_of
 
 from nanorand import ChaCha20, OutOfBounds, Pcg64, Stream, WrongLength, WyRand, errors, generators as kinds, lots
 
@@ -327,6 +327,31 @@ class Errors(unittest.TestCase):
         for kind, *given in calls:
             self.raised(getattr(errors, kind), lots.draw, *given)
         self.raised(errors.EmptyLine, lots.count, b"a\nb\n\n")
+
+    def test_numbers_of_errors_by_their_index(self):
+        """An error has plain numbers, and tells them, where objects with an `__index__` were given."""
+        calls = [(lots.draw, "seed", ["a"], 2), (lots.draw, "seed", ["a"], 2**64), (lots.draw, "seed", b"a\nb\n", 3)]
+        for kind in (WyRand, Pcg64):
+            calls += [(kind, -1), (kind.seed_from_u64, -1)]
+        calls += [(kind, KEY, NONCE, -1) for kind in (*CHACHAS, Stream)]
+        rows = [("below", 0), ("below", HUGE), ("range", 2, 1), ("range", 0, HUGE), ("range32", 2, 1), ("bytes", -1),
+                ("choices", "ab", [1, -1]), ("sample", "ab", 3), ("sample", "ab", -1),
+                ("sample_below", 2, 3), ("sample_below", -1, 0), ("fill_range", bytearray(2), 0, 256),
+                ("part", -1, 1), ("part", 2**64 - 1, 2**64 - 1), ("jump", -1)]
+        calls += [(getattr(rng, name), *given) for rng in generators() for name, *given in rows if hasattr(rng, name)]
+        calls += [(lambda k, rng=rng: rng.choices("ab", k=k), -1) for rng in generators()]
+        for rng in (kind(1) for kind in RANDOMS):
+            calls += [(rng.getrandbits, -1), (rng.randbytes, -1)]
+        for call, *given in calls:
+            by_index = [Index(one) if isinstance(one, int) else one for one in given]
+            told, again = self.told(call, given), self.told(call, by_index)
+            self.assertEqual(again, told)
+            self.assertEqual([*map(type, again[1])], [*map(type, told[1])])
+
+    def told(self, call, given):
+        with self.assertRaises(errors.NanorandError) as caught:
+            call(*given)
+        return told_of(caught.exception)
 
     def test_errors_of_randoms(self):
         for kind in RANDOMS:

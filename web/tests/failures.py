@@ -1,8 +1,9 @@
 """What goes wrong beside the page: a module that fails, memory that is missing, a worker that is lost, files that
 cannot be read, and what is dropped that is no file."""
 
+from itertools import cycle
 from pathlib import Path
-from typing import Any, Dict, Tuple
+from typing import Any, Callable, Dict, Iterator, List, Tuple
 from urllib.parse import urlparse
 from urllib.request import url2pathname
 
@@ -10,19 +11,22 @@ from counts import Counts, sha256
 from page import Page
 
 LIST = "Ada\nBarbara\nChidi\n"
-# In place of the worker, what `refused` has for a task is its answer.
+# In place of the worker, what `refused` or `answered` has for a task is its answer.
 REFUSED = """
 window.refused = {};
+window.answered = {};
 window.lost = null;
 const post = Worker.prototype.postMessage;
 Worker.prototype.postMessage = function (message) {
-  const refusal = window.refused[message.task];
+  const { number, task } = message;
+  const [refusal, answer] = [window.refused[task], window.answered[task]];
   window.lost ??= () => this.onerror({ message: "it stopped" });
-  if (refusal) queueMicrotask(() => this.onmessage({ data: { number: message.number, refusal } }));
+  if (refusal || answer) queueMicrotask(() => this.onmessage({ data: { number, refusal, answer } }));
   else post.call(this, message);
 };
 """
 SET = "window.refused = { [arguments[0]]: { reason: arguments[1], values: arguments[2] } };"
+ANSWER = "window.refused = {}; window.answered = { [arguments[0]]: arguments[1] };"
 FIELDS = ("page", "list", "seed", "count")
 FAILED = "The module failed, and nothing is drawn: it stopped"
 # Each refusal that no input leads to, or that another test leads to, with where it stands and what it says.
@@ -106,11 +110,117 @@ def checks(counts: Counts, page: Page) -> None:
         record = page.draw()["record"]
         counts.same(f"{reason}: before", page.check(record)["outcome"], "agrees")
         page.browser.run(SET, "check", reason, values)
-        counts.same(f"a check, {reason}", page.check(record)["outcome"], "")
+        counts.same(f"a check, {reason}", page.check_again()["outcome"], "")
         page.tab("draw")
         counts.same(f"a check, {reason}: what is said", errors(page), {field: words})
         page.browser.run("window.refused = {};")
         counts.same(f"a check, {reason}: again", page.check(record)["outcome"], "agrees")
+
+
+def failing(task: str) -> "Dict[str, Tuple[List[Any], str]]":
+    """Each refusal of the page as the answer to a task, and what it says."""
+    return {reason: ([SET, task, reason, values], words)
+            for reason, (values, field, words) in REFUSALS.items() if field == "page"}
+
+
+def outcome_of(name: str) -> Dict[str, Any]:
+    """An answer to a check. Some have findings."""
+    findings = {"agrees": [], "no list": [], "no record": ["one"]}.get(name, ["one", "two"])
+    return {"outcome": name, "title": f"what {name} says", "findings": findings}
+
+
+def drawing(names: List[str], drawn: int) -> Dict[str, Any]:
+    """An answer to a draw of which these are named."""
+    named = [{"isText": True, "parts": [name]} for name in names]
+    return {"entrants": 9, "drawn": drawn, "named": named, "hasEscapes": len(names) > 1, "record": f"the {drawn} drawn",
+            "result": [10]}
+
+
+def each_pair(names: List[str]) -> Iterator[str]:
+    """The names in an order in which each stands after each, and after itself."""
+    for place, name in enumerate(names):
+        yield from (name, name)
+        for other in names[place + 1:]:
+            yield from (other, name)
+
+
+def one_after_another(counts: Counts, page: Page, task: str, kinds: "Dict[str, Tuple[List[Any], Tuple[Any, ...]]]",
+                      ask: "Callable[[], Tuple[Any, ...]]") -> None:
+    """Whatever came before, with the same fields, each answer is shown alone."""
+    page.load()
+    page.browser.run(REFUSED)
+    filled(page)
+    page.facts()
+    page.check("no record")
+    before = "nothing"
+    for name in each_pair(list(kinds)):
+        setting, wanted = kinds[name]
+        page.browser.run(*setting)
+        counts.same(f"a {task}, {name} after {before}", ask(), wanted)
+        before = name
+
+
+def outcome_shown(page: Page) -> Tuple[Any, ...]:
+    """What the same check once more shows."""
+    found = page.check_again()
+    return found["page"], found["outcome"], found["outcomeTitle"], found["findings"]
+
+
+def checks_after_checks(counts: Counts, page: Page) -> None:
+    answers = [outcome_of(name) for name in ("agrees", "other module", "differs", "no record", "no list")]
+    kinds = {answer["outcome"]: ([ANSWER, "check", answer], ("", *answer.values())) for answer in answers}
+    kinds.update({reason: (setting, (words, "", "", [])) for reason, (setting, words) in failing("check").items()})
+    one_after_another(counts, page, "check", kinds, lambda: outcome_shown(page))
+
+
+def draws_after_draws(counts: Counts, page: Page) -> None:
+    def ask() -> Tuple[Any, ...]:
+        found = page.draw()
+        return (found["page"], found["title"], found["drawn"], found["record"], found["more"] != "",
+                found["escapes"] != "", found["hint"] != "")
+
+    kinds = {
+        "nobody": ([ANSWER, "draw", drawing([], 0)], ("", "Nobody was drawn.", [], "the 0 drawn", False, False, False)),
+        "one": ([ANSWER, "draw", drawing(["Ada"], 1)],
+                ("", "1 of 9 drawn, in this order:", ["Ada"], "the 1 drawn", False, False, False)),
+        "many": ([ANSWER, "draw", drawing(["Bob", "Cid"], 5)],
+                 ("", "5 of 9 drawn, in this order:", ["Bob", "Cid"], "the 5 drawn", True, True, False)),
+    }
+    kinds.update({reason: (setting, (words, "", [], "", False, False, True))
+                  for reason, (setting, words) in failing("draw").items()})
+    one_after_another(counts, page, "draw", kinds, ask)
+
+
+def lists_after_lists(counts: Counts, page: Page) -> None:
+    texts = cycle((LIST, LIST + LIST))
+
+    def ask() -> Tuple[Any, ...]:
+        page.paste(next(texts))
+        found = page.facts()
+        return found["page"], found["list"], found["entrants"], found["digest"], found["warnings"]
+
+    plain: Dict[str, Any] = {"entrants": 1, "digest": "d1", "warnings": []}
+    warned: Dict[str, Any] = {"entrants": 5, "digest": "d5", "warnings": ["one", "two"]}
+    values, _, words = REFUSALS["line is empty"]
+    kinds = {
+        "plain": ([ANSWER, "list", plain], ("", "", "1 entrant", "d1", [])),
+        "warned": ([ANSWER, "list", warned], ("", "", "5 entrants", "d5", ["one", "two"])),
+        "line is empty": ([SET, "list", "line is empty", values], ("", words, "", "", [])),
+    }
+    kinds.update({reason: (setting, (words, "", "", "", [])) for reason, (setting, words) in failing("list").items()})
+    one_after_another(counts, page, "list", kinds, ask)
+
+
+def lost_after_checks(counts: Counts, page: Page) -> None:
+    """Of a check before the worker was lost nothing is left, whatever its outcome was."""
+    for name in ("agrees", "other module", "differs", "no record", "no list"):
+        page.load()
+        page.browser.run(REFUSED)
+        filled(page)
+        page.browser.run(ANSWER, "check", outcome_of(name))
+        counts.same(f"{name}: before", page.check("a text")["outcome"], name)
+        page.browser.run("window.lost();")
+        counts.same(f"{name}, and no worker", outcome_shown(page), (FAILED, "", "", []))
 
 
 def lists(counts: Counts, page: Page) -> None:
@@ -242,5 +352,6 @@ def prints(counts: Counts, page: Page) -> None:
 
 
 def run(counts: Counts, page: Page) -> None:
-    for part in (draws, checks, lists, errors_of_the_page, changes, lost_workers, files, prints, answers_not_copied):
+    for part in (draws, draws_after_draws, checks, checks_after_checks, lost_after_checks, lists, lists_after_lists,
+                 errors_of_the_page, changes, lost_workers, files, prints, answers_not_copied):
         part(counts, page)

@@ -90,6 +90,11 @@ class Page:
     def check(self, record: str) -> Dict[str, Any]:
         self.tab("check")
         self.browser.run(SET, "check-text", record)
+        return self.check_again()
+
+    def check_again(self) -> Dict[str, Any]:
+        """Checks what is in the field, which is not touched."""
+        self.tab("check")
         self.browser.run('document.getElementById("check").click();')
         self.browser.wait('return !document.getElementById("check").disabled;')
         return self.shown()

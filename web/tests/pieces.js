@@ -198,6 +198,47 @@ function alikes() {
   same("lines alike", differ.slice(0, 3), []);
 }
 
+/** A list without the memory for it: of so many bytes, with line feeds at these places. A part of it is its ends. */
+function listOfEnds(length, ends) {
+  return {
+    length,
+    indexOf: (_, from) => ends.find((end) => end >= from) ?? -1,
+    subarray: (first, end) => [first, end],
+  };
+}
+
+/** Lines are found at their places, however far from a list's beginning. */
+function farLines() {
+  for (const power of [16, 24, 31, 32, 33, 52]) {
+    const ends = [0, 1, 3, 6].map((more) => 2 ** power + more);
+    for (const length of [ends[3] + 1, ends[3] + 3]) {
+      const lines = length > ends[3] + 1 ? [...ends, length] : ends;
+      const list = listOfEnds(length, ends);
+      const starts = [0, ...lines.map((end) => end + 1)];
+      same(`starts about 2^${power}`, Array.from(startsOfLines(list, lines.length)), starts);
+      const module = { count: () => lines.length, draw: () => [3n, 1n, 0n, 2n] };
+      same(`a draw about 2^${power}`, draw(module, list, "a seed", "4").drawn,
+        [3, 1, 0, 2].map((place) => [starts[place], ends[place]]));
+    }
+  }
+}
+
+/** The bytes of a list's end, and how many there are, as a long list is not compared whole. */
+const endOf = (list) => [list.length, Array.from(list.slice(-7))];
+
+/** What is made of more than 2^24 bytes has each byte in its place. */
+function largeLists() {
+  const size = 2 ** 24;
+  const lines = [new Uint8Array(size).fill(97), ...["b", "", "cd"].map(utf8)];
+  const list = resultOf(lines);
+  same("a large result", endOf(list), [size + 7, [10, 98, 10, 10, 99, 100, 10]]);
+  same("its feeds", [list.indexOf(10), list.indexOf(98)], [size, size + 1]);
+  const { list: tidy, changed } = tidied(list, "empty");
+  same("a large list without its empty line", [changed, endOf(tidy)], [1, [size + 6, [97, 10, 98, 10, 99, 100, 10]]]);
+  same("a large list that is open", endOf(tidied(list.subarray(0, -1), "empty").list),
+    [size + 5, [97, 97, 10, 98, 10, 99, 100]]);
+}
+
 /** A check whose own draw fails says so, and not that the record differs. */
 function failedChecks() {
   const list = utf8("Ada\nBob\n");
@@ -220,6 +261,51 @@ function failedChecks() {
   const few = { ...record, drawn: 3, named: [utf8("Ada"), utf8("Bob"), utf8("Cid")] };
   same("more than there are", check(module, maker, list, writeRecord(few)).findings,
     ["The list has 2 entrants, and 3 are asked for."]);
+}
+
+/** An error that is none of the record's, while it is read, is not told as a fault of it. */
+function unreadRecords() {
+  const outcomeOf = (text) => {
+    try {
+      return check({}, {}, utf8(""), text).outcome;
+    } catch (error) {
+      return refusalOf(error);
+    }
+  };
+  for (const error of [new RangeError("long"), new TypeError("none"), new Error("any"),
+    new WebAssembly.RuntimeError("trap")]) {
+    const fail = () => { throw error; };
+    same(`a text that fails by ${error}`, outcomeOf({ split: fail }), refusalOf(error));
+    same(`a line that fails by ${error}`, outcomeOf({ split: () => ["", { replace: fail }] }), refusalOf(error));
+  }
+  same("a text that is no record", outcomeOf("a\n"), "no record");
+  // Browsers differ in how long a line an expression takes. A line that is too long is no fault of the record.
+  const record = writeRecord({ ...RECORD, named: ["Ada"].map(utf8) });
+  same("a long line", outcomeOf(record.replace("Ada", "x".repeat(2e7))) === "no record", false);
+}
+
+/** A letter that nobody sees, bare in a record, is refused with its line wherever it stands. */
+function bareLetters(letters) {
+  const lines = writeRecord(RECORD).trimEnd().split("\n");
+  const lineOf = (place, line) => namedIn([...lines.slice(0, place), line, ...lines.slice(place + 1)].join("\n"));
+  const parts = ["", "A", "\\x41", "\\x41\\x64", "\\x41\\x64\\x61\\x41", "\\\\", "\\xe2\\x80"];
+  for (const letter of letters) {
+    // Of these two the reader takes away those at a line's end, as mail programs add them.
+    const isDropped = "\t\r".includes(letter);
+    const taken = [];
+    const refused = (place, line) => {
+      const found = lineOf(place, line);
+      if (found !== place + 1) taken.push([line, found]);
+    };
+    lines.forEach((line, place) => {
+      refused(place, letter + line);
+      if (!isDropped) refused(place, line + letter);
+    });
+    for (const before of parts) {
+      for (const after of parts.slice(isDropped ? 1 : 0)) refused(8, `1: ${before}${letter}${after}`);
+    }
+    same(`a bare U+${letter.codePointAt(0).toString(16)}`, taken, []);
+  }
 }
 
 /** Spaces and tabs at the ends of lines are told, whether the list is text or not. */
@@ -334,7 +420,11 @@ continuations();
 restOfLong();
 otherTexts();
 alikes();
+farLines();
+largeLists();
 failedChecks();
+unreadRecords();
+bareLetters(arguments[0]);
 spaces();
 endings();
 return clients().then(starts).then(() => cases);

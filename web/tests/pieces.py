@@ -1,13 +1,14 @@
-"""The scripts of the page alone, in a browser: versions, errors, the worker's client, folded records, spaces, names."""
+"""The scripts of the page alone, in a browser: versions, errors, the worker's client, folded records, large lists,
+letters that nobody sees, spaces, names."""
 
 import unicodedata
 from pathlib import Path
 
-from counts import Counts
+from counts import ALL_UNSEEN, Counts
 from glue import build
 from page import Page
 
-SCRIPTS = ("record", "list", "module", "client", "check")
+SCRIPTS = ("record", "list", "module", "client", "check", "tidy")
 # Letters that Unicode has no name for, or one that says less.
 NAMES = {
     0x00: "null", 0x09: "tab", 0x0d: "carriage return", 0x7f: "delete", 0x2800: "empty Braille pattern",
@@ -28,6 +29,6 @@ def run(counts: Counts, page: Page) -> None:
     seen = set(SCRIPTS)
     code = '"use strict";\n' + "".join(build.joined(name, seen) for name in SCRIPTS)
     tests = Path(__file__).with_suffix(".js").read_text(encoding="utf-8")
-    for name, found, wanted in page.browser.run(code + tests):
+    for name, found, wanted in page.browser.run(code + tests, ALL_UNSEEN):
         counts.same(name, found, wanted)
     names(counts, page)

@@ -34,6 +34,7 @@ fn by_table(rng: &mut dyn AnyRng) -> Result<u16, RangeError> {
 }
 
 fn check<G: Rng<N> + AnyRng + Clone + PartialEq + Debug, const N: usize>(fresh: &G) {
+    check_lengths(fresh);
     let (mut rng, mut any) = (fresh.clone(), fresh.clone());
     assert_eq!(draws(&mut rng), draws(&mut any.rng()));
     assert_eq!(rng, any);
@@ -77,6 +78,39 @@ fn check<G: Rng<N> + AnyRng + Clone + PartialEq + Debug, const N: usize>(fresh: 
     assert_eq!(rng, any);
 }
 
+/// Each way to make a request makes one of its whole length, at the beginning and within a block.
+fn check_lengths<G: Rng<N> + AnyRng + Clone + PartialEq + Debug, const N: usize>(fresh: &G) {
+    let calls: [fn(&mut G, &mut [u8]); 7] = [
+        |rng, bytes| AnyRng::bytes(rng, bytes),
+        |rng, bytes| AnyRng::bytes(&mut &mut *rng, bytes),
+        |rng, bytes| rng.as_any().bytes(bytes),
+        |rng, bytes| AnyRng::rng(rng).bytes(bytes),
+        |rng, bytes| AnyRng::rng(rng).fill_bytes(bytes),
+        |rng, bytes| Box::new(rng).bytes(bytes),
+        |rng, bytes| (Box::new(rng) as Box<dyn AnyRng + '_>).rng().bytes(bytes),
+    ];
+    let mut begun = fresh.clone();
+    let _ = begun.next_u32();
+    for start in [fresh, &begun] {
+        for size in [0, 1, 64, 65, 255, 256, 257, 511, 512, 513, 4097] {
+            let mut same = start.clone();
+            let mut expected = vec![1; size];
+            same.fill_bytes(&mut expected);
+            for (place, call) in calls.iter().enumerate() {
+                let (mut rng, mut bytes) = (start.clone(), vec![0; size]);
+                call(&mut rng, &mut bytes);
+                assert!(bytes == expected && rng == same, "{start:?} {place} {size}");
+            }
+        }
+        let (mut rng, mut same) = (start.clone(), start.clone());
+        let array: [u8; 513] = AnyRng::rng(&mut rng).generate();
+        assert!(
+            array == same.generate::<[u8; 513]>() && rng == same,
+            "{start:?}"
+        );
+    }
+}
+
 #[test]
 fn all_draw_what_they_draw_as_generators() {
     let (key, nonce) = ([1; 32], [2; 8]);
@@ -87,6 +121,8 @@ fn all_draw_what_they_draw_as_generators() {
     check(&BufferedRng::new(ChaCha12::new_key(key, nonce)));
     check(&BufferedRng::new(Rising::<1>::new()));
     check(&BufferedRng::new(Rising::<3>::new()));
+    check(&BufferedRng::new(Rising::<600>::new()));
+    check(&BufferedRng::new(ChaChaGroups::<12>::new_key(key, nonce)));
     check(&chacha_stream::<20>(key, nonce));
 }
 

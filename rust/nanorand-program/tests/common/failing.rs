@@ -1,0 +1,63 @@
+//! A `read` and a `write` that stand for the system's, and fail by any number.
+
+use std::cell::RefCell;
+use std::collections::VecDeque;
+use std::os::raw::{c_int, c_void};
+
+/// The bytes that a read gives or as many as a write takes, or the number of an error.
+pub type Answer<'a> = Result<&'a [u8], c_int>;
+
+/// Where bytes are, and how many.
+#[repr(C)]
+struct Part(*mut c_void, usize);
+
+extern "C" {
+    fn __errno_location() -> *mut c_int;
+    fn readv(descriptor: c_int, parts: *const Part, count: c_int) -> isize;
+    fn writev(descriptor: c_int, parts: *const Part, count: c_int) -> isize;
+}
+
+thread_local! {
+    /// The answers to come in this thread. After them the system's own calls are made.
+    static ANSWERS: RefCell<VecDeque<Result<Vec<u8>, c_int>>> = RefCell::default();
+}
+
+/// The outcome of a call whose reads and writes have these answers.
+pub fn answered<T>(answers: &[Answer], call: impl FnOnce() -> T) -> T {
+    let owned = answers.iter().map(|answer| answer.map(<[u8]>::to_vec));
+    ANSWERS.with(|left| left.replace(owned.collect()));
+    let outcome = call();
+    ANSWERS.with(RefCell::take);
+    outcome
+}
+
+fn next_answer() -> Option<Result<Vec<u8>, c_int>> {
+    ANSWERS.with(|answers| answers.borrow_mut().pop_front())
+}
+
+unsafe fn failed(number: c_int) -> isize {
+    *__errno_location() = number;
+    -1
+}
+
+#[no_mangle]
+unsafe extern "C" fn read(descriptor: c_int, bytes: *mut c_void, count: usize) -> isize {
+    match next_answer() {
+        None => readv(descriptor, &Part(bytes, count), 1),
+        Some(Err(number)) => failed(number),
+        Some(Ok(given)) => {
+            assert!(given.len() <= count);
+            bytes.cast::<u8>().copy_from(given.as_ptr(), given.len());
+            given.len().try_into().unwrap_or(-1)
+        }
+    }
+}
+
+#[no_mangle]
+unsafe extern "C" fn write(descriptor: c_int, bytes: *mut c_void, count: usize) -> isize {
+    match next_answer() {
+        None => writev(descriptor, &Part(bytes, count), 1),
+        Some(Err(number)) => failed(number),
+        Some(Ok(taken)) => taken.len().min(count).try_into().unwrap_or(-1),
+    }
+}
