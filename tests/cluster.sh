@@ -61,6 +61,11 @@ refuses() {
     fi
 }
 
+# The tests of test_percolation.py, which are given options of unittest.
+percolation_tests() {
+    (cd "$work/room" && PYTHONPATH=$work/room/python in_room /usr/bin/python3 "$examples/test_percolation.py" "$@")
+}
+
 # The loop in C, which takes a second, and the job array, which leaves no file behind where it has no folder.
 by_c() {
     prints 'a job array' "$table" "$examples/run" array
@@ -137,7 +142,7 @@ by_python() {
     for workers in 1 2; do
         prints "Dask, $workers workers" "$work/first" "$examples/run" dask --workers "$workers" --tasks 100
     done
-    unit_tests
+    unit_tests 'test_percolation.py' percolation_tests
     prints 'a loop in Python' "$work/first" "$examples/run" plain --tasks 100
 }
 
