@@ -11,7 +11,7 @@ export PYTHONDONTWRITEBYTECODE=1
 copy_of_tests() {
     mkdir "$work/tests"
     git ls-files -z --cached --others --exclude-standard README.md python/README.md python/tests tests/answers/answers.tsv |
-        xargs -0 cp -P --parents -t "$work/tests"
+        xargs -0 cp --parents -t "$work/tests"
 }
 
 # A new environment of the Python $1 in the folder $2, with the wheel of the folder $3; what follows is for venv.

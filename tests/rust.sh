@@ -9,8 +9,8 @@ source "$(dirname "${BASH_SOURCE[0]}")/lib.sh"
 # Copies what the tests of the workspace need: the files that a clone has, and those that are not yet committed.
 copy_of_workspace() {
     mkdir "$1"
-    git ls-files -z --cached --others --exclude-standard Cargo.{toml,lock} {clippy,rustfmt}.toml LICENSE rust answers \
-        tests/answers tests/{lib,workspace,build_script,targets}.sh tools/uncovered.{py,txt} | xargs -0 cp -P --parents -t "$1"
+    git ls-files -z --cached --others --exclude-standard Cargo.{toml,lock} {clippy,rustfmt}.toml rust \
+        tests/answers tests/{lib,workspace,build_script,targets}.sh tools/uncovered.{py,txt} | xargs -0 cp --parents -t "$1"
 }
 
 # What compiles, links and runs programs of other targets, as far as it can be had.

@@ -104,7 +104,7 @@ def put_rest(root: Path) -> None:
     for name in ["nanorand.html", "nanorand_c.wasm"]:
         copy(PAGE / name, root / "web" / name)
     for name in ["answers.tsv", "README.md"]:
-        copy(TOP / "answers" / name, root / "answers" / name)
+        copy(TOP / "tests/answers" / name, root / "answers" / name)
     copy(TOP / "LICENSE", root / "LICENSE")
     fill(HERE / "templates/archive.md", root / "README.md")
     run("tools/contracts.py", str(root / "contracts.html"))

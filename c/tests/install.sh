@@ -101,7 +101,7 @@ programs() {
 another_folder() {
     local copy=$work/another/folder
     mkdir -p "$copy" "$work/here"
-    git ls-files -z --cached --others --exclude-standard rust c include | xargs -0 cp -P --parents -t "$copy"
+    git ls-files -z --cached --others --exclude-standard rust c include | xargs -0 cp --parents -t "$copy"
     check 'another build' "$(cd "$work/here" && umask 077 &&
         install_from ../another/folder PREFIX=usr DESTDIR=destination TZ=Asia/Kolkata)"
     check 'equal bytes' "$(diff -r "$root" "$work/here/destination$work/here/usr" 2>&1)"
