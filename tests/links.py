@@ -43,7 +43,7 @@ def tree():
     """What git has at the top, and the folders in its folders: a folder ends in a slash."""
     names = subprocess.run(["git", "ls-files", "--cached", "--others", "--exclude-standard"], cwd=ROOT, check=True,
                            stdout=subprocess.PIPE, encoding="utf-8").stdout.splitlines()
-    names = [name.split("/") for name in names if (ROOT / name).is_symlink() or (ROOT / name).exists()]
+    names = [name.split("/") for name in names if (ROOT / name).exists()]
     files = {name[0] for name in names if len(name) == 1}
     return files | {f"{name[0]}/{name[1]}/" for name in names if len(name) > 2}, {f"{name[0]}/" for name in names}
 

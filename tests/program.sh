@@ -11,16 +11,18 @@ builds_of() {
         true
     elif [ -z "${BUILT:-}" ] && ! command -v rt >/dev/null; then
         skip "the program $name of the kit's compilers" 'there is no kit'
-    elif step tests/build.sh "$name"; then
-        cp "crates/$name/out/$name" "$work/llvm"
-        cp "crates/$name/out/$name.by-rattle" "$work/rattle"
+    else
+        step tests/build.sh "$name"
+        step cp "crates/$name/out/$name" "$work/llvm"
+        step cp "crates/$name/out/$name.by-rattle" "$work/rattle"
     fi
     if ! asked_for cargo; then
         true
     elif ! available cargo cargo || ! available rustc rustc; then
         skip "the program $name that cargo installs" 'there is no cargo or no rustc'
-    elif step cargo install --quiet --offline --path "rust/$name" --root "$work/installed"; then
-        mv "$work/installed/bin/$name" "$work/cargo"
+    else
+        step cargo install --quiet --offline --path "rust/$name" --root "$work/installed"
+        step mv "$work/installed/bin/$name" "$work/cargo"
     fi
 }
 
