@@ -519,6 +519,15 @@ def installs(counts, room):
         counts.same(f"available {command}, {environment}", found, wanted)
 
 
+def missing(counts, room):
+    """A build that should be there and is not is a failure, not a test less."""
+    for name in ["draw", "lots"]:
+        done = ran([f"tests/{name}.sh", "kit"], room, BUILT="1")
+        last = done.stdout.splitlines()[-1]
+        refused = done.returncode != 0 and not re.search(r"\b0 failed$", last)
+        counts.same(f"tests/{name}.sh kit without its build", refused, True)
+
+
 def main():
     counts = Counts()
     with tempfile.TemporaryDirectory() as name:
@@ -528,7 +537,7 @@ def main():
             part(counts, room / part.__name__)
         copy_of_repository(room / "copy")
         ran(["git", "init", "-q"], room / "copy")
-        for part in (changes, writers, page):
+        for part in (changes, writers, page, missing):
             part(counts, room / "copy")
     print(f"{counts.passed} passed, {counts.failed} failed")
     return 1 if counts.failed else 0
