@@ -33,6 +33,8 @@ import crates  # noqa: E402
 NAME = "nanorand_c"
 COMMITTED = TOP / "docs" / "nanorand.html"
 NO_COMPILER = 3
+# A comment that has its lines to itself.
+COMMENT = re.compile(r"^ *(?://.*|/\*(?:[^*]|\*(?!/))*\*/)\n", re.M)
 IMPORT = re.compile(r'^import [^;]*? from "\./([a-z0-9]+)\.js";\n', re.M)
 
 
@@ -102,8 +104,8 @@ def compile_module32(path: Path) -> bytes:
 
 
 def joined(name: str, seen: set[str]) -> str:
-    """The code of web/src/NAME.js after that of all it imports, each once, as one script."""
-    source = (SOURCES / f"{name}.js").read_text(encoding="utf-8")
+    """The code of web/src/NAME.js after that of all it imports, each once, as one script without comments."""
+    source = COMMENT.sub("", (SOURCES / f"{name}.js").read_text(encoding="utf-8"))
     parts = []
     for other in IMPORT.findall(source):
         if other not in seen:
