@@ -128,7 +128,7 @@ macro_rules! peers_of_pcg64 {
     };
 }
 
-macro_rules! rows {
+macro_rules! named_rows {
     ($generator:ident, $peers:ident: $(
         $name:literal: $contexts:ident $work:ident<$($value:ty)?>($($argument:expr),+);
     )+) => {
@@ -141,50 +141,28 @@ macro_rules! rows {
     };
 }
 
-fn rows_of_wyrand() -> impl Iterator<Item = (String, Row)> {
-    let rows = rows!(WyRand, peers_of_wyrand:
-        "`u8`": draws Value<u8>(1000, 0);
-        "`u32`": draws Value<u32>(1000, 0);
-        "`u64`": draws Value<u64>(1000, 0);
-        "`f64`": draws Value<f64>(1000, 0.0);
-        "`bool`": draws Value<bool>(1000, false);
-        "`u8` below 200": draws Below<u8>(1000, 200);
-        "`u16` below 1000": draws Below<u16>(1000, 1000);
-        "`u32` below 1000": draws Below<u32>(1000, 1000);
-        "`u64` below 1000": draws Below<u64>(1000, 1000);
-        "`usize` below 10": draws Below<usize>(1000, 10);
-        "`i32` of -50..=50": draws Within<>(1000, 0);
-        "shuffle of 10 `u64`": wholes Shuffle<u64>(10);
-        "shuffle of 52 `u8`": wholes Shuffle<u8>(52);
-        "shuffle of 1000 `u64`": wholes Shuffle<u64>(1000);
-        "fill of 1000 `u16`": wholes Fill<u16>(1000);
-        "fill of 1000 `u32`": wholes Fill<u32>(1000);
-        "fill of 4096 bytes": wholes Bytes<>(4096);
-    );
-    rows.into_iter().flatten()
-}
-
-fn rows_of_pcg64() -> impl Iterator<Item = (String, Row)> {
-    let rows = rows!(Pcg64, peers_of_pcg64:
-        "`u8`": draws Value<u8>(1000, 0);
-        "`u32`": draws Value<u32>(1000, 0);
-        "`u64`": draws Value<u64>(1000, 0);
-        "`f64`": draws Value<f64>(1000, 0.0);
-        "`bool`": draws Value<bool>(1000, false);
-        "`u8` below 200": draws Below<u8>(1000, 200);
-        "`u16` below 1000": draws Below<u16>(1000, 1000);
-        "`u32` below 1000": draws Below<u32>(1000, 1000);
-        "`u64` below 1000": draws Below<u64>(1000, 1000);
-        "`usize` below 10": draws Below<usize>(1000, 10);
-        "`i32` of -50..=50": draws Within<>(1000, 0);
-        "shuffle of 10 `u64`": wholes Shuffle<u64>(10);
-        "shuffle of 52 `u8`": wholes Shuffle<u8>(52);
-        "shuffle of 1000 `u64`": wholes Shuffle<u64>(1000);
-        "fill of 1000 `u16`": wholes Fill<u16>(1000);
-        "fill of 1000 `u32`": wholes Fill<u32>(1000);
-        "fill of 4096 bytes": wholes Bytes<>(4096);
-    );
-    rows.into_iter().flatten()
+macro_rules! rows {
+    ($generator:ident, $peers:ident) => {
+        named_rows!($generator, $peers:
+            "`u8`": draws Value<u8>(1000, 0);
+            "`u32`": draws Value<u32>(1000, 0);
+            "`u64`": draws Value<u64>(1000, 0);
+            "`f64`": draws Value<f64>(1000, 0.0);
+            "`bool`": draws Value<bool>(1000, false);
+            "`u8` below 200": draws Below<u8>(1000, 200);
+            "`u16` below 1000": draws Below<u16>(1000, 1000);
+            "`u32` below 1000": draws Below<u32>(1000, 1000);
+            "`u64` below 1000": draws Below<u64>(1000, 1000);
+            "`usize` below 10": draws Below<usize>(1000, 10);
+            "`i32` of -50..=50": draws Within<>(1000, 0);
+            "shuffle of 10 `u64`": wholes Shuffle<u64>(10);
+            "shuffle of 52 `u8`": wholes Shuffle<u8>(52);
+            "shuffle of 1000 `u64`": wholes Shuffle<u64>(1000);
+            "fill of 1000 `u16`": wholes Fill<u16>(1000);
+            "fill of 1000 `u32`": wholes Fill<u32>(1000);
+            "fill of 4096 bytes": wholes Bytes<>(4096);
+        )
+    };
 }
 
 fn main() -> Result<(), Box<dyn Error>> {
@@ -195,7 +173,8 @@ fn main() -> Result<(), Box<dyn Error>> {
     }
     // An argument names rows: those that contain it.
     let text = first.unwrap_or_default();
-    for (name, mut row) in rows_of_wyrand().chain(rows_of_pcg64()) {
+    let rows = rows!(WyRand, peers_of_wyrand).into_iter();
+    for (name, mut row) in rows.chain(rows!(Pcg64, peers_of_pcg64)).flatten() {
         if name.contains(&text) {
             println!("{}", row.timed());
         }
