@@ -146,7 +146,7 @@ IMPORT, WIDE, NARROW = b"\2\7\1\1a\1b\0\0", b"\5\3\1\4\1", b"\5\3\1\0\1"
 BAD_MODULES = [b"", b"<html>", MODULE, MODULE + NARROW, MODULE + IMPORT + WIDE]
 BAD_MODULES32 = [b"", MODULE, MODULE + WIDE, MODULE + IMPORT + NARROW]
 # What no script of the page may have: the end of a script, its other beginning, a name of another file.
-BAD_SCRIPTS = ["// </SCRIPT>", "// <!--", "function hex() {}"]
+BAD_SCRIPTS = ['void "</SCRIPT>";', 'void "<!--";', "function hex() {}"]
 
 
 class Counts:
