@@ -1,4 +1,4 @@
-//! Draws lots from a list, so that anyone can repeat the draw: `lots SEED COUNT|all < entrants`.
+//! Draws by lot from a list, so that anyone can repeat the draw: `lots SEED COUNT|all < entrants`.
 //!
 //! - SEED is any non-empty text.
 //! - COUNT is the number of entrants to draw, in decimal digits; `all` draws all of them.

@@ -1,4 +1,4 @@
-//! The draw of lots, on C memory.
+//! The draw by lot, on C memory.
 
 use crate::boundary::{Array, ArrayMut};
 use core::str;
