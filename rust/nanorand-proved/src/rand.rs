@@ -81,8 +81,8 @@ pub trait Rng<const OUTPUT: usize>: Sized {
     /// An empty slice draws nothing.
     ///
     /// To fill a slice of bytes, call `fill_bytes`, which makes one request for the whole slice.
-    /// `fill` makes one request for each byte, for each of which a generator without a buffer draws
-    /// a whole block.
+    /// `fill` makes one request for each byte, and a generator without a buffer draws a whole block
+    /// for each request.
     fn fill<T: RandomGen<Self, OUTPUT>>(&mut self, target: &mut [T]) {
         for item in target.iter_mut() {
             *item = self.generate();

@@ -263,7 +263,7 @@ mod avx2 {
         std::is_x86_feature_detected!("avx2")
     }
 
-    // Without std, the processor is not asked.
+    // Without std, the features of the processor cannot be detected.
     #[cfg(not(feature = "std"))]
     #[inline]
     pub(super) fn is_here() -> bool {
@@ -843,7 +843,7 @@ mod tests {
         }
     }
 
-    // Without std, the processor is not asked, so the target alone decides.
+    // Without std, nothing is detected at run time, so the target decides.
     #[cfg(not(feature = "std"))]
     #[test]
     fn leave_of_the_target_alone() {

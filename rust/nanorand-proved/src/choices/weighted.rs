@@ -30,8 +30,8 @@ impl std::error::Error for WeightError {}
 
 /// Chooses an item by weight, and returns its index: `weights[i]` is the weight of item i.
 ///
-/// A number below the sum of the weights is drawn, from at most 128 words of 64 bits. Item i has
-/// `weights[i]` of these numbers, so an item of weight 0 is never chosen.
+/// A number below the sum of the weights is drawn, from at most 128 words (random integers of 64
+/// bits). Item i has `weights[i]` of these numbers, so an item of weight 0 is never chosen.
 ///
 /// Each call takes time O(n) for n weights: it adds up all weights, and then searches for the item
 /// from the first one on.

@@ -11,7 +11,7 @@ impl Hash for WyRand {
     }
 }
 
-/// Hashes the seed alone, which determines all blocks to come.
+/// Hashes only the seed, which determines all blocks to come.
 impl Hash for Pcg64 {
     fn hash<H: Hasher>(&self, state: &mut H) {
         self.seed().hash(state);
