@@ -245,9 +245,9 @@ mod tests_of_errors {
         assert_eq!(write_fails(&folder).raw_os_error(), Some(9)); // EBADF: open for reading
         let write_only = File::options().write(true).open("/dev/null").unwrap();
         assert_eq!(read_fails(&write_only).raw_os_error(), Some(9));
-        let setting = open("/proc/self/oom_score_adj"); // takes numbers alone
+        let setting = open("/proc/self/oom_score_adj"); // accepts numbers only
         assert_eq!(write_fails(&setting).kind(), ErrorKind::InvalidInput);
-        let users = open("/proc/self/uid_map"); // was written when its namespace began
+        let users = open("/proc/self/uid_map"); // was already written when its namespace was created
         assert_eq!(write_fails(&users).kind(), ErrorKind::PermissionDenied);
         let mut ended = Command::new("cat").stdin(Stdio::piped()).spawn().unwrap();
         let status = File::open(format!("/proc/{}/status", ended.id())).unwrap();
