@@ -116,8 +116,8 @@ impl<G: Rng<OUTPUT>, const OUTPUT: usize> BufferedRng<G, OUTPUT> {
         OUTPUT - self.cursor
     }
 
-    /// Appends only the buffered bytes to `out`, empties the buffer, and returns how many bytes were
-    /// appended.
+    /// Appends only the buffered bytes to `out`, empties the buffer, and returns how many bytes
+    /// were appended.
     ///
     /// Nothing is drawn, since the stream has no end. If the buffer is empty, the call allocates
     /// nothing, leaves the capacity of the vector as it is, and returns 0.

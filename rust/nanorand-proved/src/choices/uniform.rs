@@ -1,5 +1,5 @@
-//! Unbiased choices: every outcome is produced by the same number of words, where a word is a random
-//! integer of N bits.
+//! Unbiased choices: every outcome is produced by the same number of words, where a word is a
+//! random integer of N bits.
 
 use crate::rand::Rng;
 use crate::values::number::Number;
