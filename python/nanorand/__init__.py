@@ -1,16 +1,16 @@
-"""Seeded random generators over a proved library: the same numbers in every language.
+"""Deterministic random generators of a proved library: the same numbers in every language.
 
-`WyRand` and `Pcg64` are not cryptographically secure: draw no key, token or password from them.
-`Stream` and the ChaCha classes are not vetted cryptographic generators either: no key is erased
-from memory, and nothing reseeds itself. For keys, tokens and passwords, or where an adversary
-matters, take a vetted one.
+`WyRand` and `Pcg64` are not cryptographically secure: never use them to generate a key, a token or
+a password. `Stream` and the ChaCha classes are not vetted cryptographic generators either: they do
+not erase keys from memory, and do not reseed themselves. For keys, tokens and passwords, or if
+there is an adversary, use a vetted generator.
 
-`seed_from_u64` of each class makes a generator of any number, and mixes it. The seed that `WyRand`
-and `Pcg64` themselves take is the state, and is not mixed: generators with neighbouring seeds draw
-correlated numbers.
+`seed_from_u64` of each class makes a generator from any number, even a small one: it mixes the
+number. `WyRand(seed)` and `Pcg64(seed)` use the seed as the state, without mixing it: generators
+with neighbouring seeds draw correlated numbers.
 
-`nanorand.randoms` has the generators as `random.Random`, `nanorand.lots` the public draw by lot,
-and `nanorand.errors` every error.
+`nanorand.randoms` provides the generators as `random.Random`, `nanorand.numpy` as bit generators of
+NumPy, `nanorand.lots` the public draw by lot, and `nanorand.errors` all errors.
 
 >>> from nanorand import WyRand
 >>> rng = WyRand.seed_from_u64(42)

@@ -5,7 +5,7 @@ from typing import Any, ClassVar, Optional, SupportsFloat, SupportsIndex, TypeVa
 
 _Item = TypeVar("_Item")
 _Self = TypeVar("_Self", bound="Generator")
-_Octets = bytes  # `bytes` is a method below
+_Octets = bytes  # the name `bytes` is a method below
 _Buffer = Union[bytes, bytearray, memoryview]
 _Weights = Iterable[Union[SupportsIndex, SupportsFloat]]
 

@@ -1,9 +1,9 @@
 """The errors of this package.
 
-After each of them the generator's state is as before, but for `Exhausted`: the words that were
-rejected, and those drawn before them, stay consumed. A value of a wrong
-type, a float for one, is a `TypeError`. A number is told in digits, and one of more than about 100
-digits by how many bits it has.
+An error leaves the state of the generator unchanged, except for `Exhausted`: the words (random
+integers) that were rejected, and those drawn before them, stay consumed. A value of a wrong type,
+such as a float in place of an int, raises a `TypeError`. A message shows a number in digits, or its
+length in bits if it has more than about 100 digits.
 
 >>> from nanorand import EmptyRange, WyRand
 >>> try:
@@ -30,7 +30,7 @@ __all__ = [
 
 
 class NanorandError(Exception):
-    """Every error of this package is one of these.
+    """Base class of all errors of this package.
 
     >>> issubclass(EmptyRange, NanorandError)
     True
@@ -38,7 +38,7 @@ class NanorandError(Exception):
 
 
 class EmptyRange(NanorandError, ValueError):
-    """There is no number, item or weight to draw; or a sample asks for more numbers than there are.
+    """There is no number, item or weight to draw from, or a sample is larger than its population.
 
     >>> str(EmptyRange())
     'there is no number or item to draw'
@@ -49,7 +49,9 @@ class EmptyRange(NanorandError, ValueError):
 
 
 class Exhausted(NanorandError, RuntimeError):
-    """128 words in a row were rejected, which happens with probability below 2^-128. They stay consumed.
+    """128 words (random integers) in a row were rejected. They stay consumed.
+
+    This happens with probability below 2^-128.
 
     >>> str(Exhausted())
     '128 words in a row were rejected'
@@ -60,7 +62,7 @@ class Exhausted(NanorandError, RuntimeError):
 
 
 class OutOfBounds(NanorandError, OverflowError, ValueError):
-    """A number does not fit its bits: a seed, a bound, a length or a count. Or it is no weight.
+    """A number (a seed, a bound, a length or a count) is out of range, or a weight is not valid.
 
     >>> from nanorand import WyRand
     >>> WyRand(2**64)
@@ -70,7 +72,7 @@ class OutOfBounds(NanorandError, OverflowError, ValueError):
 
 
 class PastPeriod(NanorandError, ValueError):
-    """A part ends past the period of the generator, where its draws come again.
+    """A part ends beyond the period of the generator, after which its draws repeat.
 
     >>> from nanorand import WyRand
     >>> WyRand.seed_from_u64(42).part(2**32, 2**32)
@@ -80,7 +82,7 @@ class PastPeriod(NanorandError, ValueError):
 
 
 class WrongLength(NanorandError, ValueError):
-    """A key, a nonce, a state, buffered bytes or weights of another length.
+    """A key, a nonce, a state, buffered bytes or a list of weights has the wrong length.
 
     >>> from nanorand import Stream
     >>> Stream(b"short")
@@ -90,7 +92,7 @@ class WrongLength(NanorandError, ValueError):
 
 
 class ForeignState(NanorandError, ValueError):
-    """A state for `setstate` is not one that `getstate` of the same class gave.
+    """A state that is to be set was not returned by a generator of the same class.
 
     >>> str(ForeignState("WyRand"))
     'the state is not one of WyRand'
@@ -105,7 +107,7 @@ class ForeignState(NanorandError, ValueError):
 
 
 class LibraryRefused(NanorandError, ImportError):
-    """The extension module is missing, or the library in it has another version than this package.
+    """The extension module cannot be loaded, or the library in it is too old or of another major version.
 
     >>> issubclass(LibraryRefused, ImportError)
     True
@@ -113,7 +115,7 @@ class LibraryRefused(NanorandError, ImportError):
 
 
 class EmptySeed(NanorandError, ValueError):
-    """The seed of a draw by lot has no byte.
+    """The seed of a draw by lot is empty.
 
     >>> str(EmptySeed())
     'the seed is empty'
@@ -135,7 +137,7 @@ class SeedNotText(NanorandError, ValueError):
 
 
 class EmptyLine(NanorandError, ValueError):
-    """A line of a list is empty. `line` is the number of the first one, from 1.
+    """A line of a list is empty. `line` is the number of the first such line, counted from 1.
 
     >>> EmptyLine(3).line
     3
@@ -150,7 +152,7 @@ class EmptyLine(NanorandError, ValueError):
 
 
 class TooFew(NanorandError, ValueError):
-    """A draw by lot asks for `count` of fewer `entrants`.
+    """A draw by lot asks for `count` entrants, but there are only `entrants`.
 
     >>> error = TooFew(10, 11)
     >>> error.entrants, error.count

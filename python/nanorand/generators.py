@@ -1,8 +1,8 @@
 """The generators. Each starts from a seed or a key, and draws the same numbers in every language.
 
-`WyRand` and `Pcg64` are not cryptographically secure: draw no key, token or password from them.
-`Stream` and the ChaCha classes are not vetted cryptographic generators either: where an adversary
-matters, take a vetted one.
+`WyRand` and `Pcg64` are not cryptographically secure: never use them to generate a key, a token or
+a password. `Stream` and the ChaCha classes are not vetted cryptographic generators either: for keys,
+tokens and passwords, or if there is an adversary, use a vetted generator.
 
 >>> from nanorand.generators import WyRand
 >>> WyRand.seed_from_u64(42).below(100)

@@ -1,4 +1,4 @@
-"""The public draw by lot of docs/LOTS.md: whoever has the list and the seed gets the same result.
+"""The public draw by lot of docs/LOTS.md: anyone who has the list and the seed gets the same result.
 
 >>> from nanorand import lots
 >>> lots.draw("a seed", b"a\\nb\\nc\\nd\\ne\\nf\\ng\\nh\\ni\\nj\\n", 3)
@@ -19,7 +19,7 @@ Seed = Union[str, Buffer]
 
 
 def digest(text: Buffer) -> bytes:
-    """The SHA-256 of the bytes, 32 bytes: what is published with a list.
+    """Return the SHA-256 of the bytes, as 32 bytes. It is what is published together with a list.
 
     >>> digest(b"a\\nb\\n").hex()[:8]
     '911169dd'
@@ -28,8 +28,17 @@ def digest(text: Buffer) -> bytes:
 
 
 def count(text: Buffer) -> int:
-    """How many entrants a list has: one a line, and the last line may lack its line feed.
+    """Return the number of entrants of a list, one for each line.
 
+    The last line need not end with a line feed.
+
+    Raises
+    ------
+    EmptyLine
+        If a line is empty.
+
+    Examples
+    --------
     >>> count(b"Ada\\nBarbara\\nChidi"), count(b"")
     (3, 0)
     >>> count(b"Ada\\n\\n")
@@ -39,7 +48,7 @@ def count(text: Buffer) -> int:
     return lots_count(text)
 
 
-# Bytes are a sequence of numbers too, so the first of these hides a part of the second.
+# Bytes are a sequence of ints too, so the first overload hides a part of the second.
 @overload
 def draw(  # type: ignore
     seed: Seed, entrants: Buffer, count: Optional[SupportsIndex] = None
@@ -53,12 +62,36 @@ def draw(
 
 
 def draw(seed: Seed, entrants: object, count: Optional[SupportsIndex] = None) -> "list[Any]":
-    """`count` of the entrants in the order drawn; all of them if it is None.
+    """Return a list of `count` of the entrants, in the order in which they were drawn.
 
-    The entrants are the lines of a list of bytes, or the items of another sequence. A seed is a text,
-    or its bytes in UTF-8. These errors come in this order: `EmptySeed`, `SeedNotText`, `EmptyLine`,
-    `TooFew`, `Exhausted`.
+    Parameters
+    ----------
+    seed : str, bytes, bytearray or memoryview
+        A text, or its bytes in UTF-8.
+    entrants : bytes, bytearray, memoryview or sequence
+        A list, whose lines are the entrants, or a sequence, whose items are.
+    count : int, optional
+        Number of entrants to draw. By default all of them are drawn.
 
+    Raises
+    ------
+    EmptySeed
+        If the seed is empty.
+    SeedNotText
+        If the seed is not UTF-8.
+    EmptyLine
+        If a line of the list is empty.
+    TooFew
+        If there are fewer entrants than `count`.
+    Exhausted
+        If 128 words (random integers of 64 bits) in a row were rejected.
+
+    Notes
+    -----
+    The errors are checked in this order.
+
+    Examples
+    --------
     >>> draw("4 1 6", ["Ada", "Barbara", "Chidi"])
     ['Ada', 'Barbara', 'Chidi']
     >>> draw("4 1 6", b"Ada\\nBarbara\\nChidi\\n", 4)
@@ -75,7 +108,7 @@ def draw(seed: Seed, entrants: object, count: Optional[SupportsIndex] = None) ->
 
 
 def _seed(seed: Seed) -> bytes:
-    """The bytes of a seed, if it has some and they are UTF-8."""
+    """Return the bytes of a seed, after checking that it is not empty and is UTF-8."""
     try:
         text = seed.encode() if isinstance(seed, str) else check_seed(seed)
         text.decode()
@@ -98,5 +131,5 @@ def _lines(text: bytes) -> "list[bytes]":
     count(text)
     lines = text.split(b"\n")
     if not lines[-1]:
-        lines.pop()  # the last line feed begins no line
+        lines.pop()  # no line begins after the last line feed
     return lines

@@ -1,11 +1,12 @@
 """The generators as bit generators of NumPy, for `numpy.random.Generator`.
 
-NumPy is needed for this module and for nothing else of the package. A seed is whatever NumPy's own bit generators
-take, mixed by `numpy.random.SeedSequence` as there. `of` goes on where a generator of this package is, so that the
-words are those of every other language; which numbers NumPy makes of words is NumPy's.
+Only this module of the package requires NumPy. The seeds are those that NumPy's own bit generators accept, mixed by
+`numpy.random.SeedSequence` in the same way. `of` continues from the state of a generator of this package, so that the
+words (random integers of 64 bits) are the same as in every other language. NumPy determines which numbers it makes
+from the words.
 
-None of the classes is a vetted cryptographic generator: for keys, tokens and passwords, or where an adversary
-matters, take a vetted one.
+None of the classes is a vetted cryptographic generator: for keys, tokens and passwords, or if there is an adversary,
+use a vetted generator.
 
 >>> import numpy
 >>> from nanorand import Pcg64
@@ -36,18 +37,18 @@ PARTS = frozenset({"bit_generator", "state", "has_uint32", "uinteger"})
 
 
 class GeneratorBits(BitGenerator):
-    """What the classes of this module have in common. It is no bit generator itself.
+    """Base class of the bit generators of this module. It cannot be instantiated.
 
-    A word of 64 bits is a `u64` of the generator; of 32 bits it is the low half of one, and the next is its high
-    half, unless a word of 64 bits comes between; a double is the upper 53 bits of one, times 2^-53. Whoever draws
-    holds `lock`, as with NumPy's own.
+    A word of 64 bits is a `u64` of the generator. A word of 32 bits is the low half of a `u64`; the next one is the
+    high half of the same `u64`, unless a word of 64 bits is drawn between them. A double is the upper 53 bits of a
+    `u64`, times 2^-53. A caller that draws must hold `lock`, as for NumPy's own bit generators.
     """
 
     _kind: ClassVar[type[Generator]]
     _seed_length: ClassVar[int]
     _zeros: ClassVar[int] = 0
     _last_jump: ClassVar[int]
-    # Of NumPy's, which does not tell their types.
+    # Attributes of NumPy, which does not declare their types.
     capsule: Any
     _seed_seq: ISeedSequence
 
@@ -63,10 +64,13 @@ class GeneratorBits(BitGenerator):
 
     @classmethod
     def of(cls: type[Bits], generator: Generator) -> Bits:
-        """A bit generator that goes on where a generator is, by a copy of it. Without a seed, it spawns none.
+        """Return a bit generator that continues from the state of a generator of this package.
 
-        For one of many tasks it is that of the task's part of one stream.
+        It draws from a copy of the generator. It has no seed sequence, so it cannot spawn others. For many tasks, give
+        each task a part of one stream.
 
+        Examples
+        --------
         >>> from nanorand import Pcg64, WyRand
         >>> rng = WyRand.seed_from_u64(42)
         >>> WyRandBits.of(rng).random_raw() == rng.u64()
@@ -82,14 +86,14 @@ class GeneratorBits(BitGenerator):
 
     @classmethod
     def _at(cls: type[Bits], seed: Any, generator: Generator) -> Bits:
-        """A bit generator over a copy of the generator."""
+        """Return a bit generator that draws from a copy of the generator."""
         made = cls.__new__(cls)
         BitGenerator.__init__(made, seed)
         _native.attach(made.capsule, generator)
         return made
 
     def _now(self) -> "tuple[Generator, Optional[int]]":
-        """The generator after the words drawn, and the half of the last one that comes next, or None."""
+        """Return the generator after the words drawn so far, and the half of a word to be drawn next, or None."""
         with self.lock:
             start, words, half = _native.drawn(self.capsule)
             generator = start.copy()
@@ -98,7 +102,7 @@ class GeneratorBits(BitGenerator):
 
     @property
     def generator(self) -> Generator:
-        """A generator of this package that goes on where this is, at a whole word.
+        """A generator of this package that continues from this state, at the next whole word.
 
         >>> bits = Pcg64Bits(42)
         >>> bits.generator.u64() == bits.random_raw()
@@ -108,7 +112,9 @@ class GeneratorBits(BitGenerator):
 
     @property  # type: ignore[override]
     def state(self) -> "dict[str, Any]":
-        """The state as NumPy has it: the name, the generator's own state, and the half word that comes next.
+        """The state, in the form that NumPy uses. Assign to it to set the state.
+
+        It has the name of the class, the generator's own state, and the half of a word to be drawn next.
 
         >>> bits = WyRandBits(42)
         >>> saved = bits.state
@@ -138,13 +144,16 @@ class GeneratorBits(BitGenerator):
             _native.restart(self.capsule, generator, half if with_half else None)
 
     def jumped(self: Bits, jumps: SupportsIndex = 1) -> Bits:
-        """A bit generator that is so many jumps ahead, so that the words until there are not drawn again.
+        """Return a bit generator that is `jumps` jumps ahead, so that it does not repeat the words before that point.
 
-        A jump is 2^48 words of `WyRandBits`, 2^64 of `Pcg64Bits`, and 2^48 blocks of eight words of `StreamBits`.
+        A jump is 2^48 words of `WyRandBits`, 2^64 words of `Pcg64Bits`, and 2^48 blocks of eight words of `StreamBits`.
 
-        Words a power of two apart are correlated. Those of `Pcg64Bits` that are an odd number of jumps apart have the
-        same lowest two bits, and more where the number is even. For many tasks take `of` and parts of an odd length.
+        Words are correlated if the distance between them is divisible by a large power of two. Two words of
+        `Pcg64Bits` that are an odd number of jumps apart have the same lowest two bits, and more bits agree if the
+        number is even. For many tasks, use `of` with parts of an odd length instead.
 
+        Examples
+        --------
         >>> Pcg64Bits(42).jumped(2).random_raw() == Pcg64Bits(42).jumped().jumped().random_raw()
         True
         """
@@ -157,7 +166,7 @@ class GeneratorBits(BitGenerator):
 
     @classmethod
     def _unpickled(cls: type[Bits], seed: ISeedSequence) -> Bits:
-        """What a state is then set of: `numpy.random.Generator` takes these three parts of a pickle one by one."""
+        """Return an object whose state is set later. `numpy.random.Generator` uses the parts of a pickle one by one."""
         return cls._at(seed, cls._kind.from_state(bytes(cls._seed_length + cls._zeros)))
 
     def __reduce__(  # type: ignore[override]
@@ -167,7 +176,7 @@ class GeneratorBits(BitGenerator):
 
 
 class WyRandBits(GeneratorBits):
-    """`WyRand` as a bit generator, the fastest. It is not cryptographically secure.
+    """`WyRand` as a bit generator, the fastest of this module. It is not cryptographically secure.
 
     >>> WyRandBits(42).random_raw() == WyRandBits(42).random_raw()
     True
@@ -201,7 +210,7 @@ class Pcg64Bits(GeneratorBits):
 
 
 class StreamBits(GeneratorBits):
-    """The keystream of ChaCha20 as a bit generator. Its seed is the key; nonce and counter begin at 0.
+    """The keystream of ChaCha20 as a bit generator. The seed makes the key; the nonce and the counter are 0 at first.
 
     >>> StreamBits(42).random_raw() == StreamBits(42).random_raw()
     True

@@ -1,19 +1,24 @@
-"""The generators as `random.Random`, with every call of Python's module: `gauss` and `choices` too.
+"""The generators as `random.Random`, with all methods of that class, such as `gauss` and `choices`.
 
-`random`, `getrandbits` and `randbytes` take the generator's bytes. What Python makes of them
-(`gauss`, `shuffle`, `sample` and the others) is Python's, and not the same as in other languages.
+`random`, `getrandbits` and `randbytes` take the bytes of the generator. All other methods (`gauss`,
+`shuffle`, `sample`, ..) are Python's own, and their results differ from those in other languages.
 
-A whole number of at most 64 bits is a seed of `WyRandRandom`, one of 128 of `Pcg64Random`, and one of
-256 the key of the others, least byte first. Every other seed is the first bytes of a SHA-256: of a text
-or of bytes; of a negative or a longer number, as `hex` writes it after the byte 0xFF and `int `; of a
-float, as `float.hex` writes it after 0xFF and `float `. None is a seed from the operating system.
+The seed of a generator depends on the type of the argument:
 
-A whole number that is a seed is the state itself, and is not mixed: `WyRandRandom` and `Pcg64Random`
-with neighbouring seeds, such as 0, 1, 2, .., draw correlated numbers. A text is mixed by the SHA-256:
+- A nonnegative int of at most 64 bits (`WyRandRandom`) or 128 bits (`Pcg64Random`) is the seed
+  itself. One of at most 256 bits is the key of the other classes, in little-endian order.
+- For any other value, the seed or the key is the first bytes of a SHA-256. For a str it is that of
+  its UTF-8 bytes, and for bytes and bytearray that of the bytes. For a negative or longer int, it is
+  that of the byte 0xFF, `int ` and the number as `hex` writes it. For a float, it is that of the
+  byte 0xFF, `float ` and the number as `float.hex` writes it.
+- None takes a seed from the operating system.
+
+An int that is the seed is not mixed: `WyRandRandom` and `Pcg64Random` with neighbouring seeds, such
+as 0, 1, 2, .., draw correlated numbers. A str is mixed by the SHA-256: use
 `Pcg64Random(f"run {number}")`.
 
-None of the classes is a vetted cryptographic generator: for keys, tokens and passwords, or where an
-adversary matters, take a vetted one.
+None of the classes is a vetted cryptographic generator: for keys, tokens and passwords, or if there
+is an adversary, use a vetted generator.
 
 >>> from nanorand.randoms import WyRandRandom
 >>> rng = WyRandRandom("seed 42")
@@ -44,7 +49,7 @@ Seed = Union[None, SupportsIndex, float, str, bytes, bytearray]
 
 
 class GeneratorRandom(BaseRandom):
-    """What the classes of this module have in common. They draw from `generator`.
+    """Base class of the classes of this module, which draw from `generator`.
 
     >>> WyRandRandom("seed 42").generator
     WyRand(0xd95fc6fdf7c1b745)
@@ -55,7 +60,7 @@ class GeneratorRandom(BaseRandom):
     _rest_of_state: ClassVar[bytes] = b""
 
     def __init_subclass__(cls, **named: Any) -> None:
-        """A class with a `getrandbits` of its own draws bytes by it, as those of `random.Random` do."""
+        """Make a subclass that overrides `getrandbits` draw bytes by it, as one of `random.Random` does."""
         super().__init_subclass__(**named)
         own = {"getrandbits", "randbytes"}
         first = next(one for one in cls.__mro__ if own & vars(one).keys())  # pragma: no branch
@@ -66,8 +71,15 @@ class GeneratorRandom(BaseRandom):
         super().__init__(seed)
 
     def seed(self, a: Seed = None, version: int = 2) -> None:  # type: ignore[override]
-        """Starts anew from a seed. `version` changes nothing. Other types are a TypeError.
+        """Restart from a seed, whose types the module's documentation lists. `version` is ignored.
 
+        Raises
+        ------
+        TypeError
+            If the seed has another type.
+
+        Examples
+        --------
         >>> rng = Pcg64Random("seed 7")
         >>> first = rng.random()
         >>> rng.seed("seed 7")
@@ -98,7 +110,7 @@ class GeneratorRandom(BaseRandom):
         return hashlib.sha256(text).digest()[: self._seed_length]
 
     def getstate(self) -> "tuple[Any, ...]":
-        """What `setstate` takes: the generator's name, its state, and what `gauss` has kept.
+        """Return the state, for `setstate`: the generator's name, its state, and what `gauss` has kept.
 
         >>> rng = StreamRandom("a seed")
         >>> saved = rng.getstate()
@@ -110,8 +122,17 @@ class GeneratorRandom(BaseRandom):
         return self._kind.__name__, self.generator.state, self.gauss_next
 
     def setstate(self, state: "tuple[Any, ...]") -> None:
-        """Goes back to a state that `getstate` gave. One of another generator is `ForeignState`.
+        """Restore a state that `getstate` returned.
 
+        Raises
+        ------
+        ForeignState
+            If the state is not a tuple that `getstate` of a class with the same generator returned.
+        WrongLength
+            If the generator's state in it has the wrong length.
+
+        Examples
+        --------
         >>> WyRandRandom("seed 1").setstate(Pcg64Random("seed 1").getstate())
         Traceback (most recent call last):
         nanorand.errors.ForeignState: the state is not one of WyRand
@@ -128,7 +149,7 @@ class GeneratorRandom(BaseRandom):
 class WyRandRandom(GeneratorRandom):
     """`WyRand` as `random.Random`. It is not cryptographically secure.
 
-    A whole number as seed is not mixed: generators with neighbouring seeds draw correlated numbers.
+    An int as the seed is not mixed: generators with neighbouring seeds draw correlated numbers.
 
     >>> WyRandRandom("seed 42").randbytes(4).hex()
     '34045fd5'
@@ -141,7 +162,7 @@ class WyRandRandom(GeneratorRandom):
 class Pcg64Random(GeneratorRandom):
     """`Pcg64` as `random.Random`. It is not cryptographically secure.
 
-    A whole number as seed is not mixed: generators with neighbouring seeds draw correlated numbers.
+    An int as the seed is not mixed: generators with neighbouring seeds draw correlated numbers.
 
     >>> Pcg64Random("seed 0").randbytes(4).hex()
     'a0e95bce'
@@ -152,7 +173,9 @@ class Pcg64Random(GeneratorRandom):
 
 
 class ChaCha8Random(GeneratorRandom):
-    """`ChaCha8` as `random.Random`: each number takes a block of 64 bytes, which `StreamRandom` does not.
+    """`ChaCha8` as `random.Random`.
+
+    Each number takes a whole block of 64 bytes. `StreamRandom` wastes no bytes.
 
     >>> ChaCha8Random("seed 0").randbytes(4).hex()
     'bf935bf3'
@@ -164,7 +187,9 @@ class ChaCha8Random(GeneratorRandom):
 
 
 class ChaCha12Random(GeneratorRandom):
-    """`ChaCha12` as `random.Random`: each number takes a block of 64 bytes, which `StreamRandom` does not.
+    """`ChaCha12` as `random.Random`.
+
+    Each number takes a whole block of 64 bytes. `StreamRandom` wastes no bytes.
 
     >>> ChaCha12Random("seed 0").randbytes(4).hex()
     '2b99b993'
@@ -176,7 +201,9 @@ class ChaCha12Random(GeneratorRandom):
 
 
 class ChaCha20Random(GeneratorRandom):
-    """`ChaCha20` as `random.Random`: each number takes a block of 64 bytes, which `StreamRandom` does not.
+    """`ChaCha20` as `random.Random`.
+
+    Each number takes a whole block of 64 bytes. `StreamRandom` wastes no bytes.
 
     >>> ChaCha20Random("seed 0").randbytes(4).hex()
     '0b9b3dc9'

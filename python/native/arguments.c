@@ -1,4 +1,4 @@
-/* What a call was given: arguments by place and by name, whole numbers within bounds, and bytes. */
+/* The arguments of a call: positional and keyword arguments, integers within bounds, and bytes. */
 #include "native.h"
 
 #include <inttypes.h>
@@ -10,7 +10,7 @@
 
 const Parameters jump_parameters = {"jump", 1, 1, 1, {"draws"}};
 
-/* The place of a parameter, or -1. */
+/* Returns the position of a parameter, or -1 if there is none of this name. */
 static int place_of(const Parameters *wanted, PyObject *name)
 {
     for (int place = 0; place < wanted->count; place++) {
@@ -78,7 +78,7 @@ int take_constructor(PyObject *self, PyObject *placed, PyObject *named, const ch
     return taken ? 0 : -1;
 }
 
-/* ---- Whole numbers. ---- */
+/* ---- Integers. ---- */
 
 PyObject *take_index(const char *name, PyObject *value)
 {
@@ -127,7 +127,7 @@ void raise_empty(Whole first, Whole last)
     Py_XDECREF(high);
 }
 
-/* The number in digits, or how many bits it has if it has more than about 100 digits. */
+/* Returns a text with the number in digits, or with its length in bits if it has more than about 100 digits. */
 static PyObject *told(PyObject *whole)
 {
     PyObject *length = PyObject_CallMethod((PyObject *)&PyLong_Type, "bit_length", "O", whole);

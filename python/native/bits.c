@@ -1,14 +1,14 @@
 /*
- * Bit generators for NumPy: behind the capsule of a numpy.random.BitGenerator, the words of a generator.
+ * Bit generators for NumPy: the capsule of a numpy.random.BitGenerator draws 64-bit words from a generator.
  *
- * NumPy draws without Python's lock; whoever draws or calls a function of the module here holds the lock of the bit
- * generator. Words are drawn ahead, many by one request.
+ * NumPy draws without Python's lock. A caller that draws, or that calls a function defined in this file, must hold the
+ * lock of the bit generator. Words are drawn ahead, many by one request.
  */
 #include "native.h"
 
 #include <string.h>
 
-/* What a capsule points at, as numpy/random/bitgen.h has it for bit generators that are not NumPy's. */
+/* The structure that a capsule points to, as numpy/random/bitgen.h defines it for bit generators outside NumPy. */
 typedef struct {
     void *state;
     uint64_t (*next_uint64)(void *state);
@@ -22,8 +22,9 @@ static const char *const capsule_name = "BitGenerator";
 enum { HALVES = 1024 };
 
 /*
- * Words as their halves, the low one first, of which those from `begin` to `next` are drawn. `next` is odd where one
- * half of a word is. `start` is the generator before the word at `begin`, and `ahead` its state after the last word.
+ * Words as their 32-bit halves, the low half first. The halves from `begin` to before `next` are drawn; `next` is odd
+ * if only one half of a word is. `start` is the generator before the word at `begin`, and `ahead` its state after the
+ * last word.
  */
 typedef struct {
     size_t begin, next;
@@ -32,7 +33,7 @@ typedef struct {
     uint64_t ahead[sizeof(nanorand_keystream) / sizeof(uint64_t)];
 } Words;
 
-/* Out of the way of the calls that find a word drawn. */
+/* Not inlined, which keeps the code short for the usual case, in which a word is already drawn. */
 __attribute__((cold, noinline)) static void draw_ahead(Words *words)
 {
     const Kind *kind = words->start->kind;
@@ -71,8 +72,8 @@ static double next_double(void *state)
 }
 
 /*
- * Begins at the state of a generator, once no thread draws from it, with the half of a word that is drawn before it,
- * or with None.
+ * Begins at the state of a generator, after waiting for a thread that draws from it. `half` is the half of a word that
+ * is drawn first, or None.
  */
 static int begin_at(Words *words, Generator *rng, PyObject *half)
 {
@@ -126,7 +127,7 @@ static Words *new_words(Generator *rng)
     return words;
 }
 
-/* attach(capsule, generator): the capsule's functions draw from a copy of the generator, which is the capsule's. */
+/* attach(capsule, generator): makes the capsule draw from a copy of the generator, which the capsule owns. */
 static PyObject *attach(PyObject *Py_UNUSED(module), PyObject *arguments)
 {
     PyObject *capsule, *given;
@@ -147,14 +148,14 @@ static PyObject *attach(PyObject *Py_UNUSED(module), PyObject *arguments)
         return NULL;
     }
     if (PyCapsule_SetContext(capsule, words) < 0 || PyCapsule_SetDestructor(capsule, free_capsule) < 0) {
-        free_words(words); /* GCOVR_EXCL_LINE: a capsule that has a pointer takes both. */
+        free_words(words); /* GCOVR_EXCL_LINE: neither fails for a capsule that has a pointer. */
         return NULL; /* GCOVR_EXCL_LINE */
     }
     *bits = (BitGenerator){words, next_uint64, next_uint32, next_double, next_uint64};
     Py_RETURN_NONE;
 }
 
-/* The words of a capsule, or NULL and an error if it has none of ours. */
+/* Returns the words of a capsule, or NULL and an exception if it is not one of ours. */
 static Words *take_words(PyObject *capsule)
 {
     BitGenerator *bits = PyCapsule_GetPointer(capsule, capsule_name);
@@ -168,7 +169,7 @@ static Words *take_words(PyObject *capsule)
     return bits->state;
 }
 
-/* drawn(capsule): a generator, how many words of it were drawn, and the half that comes before the next, or None. */
+/* drawn(capsule): returns a generator, how many words were drawn since, and the half to be drawn next, or None. */
 static PyObject *drawn(PyObject *Py_UNUSED(module), PyObject *capsule)
 {
     Words *words = take_words(capsule);
@@ -182,7 +183,7 @@ static PyObject *drawn(PyObject *Py_UNUSED(module), PyObject *capsule)
     return Py_BuildValue("Onk", words->start, count, (unsigned long)words->halves[words->next]);
 }
 
-/* restart(capsule, generator, half): the words go on where the generator is. */
+/* restart(capsule, generator, half): continues with `half`, if it is not None, and then from the generator's state. */
 static PyObject *restart(PyObject *Py_UNUSED(module), PyObject *arguments)
 {
     PyObject *capsule, *given, *half;
@@ -204,7 +205,7 @@ static PyObject *restart(PyObject *Py_UNUSED(module), PyObject *arguments)
     Py_RETURN_NONE;
 }
 
-/* bounded(name, value, last): the whole number from 0 to `last` that the value of that name is. */
+/* bounded(name, value, last): returns the value as an int from 0 to `last`. Errors use the name. */
 static PyObject *bounded(PyObject *Py_UNUSED(module), PyObject *arguments)
 {
     const char *name;

@@ -1,11 +1,11 @@
-/* Choices with replacement: exactly by weight, where the weights are whole numbers. */
+/* Choices with replacement, by weight. The choice is exact if the weights are integers. */
 #include "native.h"
 
 #include <math.h>
 
 /*
- * What each item has of the sum of the weights: the sums up to each item, as whole numbers or as floats. Without
- * weights there is neither, and the items have equal shares.
+ * The cumulative sums of the weights, as integers or as floats. Without weights both are NULL, and all items are
+ * equally likely.
  */
 typedef struct {
     size_t count;
@@ -15,7 +15,7 @@ typedef struct {
 
 /* ---- Weights. ---- */
 
-/* Adds a weight to the sum, or puts it in the sum's place where sums are given. */
+/* Adds a weight to the sum, or replaces the sum if cumulative sums are given. */
 static int add_whole(PyObject *weight, int summed, uint64_t *sum)
 {
     uint64_t number;
@@ -81,7 +81,7 @@ static int are_whole(PyObject *weights)
     return 1;
 }
 
-/* The shares by the weights, or by their sums; both can be None. */
+/* Reads the shares from the weights or from their cumulative sums; both may be None. */
 static int read_shares(PyObject *weights, PyObject *sums, Shares *shares)
 {
     int summed = sums != Py_None;
@@ -117,7 +117,7 @@ static int have_none(const Shares *shares)
 
 /* ---- Draws. ---- */
 
-/* The first item whose sum is above the number, which is below the last sum. */
+/* Returns the first item whose sum is above the number. The number is below the last sum. */
 static size_t find_whole(const Shares *shares, uint64_t number)
 {
     size_t low = 0, high = shares->count - 1;
@@ -132,7 +132,7 @@ static size_t find_whole(const Shares *shares, uint64_t number)
     return low;
 }
 
-/* The same of floats. A number that was rounded up to the last sum counts as one just below it. */
+/* Does the same for floats. A number that was rounded up to the last sum is treated as if it were just below it. */
 static size_t find_real(const Shares *shares, double number)
 {
     size_t low = 0, high = shares->count - 1;
@@ -164,7 +164,7 @@ static uint8_t draw_place(Generator *rng, const Shares *shares, size_t *place)
     return status;
 }
 
-/* Draws so many places by one turn. The state before it is kept. */
+/* Draws `count` places in one turn, and saves the state before it. */
 static int draw_all(Generator *rng, const Shares *shares, size_t *places, size_t count, Saved *before)
 {
     Turn turn;
@@ -222,25 +222,49 @@ static PyObject *call_choices(PyObject *self, PyObject *const *given, Py_ssize_t
     return drawn;
 }
 
-/* ---- The table. ---- */
+/* ---- The methods. ---- */
 
 PyDoc_STRVAR(choices_doc,
 "choices($self, /, population, weights=None, *, cum_weights=None, k=1)\n"
 "--\n"
 "\n"
-"A list of `k` items, each drawn from all, as in `random.choices`.\n"
+"Return a list of `k` items drawn with replacement, as `random.choices` does.\n"
 "\n"
-"Without weights each item has an equal share, as in `choice`. Weights that are all whole numbers are exact: the\n"
-"number that `below` gives of their sum falls into an item's share. Other weights are added as floats, and\n"
-"`random()` times their sum falls into a share, which is nearly exact. `cum_weights` are such sums themselves.\n"
-"An item of weight 0 is never drawn. It raises `EmptyRange` if there is no item, or no weight above 0, and\n"
-"`OutOfBounds` for a weight below 0, a sum that falls, is not finite or is 2^64 or more, and a `k` below 0.\n"
-"Another number of weights than of items is `WrongLength`. A `k` of 0 draws nothing. After `Exhausted` the words stay\n"
-"consumed.\n"
+"Without weights, each item is equally likely, as in `choice`. If all weights are integers, the\n"
+"choice is exact: it takes a number below their sum, as `below` draws it. Otherwise the weights are\n"
+"added as floats, and the choice takes `random()` times their sum, which is nearly exact. An item of\n"
+"weight 0 is never drawn.\n"
 "\n"
-"A call reads and adds all n weights, in O(n), and then takes O(log n) for each of its `k` items: draw many items by\n"
-"one call.\n"
+"Parameters\n"
+"----------\n"
+"population : sequence\n"
+"    The items to draw from.\n"
+"weights : iterable of numbers, optional\n"
+"    One weight for each item.\n"
+"cum_weights : iterable of numbers, optional\n"
+"    The cumulative sums of the weights, in place of `weights`.\n"
+"k : int, optional\n"
+"    Number of items to draw. A `k` of 0 draws nothing.\n"
 "\n"
+"Raises\n"
+"------\n"
+"EmptyRange\n"
+"    If there is no item, or no weight above 0.\n"
+"OutOfBounds\n"
+"    If a weight or `k` is negative, if the cumulative sums decrease, or if a sum is not finite, or\n"
+"    is 2^64 or more for integers.\n"
+"WrongLength\n"
+"    If there are not as many weights as items.\n"
+"Exhausted\n"
+"    If 128 words (random integers of 64 bits) in a row were rejected. The words stay consumed.\n"
+"\n"
+"Notes\n"
+"-----\n"
+"Each call reads and adds all n weights, which takes O(n), and then O(log n) for each of the `k`\n"
+"items. Draw many items by one call.\n"
+"\n"
+"Examples\n"
+"--------\n"
 ">>> from nanorand import WyRand\n"
 ">>> WyRand.seed_from_u64(6).choices([\"red\", \"green\", \"blue\"], [5, 0, 1], k=6)\n"
 "['red', 'red', 'blue', 'red', 'blue', 'red']\n"

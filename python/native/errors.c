@@ -1,4 +1,4 @@
-/* The errors of nanorand.errors. Each is looked up when it is raised, so the module keeps no object of its own. */
+/* Raises the errors of nanorand.errors. Each class is looked up when it is raised, so the module stores no objects. */
 #include "native.h"
 
 #include <string.h>
@@ -14,7 +14,7 @@ static PyObject *error_class(const char *error)
     return found;
 }
 
-/* Raises the error with this one argument, which it takes over. */
+/* Raises the error with this one argument, whose reference it takes. */
 static void raise_with(const char *error, PyObject *argument)
 {
     PyObject *raised = argument == NULL ? NULL : error_class(error);

@@ -1,17 +1,17 @@
-/* Fills of buffers: of bytearray, array, memoryview, and NumPy's arrays. Nothing is copied. */
+/* Fills buffers (bytearray, array, memoryview and NumPy arrays) in place: nothing is copied. */
 #include "native.h"
 
 #include <string.h>
 
 /* ---- Buffers. ---- */
 
-/* A buffer that does not say what its items are has bytes. */
+/* A buffer without a format has bytes. */
 static const char *whole_format_of(const Py_buffer *view)
 {
     return view->format == NULL ? "B" : view->format;
 }
 
-/* The letter of a buffer's items, if these are single ones in this machine's order; else 0. */
+/* The format letter of a buffer's items if it is a single one, in this machine's byte order, and 0 otherwise. */
 static char format_of(const Py_buffer *view)
 {
     const char *format = whole_format_of(view);
@@ -43,7 +43,7 @@ static int check_buffer(const Py_buffer *view, const char *formats)
     return -1;
 }
 
-/* The view of a buffer whose items have one of the formats and can be written; it is to be released. */
+/* Opens a writable view of a buffer whose items have one of the formats. The caller releases it. */
 static int open_buffer(PyObject *buffer, const char *formats, Py_buffer *view)
 {
     if (!PyObject_CheckBuffer(buffer)) {
@@ -62,12 +62,12 @@ static int open_buffer(PyObject *buffer, const char *formats, Py_buffer *view)
 
 /* ---- Items. ---- */
 
-/* The bounds of numbers, as their 64 bits. */
+/* The bounds of a range, as their 64 bits. */
 typedef struct {
     uint64_t first, last;
 } Span;
 
-/* Writes the items of a view, and returns a status. */
+/* Fills the items of a view, and returns a status. */
 typedef uint8_t Fill(Generator *rng, const Py_buffer *view, const Span *span);
 
 static uint8_t fill_bytes(Generator *rng, const Py_buffer *view, const Span *Py_UNUSED(span))
@@ -102,7 +102,7 @@ static uint8_t fill_signed(Generator *rng, const Py_buffer *view, const Span *sp
     return status;
 }
 
-/* Items of at most 4 bytes: the first one and what is drawn above it, so that signed ones are as the others. */
+/* For items of at most 4 bytes: adds a number from range_u32 to `first`, for unsigned and signed items alike. */
 static uint8_t fill_narrow(Generator *rng, const Py_buffer *view, const Span *span)
 {
     uint32_t width = (uint32_t)(span->last - span->first);
@@ -127,7 +127,7 @@ static uint8_t fill_doubles(Generator *rng, const Py_buffer *view, const Span *P
     return NANORAND_OK;
 }
 
-/* A float has 24 bits. */
+/* A float has 24 bits of precision. */
 static uint8_t fill_floats(Generator *rng, const Py_buffer *view, const Span *Py_UNUSED(span))
 {
     for (Py_ssize_t at = 0; at < view->len; at += sizeof(float)) {
@@ -137,7 +137,7 @@ static uint8_t fill_floats(Generator *rng, const Py_buffer *view, const Span *Py
     return NANORAND_OK;
 }
 
-/* Fills a view by one turn, and releases it. */
+/* Fills a view in one turn, and releases it. */
 static PyObject *fill_view(Generator *rng, Py_buffer *view, Fill *fill, const Span *span)
 {
     Turn turn;
@@ -151,7 +151,7 @@ static PyObject *fill_view(Generator *rng, Py_buffer *view, Fill *fill, const Sp
     return done;
 }
 
-/* ---- The calls. ---- */
+/* ---- The functions. ---- */
 
 static PyObject *call_fill(PyObject *self, PyObject *const *given, Py_ssize_t placed, PyObject *names)
 {
@@ -169,7 +169,7 @@ static int is_signed(const Py_buffer *view)
     return strchr("bhilq", format_of(view)) != NULL;
 }
 
-/* Both bounds, which the items can hold. */
+/* Reads both bounds, which the items must be able to hold. */
 static int take_span(const Py_buffer *view, PyObject *const *bounds, Span *span)
 {
     int unused = 64 - 8 * (int)view->itemsize + is_signed(view);
@@ -216,18 +216,30 @@ static PyObject *call_fill_random(PyObject *self, PyObject *const *given, Py_ssi
     return fill_view((Generator *)self, &view, format_of(&view) == 'd' ? fill_doubles : fill_floats, NULL);
 }
 
-/* ---- The table. ---- */
+/* ---- The methods. ---- */
 
 PyDoc_STRVAR(fill_doc,
 "fill($self, /, buffer)\n"
 "--\n"
 "\n"
-"Fills memory with the next bytes, by one request: the bytes that `bytes` gives.\n"
+"Fill a buffer with the next bytes, by one request (one read from the generator). They are the bytes\n"
+"that `bytes` returns.\n"
 "\n"
-"It takes what can be written and holds bytes or whole numbers in one piece, as a bytearray, an array, a memoryview\n"
-"or an array of NumPy's. Items of another kind are a TypeError, and memory that is read-only or has gaps is a\n"
-"BufferError; then nothing was drawn. Memory of no items draws nothing.\n"
+"Parameters\n"
+"----------\n"
+"buffer : writable buffer\n"
+"    Contiguous memory of bytes or integers, such as a bytearray, an array, a memoryview or a NumPy\n"
+"    array. An empty buffer draws nothing.\n"
 "\n"
+"Raises\n"
+"------\n"
+"TypeError\n"
+"    If the items are of another kind. Nothing was drawn.\n"
+"BufferError\n"
+"    If the memory is read-only or not contiguous. Nothing was drawn.\n"
+"\n"
+"Examples\n"
+"--------\n"
 ">>> from nanorand import Stream\n"
 ">>> buffer = bytearray(4)\n"
 ">>> Stream(bytes(32)).fill(buffer)\n"
@@ -238,16 +250,40 @@ PyDoc_STRVAR(fill_range_doc,
 "fill_range($self, /, buffer, first, last)\n"
 "--\n"
 "\n"
-"Fills memory with numbers from `first` to `last`, both included, one draw an item.\n"
+"Fill a buffer with random integers from `first` to `last`, both included, one draw for each item.\n"
 "\n"
-"The items are whole numbers of the formats B, H, I, L, Q, and signed b, h, i, l, q. Those of 8 bytes are what\n"
-"`range(first, last)` gives, and narrower ones `first` + `range32(0, last - first)`. Bounds that an item cannot hold\n"
-"are `OutOfBounds`, and it is `EmptyRange` if `first` is above `last`. Items of another kind are a TypeError, and\n"
-"memory that is read-only or has gaps is a BufferError; then nothing was drawn. After `Exhausted` the items before\n"
-"the one that failed are written, and the words stay consumed. Memory of no items draws nothing.\n"
+"Items of 8 bytes get the numbers that `range(first, last)` returns, and narrower items get `first` +\n"
+"`range32(0, last - first)`.\n"
 "\n"
-"Each item is a request, so of the ChaCha classes it takes a block of 64 bytes. For uniform bytes take `fill`.\n"
+"Parameters\n"
+"----------\n"
+"buffer : writable buffer\n"
+"    Contiguous memory of integers, of the formats B, H, I, L, Q, and signed b, h, i, l, q. An empty\n"
+"    buffer draws nothing.\n"
+"first, last : int\n"
+"    Bounds that the items can hold.\n"
 "\n"
+"Raises\n"
+"------\n"
+"OutOfBounds\n"
+"    If an item cannot hold a bound. Nothing was drawn.\n"
+"EmptyRange\n"
+"    If `first` is greater than `last`. Nothing was drawn.\n"
+"TypeError\n"
+"    If the items are of another kind. Nothing was drawn.\n"
+"BufferError\n"
+"    If the memory is read-only or not contiguous. Nothing was drawn.\n"
+"Exhausted\n"
+"    If 128 words (random integers of 64 bits, or 32 for narrower items) in a row were rejected for\n"
+"    one item. The items before it are written, and the words stay consumed.\n"
+"\n"
+"Notes\n"
+"-----\n"
+"Each item is one request (one read from the generator), which takes a block of 64 bytes from the\n"
+"ChaCha classes. To fill a buffer with uniform bytes, use `fill`.\n"
+"\n"
+"Examples\n"
+"--------\n"
 ">>> from array import array\n"
 ">>> from nanorand import WyRand\n"
 ">>> dice = array(\"B\", bytes(6))\n"
@@ -259,11 +295,25 @@ PyDoc_STRVAR(fill_random_doc,
 "fill_random($self, /, buffer)\n"
 "--\n"
 "\n"
-"Fills memory with floats from 0.0 to below 1.0, one `u64` an item.\n"
+"Fill a buffer with random floats in [0.0, 1.0), one `u64` for each item.\n"
 "\n"
-"Items of the format d are what `random()` gives; those of f are the upper 24 bits, times 2^-24. Items of another\n"
-"kind are a TypeError, and memory that is read-only or has gaps is a BufferError; then nothing was drawn.\n"
+"Items of the format d get the numbers that `random()` returns. Items of the format f get the upper\n"
+"24 bits of the `u64`, times 2^-24.\n"
 "\n"
+"Parameters\n"
+"----------\n"
+"buffer : writable buffer\n"
+"    Contiguous memory of floats, of the formats d and f.\n"
+"\n"
+"Raises\n"
+"------\n"
+"TypeError\n"
+"    If the items are of another kind. Nothing was drawn.\n"
+"BufferError\n"
+"    If the memory is read-only or not contiguous. Nothing was drawn.\n"
+"\n"
+"Examples\n"
+"--------\n"
 ">>> from array import array\n"
 ">>> from nanorand import WyRand\n"
 ">>> floats = array(\"d\", [0, 0])\n"

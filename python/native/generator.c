@@ -1,10 +1,10 @@
-/* The object `Generator`: its life, its state as bytes, copies, parts, and turns of threads. */
+/* The object `Generator`: creation and destruction, its state as bytes, copies, parts, and turns of threads. */
 #include "native.h"
 
 #include <string.h>
 #include <structmember.h>
 
-/* ---- Life. ---- */
+/* ---- Creation and destruction. ---- */
 
 PyObject *make_generator(PyTypeObject *type, const Kind *kind)
 {
@@ -37,7 +37,7 @@ static void free_generator(PyObject *self)
     Py_DECREF(type);
 }
 
-/* Every generator is freed here, also one of a class of the user's: among the bases of its class is ours. */
+/* free_generator frees every generator, including one of a user's subclass, since a base of that class is ours. */
 Generator *take_generator(const char *name, PyObject *value)
 {
     for (PyTypeObject *type = Py_TYPE(value); type != NULL; type = type->tp_base) {
@@ -87,7 +87,7 @@ int begin_turn(Generator *rng, size_t bytes, Turn *turn)
         PyErr_NoMemory();
         return -1;
     }
-    /* Who waited for an earlier turn has the lock for a moment at most, and needs nothing to give it back. */
+    /* A thread that waited for an earlier turn holds the lock only briefly, and needs nothing else to release it. */
     PyThread_acquire_lock(rng->lock, WAIT_LOCK);
     rng->condition = AWAY;
     turn->apart = PyEval_SaveThread();
@@ -175,9 +175,9 @@ static int put_state(PyObject *self, PyObject *value, void *Py_UNUSED(closure))
     return load_state((Generator *)self, value);
 }
 
-/* ---- New ones. ---- */
+/* ---- New generators. ---- */
 
-/* What the class's `__new__` makes. */
+/* Returns the object that the class's `__new__` creates. */
 static PyObject *new_of(PyObject *class)
 {
     PyTypeObject *type = (PyTypeObject *)class;
@@ -228,7 +228,7 @@ static PyObject *call_seed_from_u64(PyObject *class, PyObject *const *given, Py_
     return made;
 }
 
-/* So many bytes of os.urandom. */
+/* Returns `count` bytes of os.urandom. */
 static PyObject *system_bytes(size_t count)
 {
     PyObject *os = PyImport_ImportModule("os");
@@ -271,7 +271,7 @@ static PyObject *call_copy(PyObject *self, PyObject *Py_UNUSED(nothing))
     return made;
 }
 
-/* A copy is moved there, as one of its own kind: what a class's `__new__` makes may be of another. */
+/* Moves a copy, by the copy's own kind: the `__new__` of a subclass may create a generator of another kind. */
 static PyObject *call_part(PyObject *self, PyObject *const *given, Py_ssize_t placed, PyObject *names)
 {
     static const Parameters wanted = {"part", 2, 2, 2, {"index", "draws"}};
@@ -324,21 +324,36 @@ static PyObject *compare(PyObject *one, PyObject *other, int operation)
 /* ---- The type. ---- */
 
 PyDoc_STRVAR(generator_doc,
-"What all generators have in common. It is no generator itself.\n"
+"Base class of all generators. It cannot be instantiated.\n"
 "\n"
-"Two generators are equal if they are of one class and their states are equal.\n"
+"Two generators are equal if they have the same class and equal states.\n"
 "\n"
+"Notes\n"
+"-----\n"
+"A request is one read of n bytes from a generator, and a word is a random integer of 64 bits, read\n"
+"by one request (of 32 bits in `range32`). Numbers of a range are unbiased: words that would make\n"
+"some numbers likelier are rejected, and `Exhausted` is raised after 128 rejected words in a row.\n"
+"\n"
+"Examples\n"
+"--------\n"
 ">>> from nanorand import Pcg64, WyRand\n"
 ">>> rng, same, other = (WyRand.seed_from_u64(number) for number in (42, 42, 43))\n"
 ">>> rng == same, rng == other, rng == Pcg64.seed_from_u64(42)\n"
 "(True, False, False)\n");
 
 PyDoc_STRVAR(state_doc,
-"The state as bytes: the same in all languages, as in the column `before` of answers.tsv.\n"
+"The state, as bytes. Assign to it to set the state.\n"
 "\n"
-"Of `Stream` these are key, nonce, counter, and the 0 to 63 buffered bytes. A state that is set and has another\n"
-"length is `WrongLength`.\n"
+"The bytes are the same in all languages: the column `before` of answers.tsv has them. For `Stream`\n"
+"they are the key, the nonce, the counter, and the 0 to 63 buffered bytes.\n"
 "\n"
+"Raises\n"
+"------\n"
+"WrongLength\n"
+"    If a state of another length is assigned.\n"
+"\n"
+"Examples\n"
+"--------\n"
 ">>> from nanorand import Pcg64, Stream\n"
 ">>> rng = Pcg64.seed_from_u64(42)\n"
 ">>> saved = rng.state\n"
@@ -353,8 +368,20 @@ PyDoc_STRVAR(from_state_doc,
 "from_state($type, /, state)\n"
 "--\n"
 "\n"
-"The generator with a state that was saved. Other lengths are `WrongLength`.\n"
+"Return a generator with a saved state.\n"
 "\n"
+"Parameters\n"
+"----------\n"
+"state : bytes, bytearray or memoryview\n"
+"    The state, as the attribute `state` returns it.\n"
+"\n"
+"Raises\n"
+"------\n"
+"WrongLength\n"
+"    If the state has another length than the states of this class.\n"
+"\n"
+"Examples\n"
+"--------\n"
 ">>> from nanorand import WyRand\n"
 ">>> WyRand.from_state(bytes([42, 0, 0, 0, 0, 0, 0, 0]))\n"
 "WyRand(0x2a)\n");
@@ -363,14 +390,26 @@ PyDoc_STRVAR(seed_from_u64_doc,
 "seed_from_u64($type, /, number)\n"
 "--\n"
 "\n"
-"A generator whose seed is made from a number, which may be small: 0, 1, 2, .., a port, a year.\n"
+"Return a generator whose seed is made from a number, which may be small: 0, 1, 2, .., a port, a\n"
+"year.\n"
 "\n"
-"The seed, or the key and then the nonce, is what SplitMix64 draws from the number (Guy Steele, Doug Lea and\n"
-"Christine Flood, 2014, in Sebastiano Vigna's constants), each word little-endian. Different numbers give\n"
-"different states. There are only 2^64 such keys: they keep no secret.\n"
+"The seed, or the key and then the nonce, is the output of SplitMix64 for this number (Guy Steele,\n"
+"Doug Lea and Christine Flood, 2014, with the constants of Sebastiano Vigna), each word of 64 bits in\n"
+"little-endian order. Different numbers produce different states. There are only 2^64 such keys, so\n"
+"they keep no secret.\n"
 "\n"
-"A number below 0 or from 2^64 on is `OutOfBounds`.\n"
+"Parameters\n"
+"----------\n"
+"number : int\n"
+"    From 0 to 2^64 - 1.\n"
 "\n"
+"Raises\n"
+"------\n"
+"OutOfBounds\n"
+"    If the number is negative, or 2^64 or more.\n"
+"\n"
+"Examples\n"
+"--------\n"
 ">>> from nanorand import WyRand\n"
 ">>> WyRand.seed_from_u64(2026)\n"
 "WyRand(0xdb9c559891948d23)\n");
@@ -379,11 +418,14 @@ PyDoc_STRVAR(from_entropy_doc,
 "from_entropy($type, /)\n"
 "--\n"
 "\n"
-"A generator with a seed, or a key and a nonce, from the operating system.\n"
+"Return a generator whose seed, or key and nonce, comes from the operating system, by `os.urandom`.\n"
 "\n"
-"`WyRand` and `Pcg64` are no more secure for that, and the ChaCha classes and `Stream` are not vetted cryptographic\n"
-"generators: for keys, tokens and passwords, or where an adversary matters, take a vetted one.\n"
+"This makes `WyRand` and `Pcg64` no more secure. The ChaCha classes and `Stream` are not vetted\n"
+"cryptographic generators. For keys, tokens and passwords, or if there is an adversary, use a vetted\n"
+"generator.\n"
 "\n"
+"Examples\n"
+"--------\n"
 ">>> from nanorand import Stream\n"
 ">>> Stream.from_entropy() == Stream.from_entropy()\n"
 "False\n");
@@ -392,8 +434,10 @@ PyDoc_STRVAR(copy_doc,
 "copy($self, /)\n"
 "--\n"
 "\n"
-"A generator with the same state.\n"
+"Return a generator with the same state.\n"
 "\n"
+"Examples\n"
+"--------\n"
 ">>> from nanorand import WyRand\n"
 ">>> rng = WyRand.seed_from_u64(42)\n"
 ">>> rng.copy().u64() == rng.u64()\n"
@@ -403,14 +447,30 @@ PyDoc_STRVAR(part_doc,
 "part($self, /, index, draws)\n"
 "--\n"
 "\n"
-"A generator at the beginning of part `index`, counted from 0, of parts of so many draws: one for each task.\n"
+"Return a generator at the beginning of part `index` of this generator's stream, divided into parts\n"
+"of `draws` draws.\n"
 "\n"
-"A draw is what `u64` takes. The part begins `index * draws` draws further on; this generator stays where it is.\n"
-"Parts of one length do not overlap, if no task draws more than `draws` draws.\n"
+"Use one part for each task. A draw is what `u64` takes. The part begins `index * draws` draws ahead;\n"
+"this generator does not change. Parts of the same length do not overlap, as long as no task draws\n"
+"more than `draws` draws.\n"
 "\n"
-"A part that ends past the period (2^64 draws of `WyRand` and ChaCha, 2^126 of `Pcg64`, 2^67 of `Stream`) is\n"
-"`PastPeriod`. An index or a number of draws below 0 or from 2^64 on is `OutOfBounds`.\n"
+"Parameters\n"
+"----------\n"
+"index : int\n"
+"    Index of the part, counted from 0.\n"
+"draws : int\n"
+"    Length of each part, in draws.\n"
 "\n"
+"Raises\n"
+"------\n"
+"PastPeriod\n"
+"    If the part ends beyond the period, which is 2^64 draws for `WyRand` and the ChaCha classes,\n"
+"    2^126 for `Pcg64`, and 2^67 for `Stream`.\n"
+"OutOfBounds\n"
+"    If `index` or `draws` is negative, or 2^64 or more.\n"
+"\n"
+"Examples\n"
+"--------\n"
 ">>> from nanorand import Pcg64\n"
 ">>> rng = Pcg64.seed_from_u64(42)\n"
 ">>> parts = [rng.part(index, 2) for index in range(3)]\n"

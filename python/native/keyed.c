@@ -1,11 +1,11 @@
-/* The generators over ChaCha's key, nonce and counter: ChaCha8, ChaCha12, ChaCha20 and Stream. */
+/* The generators with a key, a nonce and a counter: ChaCha8, ChaCha12, ChaCha20 and Stream. */
 #include "native.h"
 
 #include <string.h>
 
-/* ---- Making them. ---- */
+/* ---- Constructors. ---- */
 
-/* What was left out, or is NULL, is zero. */
+/* The nonce and the counter are zero if they are NULL. */
 static int take_chacha(PyObject *key, PyObject *nonce, PyObject *counter, nanorand_chacha *chacha)
 {
     memset(chacha, 0, sizeof *chacha);
@@ -31,7 +31,7 @@ static int start_chacha(PyObject *self, PyObject *placed, PyObject *named)
     return 0;
 }
 
-/* The bytes that come first, at most 63. */
+/* Reads the buffered bytes, at most 63, which are delivered first. */
 static int take_rest(PyObject *value, nanorand_keystream *stream)
 {
     PyObject *rest = take_octets("rest", value);
@@ -65,7 +65,7 @@ static int start_stream(PyObject *self, PyObject *placed, PyObject *named)
 
 /* ---- Parts of the state. ---- */
 
-/* The bytes of the state from `first` to before `end`, or to its own end. */
+/* Returns the bytes of the state from `first` to before `end`, or to the end of the state. */
 static PyObject *part_of(PyObject *self, size_t first, size_t end)
 {
     uint8_t bytes[LONGEST_STATE];
@@ -92,7 +92,7 @@ static PyObject *get_rest(PyObject *self, void *Py_UNUSED(closure))
     return part_of(self, sizeof(nanorand_chacha), LONGEST_STATE);
 }
 
-/* The counter, and how many bytes are buffered. */
+/* Reads the counter and the number of buffered bytes. */
 static int read_counter(PyObject *self, uint64_t *counter, Py_ssize_t *buffered)
 {
     uint8_t bytes[LONGEST_STATE];
@@ -112,7 +112,7 @@ static PyObject *get_counter(PyObject *self, void *Py_UNUSED(closure))
     return read_counter(self, &counter, &buffered) < 0 ? NULL : PyLong_FromUnsignedLongLong(counter);
 }
 
-/* No text shows a key or a byte that is still to come. */
+/* The text shows neither the key nor any byte to come. */
 static PyObject *show_chacha(PyObject *self)
 {
     uint64_t counter;
@@ -162,22 +162,28 @@ static PyObject *call_block(PyObject *self, PyObject *Py_UNUSED(nothing))
 /* ---- The types. ---- */
 
 PyDoc_STRVAR(key_doc,
-"The key, 32 bytes.\n"
+"The key, as 32 bytes.\n"
 "\n"
+"Examples\n"
+"--------\n"
 ">>> from nanorand import ChaCha20\n"
 ">>> ChaCha20(b\"k\" * 32).key == b\"k\" * 32\n"
 "True\n");
 
 PyDoc_STRVAR(nonce_doc,
-"The nonce, 8 bytes.\n"
+"The nonce, as 8 bytes.\n"
 "\n"
+"Examples\n"
+"--------\n"
 ">>> from nanorand import ChaCha20\n"
 ">>> ChaCha20(bytes(32), b\"a nonce.\").nonce\n"
 "b'a nonce.'\n");
 
 PyDoc_STRVAR(counter_doc,
-"The number of the next block that is drawn. After 2^64 - 1 comes 0.\n"
+"The index of the next block to be computed. After 2^64 - 1 it is 0 again.\n"
 "\n"
+"Examples\n"
+"--------\n"
 ">>> from nanorand import ChaCha20\n"
 ">>> rng = ChaCha20(bytes(32), counter=2**64 - 1)\n"
 ">>> block = rng.block()\n"
@@ -185,8 +191,10 @@ PyDoc_STRVAR(counter_doc,
 "0\n");
 
 PyDoc_STRVAR(rest_doc,
-"The buffered bytes, the next one first.\n"
+"The buffered bytes, in the order in which they will be delivered.\n"
 "\n"
+"Examples\n"
+"--------\n"
 ">>> from nanorand import Stream\n"
 ">>> rng = Stream(bytes(32))\n"
 ">>> byte = rng.bytes(1)\n"
@@ -197,8 +205,20 @@ PyDoc_STRVAR(jump_doc,
 "jump($self, /, draws)\n"
 "--\n"
 "\n"
-"Leaves what so many blocks leave, below 2^64 of them. Other numbers are `OutOfBounds`.\n"
+"Jump ahead by `draws` blocks of 64 bytes, in constant time.\n"
 "\n"
+"Parameters\n"
+"----------\n"
+"draws : int\n"
+"    Number of blocks, from 0 to 2^64 - 1.\n"
+"\n"
+"Raises\n"
+"------\n"
+"OutOfBounds\n"
+"    If `draws` is negative, or 2^64 or more.\n"
+"\n"
+"Examples\n"
+"--------\n"
 ">>> from nanorand import ChaCha20\n"
 ">>> rng = ChaCha20(bytes(32), counter=5)\n"
 ">>> rng.jump(2**64 - 1)\n"
@@ -209,8 +229,10 @@ PyDoc_STRVAR(block_doc,
 "block($self, /)\n"
 "--\n"
 "\n"
-"The next block, 64 bytes.\n"
+"Return the next block, as 64 bytes.\n"
 "\n"
+"Examples\n"
+"--------\n"
 ">>> from nanorand import ChaCha8\n"
 ">>> ChaCha8(bytes(32)).block()[:4].hex()\n"
 "'3e00ef2f'\n");
@@ -221,15 +243,32 @@ PyDoc_STRVAR(chacha8_doc,
 "ChaCha8(key, nonce=" NO_NONCE ", counter=0)\n"
 "--\n"
 "\n"
-"ChaCha with 8 rounds, by block, from a key of 32 bytes, a nonce of 8 and a counter.\n"
+"ChaCha with 8 rounds, which computes a block of 64 bytes for each request.\n"
 "\n"
-"Each request computes a new block, so a number of 8 bytes takes 64: draw many at once by `bytes` or `fill`.\n"
+"A request is one read from the generator, so a number of 8 bytes takes 64 bytes: draw many bytes at\n"
+"once by `bytes` or `fill`.\n"
 "\n"
-"It is not a vetted cryptographic generator: no key is erased from memory, and nothing reseeds itself. For keys,\n"
-"tokens and passwords, or where an adversary matters, take a vetted one.\n"
+"It is not a vetted cryptographic generator: it does not erase keys from memory, and does not reseed\n"
+"itself. For keys, tokens and passwords, or if there is an adversary, use a vetted generator.\n"
 "\n"
-"Other lengths are `WrongLength`, and a counter below 0 or from 2^64 on is `OutOfBounds`.\n"
+"Parameters\n"
+"----------\n"
+"key : bytes, bytearray or memoryview\n"
+"    32 bytes.\n"
+"nonce : bytes, bytearray or memoryview, optional\n"
+"    8 bytes.\n"
+"counter : int, optional\n"
+"    Index of the first block, from 0 to 2^64 - 1.\n"
 "\n"
+"Raises\n"
+"------\n"
+"WrongLength\n"
+"    If the key or the nonce has another length.\n"
+"OutOfBounds\n"
+"    If the counter is negative, or 2^64 or more.\n"
+"\n"
+"Examples\n"
+"--------\n"
 ">>> from nanorand import ChaCha8\n"
 ">>> ChaCha8(bytes(32)).bytes(4).hex()\n"
 "'3e00ef2f'\n");
@@ -238,15 +277,32 @@ PyDoc_STRVAR(chacha12_doc,
 "ChaCha12(key, nonce=" NO_NONCE ", counter=0)\n"
 "--\n"
 "\n"
-"ChaCha with 12 rounds, by block, from a key of 32 bytes, a nonce of 8 and a counter.\n"
+"ChaCha with 12 rounds, which computes a block of 64 bytes for each request.\n"
 "\n"
-"Each request computes a new block, so a number of 8 bytes takes 64: draw many at once by `bytes` or `fill`.\n"
+"A request is one read from the generator, so a number of 8 bytes takes 64 bytes: draw many bytes at\n"
+"once by `bytes` or `fill`.\n"
 "\n"
-"It is not a vetted cryptographic generator: no key is erased from memory, and nothing reseeds itself. For keys,\n"
-"tokens and passwords, or where an adversary matters, take a vetted one.\n"
+"It is not a vetted cryptographic generator: it does not erase keys from memory, and does not reseed\n"
+"itself. For keys, tokens and passwords, or if there is an adversary, use a vetted generator.\n"
 "\n"
-"Other lengths are `WrongLength`, and a counter below 0 or from 2^64 on is `OutOfBounds`.\n"
+"Parameters\n"
+"----------\n"
+"key : bytes, bytearray or memoryview\n"
+"    32 bytes.\n"
+"nonce : bytes, bytearray or memoryview, optional\n"
+"    8 bytes.\n"
+"counter : int, optional\n"
+"    Index of the first block, from 0 to 2^64 - 1.\n"
 "\n"
+"Raises\n"
+"------\n"
+"WrongLength\n"
+"    If the key or the nonce has another length.\n"
+"OutOfBounds\n"
+"    If the counter is negative, or 2^64 or more.\n"
+"\n"
+"Examples\n"
+"--------\n"
 ">>> from nanorand import ChaCha12\n"
 ">>> ChaCha12(bytes(32)).bytes(4).hex()\n"
 "'9bf49a6a'\n");
@@ -255,15 +311,32 @@ PyDoc_STRVAR(chacha20_doc,
 "ChaCha20(key, nonce=" NO_NONCE ", counter=0)\n"
 "--\n"
 "\n"
-"ChaCha with 20 rounds, by block, from a key of 32 bytes, a nonce of 8 and a counter.\n"
+"ChaCha with 20 rounds, which computes a block of 64 bytes for each request.\n"
 "\n"
-"Each request computes a new block, so a number of 8 bytes takes 64: `Stream` wastes none, and is faster.\n"
+"A request is one read from the generator, so a number of 8 bytes takes 64 bytes. `Stream` wastes no\n"
+"bytes, and is faster.\n"
 "\n"
-"It is not a vetted cryptographic generator: no key is erased from memory, and nothing reseeds itself. For keys,\n"
-"tokens and passwords, or where an adversary matters, take a vetted one.\n"
+"It is not a vetted cryptographic generator: it does not erase keys from memory, and does not reseed\n"
+"itself. For keys, tokens and passwords, or if there is an adversary, use a vetted generator.\n"
 "\n"
-"Other lengths are `WrongLength`, and a counter below 0 or from 2^64 on is `OutOfBounds`.\n"
+"Parameters\n"
+"----------\n"
+"key : bytes, bytearray or memoryview\n"
+"    32 bytes.\n"
+"nonce : bytes, bytearray or memoryview, optional\n"
+"    8 bytes.\n"
+"counter : int, optional\n"
+"    Index of the first block, from 0 to 2^64 - 1.\n"
 "\n"
+"Raises\n"
+"------\n"
+"WrongLength\n"
+"    If the key or the nonce has another length.\n"
+"OutOfBounds\n"
+"    If the counter is negative, or 2^64 or more.\n"
+"\n"
+"Examples\n"
+"--------\n"
 ">>> from nanorand import ChaCha20\n"
 ">>> ChaCha20(bytes(32)).bytes(4).hex()\n"
 "'76b8e0ad'\n");
@@ -272,14 +345,32 @@ PyDoc_STRVAR(stream_doc,
 "Stream(key, nonce=" NO_NONCE ", counter=0, rest=b'')\n"
 "--\n"
 "\n"
-"The keystream of ChaCha20 without a gap, which computes eight blocks at once.\n"
+"The keystream of ChaCha20 as one unbroken stream of bytes, of which eight blocks are computed at\n"
+"once.\n"
 "\n"
-"It is not a vetted cryptographic generator: no key is erased from memory, and nothing reseeds itself. For keys,\n"
-"tokens and passwords, or where an adversary matters, take a vetted one.\n"
+"It is not a vetted cryptographic generator: it does not erase keys from memory, and does not reseed\n"
+"itself. For keys, tokens and passwords, or if there is an adversary, use a vetted generator.\n"
 "\n"
-"It is made from a key of 32 bytes, a nonce of 8, a counter, and at most 63 buffered bytes, which\n"
-"come first. Other lengths are `WrongLength`, and a counter below 0 or from 2^64 on is `OutOfBounds`.\n"
+"Parameters\n"
+"----------\n"
+"key : bytes, bytearray or memoryview\n"
+"    32 bytes.\n"
+"nonce : bytes, bytearray or memoryview, optional\n"
+"    8 bytes.\n"
+"counter : int, optional\n"
+"    Index of the first block of 64 bytes, from 0 to 2^64 - 1.\n"
+"rest : bytes, bytearray or memoryview, optional\n"
+"    At most 63 buffered bytes, which are delivered first.\n"
 "\n"
+"Raises\n"
+"------\n"
+"WrongLength\n"
+"    If the key, the nonce or `rest` has another length.\n"
+"OutOfBounds\n"
+"    If the counter is negative, or 2^64 or more.\n"
+"\n"
+"Examples\n"
+"--------\n"
 ">>> from nanorand import Stream\n"
 ">>> whole = Stream(bytes(32)).bytes(100)\n"
 ">>> rng = Stream(bytes(32))\n"

@@ -1,9 +1,9 @@
-/* The kinds of generators: each one's functions of nanorand.h, behind pointers of one type. */
+/* The kinds of generators: for each of them a table of its functions of nanorand.h, with uniform types. */
 #include "native.h"
 
 #include <string.h>
 
-/* A function of nanorand.h that takes its state as a `void *`: one with a result, and one without. */
+/* Wraps a function of nanorand.h to take its state as a `void *`: FUNCTION with a result, PROCEDURE without one. */
 #define FUNCTION(result, name, call, parameters, arguments)                                                   \
     static result name##_##call parameters                                                                    \
     {                                                                                                         \
@@ -17,7 +17,7 @@
 #define RANGE(name, call, type)                                                                               \
     FUNCTION(uint8_t, name, call, (void *state, type first, type last, type *number), (state, first, last, number))
 
-/* Those that every generator has, and that of parts. */
+/* The functions that every kind has. */
 #define FUNCTIONS(name)                                                                                       \
     PROCEDURE(name, seed_from_u64, (void *state, uint64_t number), (state, number))                           \
     FUNCTION(uint64_t, name, u64, (void *state), (state))                                                     \
@@ -40,7 +40,7 @@
     .shuffle = name##_shuffle, .shuffle_full = name##_shuffle_full, .extend_sample = name##_extend_sample,    \
     .part = name##_part
 
-/* A state whose bytes are those of its structure. */
+/* For a kind whose state, as bytes, is its structure. */
 #define PLAIN(structure)                                                                                      \
     .size = sizeof(structure), .shortest = sizeof(structure), .longest = sizeof(structure), .save = save_plain, \
     .load = load_plain
@@ -57,8 +57,8 @@ static void load_plain(void *state, const uint8_t *bytes, size_t length)
 }
 
 /*
- * The library computes eight blocks at once. A whole block that it holds is one not yet drawn: the counter is that
- * of the first of these, and only the rest of a block is buffered.
+ * The library computes eight blocks at once and buffers them. In the saved state, a whole buffered block counts as not
+ * yet computed: the counter is that of the first such block, and only the rest of a block is saved as buffered.
  */
 static size_t save_stream(const void *state, size_t size, uint8_t *bytes)
 {
@@ -90,7 +90,7 @@ BLOCKS(chacha8)
 BLOCKS(chacha12)
 BLOCKS(chacha20)
 
-/* The system gives key and nonce, and the counter is 0. */
+/* The system provides the key and the nonce; the counter is 0. */
 enum { KEY_AND_NONCE = 40 };
 
 const Kind wyrand_kind = {PLAIN(nanorand_wyrand), TABLE(wyrand), .entropy = sizeof(nanorand_wyrand)};

@@ -1,7 +1,7 @@
-/* The public draw by lot: what nanorand.lots calls. */
+/* The public draw by lot: the functions that nanorand.lots calls. */
 #include "native.h"
 
-/* ---- Checks of arguments, which return what they let through. ---- */
+/* ---- Checks of arguments: each returns its argument if it is valid. ---- */
 
 static PyObject *check_count(PyObject *Py_UNUSED(module), PyObject *value)
 {
@@ -23,7 +23,7 @@ static PyObject *check_entrants(PyObject *Py_UNUSED(module), PyObject *value)
     return value;
 }
 
-/* ---- The calls of the library. ---- */
+/* ---- The functions of the library. ---- */
 
 static PyObject *lots_digest(PyObject *Py_UNUSED(module), PyObject *text)
 {
@@ -68,7 +68,7 @@ static void raise_lots_status(uint8_t status, uint64_t entrants, uint64_t count)
     }
 }
 
-/* The first `count` places of a draw of so many entrants. */
+/* Returns the first `count` places of a draw among `entrants` entrants. */
 static PyObject *draw_places(PyObject *seed, uint64_t entrants, uint64_t count)
 {
     size_t *places = new_array(entrants, sizeof *places);

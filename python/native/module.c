@@ -10,7 +10,7 @@ PyObject *add_class(PyObject *module, PyType_Spec *spec, PyObject *bases)
     return class;
 }
 
-/* Gives a class the calls of a table. */
+/* Adds the methods of a table to a class. */
 static int add_calls(PyObject *class, PyMethodDef *calls)
 {
     for (PyMethodDef *call = calls; call->ml_name != NULL; call++) {
@@ -54,7 +54,7 @@ int nanorand_add_generators(PyObject *module)
     return added;
 }
 
-/* The library that was linked is of the header's major version, and has all of its functions. */
+/* Checks that the linked library has the header's major version, and all functions of the header. */
 static int check_version(PyObject *Py_UNUSED(module))
 {
     uint32_t found = nanorand_version();
@@ -66,7 +66,7 @@ static int check_version(PyObject *Py_UNUSED(module))
     return -1;
 }
 
-/* The version of the library, as a text. */
+/* Adds the version of the library as a string. */
 static int add_version(PyObject *module)
 {
     char text[16];
@@ -74,7 +74,7 @@ static int add_version(PyObject *module)
     return PyModule_AddStringConstant(module, "__version__", text);
 }
 
-/* What the module has is added part by part, each from a file beside this one. */
+/* Adds the parts of the module, which are defined in the other files. */
 static int fill_module(PyObject *module)
 {
     int (*const parts[])(PyObject *) = {
@@ -94,7 +94,8 @@ static int fill_module(PyObject *module)
 }
 
 PyDoc_STRVAR(module_doc,
-"The generators over the proved library, and what nanorand.lots and nanorand.randoms call.");
+"The generators of the proved library, and the functions that nanorand.lots, nanorand.numpy and\n"
+"nanorand.randoms call.");
 
 static PyModuleDef_Slot slots[] = {
     {Py_mod_exec, SLOT(fill_module)},

@@ -1,9 +1,9 @@
 /*
- * What the files of the extension module share.
+ * The declarations that the files of the extension module share.
  *
- * A generator is a Python object around a state of nanorand.h. Its kind says which functions draw from that state,
- * so that each call is written once for all generators. Functions that can fail return -1 or NULL, with Python's
- * error set, and 0 or an object otherwise.
+ * A generator is a Python object that holds a state of nanorand.h. Its kind says which functions draw from this
+ * state, so that each method is written once for all generators. Functions that can fail return -1 or NULL with a
+ * Python exception set, and 0 or an object otherwise.
  */
 #ifndef NATIVE_H
 #define NATIVE_H
@@ -20,19 +20,19 @@
 #error "the bytes of a state are those of its structure, least byte first"
 #endif
 
-/* A function as a table of calls or of slots holds it. */
+/* Converts a function to the type that a table of methods or of slots holds. */
 #define CALL(function) ((PyCFunction)(void (*)(void))(function))
 #define SLOT(function) __extension__((void *)(function))
 
-/* ---- kinds.c: what differs between generators. ---- */
+/* ---- kinds.c: the differences between the generators. ---- */
 
 typedef uint8_t Permutation(void *state, size_t *items, size_t length);
 
 typedef struct {
-    size_t size;              /* of the state's structure */
-    size_t shortest, longest; /* of the state as bytes */
-    size_t entropy;           /* so many bytes of a state are the system's, and zeros follow */
-    int joined;               /* requests are joined without a gap */
+    size_t size;              /* of the state's structure, in bytes */
+    size_t shortest, longest; /* lengths of the state as bytes */
+    size_t entropy;           /* bytes of a state that the system provides; zeros follow */
+    int joined;               /* whether requests join without a break */
     void (*seed)(void *state, uint64_t number);
     uint64_t (*u64)(void *state);
     void (*fill_bytes)(void *state, uint8_t *buffer, size_t length);
@@ -43,8 +43,8 @@ typedef struct {
     uint8_t (*extend_sample)(void *state, size_t count, size_t *places, size_t length, size_t filled, size_t *table,
                              size_t room);
     uint8_t (*part)(void *state, uint64_t index, uint64_t draws);
-    void (*block)(void *state, uint8_t *block); /* of ChaCha alone */
-    /* The state as bytes, and how many they are; and the state of so many bytes, which are enough. */
+    void (*block)(void *state, uint8_t *block); /* ChaCha only */
+    /* `save` writes the state as bytes and returns their number. `load` reads a state from a valid number of bytes. */
     size_t (*save)(const void *state, size_t size, uint8_t *bytes);
     void (*load)(void *state, const uint8_t *bytes, size_t length);
 } Kind;
@@ -53,30 +53,30 @@ enum { LONGEST_STATE = 48 + 63 };
 
 extern const Kind wyrand_kind, pcg64_kind, chacha8_kind, chacha12_kind, chacha20_kind, stream_kind;
 
-/* The 53 upper bits of a word as a number from 0.0 to below 1.0. */
+/* The upper 53 bits of a 64-bit word, as a float in [0.0, 1.0). */
 static inline double unit_of(uint64_t word)
 {
     return (double)(word >> 11) * 0x1p-53;
 }
 
-/* ---- errors.c: the errors of nanorand.errors, by their names. ---- */
+/* ---- errors.c: raises the errors of nanorand.errors, by name. ---- */
 
-/* The error with a text; and the error that arguments make, as Py_BuildValue makes a tuple of them. */
+/* raise_text formats the message of the error. raise_made builds the error's arguments as Py_BuildValue does. */
 void raise_text(const char *error, const char *format, ...);
 void raise_made(const char *error, const char *format, ...);
-/* The error of a status other than 0, of a draw whose range and length were looked at before. */
+/* Raises the error of a status other than 0. The caller has already checked the range and the length of the draw. */
 void raise_status(uint8_t status);
-/* None, or the error of a status. */
+/* Returns None, or raises the error of a status. */
 PyObject *none_of(uint8_t status);
-/* The name of a type, as `__name__`, and of a value's type. */
+/* The name of a type, as `__name__` is, and the name of a value's type. */
 const char *name_of(PyTypeObject *type);
 const char *type_name(PyObject *value);
 
-/* ---- arguments.c: what a call was given. ---- */
+/* ---- arguments.c: the arguments of a call. ---- */
 
 enum { MOST_PARAMETERS = 4 };
 
-/* A call's parameters: the first `required` have to be given, and the first `placed` may be given without a name. */
+/* The parameters of a call: the first `required` are mandatory, and the first `placed` may be positional. */
 typedef struct {
     const char *call;
     int required, placed, count;
@@ -85,71 +85,71 @@ typedef struct {
 
 extern const Parameters jump_parameters;
 
-/* Finds each parameter's value among the arguments of a call, or NULL. The values are borrowed. */
+/* Sets the value of each parameter from the arguments of a call, or NULL if it is missing. Borrowed references. */
 int take_arguments(const Parameters *wanted, PyObject *const *given, Py_ssize_t placed, PyObject *names,
                    PyObject **values);
-/* The arguments of a constructor, as PyArg_ParseTupleAndKeywords takes them. An error names the class. */
+/* Parses the arguments of a constructor as PyArg_ParseTupleAndKeywords does. Errors name the class. */
 int take_constructor(PyObject *self, PyObject *placed, PyObject *named, const char *letters, char **names, ...);
 
-/* A number from -2^63 to 2^64 - 1, as its 64 bits. */
+/* An integer from -2^63 to 2^64 - 1, as its 64 bits. */
 typedef struct {
     int negative;
     uint64_t bits;
 } Whole;
 
-/* The whole number, or a TypeError. */
+/* Returns the value as an int, or raises a TypeError. */
 PyObject *take_index(const char *name, PyObject *value);
-/* The 64 bits of a whole number, if it is one from -2^63 to 2^64 - 1; else 0. */
+/* Sets the 64 bits of an int and returns 1 if it is from -2^63 to 2^64 - 1, and returns 0 otherwise. */
 int fits_whole(PyObject *whole, Whole *number);
 int is_above(Whole one, Whole other);
-/* A whole number from `first` to `last`; others are OutOfBounds. */
+/* Reads an int from `first` to `last`. Any other int raises OutOfBounds. */
 int take_whole(const char *name, PyObject *value, int64_t first, uint64_t last, Whole *number);
 int take_u64(const char *name, PyObject *value, uint64_t last, uint64_t *number);
-/* The EmptyRange of a range whose first number is above the last. */
+/* Raises EmptyRange for a range whose first number is greater than its last. */
 void raise_empty(Whole first, Whole last);
-/* Both halves of a whole number, and 1; or 0 if it is negative or has more than 128 bits; or -1. */
+/* Sets both halves of an int. Returns 1, or 0 if it is negative or has more than 128 bits, or -1 on an exception. */
 int halves_of(PyObject *whole, nanorand_pcg64 *number);
 int take_u128(const char *name, PyObject *value, nanorand_pcg64 *number);
-/* The OutOfBounds of a number, which is told by its length if it is a long one. */
+/* Raises OutOfBounds for a number. The message gives only the length of a long number. */
 void raise_out_of_bounds(const char *name, PyObject *whole, const char *bounds);
-/* New bytes that hold what a bytes, bytearray or memoryview shows. */
+/* Returns a new bytes object with the contents of a bytes, bytearray or memoryview. */
 PyObject *take_octets(const char *name, PyObject *value);
 int take_octets_of(const char *name, PyObject *value, size_t length, uint8_t *octets);
 
-/* ---- generator.c: the object. ---- */
+/* ---- generator.c: the object of a generator. ---- */
 
-/* Whether a generator can draw: no state was set yet, or a thread draws from it without Python's lock. */
+/* READY to draw; UNMADE if no state was set yet; AWAY while a thread draws from it without Python's lock (the GIL). */
 enum { READY, UNMADE, AWAY };
 
 typedef struct {
     PyObject_HEAD
     PyObject *weak_references;
     const Kind *kind;
-    PyThread_type_lock lock; /* made and held by who draws without Python's lock */
+    PyThread_type_lock lock; /* created and held by a thread that draws without Python's lock */
     int condition;
-    uint64_t state[]; /* the structure of nanorand.h */
+    uint64_t state[]; /* a structure of nanorand.h */
 } Generator;
 
-/* A generator without a state. */
+/* Returns a generator without a state. */
 PyObject *make_generator(PyTypeObject *type, const Kind *kind);
-/* The generator that a value is, or NULL and a TypeError. */
+/* Returns the value as a generator, or NULL and a TypeError if it is none. */
 Generator *take_generator(const char *name, PyObject *value);
 
 int await_state(Generator *rng);
 
 /*
- * Comes back when the state can be read and changed, until Python's lock is given up: by a call into Python, or
- * at the next such wait. Objects made by Python before it may have changed since.
+ * Returns when the state may be read and changed. This holds until Python's lock is released, which any call into
+ * Python and the next call of this function may do. Python objects may change while it waits.
  */
 static inline int ready(Generator *rng)
 {
     return rng->condition == READY ? 0 : await_state(rng);
 }
 
-/* More bytes than these are drawn without Python's lock, so that other threads can run. */
+/* A draw of more bytes than this releases Python's lock, so that other threads can run. */
 enum { LONG = 1 << 16 };
 
-/* A turn of a draw of so many bytes: in a long one Python's lock is given up. Others wait for its end. */
+/* The turn of one draw. A long draw releases Python's lock; other threads that need the generator wait for its end. */
 typedef struct {
     PyThreadState *apart;
 } Turn;
@@ -157,33 +157,33 @@ typedef struct {
 int begin_turn(Generator *rng, size_t bytes, Turn *turn);
 void end_turn(Generator *rng, const Turn *turn);
 
-/* A copy of a state, to go back to where a call into Python fails after a draw. */
+/* A copy of a state, which is restored if a call into Python fails after a draw. */
 typedef struct {
     uint8_t bytes[sizeof(nanorand_keystream)];
 } Saved;
 
 void keep_state(const Generator *rng, Saved *saved);
 void restore_state(Generator *rng, const Saved *saved);
-/* Sets a state, waiting for another thread's turn to end. */
+/* Sets a state, after waiting for another thread's turn to end. */
 void set_state(Generator *rng, const void *state);
-/* The state as bytes, of one moment. */
+/* Reads the state as bytes, atomically. */
 Py_ssize_t read_state(Generator *rng, uint8_t bytes[LONGEST_STATE]);
 
 /* ---- numbers.c ---- */
 
 PyObject *draw_bytes(Generator *rng, uint64_t length);
 
-/* ---- sequences.c: items by their places. ---- */
+/* ---- sequences.c: items by their positions. ---- */
 
-/* A TypeError, unless the value has a length and items by their index. */
+/* Raises a TypeError unless the value has a length and items by index. */
 int require_sequence(const char *name, PyObject *value);
 PyObject *item_at(PyObject *items, size_t place);
-/* A list of the items at so many places, and one of the places themselves. */
+/* items_at returns a list of the items at `count` places, and numbers_of a list of the places themselves. */
 PyObject *items_at(PyObject *items, const size_t *places, size_t count);
 PyObject *numbers_of(const size_t *places, size_t count);
-/* Frees the places of a list, which is returned; without a list the state is put back to what it was before. */
+/* Frees the places and returns the list. If the list is NULL, restores the state from before. */
 PyObject *list_or_restore(Generator *rng, PyObject *list, size_t *places, const Saved *before);
-/* Memory for so many values of a size, to be freed by PyMem_Free; or NULL and MemoryError. */
+/* Allocates memory for `count` values of a size, to be freed by PyMem_Free, or returns NULL and a MemoryError. */
 void *new_array(uint64_t count, size_t size);
 
 /* ---- The parts of the module. ---- */
@@ -191,7 +191,7 @@ void *new_array(uint64_t count, size_t size);
 extern PyMethodDef number_calls[], sequence_calls[], choices_calls[], fill_calls[];
 extern PyType_Spec generator_spec, wyrand_spec, pcg64_spec, chacha8_spec, chacha12_spec, chacha20_spec, stream_spec;
 
-/* The class of a kind of generator, described by KIND_spec; its text is KIND_doc. */
+/* Defines the class of a kind of generator as KIND_spec. Its docstring is KIND_doc. */
 #define GENERATOR_CLASS(kind, name, structure, start, show, parts, calls)                                     \
     static PyObject *make_##kind(PyTypeObject *type, PyObject *Py_UNUSED(placed), PyObject *Py_UNUSED(named)) \
     {                                                                                                         \
@@ -211,7 +211,7 @@ extern PyType_Spec generator_spec, wyrand_spec, pcg64_spec, chacha8_spec, chacha
         Py_TPFLAGS_DEFAULT | Py_TPFLAGS_BASETYPE, kind##_slots,                                               \
     };
 
-/* A class made by its description, which the module then has too. */
+/* Creates a class from its specification, and adds it to the module. */
 PyObject *add_class(PyObject *module, PyType_Spec *spec, PyObject *bases);
 
 int nanorand_add_generators(PyObject *module);

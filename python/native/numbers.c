@@ -1,4 +1,4 @@
-/* The calls that draw one number, or bytes. */
+/* The methods that draw one number, or bytes. */
 #include "native.h"
 
 /* ---- Words and bytes. ---- */
@@ -43,7 +43,7 @@ static PyObject *call_bytes(PyObject *self, PyObject *const *given, Py_ssize_t p
     return draw_bytes((Generator *)self, length);
 }
 
-/* ---- Numbers of a range. ---- */
+/* ---- Numbers from a range. ---- */
 
 static PyObject *draw_u64(Generator *rng, uint64_t first, uint64_t last)
 {
@@ -73,7 +73,7 @@ static PyObject *draw_i64(Generator *rng, int64_t first, int64_t last)
     return PyLong_FromLongLong(number);
 }
 
-/* The greatest number below `end`, which is at most 2^64. */
+/* Sets the greatest number below `end`, where `end` is at most 2^64. */
 static int last_below(PyObject *end, uint64_t *last)
 {
     Whole whole;
@@ -109,7 +109,7 @@ static PyObject *call_below(PyObject *self, PyObject *const *given, Py_ssize_t p
     return taken < 0 ? NULL : draw_u64((Generator *)self, 0, last);
 }
 
-/* Both bounds of a range, which then has a number. */
+/* Reads both bounds of a range, and checks that the range is not empty. */
 static int take_bounds(const Parameters *wanted, PyObject *const *values, Whole *first, Whole *last)
 {
     if (take_whole(wanted->names[0], values[0], INT64_MIN, UINT64_MAX, first) < 0
@@ -183,7 +183,7 @@ static PyObject *call_range32(PyObject *self, PyObject *const *given, Py_ssize_t
 
 /* ---- Numbers between two floats. ---- */
 
-/* `a` + (`b` - `a`) * `unit`, as Python computes it: whole numbers are subtracted exactly. */
+/* Returns `a` + (`b` - `a`) * `unit`, as Python computes it: ints are subtracted exactly. */
 static PyObject *between(PyObject *a, PyObject *width, double unit)
 {
     PyObject *part = PyFloat_FromDouble(unit);
@@ -217,14 +217,16 @@ static PyObject *call_uniform(PyObject *self, PyObject *const *given, Py_ssize_t
     return number;
 }
 
-/* ---- The table. ---- */
+/* ---- The methods. ---- */
 
 PyDoc_STRVAR(u64_doc,
 "u64($self, /)\n"
 "--\n"
 "\n"
-"A number of 64 bits, from 0 to 2^64 - 1.\n"
+"Return a random integer of 64 bits, from 0 to 2^64 - 1.\n"
 "\n"
+"Examples\n"
+"--------\n"
 ">>> from nanorand import WyRand\n"
 ">>> WyRand.seed_from_u64(42).u64()\n"
 "6327169416285365978\n");
@@ -233,8 +235,10 @@ PyDoc_STRVAR(random_doc,
 "random($self, /)\n"
 "--\n"
 "\n"
-"A number from 0.0 to below 1.0: the upper 53 bits of the next `u64`, times 2^-53.\n"
+"Return a random float in [0.0, 1.0): the upper 53 bits of the next `u64`, times 2^-53.\n"
 "\n"
+"Examples\n"
+"--------\n"
 ">>> from nanorand import WyRand\n"
 ">>> WyRand.seed_from_u64(42).random()\n"
 "0.34299654134102164\n");
@@ -243,8 +247,20 @@ PyDoc_STRVAR(bytes_doc,
 "bytes($self, /, length)\n"
 "--\n"
 "\n"
-"The next bytes, by one request. A length of 0 draws nothing, and below 0 it is `OutOfBounds`.\n"
+"Return the next `length` bytes, by one request (one read from the generator).\n"
 "\n"
+"Parameters\n"
+"----------\n"
+"length : int\n"
+"    Number of bytes. A length of 0 draws nothing.\n"
+"\n"
+"Raises\n"
+"------\n"
+"OutOfBounds\n"
+"    If `length` is negative, or greater than `sys.maxsize`.\n"
+"\n"
+"Examples\n"
+"--------\n"
 ">>> from nanorand import Stream\n"
 ">>> Stream(bytes(32)).bytes(4).hex()\n"
 "'76b8e0ad'\n");
@@ -253,11 +269,24 @@ PyDoc_STRVAR(below_doc,
 "below($self, /, end)\n"
 "--\n"
 "\n"
-"A number from 0 to `end` - 1, for an `end` of at most 2^64.\n"
+"Return a random integer from 0 to `end` - 1.\n"
 "\n"
-"Of 0 and less it is `EmptyRange`, and outside of -2^63 to 2^64 `OutOfBounds`; then nothing was drawn. After\n"
-"`Exhausted` the 128 rejected words stay consumed.\n"
+"Parameters\n"
+"----------\n"
+"end : int\n"
+"    Upper bound, excluded; at most 2^64.\n"
 "\n"
+"Raises\n"
+"------\n"
+"EmptyRange\n"
+"    If `end` is 0 or less. Nothing was drawn.\n"
+"OutOfBounds\n"
+"    If `end` is less than -2^63 or greater than 2^64. Nothing was drawn.\n"
+"Exhausted\n"
+"    If 128 words (random integers of 64 bits) in a row were rejected. They stay consumed.\n"
+"\n"
+"Examples\n"
+"--------\n"
 ">>> from nanorand import WyRand\n"
 ">>> WyRand.seed_from_u64(42).below(100)\n"
 "34\n");
@@ -266,12 +295,24 @@ PyDoc_STRVAR(range_doc,
 "range($self, /, first, last)\n"
 "--\n"
 "\n"
-"A number from `first` to `last`, both included, as in `random.randint`.\n"
+"Return a random integer from `first` to `last`, both included, as in `random.randint`.\n"
 "\n"
-"Both bounds are at least -2^63 and below 2^64, and with a negative `first` both are below 2^63; others are\n"
-"`OutOfBounds`. It raises `EmptyRange` if `first` is above `last`. After both nothing was drawn. After `Exhausted`\n"
-"the 128 rejected words stay consumed.\n"
+"Parameters\n"
+"----------\n"
+"first, last : int\n"
+"    Bounds, at least -2^63 and less than 2^64. If `first` is negative, both are less than 2^63.\n"
 "\n"
+"Raises\n"
+"------\n"
+"EmptyRange\n"
+"    If `first` is greater than `last`. Nothing was drawn.\n"
+"OutOfBounds\n"
+"    If a bound is not within these limits. Nothing was drawn.\n"
+"Exhausted\n"
+"    If 128 words (random integers of 64 bits) in a row were rejected. They stay consumed.\n"
+"\n"
+"Examples\n"
+"--------\n"
 ">>> from nanorand import WyRand\n"
 ">>> WyRand.seed_from_u64(42).range(1, 100), WyRand.seed_from_u64(42).range(-50, 49)\n"
 "(35, -16)\n"
@@ -283,11 +324,25 @@ PyDoc_STRVAR(randint_doc,
 "randint($self, /, a, b)\n"
 "--\n"
 "\n"
-"The same as `range`, by the name that it has in `random`.\n"
+"Return a random integer from `a` to `b`, both included. This is `range` under the name that it has\n"
+"in `random`.\n"
 "\n"
-"Its bounds are those of `range`: wider ones are `OutOfBounds`, and `EmptyRange` is raised if `a` is above `b`. After\n"
-"`Exhausted` the 128 rejected words stay consumed.\n"
+"Parameters\n"
+"----------\n"
+"a, b : int\n"
+"    Bounds, as of `range`.\n"
 "\n"
+"Raises\n"
+"------\n"
+"EmptyRange\n"
+"    If `a` is greater than `b`. Nothing was drawn.\n"
+"OutOfBounds\n"
+"    If a bound is not within the limits of `range`. Nothing was drawn.\n"
+"Exhausted\n"
+"    If 128 words (random integers of 64 bits) in a row were rejected. They stay consumed.\n"
+"\n"
+"Examples\n"
+"--------\n"
 ">>> from nanorand import WyRand\n"
 ">>> WyRand.seed_from_u64(42).randint(1, 100)\n"
 "35\n"
@@ -299,12 +354,26 @@ PyDoc_STRVAR(range32_doc,
 "range32($self, /, first, last)\n"
 "--\n"
 "\n"
-"A number from `first` to `last`, both included and below 2^32, from words of 32 bits.\n"
+"Return a random integer from `first` to `last`, both included, drawn from words of 32 bits.\n"
 "\n"
-"It is the range of `u32` in other languages, and gives other numbers than `range`. Other bounds are\n"
-"`OutOfBounds`, and `EmptyRange` is raised if `first` is above `last`. After `Exhausted` the 128 rejected words stay\n"
-"consumed.\n"
+"This is the range of the type `u32` in other languages. It returns other numbers than `range`.\n"
 "\n"
+"Parameters\n"
+"----------\n"
+"first, last : int\n"
+"    Bounds, from 0 to 2^32 - 1.\n"
+"\n"
+"Raises\n"
+"------\n"
+"EmptyRange\n"
+"    If `first` is greater than `last`. Nothing was drawn.\n"
+"OutOfBounds\n"
+"    If a bound is negative, or 2^32 or more. Nothing was drawn.\n"
+"Exhausted\n"
+"    If 128 words (random integers of 32 bits) in a row were rejected. They stay consumed.\n"
+"\n"
+"Examples\n"
+"--------\n"
 ">>> from nanorand import WyRand\n"
 ">>> WyRand.seed_from_u64(42).range32(1, 6)\n"
 "5\n");
@@ -313,8 +382,11 @@ PyDoc_STRVAR(uniform_doc,
 "uniform($self, /, a, b)\n"
 "--\n"
 "\n"
-"`a` + (`b` - `a`) * `random()`, as in `random.uniform`: `b` itself can come of rounding.\n"
+"Return `a` + (`b` - `a`) * `random()`, as `random.uniform` does. Because of rounding, the result may\n"
+"be `b` itself.\n"
 "\n"
+"Examples\n"
+"--------\n"
 ">>> from nanorand import WyRand\n"
 ">>> WyRand.seed_from_u64(42).uniform(-1, 1)\n"
 "-0.3140069173179567\n");

@@ -1,14 +1,14 @@
 /*
- * The base of nanorand.randoms: a `random.Random` that draws from a generator.
+ * The base class of nanorand.randoms: a `random.Random` that draws from a generator.
  *
- * Its objects are those of `random.Random` and behind them a pointer to the generator, which Python's own functions
- * for classes visit and clear as they do an entry of `__slots__`.
+ * An object is that of `random.Random`, followed by a pointer to the generator. Python visits and clears this pointer
+ * like an entry of `__slots__`.
  */
 #include "native.h"
 
 #include <structmember.h>
 
-/* Where the pointer lies in an object: `random.Random` says how long its own part is. */
+/* The offset of the pointer in an object, which is the size of a `random.Random`. */
 static Py_ssize_t place;
 
 static PyObject **slot_of(PyObject *self)
@@ -16,7 +16,7 @@ static PyObject **slot_of(PyObject *self)
     return (PyObject **)((char *)self + place);
 }
 
-/* The generator, ready to draw: a new reference, as another thread can put one in its place. */
+/* Returns the generator, ready to draw, as a new reference, since another thread may assign another generator. */
 static Generator *ready_generator(PyObject *self)
 {
     PyObject *found = *slot_of(self);
@@ -44,7 +44,7 @@ static PyObject *call_random(PyObject *self, PyObject *Py_UNUSED(nothing))
     return PyFloat_FromDouble(unit_of(word));
 }
 
-/* The number of so many bytes, least byte first, at most eight. Of a joined generator no other byte is drawn. */
+/* Draws a number of at most eight bytes, in little-endian order. A joined generator draws exactly these bytes. */
 static uint64_t draw_word(Generator *rng, size_t bytes)
 {
     if (!rng->kind->joined) {
@@ -55,7 +55,7 @@ static uint64_t draw_word(Generator *rng, size_t bytes)
     return word;
 }
 
-/* The number of the next bytes, least byte first, without its lowest bits. */
+/* Returns the number of the next bytes, in little-endian order, without its `unused` lowest bits. */
 static PyObject *draw_number(Generator *rng, uint64_t bytes, unsigned unused)
 {
     PyObject *drawn = draw_bytes(rng, bytes);
@@ -106,7 +106,7 @@ static PyObject *call_randbytes(PyObject *self, PyObject *const *given, Py_ssize
 
 /* ---- The generator. ---- */
 
-/* The class of generators that a class draws from. */
+/* Returns the class of the generators that a class draws from. */
 static PyObject *kind_of(PyTypeObject *type)
 {
     PyObject *kind = PyObject_GetAttrString((PyObject *)type, "_kind");
@@ -116,7 +116,7 @@ static PyObject *kind_of(PyTypeObject *type)
     return kind;
 }
 
-/* Arguments are for `__init__`: a subclass can have any. */
+/* Ignores the arguments, which are for `__init__`: a subclass may take any. */
 static PyObject *make_random(PyTypeObject *type, PyObject *Py_UNUSED(placed), PyObject *Py_UNUSED(named))
 {
     PyObject *kind = kind_of(type);
@@ -137,7 +137,7 @@ static PyObject *get_generator(PyObject *self, void *Py_UNUSED(closure))
     return rng;
 }
 
-/* Another generator of the same kind. */
+/* Assigns another generator of the same kind. */
 static int put_generator(PyObject *self, PyObject *value, void *Py_UNUSED(closure))
 {
     if (value == NULL) {
@@ -167,8 +167,10 @@ PyDoc_STRVAR(base_doc,
 "A `random.Random` that draws from `generator`.");
 
 PyDoc_STRVAR(generator_doc,
-"The generator that is drawn from. Another one of its kind can be put in its place.\n"
+"The generator that is drawn from. Another generator of the same kind can be assigned.\n"
 "\n"
+"Examples\n"
+"--------\n"
 ">>> from nanorand.randoms import WyRandRandom\n"
 ">>> rng = WyRandRandom(\"seed 42\")\n"
 ">>> rng.generator\n"
@@ -180,8 +182,10 @@ PyDoc_STRVAR(random_doc,
 "random($self, /)\n"
 "--\n"
 "\n"
-"A number from 0.0 to below 1.0: the upper 53 bits of the next `u64`, times 2^-53.\n"
+"Return a random float in [0.0, 1.0): the upper 53 bits of the next `u64`, times 2^-53.\n"
 "\n"
+"Examples\n"
+"--------\n"
 ">>> from nanorand.randoms import WyRandRandom\n"
 ">>> WyRandRandom(\"seed 42\").random()\n"
 "0.9299481829706302\n");
@@ -190,10 +194,16 @@ PyDoc_STRVAR(getrandbits_doc,
 "getrandbits($self, /, k)\n"
 "--\n"
 "\n"
-"A number of k bits: the upper ones of the next k / 8 bytes, rounded up, least byte first.\n"
+"Return a random integer of `k` bits: the upper `k` bits of the next `k` / 8 bytes, rounded up, in\n"
+"little-endian order.\n"
 "\n"
-"Below 0 it is `OutOfBounds`.\n"
+"Raises\n"
+"------\n"
+"OutOfBounds\n"
+"    If `k` is negative, or 2^64 or more.\n"
 "\n"
+"Examples\n"
+"--------\n"
 ">>> from nanorand import WyRand\n"
 ">>> from nanorand.randoms import WyRandRandom\n"
 ">>> rng = WyRandRandom(\"seed 42\")\n"
@@ -205,8 +215,15 @@ PyDoc_STRVAR(randbytes_doc,
 "randbytes($self, /, n)\n"
 "--\n"
 "\n"
-"The generator's next bytes. Below 0 it is `OutOfBounds`.\n"
+"Return the next `n` bytes of the generator.\n"
 "\n"
+"Raises\n"
+"------\n"
+"OutOfBounds\n"
+"    If `n` is negative, or greater than `sys.maxsize`.\n"
+"\n"
+"Examples\n"
+"--------\n"
 ">>> from nanorand import WyRand\n"
 ">>> from nanorand.randoms import WyRandRandom\n"
 ">>> rng = WyRandRandom(\"seed 42\")\n"
@@ -226,7 +243,7 @@ static PyGetSetDef parts[] = {
     {NULL, NULL, NULL, NULL, NULL},
 };
 
-/* No name leads to the slot from Python, where it could be given any object. */
+/* The name of the slot is deleted: through it, Python code could assign any object. */
 static int add_base(PyObject *module, PyObject *random_class)
 {
     place = ((PyTypeObject *)random_class)->tp_basicsize;

@@ -1,9 +1,9 @@
-/* Choices, shuffles and samples of any sequence: the library draws places, and the items are moved by them. */
+/* Choices, shuffles and samples of any sequence: the library draws places (indices), by which the items are moved. */
 #include "native.h"
 
 /* ---- Sequences of every kind. ---- */
 
-/* Whether the value is an instance of a class of collections.abc, or -1. */
+/* Returns whether the value is an instance of a class of collections.abc, or -1 on an exception. */
 static int is_abstract(PyObject *value, const char *class_name)
 {
     PyObject *abstract = PyImport_ImportModule("collections.abc");
@@ -14,7 +14,7 @@ static int is_abstract(PyObject *value, const char *class_name)
     return found;
 }
 
-/* Whether the value's class has a length and items by their index, which sets and mappings do not. */
+/* Returns whether the value's class has a length and items by index, which sets and mappings do not have. */
 static int is_sequence(PyObject *value, const char *method)
 {
     PyObject *class = (PyObject *)Py_TYPE(value);
@@ -37,7 +37,7 @@ static int require(const char *name, PyObject *value, const char *method, const 
     return found == 1 ? 0 : -1;
 }
 
-/* Whether the value is of a class of Python's own that is a sequence: most are, and need no other look. */
+/* Returns whether the value is a built-in sequence. Most values are, and need no further check. */
 static int is_known(PyObject *value)
 {
     return PyList_CheckExact(value) || PyTuple_CheckExact(value) || PyUnicode_CheckExact(value)
@@ -52,7 +52,7 @@ int require_sequence(const char *name, PyObject *value)
     return require(name, value, "__getitem__", "a sequence");
 }
 
-/* A call into Python, as an item's reading may be, can change a list. So each place is looked at anew. */
+/* Reading an item may call into Python, which can change a list. So each index is checked again. */
 PyObject *item_at(PyObject *items, size_t place)
 {
     if (PyList_CheckExact(items) || PyTuple_CheckExact(items)) {
@@ -64,7 +64,7 @@ PyObject *item_at(PyObject *items, size_t place)
     return item;
 }
 
-/* Whether each item exists once: a row of a matrix is made anew at each reading, and is a view of what is moved. */
+/* Returns whether the items are objects of their own. A row of a matrix is a new view at each reading. */
 static int is_owned(PyObject *items)
 {
     PyObject *one = item_at(items, 0);
@@ -97,7 +97,7 @@ static int require_replaceable(const char *name, PyObject *items)
     return owned == 1 ? 0 : -1;
 }
 
-/* ---- Places. ---- */
+/* ---- Places (indices of items). ---- */
 
 void *new_array(uint64_t count, size_t size)
 {
@@ -108,7 +108,7 @@ void *new_array(uint64_t count, size_t size)
     return made;
 }
 
-/* The places 0, 1, .. */
+/* Returns the places 0, 1, .. */
 static size_t *all_places(size_t count)
 {
     size_t *places = new_array(count, sizeof *places);
@@ -118,10 +118,10 @@ static size_t *all_places(size_t count)
     return places;
 }
 
-/* After so many items a signal is looked for, so that it can end what takes long. */
+/* The number of items after which signals are checked, so that a signal can end a long call. */
 enum { PIECE = 1 << 20 };
 
-/* Appends item number i, which it takes over; or a NULL's error stays, or what a signal's handler raised. */
+/* Appends item number i, whose reference it takes. Returns -1 if the item is NULL or if a signal handler raised. */
 static int append(PyObject *list, size_t i, PyObject *item)
 {
     int added = item == NULL ? -1 : PyList_Append(list, item);
@@ -194,7 +194,7 @@ static PyObject *call_choice(PyObject *self, PyObject *const *given, Py_ssize_t 
 
 /* ---- Shuffles. ---- */
 
-/* Nothing here calls into Python, so that a list is shuffled in one moment. */
+/* Does not call into Python, so the shuffle of a list is atomic. */
 static PyObject *permute_list(Generator *rng, PyObject *list, Permutation *permute)
 {
     if (ready(rng) < 0) {
@@ -237,7 +237,7 @@ static int put_items(PyObject *items, PyObject *before, const size_t *places)
     return 0;
 }
 
-/* Shuffles places, and then moves the items: also after Exhausted, as far as it came. */
+/* Shuffles places, and then moves the items accordingly. After Exhausted, it moves those swapped so far. */
 static PyObject *permute_places(Generator *rng, PyObject *items, PyObject *before, size_t *places,
                                 Permutation *permute)
 {
@@ -254,7 +254,7 @@ static PyObject *permute_places(Generator *rng, PyObject *items, PyObject *befor
     return none_of(status);
 }
 
-/* The items as a tuple, which no other code can change. */
+/* Returns the items as a tuple, which no other code can change. */
 static PyObject *items_before(PyObject *items, const size_t *places, size_t count)
 {
     PyObject *list = items_at(items, places, count);
@@ -298,17 +298,17 @@ static PyObject *call_shuffle_full(PyObject *self, PyObject *const *given, Py_ss
 
 /* ---- Samples. ---- */
 
-/* The least length that is drawn faster with a table. */
+/* The smallest length for which a table makes the draw faster. */
 enum { LEAST_WITH_TABLE = 16 };
 
-/* Where a piece of a sample ends. Each piece links the places before it anew, so that later ones are longer. */
+/* Returns where a piece of a sample ends. Each piece links all places before it again, so later pieces are longer. */
 static uint64_t end_of_piece(uint64_t filled, uint64_t length)
 {
     uint64_t size = filled / 4 > PIECE ? filled / 4 : PIECE;
     return length - filled < size ? length : filled + size;
 }
 
-/* Draws a sample in pieces, between which a signal is looked for: 0, or -1 and an exception. */
+/* Draws a sample in pieces, and checks for signals between them. Returns 0, or -1 and an exception. */
 static int draw_pieces(Generator *rng, uint64_t count, size_t *places, uint64_t length, size_t *table, size_t room)
 {
     uint64_t filled = 0;
@@ -330,7 +330,7 @@ static int draw_pieces(Generator *rng, uint64_t count, size_t *places, uint64_t 
     return filled < length ? -1 : 0;
 }
 
-/* A table for a sample: as many items as places, and a power of two of them or more. */
+/* Returns the size of the table for a sample: as many items as places, plus a power of two that is no smaller. */
 static size_t room_for(uint64_t length)
 {
     if (length < LEAST_WITH_TABLE) {
@@ -343,7 +343,7 @@ static size_t room_for(uint64_t length)
     return length + chains;
 }
 
-/* Different places below `count`, and the state before them; or NULL. */
+/* Draws different places below `count`, and saves the state before them. Returns NULL on an exception. */
 static size_t *draw_places(Generator *rng, uint64_t count, uint64_t length, Saved *before)
 {
     if (length > count) {
@@ -405,15 +405,23 @@ static PyObject *call_sample_below(PyObject *self, PyObject *const *given, Py_ss
     return list_or_restore(rng, numbers_of(places, length), places, &before);
 }
 
-/* ---- The table. ---- */
+/* ---- The methods. ---- */
 
 PyDoc_STRVAR(choice_doc,
 "choice($self, /, items)\n"
 "--\n"
 "\n"
-"One of the items. If there is none, it is `EmptyRange`, and nothing was drawn. After `Exhausted` the 128 rejected\n"
-"words stay consumed.\n"
+"Return a random item of a sequence. Each item is chosen by the same number of words.\n"
 "\n"
+"Raises\n"
+"------\n"
+"EmptyRange\n"
+"    If the sequence is empty. Nothing was drawn.\n"
+"Exhausted\n"
+"    If 128 words (random integers of 64 bits) in a row were rejected. They stay consumed.\n"
+"\n"
+"Examples\n"
+"--------\n"
 ">>> from nanorand import WyRand\n"
 ">>> WyRand.seed_from_u64(42).choice(\"abcdefghij\")\n"
 "'d'\n"
@@ -425,13 +433,26 @@ PyDoc_STRVAR(shuffle_doc,
 "shuffle($self, /, items)\n"
 "--\n"
 "\n"
-"Shuffles a list in place: each order is drawn by equally many lists of words. An empty list draws nothing.\n"
+"Shuffle a list, or another mutable sequence, in place. An empty list draws nothing.\n"
 "\n"
-"After `Exhausted` the swaps before it stay, and the words stay consumed.\n"
+"Each permutation is produced by the same number of lists of words (random integers of 64 bits).\n"
 "\n"
-"If the sequence refuses to take an item, the state is as before. A sequence whose items are\n"
-"views of it, as the rows of a matrix, is a TypeError: shuffle its places.\n"
+"Raises\n"
+"------\n"
+"Exhausted\n"
+"    If 128 words in a row were rejected for one item. The swaps before that stay, and the words stay\n"
+"    consumed.\n"
+"TypeError\n"
+"    If the items are views of the sequence, such as the rows of a matrix: shuffle the indices\n"
+"    instead.\n"
 "\n"
+"Notes\n"
+"-----\n"
+"If the sequence raises an exception when an item is assigned, the state of the generator is\n"
+"restored.\n"
+"\n"
+"Examples\n"
+"--------\n"
 ">>> from nanorand import WyRand\n"
 ">>> digits = list(range(10))\n"
 ">>> WyRand.seed_from_u64(42).shuffle(digits)\n"
@@ -442,10 +463,19 @@ PyDoc_STRVAR(shuffle_full_doc,
 "shuffle_full($self, /, items)\n"
 "--\n"
 "\n"
-"Shuffles a list in place as the old crate did. It is not fair for three items or more.\n"
+"Shuffle a list in place as the Rust crate nanorand 0.7.0 does. This is biased for three or more\n"
+"items.\n"
 "\n"
-"It raises the errors of `shuffle`. After `Exhausted` the swaps before it stay, and the words stay consumed.\n"
+"Raises\n"
+"------\n"
+"Exhausted\n"
+"    If 128 words (random integers of 64 bits) in a row were rejected for one item. The swaps before\n"
+"    that stay, and the words stay consumed.\n"
+"TypeError\n"
+"    As for `shuffle`.\n"
 "\n"
+"Examples\n"
+"--------\n"
 ">>> from nanorand import WyRand\n"
 ">>> digits = list(range(10))\n"
 ">>> WyRand.seed_from_u64(42).shuffle_full(digits)\n"
@@ -456,16 +486,35 @@ PyDoc_STRVAR(sample_doc,
 "sample($self, /, population, length)\n"
 "--\n"
 "\n"
-"`length` items of different places.\n"
+"Return a list of `length` items of the population, drawn without replacement.\n"
 "\n"
-"Each set of places has equally many words. Their order is not random: shuffle it if that\n"
-"matters. It raises `EmptyRange` if there are fewer items, and `OutOfBounds` for a length below 0 or from 2^64 on.\n"
-"A length of 0 draws nothing. After `Exhausted`, or if a signal ends the call while it draws, the words stay\n"
-"consumed.\n"
+"Each set of items (by position) is produced by the same number of lists of words (random integers of\n"
+"64 bits). The order of the sample is not random: shuffle it if that matters.\n"
 "\n"
-"The expected time is O(k) for a length of k. If k is a large part of a list, shuffle the list and take its\n"
-"beginning.\n"
+"Parameters\n"
+"----------\n"
+"population : sequence\n"
+"    The items to draw from. Equal items at different positions are different members.\n"
+"length : int\n"
+"    Number of items to draw. A length of 0 draws nothing.\n"
 "\n"
+"Raises\n"
+"------\n"
+"EmptyRange\n"
+"    If the population has fewer than `length` items.\n"
+"OutOfBounds\n"
+"    If `length` is negative, or 2^64 or more.\n"
+"Exhausted\n"
+"    If 128 words in a row were rejected for one item. The words stay consumed. They also stay\n"
+"    consumed if a signal ends the call while it draws.\n"
+"\n"
+"Notes\n"
+"-----\n"
+"The expected time is O(k) for a length of k. If k is a large part of the population, shuffle a list\n"
+"and take its beginning instead.\n"
+"\n"
+"Examples\n"
+"--------\n"
 ">>> from nanorand import WyRand\n"
 ">>> WyRand.seed_from_u64(42).sample(\"abcdefghij\", 3)\n"
 "['c', 'h', 'g']\n");
@@ -474,12 +523,30 @@ PyDoc_STRVAR(sample_below_doc,
 "sample_below($self, /, count, length)\n"
 "--\n"
 "\n"
-"`length` different numbers below `count`: the places of a sample.\n"
+"Return a list of `length` different integers below `count`, drawn without replacement.\n"
 "\n"
-"Both are from 0 to 2^64 - 1, or it is `OutOfBounds`; a `length` above `count` is `EmptyRange`. A length of 0 draws\n"
-"nothing. After `Exhausted`, or if a signal ends the call while it draws, the words stay consumed. The expected\n"
-"time is O(k) for a length of k.\n"
+"These are the positions of a sample from a population of `count` items. The expected time is O(k)\n"
+"for a length of k.\n"
 "\n"
+"Parameters\n"
+"----------\n"
+"count : int\n"
+"    Size of the population, from 0 to 2^64 - 1.\n"
+"length : int\n"
+"    Number of integers to draw, from 0 to 2^64 - 1. A length of 0 draws nothing.\n"
+"\n"
+"Raises\n"
+"------\n"
+"EmptyRange\n"
+"    If `length` is greater than `count`.\n"
+"OutOfBounds\n"
+"    If `count` or `length` is negative, or 2^64 or more.\n"
+"Exhausted\n"
+"    If 128 words (random integers of 64 bits) in a row were rejected for one integer. The words stay\n"
+"    consumed. They also stay consumed if a signal ends the call while it draws.\n"
+"\n"
+"Examples\n"
+"--------\n"
 ">>> from nanorand import WyRand\n"
 ">>> WyRand.seed_from_u64(42).sample_below(10, 3)\n"
 "[2, 7, 6]\n");

@@ -1,5 +1,6 @@
-//! Sets `diagnostic_hints` where the compiler knows the attributes `diagnostic::..`, from Rust 1.78 on. From
-//! 1.80 on cargo is told that there is such a name.
+//! Sets the cfg `diagnostic_hints` if the compiler supports `#[diagnostic::on_unimplemented]`,
+//! which it does from Rust 1.78 on. From 1.80 on, cargo is also told that the cfg exists, so that
+//! it does not warn about it.
 
 use std::process::Command;
 
@@ -14,7 +15,8 @@ fn main() {
     }
 }
 
-/// The 80 of `rustc 1.80.1 (..)`, if the compiler says so.
+/// Returns the minor version of the compiler, such as 80 for `rustc 1.80.1 (..)`, or `None` if it
+/// cannot be read.
 fn minor_version() -> Option<u32> {
     let rustc = std::env::var_os("RUSTC")?;
     let said = Command::new(rustc).arg("--version").output().ok()?;

@@ -1,16 +1,17 @@
-//! The two bounds of a range, LOW..HIGH or LOW..=HIGH.
+//! The two bounds of a range, written as LOW..HIGH or LOW..=HIGH.
 
 use crate::numbers::ReadNumber;
 use core::ops::Bound;
 
-/// The bounds that the text gives. A missing bound is unbounded.
+/// Returns the bounds that the text gives, or `None` if it gives none. A missing bound is
+/// unbounded.
 #[must_use]
 pub fn bounds<N: ReadNumber>(text: &str) -> Option<(Bound<N>, Bound<N>)> {
     let (low, high) = text.split_once("..")?;
     Some((low_bound(low)?, high_bound(high)?))
 }
 
-/// The low bound, from the text before the dots. It is included.
+/// Reads the low bound, which is the text before the dots. It is included in the range.
 fn low_bound<N: ReadNumber>(text: &str) -> Option<Bound<N>> {
     if text.is_empty() {
         return Some(Bound::Unbounded);
@@ -18,8 +19,8 @@ fn low_bound<N: ReadNumber>(text: &str) -> Option<Bound<N>> {
     Some(Bound::Included(N::read(text)?))
 }
 
-/// The high bound, from the text after the dots. It is included if the text begins with `=`, and
-/// excluded otherwise.
+/// Reads the high bound, which is the text after the dots. It is included in the range if the text
+/// begins with `=`, and excluded otherwise.
 fn high_bound<N: ReadNumber>(text: &str) -> Option<Bound<N>> {
     if text.is_empty() {
         return Some(Bound::Unbounded);

@@ -1,4 +1,4 @@
-//! Reads the arguments of the command line into a command.
+//! Parses the command-line arguments into a command.
 
 use crate::error::DrawError;
 use crate::hex;
@@ -16,7 +16,7 @@ pub enum Generator {
     ChaCha20,
 }
 
-/// A generator with the bytes of its seed: a little-endian number for `WyRand` and `Pcg64`, and a
+/// A generator and the bytes of its seed: a little-endian number for `WyRand` and `Pcg64`, and a
 /// key of 32 bytes followed by a nonce of 8 bytes for ChaCha.
 #[derive(Clone, Copy)]
 pub enum SeededGenerator {
@@ -27,15 +27,16 @@ pub enum SeededGenerator {
     ChaCha20([u8; 40]),
 }
 
-/// Whether draws are buffered. In plain mode each value or word starts on a new block of the
-/// generator; in buffered mode it continues where the last one ended.
+/// Whether the draws are buffered. A word is a random integer of N bits. In plain mode each value
+/// or word starts with a new block of the generator; in buffered mode it continues where the last
+/// one ended.
 #[derive(Clone, Copy)]
 pub enum Mode {
     Plain,
     Buffered,
 }
 
-/// What the arguments ask for: `count` items 0, 1, .. and a list of calls on a generator.
+/// What the arguments ask for: `count` items 0, 1, .., and a list of calls of a generator.
 pub struct Command {
     pub generator: SeededGenerator,
     pub mode: Mode,
@@ -43,10 +44,10 @@ pub struct Command {
     pub calls: Vec<Call>,
 }
 
-/// The greatest number of items.
+/// The greatest allowed number of items.
 const MOST_ITEMS: u64 = 1000;
 
-/// The generator of that name.
+/// Returns the generator with this name.
 fn generator_named(name: &str) -> Option<Generator> {
     match name {
         "wyrand" => Some(Generator::WyRand),
@@ -58,7 +59,8 @@ fn generator_named(name: &str) -> Option<Generator> {
     }
 }
 
-/// The generator with the seed that the text gives, two hexadecimal digits a byte.
+/// Returns the generator with the seed that the text gives, as two hexadecimal digits for each
+/// byte.
 fn seeded_generator(generator: Generator, seed: &str) -> Option<SeededGenerator> {
     match generator {
         Generator::WyRand => Some(SeededGenerator::WyRand(hex::bytes_of(seed)?)),
@@ -69,7 +71,7 @@ fn seeded_generator(generator: Generator, seed: &str) -> Option<SeededGenerator>
     }
 }
 
-/// The mode of that name.
+/// Returns the mode with this name.
 fn mode_of(name: &str) -> Option<Mode> {
     match name {
         "plain" => Some(Mode::Plain),
@@ -78,15 +80,15 @@ fn mode_of(name: &str) -> Option<Mode> {
     }
 }
 
-/// The number of items, from the decimal digits of argument 4. It is a bad word if the text is no
-/// number, or one above `MOST_ITEMS`.
+/// Reads the number of items, argument 4, in decimal digits. Returns the error `BadWord` if the
+/// text is not a number, or a number above `MOST_ITEMS`.
 fn count_of(text: &str) -> Result<u64, DrawError> {
     read_unsigned(text)
         .filter(|count| *count <= MOST_ITEMS)
         .ok_or(DrawError::BadWord(4))
 }
 
-/// The calls that the requests ask for. The first request is argument 5.
+/// Reads the requests and returns their calls. The first request is argument 5.
 fn calls_of(requests: &[String]) -> Result<Vec<Call>, DrawError> {
     let mut calls = Vec::new();
     for (index, request) in requests.iter().enumerate() {
@@ -101,25 +103,25 @@ fn calls_of(requests: &[String]) -> Result<Vec<Call>, DrawError> {
     Ok(calls)
 }
 
-/// The argument at the index, or an empty text if it is missing.
+/// Returns the argument at the index, or an empty text if it is missing.
 fn argument(arguments: &[String], index: usize) -> &str {
     arguments
         .get(index)
         .map_or("", |argument| argument.as_str())
 }
 
-/// The command that the arguments give.
+/// Parses the command-line arguments into a command.
 ///
 /// # Errors
 ///
-/// It returns `BadWord` or `Memory`.
+/// Returns `BadWord` if an argument cannot be read, and `Memory` if an allocation fails.
 pub fn read(arguments: &[String]) -> Result<Command, DrawError> {
     let generator = generator_named(argument(arguments, 0)).ok_or(DrawError::BadWord(1))?;
     let seeded =
         seeded_generator(generator, argument(arguments, 1)).ok_or(DrawError::BadWord(2))?;
     let mode = mode_of(argument(arguments, 2)).ok_or(DrawError::BadWord(3))?;
     let count = count_of(argument(arguments, 3))?;
-    // An empty count is refused, so there are four arguments.
+    // An empty COUNT is an error, so there are at least four arguments here.
     let calls = calls_of(&arguments[4..])?;
     Ok(Command {
         generator: seeded,

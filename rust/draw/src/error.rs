@@ -1,14 +1,15 @@
-//! The ways in which a run fails.
+//! The errors of a run.
 
-/// Why `run` failed.
+/// The reasons why `run` failed.
 #[derive(Clone, Copy, Debug, PartialEq, Eq)]
 pub enum DrawError {
-    /// The number, counted from 1, of the first argument that cannot be read. A missing one of the
-    /// first four is such an argument. Nothing was written.
+    /// An argument cannot be read. The value is the number of the first such argument, counted from
+    /// 1; a missing argument among the first four counts as one. Nothing was written.
     BadWord(usize),
-    /// Out of memory: an allocation was refused. Nothing was written.
+    /// Out of memory: an allocation failed. Nothing was written.
     Memory,
-    /// The writer returned an error, or took no bytes. How much of the text it took is unspecified.
+    /// The writer returned an error, or accepted 0 bytes. How much of the text it accepted is
+    /// unspecified.
     Write,
 }
 

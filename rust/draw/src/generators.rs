@@ -1,14 +1,14 @@
-//! Runs calls on the generator of a seed and a mode.
+//! Runs calls on a generator with a seed, in plain or buffered mode.
 
 use crate::command::{Mode, SeededGenerator};
 use nanorand_proved::replay::{replay, Answer, Call};
 use nanorand_proved::{BufferedRng, ChaCha, Pcg64, SeedableRng, WyRand};
 
-/// Runs the calls on the generator with its seed, or on a buffer around it in buffered mode.
+/// Runs the calls on the generator with its seed, or on a `BufferedRng` around it in buffered mode.
 ///
 /// # Panics
 ///
-/// Panics unless there is one answer for each call.
+/// Panics if `calls` and `answers` differ in length.
 pub fn replay_seeded(
     generator: SeededGenerator,
     mode: Mode,

@@ -1,25 +1,27 @@
-//! A text that grows by `write!` and says where memory is refused: std ends the process there.
+//! Appends formatted text to a string and returns an error if memory runs out, where std would
+//! abort the process.
 
 use std::collections::TryReserveError;
 use std::fmt::{self, Arguments, Write};
 
-/// A text that `write!` and `writeln!` append to.
+/// A string that `write!` and `writeln!` append to.
 pub struct Growing<'a>(pub &'a mut String);
 
 impl Growing<'_> {
-    /// Appends what the arguments write. The macros call it.
+    /// Appends the formatted arguments. The macros call this method.
     pub fn write_fmt(self, arguments: Arguments<'_>) -> Result<(), TryReserveError> {
         let mut asking = Asking {
             text: self.0,
             refusal: None,
         };
-        // A number and a literal fail only where the text does, and then it has the refusal.
+        // Formatting a number or a literal fails only if appending fails, and then `refusal` holds
+        // the error.
         let _ = asking.write_fmt(arguments);
         asking.refusal.map_or(Ok(()), Err)
     }
 }
 
-/// Asks for the room of each piece before it takes it.
+/// Reserves the room for each piece before it appends the piece.
 struct Asking<'a> {
     text: &'a mut String,
     refusal: Option<TryReserveError>,

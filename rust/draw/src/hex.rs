@@ -1,6 +1,7 @@
-//! Hexadecimal digits, two a byte, in upper or lower case.
+//! Hexadecimal text, with two digits for each byte, in upper or lower case.
 
-/// The bytes that the text gives, or `None` if it does not have two digits for each of `SIZE` bytes.
+/// Returns the bytes that the text gives, or `None` if it does not have two digits for each of
+/// `SIZE` bytes.
 pub fn bytes_of<const SIZE: usize>(text: &str) -> Option<[u8; SIZE]> {
     if text.len() != 2 * SIZE {
         return None;
@@ -12,7 +13,7 @@ pub fn bytes_of<const SIZE: usize>(text: &str) -> Option<[u8; SIZE]> {
     Some(bytes)
 }
 
-/// The number that a digit stands for.
+/// Returns the value of a hexadecimal digit.
 fn digit(byte: u8) -> Option<u8> {
     char::from(byte).to_digit(16)?.try_into().ok()
 }

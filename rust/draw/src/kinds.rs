@@ -2,7 +2,7 @@
 
 use nanorand_proved::replay::Kind;
 
-/// The type of that name.
+/// Returns the type with this name.
 #[must_use]
 pub fn kind_of(name: &str) -> Option<Kind> {
     match name {

@@ -1,10 +1,11 @@
-//! What the program `draw` does: it reads the arguments of a command line, draws, and writes the text that
-//! they ask for. The program calls [`run::run`] and [`run::report`], and nothing else.
+//! The implementation of the program `draw`: it parses the command-line arguments, draws, and
+//! writes the resulting text. The program only calls [`run::run`] and [`run::report`].
 //!
-//! The functions have the bodies of the crate `draw_core` in Rattle, whose contracts are proved; `hex`
-//! and `growing` are written by hand.
+//! The functions have the bodies of the crate `draw_core` in Rattle, whose contracts are proved.
+//! `hex` and `growing` are hand-written.
 //!
-//! Draw no keys or passwords with it: `WyRand` and `Pcg64` are not cryptographically secure.
+//! Do not use it to generate keys or passwords: `WyRand` and `Pcg64` are not cryptographically
+//! secure.
 #![forbid(unsafe_code)]
 
 mod bounds;

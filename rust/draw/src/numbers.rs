@@ -1,15 +1,15 @@
-//! Numbers in the arguments of the command line.
+//! Numbers in the command-line arguments.
 
 mod signed;
 mod unsigned;
 
-/// A number type that has ranges, whose numbers are read from text.
+/// A number type that has ranges, and whose numbers can be read from text.
 pub trait ReadNumber: Sized {
-    /// The number that the text gives, or `None` if it gives none of this type.
+    /// Returns the number that the text gives, or `None` if it is not a number of this type.
     fn read(text: &str) -> Option<Self>;
 }
 
-/// The number that the text gives: decimal digits. Leading zeros are allowed, a plus is not.
+/// Reads an unsigned number: decimal digits. Leading zeros are allowed, a plus sign is not.
 #[must_use]
 pub fn read_unsigned(text: &str) -> Option<u64> {
     if text.starts_with('+') {
@@ -18,8 +18,8 @@ pub fn read_unsigned(text: &str) -> Option<u64> {
     text.parse().ok()
 }
 
-/// The number that the text gives: decimal digits, after at most one minus. Leading zeros are
-/// allowed, a plus is not.
+/// Reads a signed number: decimal digits after at most one minus sign. Leading zeros are allowed, a
+/// plus sign is not.
 #[must_use]
 pub fn read_signed(text: &str) -> Option<i64> {
     if text.starts_with('+') {

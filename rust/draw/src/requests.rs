@@ -4,7 +4,7 @@ use crate::bounds::bounds;
 use crate::kinds::kind_of;
 use nanorand_proved::replay::{Call, Kind, Span};
 
-/// The call that a request asks for, or `None` if the text is no request.
+/// Returns the call that a request asks for, or `None` if the text is not a request.
 #[must_use]
 pub fn call_of(text: &str) -> Option<Call> {
     match text.split_once(':') {
@@ -14,8 +14,8 @@ pub fn call_of(text: &str) -> Option<Call> {
     }
 }
 
-/// The range of that type with the bounds that the text gives. `i128`, `u128` and `bool` have
-/// none.
+/// Returns the range of this type with the bounds that the text gives. `i128`, `u128` and `bool`
+/// have no ranges.
 fn span_of(kind: Kind, range: &str) -> Option<Span> {
     match kind {
         Kind::I8 => bounds(range).map(|(low, high)| Span::I8(low, high)),

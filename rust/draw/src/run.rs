@@ -1,4 +1,4 @@
-//! The whole run: from the arguments of the command line to the text that is written.
+//! The whole run, from the command-line arguments to the text that is written.
 
 use crate::command::{read, Command};
 use crate::error::DrawError;
@@ -7,7 +7,7 @@ use crate::text::text_of;
 use nanorand_proved::replay::Answer;
 use std::io::Write;
 
-/// The items at the start: the numbers 0, 1, .. below the count.
+/// Returns the initial items: the numbers 0, 1, .. below `count`.
 fn items_below(count: u64) -> Result<Vec<u64>, std::collections::TryReserveError> {
     let mut items = Vec::new();
     for item in 0..count {
@@ -17,7 +17,7 @@ fn items_below(count: u64) -> Result<Vec<u64>, std::collections::TryReserveError
     Ok(items)
 }
 
-/// The text that the command asks for.
+/// Runs the command and returns the text to write.
 fn text_of_command(command: &Command) -> Result<String, std::collections::TryReserveError> {
     let mut items = items_below(command.count)?;
     let calls = command.calls.as_slice();
@@ -34,7 +34,8 @@ fn text_of_command(command: &Command) -> Result<String, std::collections::TryRes
     text_of(&answers, &items)
 }
 
-/// The text that the arguments ask for. It returns `BadWord` or `Memory`.
+/// Parses and runs the arguments, and returns the text to write, or the error `BadWord` or
+/// `Memory`.
 fn text_for_arguments(arguments: &[String]) -> Result<String, DrawError> {
     let command = read(arguments)?;
     Ok(text_of_command(&command)?)
@@ -47,20 +48,21 @@ fn write_text<W: Write>(out: &mut W, text: &str) -> Result<(), DrawError> {
     out.flush().map_err(|_| DrawError::Write)
 }
 
-/// Writes the text that the arguments ask for, all of it at once, and then flushes. The arguments
-/// are those after the name of the program.
+/// Writes the text that the arguments ask for, all at once, and then flushes. The arguments do not
+/// include the name of the program.
 ///
 /// # Errors
 ///
-/// It returns an error for each reason that its type names. With `Write`, how much of the text
-/// `out` took is unspecified. With any other, nothing was written.
+/// Returns `BadWord` if an argument cannot be read, `Memory` if an allocation fails, and `Write` if
+/// writing fails. After `Write`, how much of the text `out` accepted is unspecified. After any
+/// other error, nothing was written.
 pub fn run<W: Write>(arguments: &[String], out: &mut W) -> Result<(), DrawError> {
     let text = text_for_arguments(arguments)?;
     write_text(out, text.as_str())
 }
 
-/// Returns the exit status of an outcome, and writes an error as one line to `err`. A failure to
-/// write that line is ignored.
+/// Returns the exit status of a result. If the result is an error, it is written as one line to
+/// `err`; a failure to write that line is ignored.
 pub fn report<W: Write>(outcome: Result<(), DrawError>, err: &mut W) -> u8 {
     let error = if let Err(error) = outcome {
         error

@@ -17,7 +17,7 @@ fn push_answer(
     }
 }
 
-/// Appends a line for each answer.
+/// Appends one line for each answer.
 fn push_answers(
     text: &mut String,
     answers: &[Answer],
@@ -28,7 +28,7 @@ fn push_answers(
     Ok(())
 }
 
-/// Appends each item after a space.
+/// Appends each item, preceded by a space.
 fn push_items(text: &mut String, items: &[u64]) -> Result<(), std::collections::TryReserveError> {
     for item in items {
         write!(crate::growing::Growing(text), " {item}")?;
@@ -36,11 +36,12 @@ fn push_items(text: &mut String, items: &[u64]) -> Result<(), std::collections::
     Ok(())
 }
 
-/// The text of answers and items: a line for each answer, and one for the items if there are any.
+/// Returns the text of the answers and the items: one line for each answer, and one line with the
+/// items if there are any.
 ///
 /// # Errors
 ///
-/// It returns an error if memory is refused.
+/// Returns an error if an allocation fails.
 pub fn text_of(
     answers: &[Answer],
     items: &[u64],

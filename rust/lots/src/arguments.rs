@@ -1,16 +1,16 @@
-//! Reads the arguments of the command line: a seed and a count.
+//! Parses the command-line arguments: a seed and a count.
 
-/// How many entrants are asked for.
+/// How many entrants to draw.
 #[derive(Clone, Copy)]
 pub enum Count {
-    /// All of them: a shuffle.
+    /// All of them, which is a shuffle.
     All,
     /// This many.
     Of(usize),
 }
 
 impl Count {
-    /// How many of the entrants are asked for.
+    /// Returns how many of the entrants to draw.
     #[must_use]
     pub fn among(self, entrants: usize) -> usize {
         match self {
@@ -26,7 +26,7 @@ pub struct Request<'a> {
     pub count: Count,
 }
 
-/// The count that the text gives: `all`, or decimal digits of a number below 2^64.
+/// Reads the count: `all`, or decimal digits of a number below 2^64.
 fn count_of(text: &str) -> Option<Count> {
     if text == "all" {
         return Some(Count::All);
@@ -37,7 +37,7 @@ fn count_of(text: &str) -> Option<Count> {
     text.parse().ok().map(Count::Of)
 }
 
-/// What the arguments ask for, or `None` if they are not a seed and a count.
+/// Parses the arguments, or returns `None` if they are not a seed and a count.
 #[must_use]
 pub fn read(arguments: &[String]) -> Option<Request<'_>> {
     let (seed, count) = if let [seed, count] = arguments {

@@ -1,13 +1,13 @@
-//! The entrants of a list: its lines.
+//! The entrants of a list, which are its lines.
 
 use crate::error::LotsError;
 
-/// The index of the first line feed, if there is one.
+/// Returns the index of the first line feed, if there is one.
 fn line_end(text: &[u8]) -> Option<usize> {
     text.iter().position(|byte| *byte == b'\n')
 }
 
-/// The first line of a text, without its line feed, and the text after it.
+/// Returns the first line of a text, without its line feed, and the text after it.
 fn first_line(text: &[u8]) -> (&[u8], &[u8]) {
     match line_end(text) {
         Some(end) => (&text[..end], &text[end + 1..]),
@@ -15,12 +15,13 @@ fn first_line(text: &[u8]) -> (&[u8], &[u8]) {
     }
 }
 
-/// The entrants of a list, one a line: the bytes of each line without its line feed, which the
-/// last line may lack. Equal lines are separate entrants.
+/// Returns the entrants of a list, one for each line: the bytes of the line without its line feed,
+/// which the last line need not have. Equal lines are separate entrants.
 ///
 /// # Errors
 ///
-/// It returns `EmptyLine` with the number of the first empty line, counted from 1, or `Memory`.
+/// Returns `EmptyLine` with the number of the first empty line, counted from 1, or `Memory` if an
+/// allocation fails.
 #[cfg(feature = "std")]
 pub fn entrants_of(list: &[u8]) -> Result<Vec<&[u8]>, LotsError> {
     let mut entrants = Vec::new();
@@ -37,11 +38,11 @@ pub fn entrants_of(list: &[u8]) -> Result<Vec<&[u8]>, LotsError> {
     Ok(entrants)
 }
 
-/// The number of entrants of a list, those that `entrants_of` returns. It takes no memory.
+/// Returns the number of entrants of a list, as `entrants_of` counts them. Nothing is allocated.
 ///
 /// # Errors
 ///
-/// It returns `EmptyLine` as `entrants_of` does, and no other error.
+/// Returns `EmptyLine`, the only error, as `entrants_of` does.
 pub fn count_entrants(list: &[u8]) -> Result<usize, LotsError> {
     let mut count = 0;
     let mut left = list;

@@ -1,27 +1,28 @@
-//! The ways in which a draw fails.
+//! The errors of a draw.
 
-/// Why nothing was drawn, or why the selection was not written.
+/// The reasons why nothing was drawn, or why the selection was not written.
 #[derive(Clone, Copy, Debug, PartialEq, Eq)]
 pub enum LotsError {
     /// The arguments are not a seed and a count. Nothing was read.
     Usage,
-    /// More entrants were asked for than there are.
+    /// There are fewer entrants than were asked for.
     TooFew {
-        /// How many entrants there are.
+        /// The number of entrants.
         entrants: usize,
-        /// How many were asked for.
+        /// The number of entrants that were asked for.
         count: usize,
     },
-    /// The number, counted from 1, of the first empty line.
+    /// A line is empty. The value is the number of the first such line, counted from 1.
     EmptyLine(usize),
-    /// Out of memory: an allocation was refused.
+    /// Out of memory: an allocation failed.
     Memory,
     /// The reader returned an error.
     Read,
-    /// The writer returned an error, or took no bytes. How much of the text it took is unspecified.
+    /// The writer returned an error, or accepted 0 bytes. How much of the text it accepted is
+    /// unspecified.
     Write,
-    /// 128 words in a row were rejected for one place: for a place among n, less than once in 2^128
-    /// draws.
+    /// 128 words (random integers of 64 bits) in a row were rejected for one place. For a place
+    /// among n entrants, this happens less than once in 2^128 draws.
     Exhausted,
 }
 
@@ -45,7 +46,7 @@ impl core::fmt::Display for LotsError {
 impl std::error::Error for LotsError {}
 
 impl LotsError {
-    /// The exit status that tells of the error.
+    /// Returns the exit status for the error.
     #[must_use]
     pub fn status(self) -> u8 {
         match self {

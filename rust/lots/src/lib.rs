@@ -1,4 +1,5 @@
-//! A public draw that anyone can repeat: from a seed and a list of entrants, a selection in an order.
+//! A public draw that anyone can repeat: a seed and a list of entrants determine a selection and
+//! its order.
 //!
 //! ```
 //! let mut entrants = ["Ann", "Ben", "Cid", "Dot", "Eve"];
@@ -7,12 +8,12 @@
 //! # Ok::<(), lots::LotsError>(())
 //! ```
 //!
-//! The functions have the bodies of the crate `lots_core` in Rattle, whose contracts are proved;
-//! `sha256` and `reading` are written by hand. The program `lots` calls `run::run` and `run::report`, and
-//! nothing else.
+//! The functions have the bodies of the crate `lots_core` in Rattle, whose contracts are proved.
+//! `sha256` and `reading` are hand-written. The program `lots` only calls `run::run` and
+//! `run::report`.
 //!
-//! The feature `std`, on by default, has `entrants_of`, `run` and the program. Without it the crate is
-//! `no_std`, and allocates nothing.
+//! The feature `std`, on by default, adds `entrants_of`, `run` and the program. Without it the
+//! crate is `no_std`, and allocates nothing.
 #![cfg_attr(not(feature = "std"), no_std)]
 #![forbid(unsafe_code)]
 

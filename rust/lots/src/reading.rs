@@ -1,9 +1,9 @@
-//! Reading to the end, where a refused allocation is an error.
+//! Reads to the end of a reader, and returns an error if an allocation fails.
 
 use std::io::{ErrorKind, Read, Result};
 
-/// Appends all bytes of the reader to the list, as the reader's own `read_to_end` does, which in older
-/// versions of std ends the process if memory is refused.
+/// Appends all bytes of the reader to the list. The reader's own `read_to_end` does the same, but
+/// in older versions of std it aborts the process if an allocation fails.
 pub fn read_to_end<R: Read>(input: &mut R, list: &mut Vec<u8>) -> Result<usize> {
     let mut piece = [0; 16384];
     let before = list.len();

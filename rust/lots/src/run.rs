@@ -1,4 +1,4 @@
-//! The whole run: from the arguments and the list to the text that is written.
+//! The whole run, from the arguments and the list to the text that is written.
 
 use crate::arguments::{read, Request};
 use crate::draws::draw;
@@ -7,7 +7,7 @@ use crate::error::LotsError;
 use crate::text::text_of;
 use std::io::{ErrorKind, Read, Write};
 
-/// All bytes of the reader.
+/// Returns all bytes of the reader.
 fn read_list<R: Read>(input: &mut R) -> Result<Vec<u8>, LotsError> {
     let mut list = Vec::new();
     match crate::reading::read_to_end(input, &mut list) {
@@ -17,7 +17,7 @@ fn read_list<R: Read>(input: &mut R) -> Result<Vec<u8>, LotsError> {
     }
 }
 
-/// The text of the selection that the request makes from the list, or why there is none.
+/// Returns the text of the selection that the request makes from the list, or the error.
 fn select(request: &Request<'_>, list: &[u8]) -> Result<Vec<u8>, LotsError> {
     let mut entrants = entrants_of(list)?;
     let count = request.count.among(entrants.len());
@@ -25,15 +25,15 @@ fn select(request: &Request<'_>, list: &[u8]) -> Result<Vec<u8>, LotsError> {
     Ok(text_of(&entrants[..count])?)
 }
 
-/// Draws what the arguments ask for from the list that `input` has, and writes it to `out`, all at
-/// once, and then flushes. The arguments are those after the name of the program.
+/// Draws what the arguments ask for from the list that `input` provides, writes the selection to
+/// `out`, all at once, and then flushes. The arguments do not include the name of the program.
 ///
 /// Everything is read and drawn before anything is written.
 ///
 /// # Errors
 ///
-/// It returns an error for each reason that its type names. With `Write`, how much of the text
-/// `out` took is unspecified. With any other, nothing was written.
+/// Returns the errors that [`LotsError`] lists. After `Write`, how much of the text `out` accepted
+/// is unspecified. After any other error, nothing was written.
 pub fn run<R: Read, W: Write>(
     arguments: &[String],
     input: &mut R,
@@ -46,8 +46,8 @@ pub fn run<R: Read, W: Write>(
     out.flush().map_err(|_| LotsError::Write)
 }
 
-/// Returns the exit status of an outcome, and writes an error as one line to `err`. A failure to
-/// write that line is ignored.
+/// Returns the exit status of a result. If the result is an error, it is written as one line to
+/// `err`; a failure to write that line is ignored.
 pub fn report<W: Write>(outcome: Result<(), LotsError>, err: &mut W) -> u8 {
     let error = if let Err(error) = outcome {
         error

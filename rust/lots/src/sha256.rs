@@ -1,16 +1,16 @@
-//! SHA-256, as FIPS 180-4 defines it: a text, ended so that it fills whole blocks, changes a state of
-//! eight words, a block at a time.
+//! SHA-256, as FIPS 180-4 defines it. The text is padded to whole blocks of 64 bytes, and each
+//! block changes a state of eight 32-bit words.
 //!
-//! Letters `a` to `h` are the words of a state, as in the standard's section 6.2.
+//! The letters `a` to `h` are the words of a state, as in section 6.2 of the standard.
 
-/// The bytes of a block.
+/// The number of bytes of a block.
 const BLOCK: usize = 64;
 
-/// The bytes at the end of the last block that hold the text's length in bits.
+/// The number of bytes at the end of the last block that hold the length of the text in bits.
 const LENGTH: usize = 8;
 
-/// The state before the first block: the first 32 bits after the point of the square roots of the first
-/// eight primes.
+/// The state before the first block: the first 32 bits of the fractional parts of the square roots
+/// of the first eight primes.
 const START: [u32; 8] = [
     0x6a09_e667,
     0xbb67_ae85,
@@ -22,7 +22,8 @@ const START: [u32; 8] = [
     0x5be0_cd19,
 ];
 
-/// What each round adds: the first 32 bits after the point of the cube roots of the first 64 primes.
+/// The constants of the rounds: the first 32 bits of the fractional parts of the cube roots of the
+/// first 64 primes.
 #[rustfmt::skip]
 const ROUNDS: [u32; 64] = [
     0x428a_2f98, 0x7137_4491, 0xb5c0_fbcf, 0xe9b5_dba5, 0x3956_c25b, 0x59f1_11f1, 0x923f_82a4, 0xab1c_5ed5,
@@ -35,7 +36,7 @@ const ROUNDS: [u32; 64] = [
     0x748f_82ee, 0x78a5_636f, 0x84c8_7814, 0x8cc7_0208, 0x90be_fffa, 0xa450_6ceb, 0xbef9_a3f7, 0xc671_78f2,
 ];
 
-/// The SHA-256 of a text.
+/// Returns the SHA-256 of a text.
 #[must_use]
 pub fn digest(text: &[u8]) -> [u8; 32] {
     let whole = text.chunks_exact(BLOCK);
@@ -47,8 +48,8 @@ pub fn digest(text: &[u8]) -> [u8; 32] {
     bytes_of(state)
 }
 
-/// What follows the whole blocks of a text: its `rest`, a bit 1, bits 0, and its length in bits. That is
-/// one block or two; their bytes are counted beside them.
+/// Returns the padding after the whole blocks of a text: its `rest`, a 1 bit, 0 bits, and its
+/// length in bits. It is one block or two; the number of their bytes is returned with them.
 fn ending(rest: &[u8], length: usize) -> ([u8; 2 * BLOCK], usize) {
     let mut end = [0; 2 * BLOCK];
     end[..rest.len()].copy_from_slice(rest);
@@ -60,7 +61,7 @@ fn ending(rest: &[u8], length: usize) -> ([u8; 2 * BLOCK], usize) {
     (end, size)
 }
 
-/// The state after a block.
+/// Returns the state after a block.
 fn after_block(state: [u32; 8], block: &[u8]) -> [u32; 8] {
     let mut mixed = state;
     for (word, constant) in schedule(block).into_iter().zip(ROUNDS) {
@@ -69,7 +70,8 @@ fn after_block(state: [u32; 8], block: &[u8]) -> [u32; 8] {
     sums(state, mixed)
 }
 
-/// The word that each round takes: the sixteen of the block, and then those that follow from them.
+/// Returns the words of the rounds (the message schedule): the sixteen words of the block, and then
+/// those derived from them.
 fn schedule(block: &[u8]) -> [u32; 64] {
     let mut words = [0; 64];
     words[..16].copy_from_slice(&words_of(block));
@@ -84,7 +86,7 @@ fn schedule(block: &[u8]) -> [u32; 64] {
     words
 }
 
-/// The words of a block, greatest byte first.
+/// Returns the words of a block, in big-endian order.
 fn words_of(block: &[u8]) -> [u32; 16] {
     let mut words = [0; 16];
     for (word, bytes) in words.iter_mut().zip(block.chunks_exact(4)) {
@@ -93,7 +95,7 @@ fn words_of(block: &[u8]) -> [u32; 16] {
     words
 }
 
-/// The state after one round, where `added` is the sum of the round's word and its constant.
+/// Returns the state after one round. `added` is the sum of the round's word and its constant.
 #[allow(clippy::many_single_char_names)]
 fn round([a, b, c, d, e, f, g, h]: [u32; 8], added: u32) -> [u32; 8] {
     let choice = (e & f) ^ (!e & g);
@@ -108,7 +110,7 @@ fn round([a, b, c, d, e, f, g, h]: [u32; 8], added: u32) -> [u32; 8] {
     [new_a, a, b, c, new_e, e, f, g]
 }
 
-/// The sums of the words of two states.
+/// Adds the words of two states.
 fn sums(mut state: [u32; 8], other: [u32; 8]) -> [u32; 8] {
     for (word, added) in state.iter_mut().zip(other) {
         *word = word.wrapping_add(added);
@@ -116,7 +118,7 @@ fn sums(mut state: [u32; 8], other: [u32; 8]) -> [u32; 8] {
     state
 }
 
-/// The bytes of a state, greatest first.
+/// Returns the bytes of a state, in big-endian order.
 fn bytes_of(state: [u32; 8]) -> [u8; 32] {
     let mut bytes = [0; 32];
     for (place, word) in bytes.chunks_exact_mut(4).zip(state) {
@@ -129,7 +131,7 @@ fn bytes_of(state: [u32; 8]) -> [u8; 32] {
 mod tests {
     use super::{ending, LENGTH};
 
-    /// A text of any length ends with its number of bits, which may be 2^32 and more.
+    /// A text of any length ends with its length in bits, which may be 2^32 or more.
     #[test]
     fn lengths() {
         for power in 6..usize::BITS.min(61) {

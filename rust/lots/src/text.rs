@@ -1,10 +1,10 @@
 //! The text of the entrants drawn.
 
-/// The text of the lines, each ended by a line feed.
+/// Returns the text of the lines, each ended by a line feed.
 ///
 /// # Errors
 ///
-/// It returns an error if memory is refused.
+/// Returns an error if an allocation fails.
 pub fn text_of(lines: &[&[u8]]) -> Result<Vec<u8>, std::collections::TryReserveError> {
     let mut text = Vec::new();
     for line in lines {

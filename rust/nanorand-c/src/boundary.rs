@@ -1,40 +1,43 @@
-//! What the compiler cannot check, as C has it: where an array lies, and how the process ends. All unsafe code
-//! of the library is here.
+//! What the compiler cannot check, since C is responsible for it: where an array lies, and how the
+//! process ends. All unsafe code of the library is in this file.
 
 use core::marker::PhantomData;
 use core::slice;
 
-/// An array of C that a call reads, whose length is another parameter. Without items it may be null.
+/// A C array that a call reads. Its length is another parameter. It may be null if it has no items.
 #[repr(transparent)]
 pub struct Array<'a, T>(*const T, PhantomData<&'a [T]>);
 
-/// An array of C that a call writes, whose length is another parameter. Without items it may be null.
+/// A C array that a call writes. Its length is another parameter. It may be null if it has no
+/// items.
 #[repr(transparent)]
 pub struct ArrayMut<'a, T>(*mut T, PhantomData<&'a mut [T]>);
 
 impl<'a, T> Array<'a, T> {
-    /// The items, as many as C says.
+    /// Returns the items as a slice of the length that the C caller states.
     pub fn items(self, length: usize) -> &'a [T] {
         if length == 0 {
             return &[];
         }
-        // SAFETY: C alone makes an `Array`. By the header so many items lie there, and stay until the call ends.
+        // SAFETY: only C creates an `Array`. By the header, `length` items are there, and stay
+        // until the call ends.
         unsafe { slice::from_raw_parts(self.0, length) }
     }
 }
 
 impl<'a, T> ArrayMut<'a, T> {
-    /// The items, as many as C says.
+    /// Returns the items as a slice of the length that the C caller states.
     pub fn items(self, length: usize) -> &'a mut [T] {
         if length == 0 {
             return &mut [];
         }
-        // SAFETY: as above, and by the header nothing else that the call takes overlaps what it writes.
+        // SAFETY: as above, and by the header no other argument of the call overlaps what it
+        // writes.
         unsafe { slice::from_raw_parts_mut(self.0, length) }
     }
 }
 
-/// A panic would be a bug of the library. It ends the process at once: C cannot catch it.
+/// A panic would be a bug of the library. It aborts the process, since C cannot catch it.
 #[cfg(not(any(test, target_family = "wasm")))]
 #[panic_handler]
 fn end(_: &core::panic::PanicInfo) -> ! {
@@ -42,11 +45,11 @@ fn end(_: &core::panic::PanicInfo) -> ! {
     extern "C" {
         fn abort() -> !;
     }
-    // SAFETY: C's `abort` asks for nothing.
+    // SAFETY: `abort` of C has no preconditions.
     unsafe { abort() }
 }
 
-/// WebAssembly alone has no C library: a panic ends the call, and the page sees an error.
+/// WebAssembly has no C library: a panic ends the call, and the page sees an error.
 #[cfg(all(not(test), target_family = "wasm"))]
 #[panic_handler]
 fn end(_: &core::panic::PanicInfo) -> ! {

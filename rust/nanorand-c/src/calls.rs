@@ -1,18 +1,18 @@
-//! The ten calls that every generator has, and that of parts: the body of each, and the exports that a generator has
-//! of them.
+//! The ten functions that every generator has, and the function of parts: their bodies, and the
+//! macros that export them for a generator.
 
 use nanorand_proved::{samples, shuffles, Parts, PastPeriod, RandomRange, RangeError, Rng};
 
-/// Memory of C that holds the state of a generator.
+/// C memory that holds the state of a generator.
 pub trait State<const OUTPUT: usize> {
-    /// What draws from this state.
+    /// The generator that draws from this state.
     type Generator: Rng<OUTPUT>;
 
-    /// Makes a call of the generator in this state, and keeps the state that the call leaves.
+    /// Runs a closure on the generator in this state, and stores the state that it leaves.
     fn call<T>(&mut self, call: impl FnOnce(&mut Self::Generator) -> T) -> T;
 }
 
-/// `NANORAND_OK`, `NANORAND_EMPTY` or `NANORAND_EXHAUSTED`.
+/// Returns `NANORAND_OK`, `NANORAND_EMPTY` or `NANORAND_EXHAUSTED`.
 fn status(outcome: Result<(), RangeError>) -> u8 {
     match outcome {
         Ok(()) => 0,
@@ -60,8 +60,8 @@ pub fn sample<S: State<N>, const N: usize>(
     }))
 }
 
-/// Draws the places behind those that stand. `NANORAND_EMPTY`, and nothing is drawn, for more places than numbers or
-/// fewer than stand.
+/// Fills the places after the first `filled` ones. Returns `NANORAND_EMPTY`, and draws nothing, if
+/// there are more places than numbers, or if `filled` exceeds the number of places.
 pub fn extend_sample<S: State<N>, const N: usize>(
     state: &mut S,
     count: usize,
@@ -78,7 +78,8 @@ pub fn extend_sample<S: State<N>, const N: usize>(
     }))
 }
 
-/// Moves to the beginning of the part. `NANORAND_OK`, or `NANORAND_PAST_PERIOD`, and nothing moves.
+/// Moves the state to the beginning of the part and returns `NANORAND_OK`. Returns
+/// `NANORAND_PAST_PERIOD`, and changes nothing, if the part ends beyond the period.
 pub fn part<S, const N: usize>(state: &mut S, index: u64, draws: u64) -> u8
 where
     S: State<N>,
@@ -90,8 +91,8 @@ where
     }
 }
 
-/// Exports the ten calls of a generator, by its name in C and the type of its state. They stand in a block of
-/// their own, as those of the next generator have the same names.
+/// Exports the ten functions of a generator, given its name in C and the type of its state. They
+/// are in a block of their own, since the functions of the next generator have the same names.
 macro_rules! export_calls {
     ($generator:literal, $state:ty) => {
         const _: () = {
@@ -189,7 +190,7 @@ macro_rules! export_calls {
     };
 }
 
-/// Exports the call of parts, of a generator that has it.
+/// Exports the function of parts, for a generator that has it.
 macro_rules! export_part {
     ($generator:literal, $state:ty) => {
         const _: () = {
@@ -205,7 +206,7 @@ macro_rules! export_part {
 mod tests {
     use super::*;
 
-    /// Its words are 0, which is in no run of a range of three numbers.
+    /// A generator whose words are all 0. The word 0 is rejected for a range of three numbers.
     struct Zeros;
 
     impl Rng<8> for Zeros {

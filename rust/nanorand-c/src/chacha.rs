@@ -3,7 +3,7 @@
 use crate::calls::State;
 use nanorand_proved::{ChaCha, Rng};
 
-/// A generator: its key, its nonce, and the number of its next block.
+/// A generator: its key, its nonce, and the index of its next block.
 #[repr(C)]
 pub struct ChaChaState<const ROUNDS: u8> {
     pub key: [u8; 32],
@@ -12,7 +12,7 @@ pub struct ChaChaState<const ROUNDS: u8> {
 }
 
 impl<const ROUNDS: u8> ChaChaState<ROUNDS> {
-    /// The state of a number, at its first block.
+    /// Returns the state that is made from a number, at its first block.
     pub fn seed_from_u64(number: u64) -> Self {
         let rng = ChaCha::<ROUNDS>::seed_from_u64(number);
         ChaChaState {
@@ -26,7 +26,7 @@ impl<const ROUNDS: u8> ChaChaState<ROUNDS> {
 impl<const ROUNDS: u8> State<64> for ChaChaState<ROUNDS> {
     type Generator = ChaCha<ROUNDS>;
 
-    /// No call changes the key or the nonce.
+    /// Only the counter is stored back: no call changes the key or the nonce.
     fn call<T>(&mut self, call: impl FnOnce(&mut ChaCha<ROUNDS>) -> T) -> T {
         let mut rng = ChaCha::at(self.key, self.nonce, self.counter);
         let result = call(&mut rng);

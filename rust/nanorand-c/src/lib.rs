@@ -1,7 +1,9 @@
-//! The C library that `c/include/nanorand.h` declares, over the crates `nanorand-proved` and `lots`.
+//! The C library that `c/include/nanorand.h` declares, on top of the crates `nanorand-proved` and
+//! `lots`.
 //!
-//! Each export does what the proved one of the same name in `crates/nanorand_c` does, and the header says what that
-//! is. The state of a generator is the caller's memory, lent for the call. Nothing is allocated.
+//! Each exported function does what the proved function of the same name in `crates/nanorand_c`
+//! does; the header documents it. The state of a generator is the caller's memory, borrowed for the
+//! call. Nothing is allocated.
 #![cfg_attr(not(test), no_std)]
 
 mod boundary;
@@ -13,7 +15,8 @@ mod pcg64;
 mod stream;
 mod wyrand;
 
-/// 10000 times the major number of the version, and 100 times the minor one, and the patch.
+/// Returns the version: 10000 times the major number, plus 100 times the minor number, plus the
+/// patch number.
 #[no_mangle]
 extern "C" fn nanorand_v1_version() -> u32 {
     10000

@@ -1,10 +1,10 @@
-//! The draw by lot, over memory of C.
+//! The draw by lot, on C memory.
 
 use crate::boundary::{Array, ArrayMut};
 use core::str;
 use lots::LotsError;
 
-/// The status of an outcome: `NANORAND_OK`, or that of the program `lots`.
+/// Returns the status of a result: `NANORAND_OK`, or the exit status of the program `lots`.
 fn status<T>(outcome: Result<T, LotsError>) -> u8 {
     outcome.map_or_else(LotsError::status, |_| 0)
 }

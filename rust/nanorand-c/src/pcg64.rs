@@ -15,7 +15,7 @@ impl Wide {
         u128::from(self.low) | u128::from(self.high) << 64
     }
 
-    #[allow(clippy::cast_possible_truncation)] // The low half is what stays.
+    #[allow(clippy::cast_possible_truncation)] // Only the low half is kept.
     fn split(number: u128) -> Wide {
         Wide {
             low: number as u64,

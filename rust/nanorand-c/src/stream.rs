@@ -1,17 +1,18 @@
-//! The keystream of ChaCha with 20 rounds without a gap, by single blocks or by groups of eight.
+//! The keystream of ChaCha with 20 rounds as one unbroken stream, computed by single blocks or by
+//! groups of eight blocks.
 
 use crate::calls::State;
 use crate::chacha::ChaChaState;
 use nanorand_proved::{BufferedRng, ChaCha20Stream, ChaChaGroups, Parts, PastPeriod, Rng};
 
-/// A generator of groups: its key, its nonce, and the number of the first block of its next group.
+/// A generator of groups: its key, its nonce, and the index of the first block of its next group.
 #[repr(transparent)]
 pub struct Groups(ChaChaState<20>);
 
 impl State<512> for Groups {
     type Generator = ChaChaGroups<20>;
 
-    /// No call changes the key or the nonce.
+    /// Only the counter is stored back: no call changes the key or the nonce.
     fn call<T>(&mut self, call: impl FnOnce(&mut ChaChaGroups<20>) -> T) -> T {
         let mut rng = ChaChaGroups::at(self.0.key, self.0.nonce, self.0.counter);
         let result = call(&mut rng);
@@ -29,13 +30,13 @@ pub struct Gapless<C, const OUTPUT: usize> {
 }
 
 impl<C: State<OUTPUT>, const OUTPUT: usize> Gapless<C, OUTPUT> {
-    /// Where the buffered bytes begin. They are fewer than the block has.
+    /// Returns where the buffered bytes begin. They are always fewer than a block.
     #[allow(clippy::cast_possible_truncation)]
     fn start(&self) -> usize {
         OUTPUT - self.buffered as usize
     }
 
-    /// Fills the buffer as a `BufferedRng` in this state does, and keeps the state that it leaves.
+    /// Fills the buffer as a `BufferedRng` in this state does, and stores the state that it leaves.
     #[inline(never)]
     fn deliver(&mut self, buffer: &mut [u8]) {
         let start = self.start();
@@ -57,7 +58,7 @@ impl<C: State<OUTPUT>, const OUTPUT: usize> Rng<OUTPUT> for Gapless<C, OUTPUT> {
         block
     }
 
-    /// A request that the buffered bytes serve makes no generator.
+    /// If the buffered bytes are enough for the request, no generator is created.
     #[inline]
     fn fill_bytes(&mut self, buffer: &mut [u8]) {
         let rest = &self.block[self.start()..];
@@ -73,7 +74,8 @@ impl<C: State<OUTPUT>, const OUTPUT: usize> Rng<OUTPUT> for Gapless<C, OUTPUT> {
 impl<C: State<OUTPUT>, const OUTPUT: usize> State<OUTPUT> for Gapless<C, OUTPUT> {
     type Generator = Self;
 
-    /// A number of buffered bytes that no call leaves counts as the greatest that one leaves.
+    /// A `buffered` count above the greatest that a call can leave, which is `OUTPUT - 1`, is
+    /// clamped to it.
     fn call<T>(&mut self, call: impl FnOnce(&mut Self) -> T) -> T {
         self.buffered = self.buffered.min(OUTPUT as u64 - 1);
         call(self)
@@ -84,7 +86,7 @@ type Stream = Gapless<ChaChaState<20>, 64>;
 type GroupStream = Gapless<Groups, 512>;
 
 impl Parts<512> for GroupStream {
-    /// What lies before the buffered bytes stays as it is.
+    /// The bytes of the block before the buffered ones are left as they are.
     fn part(&self, index: u64, draws: u64) -> Result<Self, PastPeriod> {
         let (chacha, mut block) = (&self.chacha.0, self.block);
         let groups = ChaChaGroups::at(chacha.key, chacha.nonce, chacha.counter);

@@ -1,9 +1,10 @@
-//! A generator of this crate as one of `nanorand_proved`, whose functions then draw from it.
+//! Adapts a generator of this crate to the traits of `nanorand_proved`, so that its functions draw
+//! from it.
 
 use crate::rand::Rng;
 use nanorand_proved as proved;
 
-/// A generator that is lent for one call. Each request is one of the generator itself.
+/// A generator, borrowed for one call. Each request is passed on to it.
 pub(crate) struct Lent<'a, G>(pub(crate) &'a mut G);
 
 impl<G: Rng<OUTPUT>, const OUTPUT: usize> proved::Rng<OUTPUT> for Lent<'_, G> {

@@ -1,4 +1,4 @@
-//! A generator that keeps the bytes that a request leaves over.
+//! A generator that buffers the bytes that a request leaves over.
 
 use crate::rand::{Rng, SeedableRng};
 use nanorand_proved as proved;
@@ -6,8 +6,8 @@ use nanorand_proved::{Rng as _, SeedableRng as _};
 #[cfg(feature = "std")]
 use std::io::{self, Read};
 
-/// A generator that delivers the blocks of another one as one stream, as
-/// [`nanorand_proved::BufferedRng`] says.
+/// A generator that delivers the blocks of another generator as one stream of bytes: see
+/// [`nanorand_proved::BufferedRng`].
 ///
 /// ```
 /// use nanorand::{BufferedRng, Rng, WyRand};
@@ -19,7 +19,7 @@ use std::io::{self, Read};
 #[derive(Clone)]
 pub struct BufferedRng<G: Rng<OUTPUT>, const OUTPUT: usize>(proved::BufferedRng<Owned<G>, OUTPUT>);
 
-/// A generator inside a proved buffer, which takes whole blocks alone.
+/// The inner generator, which the proved buffer asks for whole blocks only.
 #[derive(Clone)]
 struct Owned<G>(G);
 
@@ -31,17 +31,17 @@ impl<G: Rng<OUTPUT>, const OUTPUT: usize> proved::Rng<OUTPUT> for Owned<G> {
 }
 
 impl<G: Rng<OUTPUT>, const OUTPUT: usize> BufferedRng<G, OUTPUT> {
-    /// Wraps a generator. Nothing is buffered yet, and nothing is drawn.
+    /// Wraps a generator. The buffer is empty, and nothing is drawn.
     pub fn new(rng: G) -> Self {
         Self(proved::BufferedRng::new(Owned(rng)))
     }
 
-    /// The inner generator. The buffered bytes are dropped.
+    /// Returns the inner generator and drops the buffered bytes.
     pub fn into_inner(self) -> G {
         self.0.into_inner().0
     }
 
-    /// The number of buffered bytes.
+    /// Returns the number of buffered bytes.
     pub fn buffered(&self) -> usize {
         self.0.buffered()
     }
@@ -74,7 +74,8 @@ impl<G, const OUTPUT: usize, const SEED_SIZE: usize> SeedableRng<SEED_SIZE, OUTP
 where
     G: SeedableRng<SEED_SIZE, OUTPUT>,
 {
-    /// Seeds the inner generator anew. The buffered bytes stay, and are delivered first.
+    /// Reseeds the inner generator. The buffered bytes stay, and are delivered before the new
+    /// stream.
     fn reseed(&mut self, seed: [u8; SEED_SIZE]) {
         self.0.reseed(seed);
     }
@@ -86,19 +87,19 @@ impl<G: Rng<OUTPUT> + Default, const OUTPUT: usize> Default for BufferedRng<G, O
     }
 }
 
-/// The stream has no end: `read` fills the whole slice.
+/// The stream never ends: `read` fills the whole slice.
 #[cfg(feature = "std")]
 impl<G: Rng<OUTPUT>, const OUTPUT: usize> Read for BufferedRng<G, OUTPUT> {
     fn read(&mut self, output: &mut [u8]) -> io::Result<usize> {
         self.0.read(output)
     }
 
-    /// Appends the buffered bytes alone.
+    /// Appends only the buffered bytes.
     fn read_to_end(&mut self, output: &mut std::vec::Vec<u8>) -> io::Result<usize> {
         Read::read_to_end(&mut self.0, output)
     }
 
-    /// Always panics, as in `nanorand` 0.7.0: the stream has no end and is not text.
+    /// Always panics, as in `nanorand` 0.7.0, since the stream never ends and is not text.
     fn read_to_string(&mut self, _: &mut std::string::String) -> io::Result<usize> {
         panic!("{}", proved::buffer::TextRefused)
     }

@@ -1,8 +1,8 @@
-//! Random bytes from the system.
+//! Random bytes from the operating system.
 //!
-//! [`system`] is `linux::entropy`, `darwin::entropy`, `windows::entropy` or `windows_uwp::entropy` by the target: true
-//! if all bytes were filled. On other targets, and with the feature `getrandom`, it returns nothing and panics where
-//! there are none.
+//! Depending on the target, [`system`] is `linux::entropy`, `darwin::entropy`, `windows::entropy`
+//! or `windows_uwp::entropy`, which return true if all bytes were filled. On other targets, and
+//! with the feature `getrandom`, it returns nothing, and panics if there are no random bytes.
 
 mod source;
 
@@ -11,7 +11,8 @@ macro_rules! systems {
         #[doc = $text]
         #[cfg(all(not(feature = "getrandom"), $target))]
         pub mod $system {
-            /// Fills the slice from the system's source, and returns whether it could.
+            /// Fills the slice with random bytes from the operating system, and returns whether
+            /// this succeeded.
             pub fn entropy(out: &mut [u8]) -> bool {
                 super::source::fill(out)
             }
@@ -29,11 +30,11 @@ systems! {
     windows_uwp, "Windows' universal platform.", all(windows, target_vendor = "uwp");
 }
 
-/// Fills the slice from the system's source.
+/// Fills the slice with random bytes from the operating system.
 ///
 /// # Panics
 ///
-/// Panics if there is none.
+/// Panics if the system provides none.
 #[cfg(any(
     feature = "getrandom",
     not(any(
@@ -49,12 +50,13 @@ pub fn system(out: &mut [u8]) {
     }
 }
 
-/// Stands for the processor's instruction, which is not run: always `None`, and the slice is unchanged.
+/// Stands in for the instruction of the processor, which is never executed. Always returns `None`
+/// and leaves the slice unchanged.
 pub fn rdseed(out: &mut [u8]) -> Option<usize> {
     nanorand_proved::entropy::rdseed(out)
 }
 
-/// Stands for a source of last resort, of which there is none.
+/// Stands in for an entropy source of last resort. There is none.
 ///
 /// # Panics
 ///
@@ -63,12 +65,13 @@ pub fn backup(_: &mut [u8]) {
     panic!("no source of random bytes is available");
 }
 
-/// [`backup`], as 0.7.0 names it without the feature `std`.
+/// Calls [`backup`]. `nanorand` 0.7.0 has this name without the feature `std`.
 pub fn backup_entropy(out: &mut [u8]) {
     backup(out);
 }
 
-// The seed of a generator. One of zeros, as in nanorand 0.7.0 where the system gives none, could be guessed.
+// Returns the seed of a generator, and panics if the system provides none. nanorand 0.7.0 then uses
+// a seed of zeros, which can be guessed.
 #[cfg(any(feature = "wyrand", feature = "pcg64", feature = "chacha"))]
 pub(crate) fn system_seed<const SIZE: usize>() -> [u8; SIZE] {
     seed_from(source::fill)
@@ -97,7 +100,7 @@ mod tests {
         let _: [u8; 8] = seed_from(|_| false);
     }
 
-    /// Whatever part of the seed a source had written.
+    /// The result is a panic, whatever part of the seed the source had written.
     #[test]
     fn systems_that_fail_in_the_middle() {
         static WRITTEN: AtomicUsize = AtomicUsize::new(0);

@@ -1,14 +1,17 @@
-//! The calls of `nanorand` 0.7.0 over the proved generators, ranges and shuffles of [`nanorand_proved`].
+//! A drop-in replacement for `nanorand` 0.7.0, on top of the proved generators, ranges and shuffles
+//! of [`nanorand_proved`].
 //!
-//! It stands where a program asks for `nanorand` 0.7: the same names, the same numbers from the same seeds. Where
-//! 0.7.0 does otherwise than it documents, this crate does what is documented; its README lists each such call.
+//! Use it where a program depends on `nanorand` 0.7: it has the same names, and the same seeds
+//! produce the same numbers. Where 0.7.0 does not do what it documents, this crate does what is
+//! documented; its README lists each such function.
 //!
-//! **`WyRand` and `Pcg64` are not cryptographically secure.** Never draw a key, a token or a password from them.
-//! `ChaCha` was not audited and is not a vetted cryptographic generator either: for these, or where an adversary
-//! matters, take a vetted one.
+//! **`WyRand` and `Pcg64` are not cryptographically secure.** Never use them to generate a key, a
+//! token or a password. `ChaCha` has not been audited and is not a vetted cryptographic generator
+//! either. For keys, tokens and passwords, or if there is an adversary, use a vetted generator.
 //!
-//! **A seed of `WyRand` or `Pcg64` is the state itself, and is not mixed.** Generators with neighbouring seeds
-//! draw correlated numbers: `new_seed` says what to do.
+//! **A seed of `WyRand` or `Pcg64` is the state itself, and is not mixed.** Generators with
+//! neighbouring seeds draw correlated numbers; the documentation of `new_seed` says what to do
+//! instead.
 //!
 //! ```
 //! use nanorand::{Rng, WyRand};
@@ -24,13 +27,15 @@
 //!
 //! # Features
 //!
-//! * `std` (default): the generators' seeds from the system by `nanorand_proved`, and [`std::io::Read`] of a buffer.
-//! * `alloc` (by `std`): [`BufferedRng`].
-//! * `tls` (default): [`tls_rng`]. It asks for `std` and `wyrand`.
+//! * `std` (default): the generators take their seeds from the system by `nanorand_proved`, and a
+//!   buffer implements [`std::io::Read`].
+//! * `alloc` (enabled by `std`): [`BufferedRng`].
+//! * `tls` (default): [`tls_rng`]. It requires `std` and `wyrand`.
 //! * `wyrand`, `pcg64`, `chacha` (default): the generators.
-//! * `getrandom`: the system's seeds come from the crate `getrandom`.
-//! * `zeroize`: the generators are `Zeroize`, and wipe their state when they are dropped.
-//! * `rdseed`: nothing. The instruction is never run; [`entropy::rdseed`] is always `None`.
+//! * `getrandom`: the seeds from the system come from the crate `getrandom`.
+//! * `zeroize`: the generators implement `Zeroize`, and wipe their state when they are dropped.
+//! * `rdseed`: has no effect. The instruction is never executed; [`entropy::rdseed`] always returns
+//!   `None`.
 #![no_std]
 #![cfg_attr(feature = "std", forbid(unsafe_code))]
 #![cfg_attr(not(feature = "std"), deny(unsafe_code))]

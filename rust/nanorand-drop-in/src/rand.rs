@@ -25,28 +25,28 @@ pub use pcg64::Pcg64;
 #[cfg(feature = "wyrand")]
 pub use wyrand::WyRand;
 
-/// A generator of random values, by blocks of `OUTPUT` bytes.
+/// A random generator that produces blocks of `OUTPUT` bytes.
 ///
-/// A generator of your own writes `rand` alone. `OUTPUT` is at least 1: a request of a generator whose blocks have no
-/// byte does not compile.
+/// `OUTPUT` is the number of bytes of a block. It must be at least 1: requests to a generator with
+/// blocks of 0 bytes do not compile. To write your own generator, implement `rand`.
 pub trait Rng<const OUTPUT: usize>: Clone {
     /// Draws the next block.
     fn rand(&mut self) -> [u8; OUTPUT];
 
-    /// Draws a value, as [`RandomGen`] says for its type.
+    /// Draws a value of a type, as [`RandomGen`] describes.
     #[inline]
     fn generate<T: RandomGen<Self, OUTPUT>>(&mut self) -> T {
         T::random(self)
     }
 
-    /// Fills the bytes from the next blocks. What is left of the last block is dropped.
+    /// Fills the slice with the next blocks. What is left of the last block is dropped.
     #[inline]
     fn fill_bytes<Bytes: AsMut<[u8]>>(&mut self, mut buffer: Bytes) {
         fill_by_blocks(&mut Lent(self), buffer.as_mut());
     }
 
-    /// Fills the items with values, drawn one after another. For bytes call `fill_bytes`: this draws a block for
-    /// each byte.
+    /// Fills the slice with values, drawn one after another. To fill a slice of bytes, call
+    /// `fill_bytes`: `fill` draws a block for each byte.
     #[inline]
     fn fill<T, Items>(&mut self, mut target: Items)
     where
@@ -58,11 +58,12 @@ pub trait Rng<const OUTPUT: usize>: Clone {
         }
     }
 
-    /// Draws a number of the range. Each is named by equally many words.
+    /// Draws a number from the range. Each number is produced by the same number of words (random
+    /// integers of the type's width).
     ///
     /// # Panics
     ///
-    /// Panics if the range contains no number, and if 128 words in a row were rejected, which happens with
+    /// Panics if the range is empty, or if 128 words in a row were rejected, which happens with
     /// probability below 10^-38. These words stay consumed.
     #[inline]
     #[track_caller]
@@ -74,15 +75,16 @@ pub trait Rng<const OUTPUT: usize>: Clone {
         T::random_range(self, range)
     }
 
-    /// Shuffles the items: swaps each, from the first on, with the one at an index drawn from all indices.
+    /// Shuffles the items: for each index, from 0 up, swaps the item there with the one at an index
+    /// drawn from the whole slice.
     ///
-    /// Several lists of indices make the same order, so the orders are not equally likely, as in `nanorand` 0.7.0.
-    /// [`nanorand_proved::Rng::shuffle`] is exactly fair.
+    /// As in `nanorand` 0.7.0, several lists of indices produce the same permutation, so the
+    /// permutations are not equally likely. [`nanorand_proved::Rng::shuffle`] is unbiased.
     ///
     /// # Panics
     ///
-    /// Panics if 128 words in a row were rejected for one index. The swaps before that stay, and the words stay
-    /// consumed.
+    /// Panics if 128 words in a row were rejected for one index. The swaps before that stay, and
+    /// the words stay consumed.
     #[inline]
     #[track_caller]
     fn shuffle<T, Items: AsMut<[T]>>(&mut self, mut target: Items) {
@@ -97,8 +99,9 @@ fn refused(error: RangeError) -> ! {
     panic!("{error}")
 }
 
-/// A generator that can be seeded anew from bytes.
+/// A generator that can be reseeded from `SEED_SIZE` bytes. `OUTPUT` is the number of bytes of a
+/// block.
 pub trait SeedableRng<const SEED_SIZE: usize, const OUTPUT: usize>: Rng<OUTPUT> {
-    /// Seeds the generator anew from these bytes.
+    /// Reseeds the generator with these bytes.
     fn reseed(&mut self, seed: [u8; SEED_SIZE]);
 }

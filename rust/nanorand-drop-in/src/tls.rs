@@ -1,4 +1,4 @@
-//! A generator of the thread.
+//! The generator of the current thread.
 
 use crate::rand::{Rng, SeedableRng, WyRand};
 use core::cell::RefCell;
@@ -8,7 +8,7 @@ std::thread_local! {
     static OF_THE_THREAD: TlsWyRand = TlsWyRand(Rc::new(RefCell::new(WyRand::new())));
 }
 
-/// The generator of a thread. All of one thread are the same generator.
+/// A handle to the generator of a thread. All handles of one thread refer to the same generator.
 #[derive(Clone)]
 #[doc(hidden)]
 pub struct TlsWyRand(Rc<RefCell<WyRand>>);
@@ -26,9 +26,9 @@ impl SeedableRng<8, 8> for TlsWyRand {
     }
 }
 
-/// The thread's [`WyRand`], which the first call seeds from the system.
+/// Returns the thread's [`WyRand`]. The first call in a thread seeds it from the operating system.
 ///
-/// It stays in its thread:
+/// The handle cannot leave its thread:
 ///
 /// ```compile_fail
 /// let rng = nanorand::tls_rng();
@@ -37,7 +37,7 @@ impl SeedableRng<8, 8> for TlsWyRand {
 ///
 /// # Panics
 ///
-/// The first call in a thread panics if the system gives no seed.
+/// The first call in a thread panics if the system provides no seed.
 #[must_use]
 pub fn tls_rng() -> TlsWyRand {
     OF_THE_THREAD.with(TlsWyRand::clone)

@@ -1,18 +1,19 @@
-//! Which standard streams were closed when the program started. On Linux this is found out; elsewhere they
-//! count as open, and what std has put in their place is empty or takes everything.
+//! Finds out which standard streams were closed when the program started. This works on Linux only.
+//! Elsewhere the streams count as open, and std replaces a closed stream by one that is empty or
+//! accepts everything.
 
 use std::io::{stdin, stdout};
 use std::os::unix::io::AsFd;
 use std::sync::atomic::{AtomicBool, Ordering};
 
-/// The number of the error of a descriptor that is not open.
+/// The error number for a descriptor that is not open.
 const EBADF: i32 = 9;
 
 pub static INPUT_CLOSED: AtomicBool = AtomicBool::new(false);
 pub static OUTPUT_CLOSED: AtomicBool = AtomicBool::new(false);
 
-/// Before `main` std opens `/dev/null` in place of a closed stream. The loader calls the functions of this
-/// section before that.
+/// Before `main`, std opens `/dev/null` in place of a closed stream. The loader calls the functions
+/// in this section before that.
 #[used]
 #[cfg_attr(target_os = "linux", link_section = ".init_array")]
 static BEFORE_STD: extern "C" fn() = find_out;

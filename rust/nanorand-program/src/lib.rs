@@ -1,7 +1,8 @@
-//! What a program has from the system: its arguments, and standard streams whose failures are errors.
+//! What a program gets from the operating system: its arguments, and standard streams whose
+//! failures are errors.
 //!
-//! std takes a standard stream that is closed, or open the other way, for one that is empty or takes
-//! everything. A program would end with success then, and what it wrote would be lost.
+//! std treats a standard stream that is closed, or open in the other direction only, as one that is
+//! empty or accepts everything. A program would then end with success although its output was lost.
 
 #[cfg(unix)]
 mod at_start;
@@ -18,21 +19,21 @@ use std::ffi::OsString;
 #[doc = include_str!("../README.md")]
 struct Readme;
 
-/// The arguments after the name of the program, or `None` if one of them is not UTF-8.
+/// Returns the arguments after the name of the program, or `None` if one of them is not UTF-8.
 #[must_use]
 pub fn arguments() -> Option<Vec<String>> {
     let texts = env::args_os().skip(1).map(OsString::into_string);
     texts.collect::<Result<_, _>>().ok()
 }
 
-/// Standard input.
+/// Returns standard input.
 #[cfg(not(unix))]
 #[must_use]
 pub fn input() -> std::io::Stdin {
     std::io::stdin()
 }
 
-/// Standard output.
+/// Returns standard output.
 #[cfg(not(unix))]
 #[must_use]
 pub fn output() -> std::io::Stdout {

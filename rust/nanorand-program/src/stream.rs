@@ -1,4 +1,4 @@
-//! Standard streams as files, over copies of their descriptors.
+//! The standard streams as files, on copies of their descriptors.
 
 use crate::at_start::{INPUT_CLOSED, OUTPUT_CLOSED};
 use std::fs::File;
@@ -6,18 +6,19 @@ use std::io::{stdin, stdout, ErrorKind, Read, Result, Write};
 use std::os::unix::io::AsFd;
 use std::sync::atomic::{AtomicBool, Ordering};
 
-/// A standard stream. Each call goes to the system: nothing is buffered. A stream that was closed when the
-/// program started fails.
+/// A standard stream. Nothing is buffered: each read or write is a system call, and `flush` does
+/// nothing. Reads and writes return an error if the stream was closed when the program started, or
+/// if its descriptor could not be duplicated.
 #[derive(Debug)]
 pub struct Stream(Option<File>);
 
-/// Standard input.
+/// Returns standard input.
 #[must_use]
 pub fn input() -> Stream {
     Stream::of(&stdin(), &INPUT_CLOSED)
 }
 
-/// Standard output.
+/// Returns standard output.
 #[must_use]
 pub fn output() -> Stream {
     Stream::of(&stdout(), &OUTPUT_CLOSED)
@@ -60,8 +61,9 @@ mod tests {
     use std::os::unix::net::UnixStream;
     use std::sync::{Mutex, MutexGuard, PoisonError};
 
-    /// The tests take turns: a process that one begins has the open pipes of all until it runs its program, and
-    /// one stops this whole process, which interrupts the calls of all.
+    /// Makes the tests run one at a time. A process that one test starts holds the open pipes of
+    /// all tests until it runs its program. Another test stops this whole process, which interrupts
+    /// the calls of all tests.
     pub(super) fn turn() -> MutexGuard<'static, ()> {
         static TURN: Mutex<()> = Mutex::new(());
         TURN.lock().unwrap_or_else(PoisonError::into_inner)
@@ -124,7 +126,7 @@ mod tests {
     }
 }
 
-/// The errors of the system's calls, as Linux has them.
+/// The errors of the system calls, as Linux returns them.
 #[cfg(all(test, target_os = "linux"))]
 mod tests_of_errors {
     use super::tests::turn;
@@ -137,7 +139,8 @@ mod tests_of_errors {
     use std::time::Duration;
     use std::{env, fs, process};
 
-    /// The error of a call of a new stream over the descriptor, whose flush is none.
+    /// Returns the error of a call on a new stream over the descriptor, and checks that a flush
+    /// succeeds.
     fn fails(descriptor: &impl AsFd, call: fn(&mut Stream) -> Result<usize>) -> Error {
         let mut stream = Stream::of(descriptor, &AtomicBool::new(false));
         let error = call(&mut stream).unwrap_err();
@@ -153,7 +156,8 @@ mod tests_of_errors {
         fails(descriptor, |stream| stream.write(b"a"))
     }
 
-    /// Bytes end where the far end is dropped, unless it had not read all of its own.
+    /// Reading ends when the far end is dropped, or fails once if the far end had not read all
+    /// bytes sent to it.
     #[test]
     fn a_stream_whose_far_end_is_dropped_ends_or_is_reset() {
         let _turn = turn();
@@ -171,7 +175,8 @@ mod tests_of_errors {
         }
     }
 
-    /// A process of its own, which may have eight descriptors, runs this test alone, and holds all that are left.
+    /// Runs this test alone in a process of its own, which may have eight descriptors, and opens
+    /// all that are left.
     #[test]
     fn a_stream_that_cannot_be_copied_fails() {
         const FEW: &str = "NANORAND_FEW_DESCRIPTORS";
@@ -225,7 +230,7 @@ mod tests_of_errors {
         }
     }
 
-    /// Errors whose kinds the oldest compiler does not name, by their numbers.
+    /// Errors whose kinds the oldest supported compiler does not name, by their numbers.
     #[test]
     fn a_file_that_cannot_be_read_or_written_fails() {
         let _turn = turn();
@@ -240,9 +245,9 @@ mod tests_of_errors {
         assert_eq!(write_fails(&folder).raw_os_error(), Some(9)); // EBADF: open for reading
         let write_only = File::options().write(true).open("/dev/null").unwrap();
         assert_eq!(read_fails(&write_only).raw_os_error(), Some(9));
-        let setting = open("/proc/self/oom_score_adj"); // takes numbers alone
+        let setting = open("/proc/self/oom_score_adj"); // accepts numbers only
         assert_eq!(write_fails(&setting).kind(), ErrorKind::InvalidInput);
-        let users = open("/proc/self/uid_map"); // was written when its namespace began
+        let users = open("/proc/self/uid_map"); // was already written when its namespace was created
         assert_eq!(write_fails(&users).kind(), ErrorKind::PermissionDenied);
         let mut ended = Command::new("cat").stdin(Stdio::piped()).spawn().unwrap();
         let status = File::open(format!("/proc/{}/status", ended.id())).unwrap();
@@ -253,7 +258,7 @@ mod tests_of_errors {
         assert_eq!(write_fails(&pipe).kind(), ErrorKind::BrokenPipe);
     }
 
-    /// Stops this process and continues it, again and again until the file is gone.
+    /// Stops and continues this process again and again, until the file is gone.
     fn interrupt(file: &Path) -> Child {
         let commands = "while [ -e \"$1\" ] && kill -STOP $0; do kill -CONT $0; sleep 0.01; done";
         let process = process::id().to_string();
@@ -262,7 +267,7 @@ mod tests_of_errors {
         shell.spawn().unwrap()
     }
 
-    /// A socket that has a time to wait does not wait again.
+    /// A socket with a timeout does not wait a second time.
     #[test]
     fn a_stream_that_is_interrupted_fails() {
         let _turn = turn();

@@ -10,20 +10,21 @@ use std::string::String;
 #[cfg(feature = "std")]
 use std::vec::Vec;
 
-/// A generator that delivers the blocks of another one as one stream, and buffers the bytes that a
-/// request leaves over.
+/// A generator that delivers the blocks of another generator as one stream of bytes, and buffers
+/// the bytes that a request leaves over.
 ///
-/// A request of n bytes takes the buffered bytes first, and then draws the least number of inner
-/// blocks that covers the rest, by the inner `rand`. The bytes that it does not deliver, always
-/// less than a block, stay buffered for the next request. It may wrap any generator, another
-/// `BufferedRng` too.
+/// A request is one read of n bytes. It takes the buffered bytes first, and then draws as few
+/// blocks as cover the rest, by `rand` of the inner generator. `OUTPUT` is the number of bytes of a
+/// block. The bytes of the last block that are not delivered, always fewer than a block, stay
+/// buffered for the next request. The inner generator may be any generator, including another
+/// `BufferedRng`.
 pub struct BufferedRng<G: Rng<OUTPUT>, const OUTPUT: usize> {
     inner: G,
     block: [u8; OUTPUT],
     cursor: usize,
 }
 
-/// The error of `read_to_string`: the stream has no end and is not text.
+/// The error of `read_to_string`: the stream never ends and is not text.
 #[derive(Clone, Copy, Debug, PartialEq, Eq)]
 pub struct TextRefused;
 
@@ -36,7 +37,7 @@ impl core::fmt::Display for TextRefused {
 #[cfg(feature = "std")]
 impl std::error::Error for TextRefused {}
 
-/// The error of `BufferedRng::with_rest`: the bytes fill a block or more.
+/// The error of [`BufferedRng::with_rest`]: the bytes would fill a block or more.
 #[derive(Clone, Copy, Debug, PartialEq, Eq)]
 pub struct RestTooLong;
 
@@ -50,7 +51,7 @@ impl core::fmt::Display for RestTooLong {
 impl std::error::Error for RestTooLong {}
 
 impl<G: Rng<OUTPUT>, const OUTPUT: usize> BufferedRng<G, OUTPUT> {
-    /// Wraps a generator. Nothing is buffered yet, and nothing is drawn.
+    /// Wraps a generator. The buffer is empty, and nothing is drawn.
     #[inline]
     #[must_use]
     pub const fn new(rng: G) -> Self {
@@ -61,11 +62,12 @@ impl<G: Rng<OUTPUT>, const OUTPUT: usize> BufferedRng<G, OUTPUT> {
         }
     }
 
-    /// Wraps a generator, with the bytes of `rest` buffered, the next one first. Nothing is drawn.
+    /// Wraps a generator and buffers the bytes of `rest`, which are delivered first, in their
+    /// order. Nothing is drawn.
     ///
     /// # Errors
     ///
-    /// It returns `RestTooLong` if the bytes fill a block or more. The generator is dropped then.
+    /// Returns `RestTooLong` if `rest` has `OUTPUT` bytes or more. The generator is dropped then.
     pub fn with_rest(rng: G, rest: &[u8]) -> Result<Self, RestTooLong> {
         if OUTPUT <= rest.len() {
             return Err(RestTooLong);
@@ -81,10 +83,11 @@ impl<G: Rng<OUTPUT>, const OUTPUT: usize> BufferedRng<G, OUTPUT> {
         })
     }
 
-    /// The buffered bytes, the next one first: always less than a block.
+    /// Returns the buffered bytes in the order in which they will be delivered. They are always
+    /// fewer than a block.
     ///
-    /// They and the state of `inner` are what has to be stored of a buffer: `with_rest` of both makes
-    /// an equal one.
+    /// To store a buffered generator, store these bytes and the state of `inner`. `with_rest`
+    /// restores an equal one from the two.
     #[inline]
     #[must_use]
     pub fn rest(&self) -> &[u8] {
@@ -92,37 +95,37 @@ impl<G: Rng<OUTPUT>, const OUTPUT: usize> BufferedRng<G, OUTPUT> {
         &bytes[self.cursor..]
     }
 
-    /// The inner generator, as the blocks drawn so far left it.
+    /// Returns the inner generator, in the state that the blocks drawn so far have left.
     #[inline]
     #[must_use]
     pub fn inner(&self) -> &G {
         &self.inner
     }
 
-    /// Returns the inner generator. The buffered bytes are dropped.
+    /// Returns the inner generator and drops the buffered bytes.
     #[inline]
     #[must_use]
     pub fn into_inner(self) -> G {
         self.inner
     }
 
-    /// The number of buffered bytes, always less than a block.
+    /// Returns the number of buffered bytes, which is always less than a block.
     #[inline]
     #[must_use]
     pub fn buffered(&self) -> usize {
         OUTPUT - self.cursor
     }
 
-    /// Appends the buffered bytes alone to `out`, empties the buffer, and returns how many bytes it
-    /// appended.
+    /// Appends only the buffered bytes to `out`, empties the buffer, and returns how many bytes
+    /// were appended.
     ///
-    /// Nothing is drawn. If the buffer is empty, nothing is allocated, the vector keeps its capacity,
-    /// and the call returns 0.
+    /// Nothing is drawn, since the stream has no end. If the buffer is empty, the call allocates
+    /// nothing, leaves the capacity of the vector as it is, and returns 0.
     ///
     /// # Errors
     ///
-    /// It returns an error only if the vector has too little room, when the allocator refuses to grow
-    /// it. The items and the capacity of the vector and the buffer are then unchanged.
+    /// Returns an error only if the vector has too little room and cannot be grown. The items and
+    /// the capacity of the vector, and the buffer, are unchanged then.
     #[cfg(feature = "std")]
     pub fn read_to_end(
         &mut self,
@@ -134,17 +137,17 @@ impl<G: Rng<OUTPUT>, const OUTPUT: usize> BufferedRng<G, OUTPUT> {
         }
         let bytes = &self.block[..];
         out.try_reserve(count)?;
-        // There is room now, so this never fails.
+        // The vector has room now, so this cannot fail.
         out.extend_from_slice(&bytes[self.cursor..]);
         self.cursor = OUTPUT;
         Ok(count)
     }
 
-    /// Changes nothing.
+    /// Returns an error, and changes neither the string nor the generator.
     ///
     /// # Errors
     ///
-    /// It always returns `TextRefused`.
+    /// Always returns `TextRefused`.
     #[cfg(feature = "std")]
     pub fn read_to_string(&mut self, out: &mut String) -> Result<usize, TextRefused> {
         let _ = out;
@@ -152,8 +155,8 @@ impl<G: Rng<OUTPUT>, const OUTPUT: usize> BufferedRng<G, OUTPUT> {
     }
 }
 
-/// Equal buffered bytes, and the generator that the inner `clone` returns, whatever that is. It
-/// allocates nothing itself.
+/// The clone has the same buffered bytes, and the generator that `clone` of the inner generator
+/// returns. `BufferedRng` itself allocates nothing.
 impl<G: Rng<OUTPUT> + Clone, const OUTPUT: usize> Clone for BufferedRng<G, OUTPUT> {
     fn clone(&self) -> Self {
         BufferedRng {
@@ -164,8 +167,8 @@ impl<G: Rng<OUTPUT> + Clone, const OUTPUT: usize> Clone for BufferedRng<G, OUTPU
     }
 }
 
-/// Equal if the buffered bytes are and the inner generators are. Bytes that were delivered do not
-/// count.
+/// Two buffered generators are equal if their buffered bytes are equal and their inner generators
+/// are equal. Bytes that were already delivered are not compared.
 impl<G: Rng<OUTPUT> + PartialEq, const OUTPUT: usize> PartialEq for BufferedRng<G, OUTPUT> {
     fn eq(&self, other: &Self) -> bool {
         self.rest() == other.rest() && self.inner == other.inner
@@ -197,13 +200,14 @@ impl<G, const SEED_SIZE: usize, const OUTPUT: usize> SeedableRng<SEED_SIZE, OUTP
 where
     G: SeedableRng<SEED_SIZE, OUTPUT>,
 {
-    /// Reseeds the inner generator. The buffered bytes stay, and are delivered first.
+    /// Reseeds the inner generator. The buffered bytes stay, and are delivered before the new
+    /// stream.
     fn reseed(&mut self, seed: [u8; SEED_SIZE]) {
         self.inner.reseed(seed);
     }
 }
 
-/// `BufferedRng::new` of the inner generator's default.
+/// Wraps the default of the inner generator, by `BufferedRng::new`.
 impl<G: Rng<OUTPUT> + Default, const OUTPUT: usize> Default for BufferedRng<G, OUTPUT> {
     fn default() -> Self {
         BufferedRng::new(G::default())
@@ -218,20 +222,23 @@ impl<G: Rng<OUTPUT>, const OUTPUT: usize> Read for BufferedRng<G, OUTPUT> {
         Ok(buf.len())
     }
 
-    /// Appends the buffered bytes alone, as the method of `BufferedRng` does: the stream has no end.
+    /// Appends only the buffered bytes, as [`BufferedRng::read_to_end`] does, since the stream
+    /// never ends.
     fn read_to_end(&mut self, buf: &mut Vec<u8>) -> io::Result<usize> {
-        // An error of a kind alone: to say more would need memory, of which there is none.
+        // This error has a kind and no message: a message would have to be allocated, and memory
+        // has just run out.
         BufferedRng::read_to_end(self, buf).map_err(|_| io::ErrorKind::OutOfMemory.into())
     }
 
-    /// Always an error: the stream has no end and is not text.
+    /// Always returns an error, since the stream never ends and is not text.
     fn read_to_string(&mut self, buf: &mut String) -> io::Result<usize> {
         BufferedRng::read_to_string(self, buf)
             .map_err(|error| io::Error::new(io::ErrorKind::Other, error))
     }
 }
 
-// Delivers the buffered bytes first and then further blocks, and buffers what is left over.
+// Delivers the buffered bytes first, then further blocks, and buffers what the last block leaves
+// over.
 #[inline(always)]
 fn deliver<G: Rng<OUTPUT>, const OUTPUT: usize>(
     inner: &mut G,
@@ -241,24 +248,29 @@ fn deliver<G: Rng<OUTPUT>, const OUTPUT: usize>(
 ) {
     let start = *cursor;
     let bytes = &block[..];
-    // Asked so, a length that the compiler knows takes one comparison.
+    // Written in this order, the test is a single comparison if the compiler knows the length of
+    // `out`.
     if out.len() <= OUTPUT && start <= OUTPUT - out.len() {
         let end = start + out.len();
         out.copy_from_slice(&bytes[start..end]);
         *cursor = end;
     } else {
-        // The cursor is never past the block. Said here, it spares a check at each slice.
+        // The cursor is never beyond the block. Stating it here removes a bounds check from each
+        // slice below.
         let start = OUTPUT.min(start);
         let kept = OUTPUT - start;
         out[..kept].copy_from_slice(&bytes[start..]);
-        // In Rust the inner generator may panic: these bytes do not come again then.
+        // The inner generator may panic. The bytes delivered above must not be delivered again
+        // after that.
         *cursor = OUTPUT;
-        // Stored here, and not there, the cursor of a loop of draws stays in a register.
+        // The cursor is stored here and not in `deliver_blocks`, so that a loop of draws keeps it
+        // in a register.
         *cursor = deliver_blocks(inner, block, &mut out[kept..]);
     }
 }
 
-// As `deliver` with an empty buffer, whose bytes mean nothing. Returns the cursor.
+// Does the same as `deliver` with an empty buffer, whatever bytes `block` holds, and returns the
+// new cursor.
 fn deliver_blocks<G: Rng<OUTPUT>, const OUTPUT: usize>(
     inner: &mut G,
     block: &mut [u8; OUTPUT],

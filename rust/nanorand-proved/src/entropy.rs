@@ -1,17 +1,17 @@
-//! Seeds from a reader of random bytes that the caller passes in.
+//! Seeds from a source of random bytes that the caller provides.
 
 #[cfg(feature = "std")]
 use std::io::Read;
 
-/// Why a source of entropy gave no bytes.
+/// The reasons why a source of entropy returned no bytes.
 #[derive(Clone, Copy, Debug, PartialEq, Eq)]
 pub enum EntropyError {
-    /// The reader ended early: it gave no byte although the slice was not full.
+    /// The reader ended too early: it returned 0 bytes although the slice was not full.
     Short,
-    /// The reader returned an error. An interruption counts as one.
+    /// The reader returned an error. An interruption (`ErrorKind::Interrupted`) counts as an error.
     Fault,
-    /// There is no such source. `backup` returns this, and an `io::Error` of kind `Unsupported`
-    /// becomes it.
+    /// There is no such source. `backup` returns this error, and an `io::Error` of kind
+    /// `Unsupported` is converted to it.
     Unavailable,
 }
 
@@ -28,16 +28,16 @@ impl core::fmt::Display for EntropyError {
 #[cfg(feature = "std")]
 impl std::error::Error for EntropyError {}
 
-/// Fills the slice with the reader's next bytes, and takes exactly that many. This is proved for
-/// readers such as a slice. The reader may give them in pieces of any size. For an empty slice it
-/// returns `Ok` and reads nothing.
+/// Fills the slice with the next bytes of the reader, and takes exactly that many. This is proved
+/// for readers such as a slice of bytes. The reader may return the bytes in pieces of any size. For
+/// an empty slice the function returns `Ok` and reads nothing.
 ///
 /// # Errors
 ///
-/// It returns `Short` if the reader gave no byte before the slice was full, and `Fault` if the
-/// reader returned an error, an interruption included. After an error, the contents of the slice
-/// and the position of the reader are unspecified; a reader such as a slice of bytes has given
-/// fewer bytes than were asked for.
+/// Returns `Short` if the reader returned 0 bytes before the slice was full, and `Fault` if the
+/// reader returned an error, including an interruption. After an error the contents of the slice
+/// and the position of the reader are unspecified. A reader such as a slice of bytes has then
+/// returned fewer bytes than were asked for.
 #[cfg(feature = "std")]
 pub fn system<R: Read>(source: &mut R, out: &mut [u8]) -> Result<(), EntropyError> {
     let mut filled = 0;
@@ -51,18 +51,18 @@ pub fn system<R: Read>(source: &mut R, out: &mut [u8]) -> Result<(), EntropyErro
     Ok(())
 }
 
-/// Stands for a random-number instruction of the processor, which is not available here: always
-/// returns `None` and leaves the slice unchanged.
+/// Stands in for a random-number instruction of the processor, which this library does not use.
+/// Always returns `None` and leaves the slice unchanged.
 pub fn rdseed(out: &mut [u8]) -> Option<usize> {
     let _ = out;
     None
 }
 
-/// Stands for an entropy source of last resort, of which there is none.
+/// Stands in for an entropy source of last resort. There is none.
 ///
 /// # Errors
 ///
-/// It always returns `Unavailable`, for an empty slice too, and leaves the slice unchanged.
+/// Always returns `Unavailable`, even for an empty slice, and leaves the slice unchanged.
 pub fn backup(out: &mut [u8]) -> Result<(), EntropyError> {
     let _ = out;
     Err(EntropyError::Unavailable)

@@ -1,4 +1,5 @@
-//! What a Rust program expects beside the proved functions, written by hand over them.
+//! The traits and implementations that a Rust program expects in addition to the proved functions.
+//! They are hand-written on top of these.
 
 mod any;
 mod borrowed;
@@ -22,21 +23,21 @@ use crate::values::word::MAX_WORDS;
 use crate::values::RangeError;
 use core::ops::Bound;
 
-/// Refuses an odd number of rounds while the program is compiled.
+/// Makes an odd number of rounds a compile-time error.
 pub(crate) struct Rounds<const ROUNDS: u8>;
 
 impl<const ROUNDS: u8> Rounds<ROUNDS> {
     pub(crate) const EVEN: () = assert!(ROUNDS % 2 == 0, "the number of rounds is even");
 }
 
-/// Refuses blocks of no bytes while the program is compiled.
+/// Makes blocks of 0 bytes a compile-time error.
 pub(crate) struct BlockLength<const OUTPUT: usize>;
 
 impl<const OUTPUT: usize> BlockLength<OUTPUT> {
     pub(crate) const POSITIVE: () = assert!(0 < OUTPUT, "a block has a byte or more");
 }
 
-// `Bound::map`, which Rust 1.63 has not yet.
+// `Bound::map`, which Rust 1.63 does not have.
 #[inline]
 fn mapped<T, U>(bound: Bound<T>, map: impl FnOnce(T) -> U) -> Bound<U> {
     match bound {
@@ -46,8 +47,9 @@ fn mapped<T, U>(bound: Bound<T>, map: impl FnOnce(T) -> U) -> Bound<U> {
     }
 }
 
-// The first of at most 128 draws that is accepted. The search has one exit: with two, LLVM vectorizes it, and
-// it takes forty times as long. It is no call, before which the state of the generator would be stored.
+// Returns the first accepted draw of at most 128. The loop has a single exit: with two, LLVM
+// vectorizes it, which makes it forty times slower. It is always inlined: before a call, the state
+// of the generator would be stored to memory.
 #[inline(always)]
 fn first_accepted<G, T>(rng: &mut G, draw: impl Fn(&mut G) -> Option<T>) -> Option<T> {
     let mut accepted = draw(rng);

@@ -1,21 +1,23 @@
-//! Seeded random generators, exact ranges, shuffles, samples, and lists of calls that can be replayed.
+//! Deterministic random generators with unbiased ranges, shuffles, samples, and lists of calls that
+//! can be replayed.
 //!
-//! The same seed always produces the same stream, on every machine. The function bodies are compared with
-//! those of `nanorand` in Rattle, which is Rust with contracts that a prover checks; the crate's README
-//! says what is proved, what is hand-written and what is trusted. Names and paths are those of the Rust
-//! crate `nanorand` 0.7.0.
+//! The same seed always produces the same stream, on every machine. The function bodies are
+//! compared with those of `nanorand` in Rattle, which is Rust with contracts that a prover checks.
+//! The crate's README says what is proved, what is hand-written and what is trusted. Names and
+//! paths are those of the Rust crate `nanorand` 0.7.0.
 //!
-//! **`WyRand` and `Pcg64` are not cryptographically secure.** Never draw a key, a token or a password
-//! from them. `ChaCha` and its streams are not vetted cryptographic generators either: no key is erased
-//! from memory, nothing reseeds itself, and nothing was audited. For keys, tokens and passwords, or
-//! where an adversary matters, take a vetted one.
+//! **`WyRand` and `Pcg64` are not cryptographically secure.** Never use them to generate a key, a
+//! token or a password. `ChaCha` and its streams are not vetted cryptographic generators either:
+//! they do not erase keys from memory, do not reseed themselves, and have not been audited. For
+//! keys, tokens and passwords, or if there is an adversary, use a vetted generator.
 //!
-//! `seed_from_u64` makes a generator of any number, as 0, 1, 2, ..: it mixes the number. **The seed that
-//! `new_seed` of `WyRand` and `Pcg64` takes is the state itself, and is not mixed:** generators with
-//! neighbouring seeds draw correlated numbers. For many generators take [`Parts`] of one stream, or
-//! mixed seeds: numbers that another generator drew, or the first bytes of a SHA-256 of a name.
+//! `seed_from_u64` makes a generator from any number, even a small one such as 0, 1, 2, ..: it
+//! mixes the number. **`new_seed` of `WyRand` and `Pcg64` uses its argument as the state, without
+//! mixing it:** generators with neighbouring seeds draw correlated numbers. If you need many
+//! generators, use [`Parts`] of one stream, or mixed seeds: numbers that another generator drew, or
+//! the first bytes of the SHA-256 of a name.
 //!
-//! A number:
+//! Draw a number:
 //!
 //! ```
 //! use nanorand_proved::{Rng, WyRand};
@@ -26,8 +28,10 @@
 //! # let _ = coin;
 //! ```
 //!
-//! A number of a range: each is named by equally many words. An empty range is an error, and draws
-//! nothing. Where a range is known to have a number, `range` is the same without a `Result`:
+//! Draw a number from a range. Each number of the range is produced by the same number of words,
+//! where a word is a random integer of N bits. An empty range returns an error, and draws nothing.
+//! If you know that the range is not empty, use `range`, which returns the number without a
+//! `Result`:
 //!
 //! ```
 //! use nanorand_proved::{RangeError, Rng, WyRand};
@@ -41,7 +45,7 @@
 //! # Ok::<(), RangeError>(())
 //! ```
 //!
-//! A fill, of bytes or of any values:
+//! Fill a slice with bytes, or with values of any type:
 //!
 //! ```
 //! use nanorand_proved::{ChaCha20, Rng};
@@ -54,7 +58,7 @@
 //! rng.fill(&mut words);
 //! ```
 //!
-//! A shuffle, which keeps each item exactly once:
+//! Shuffle a slice. The result is a permutation of its items:
 //!
 //! ```
 //! use nanorand_proved::{RangeError, Rng, WyRand};
@@ -66,7 +70,8 @@
 //! # Ok::<(), RangeError>(())
 //! ```
 //!
-//! Choices and samples are calls of the generator too, and functions of [`choices`] and [`samples`]:
+//! Choices and samples are methods of the generator too, and functions of [`choices`] and
+//! [`samples`]:
 //!
 //! ```
 //! use nanorand_proved::{RangeError, Rng, WyRand};
@@ -80,8 +85,9 @@
 //! # Ok::<(), RangeError>(())
 //! ```
 //!
-//! Seeds and jumps. A seed is a number, bytes, a reader's bytes, or the operating system's; [`Parts`] of
-//! one stream are for many tasks; a jump leads to any point of a stream at once:
+//! Seed a generator from a number, from bytes, from a reader, or from the operating system. For
+//! many tasks, use [`Parts`] of one stream. `jump` moves a generator ahead by any number of draws,
+//! and is fast for any distance:
 //!
 //! ```
 //! use nanorand_proved::{ChaCha8, Pcg64, Rng, WyRand};
@@ -103,7 +109,7 @@
 //! # Ok::<(), nanorand_proved::entropy::EntropyError>(())
 //! ```
 //!
-//! A stream of ChaCha delivers every byte, eight blocks at once, and can be sought:
+//! A ChaCha stream drops no bytes, computes eight blocks at once, and can seek:
 //!
 //! ```
 //! use nanorand_proved::{ChaCha20Stream, Keystream, Rng};
@@ -115,7 +121,7 @@
 //! assert_eq!(stream.generate::<u8>(), 0xb8);
 //! ```
 //!
-//! A generator of your own is one function:
+//! To write your own generator, implement one function:
 //!
 //! ```
 //! use nanorand_proved::{BufferedRng, Rng};
@@ -133,7 +139,8 @@
 //! assert_eq!(rng.generate::<u64>(), 7 + (8 << 32));
 //! ```
 //!
-//! Functions over any generator have no parameter for the size of a block by [`AnyRng`]:
+//! With [`AnyRng`], a function that takes any generator does not need the block size as a
+//! parameter:
 //!
 //! ```
 //! use nanorand_proved::{AnyRng, ChaCha20, Rng};
@@ -145,19 +152,24 @@
 //! assert!(throw(&mut ChaCha20::new_key([0; 32], [0; 8])) <= 6);
 //! ```
 //!
-//! `ChaCha` has an even number of rounds; another does not compile:
+//! `ChaCha` requires an even number of rounds; an odd number does not compile:
 //!
 //! ```compile_fail
 //! let rng = nanorand_proved::ChaCha::<7>::new_key([0; 32], [0; 8]);
 //! ```
 //!
-//! Features: `std` (on by default) has readers, vectors, `std::error::Error`, `Default` and seeds from the
-//! system, draws samples by a table in linear time, and asks the processor for AVX2, for fills of
-//! `ChaCha`; without it the crate is `no_std` and allocates nothing. The crate `nanorand-proved-rand-core` has
-//! the traits of `rand_core` 0.6.
+//! # Features
+//!
+//! The feature `std` is on by default. It adds readers, vectors, `std::error::Error`, `Default` and
+//! seeds from the operating system. It also lets `sample` use a table, which makes it linear in
+//! time, and detects AVX2 at run time, which makes fills of `ChaCha` faster. Without `std` the
+//! crate is `no_std` and allocates nothing.
+//!
+//! The crate `nanorand-proved-rand-core` implements the traits of `rand_core` 0.6.
 #![no_std]
 #![cfg_attr(docsrs, feature(doc_cfg))]
-// The bodies are those of the proved source, and its proofs say that no cast loses a bit that counts.
+// The function bodies are those of the proved source. Its proofs show that no cast loses a bit that
+// matters.
 #![allow(
     clippy::cast_possible_truncation,
     clippy::cast_possible_wrap,

@@ -1,9 +1,9 @@
-//! Parts of a stream, one for each task of a program that runs on many machines.
+//! Parts of a stream, one for each task of a program that runs on many threads or machines.
 
 use crate::rand::Rng;
 
-/// The error of `part`: the part would end past the generator's period, after which its draws come
-/// again.
+/// The error of [`Parts::part`]: the part would end beyond the period of the generator, after which
+/// its draws repeat.
 #[derive(Clone, Copy, Debug, PartialEq, Eq)]
 pub struct PastPeriod;
 
@@ -16,21 +16,27 @@ impl core::fmt::Display for PastPeriod {
 #[cfg(feature = "std")]
 impl std::error::Error for PastPeriod {}
 
-/// A generator whose stream can be cut into parts, each for a task of its own.
+/// A generator whose stream can be divided into parts of equal length, one for each task. `OUTPUT`
+/// is the number of bytes of its blocks.
 ///
-/// The stream is what the generator draws from now on, and a draw is what a `u64` takes: a word of
-/// `WyRand` and `Pcg64`, a block of `ChaCha`, and eight bytes of a stream of ChaCha. Part 0 is the
-/// first `draws` draws, part 1 the next, and so on. What a task draws depends only on the stream,
-/// the length and the index of its part, so tasks may run in any order, on any machine, and more
-/// than once.
+/// The stream is what the generator draws from now on. It is counted in draws: a draw is what a
+/// `u64` takes, which is a word of 64 bits for `WyRand` and `Pcg64`, a block of 64 bytes for
+/// `ChaCha`, and eight bytes for a ChaCha stream. Part 0 is the first `draws` draws, part 1 the
+/// next `draws` draws, and so on. What a task draws depends only on the stream, the length and the
+/// index of its part, so tasks may run in any order, on any machine, and more than once.
 ///
-/// Of the source of this crate's generators it is proved that no state comes in two parts of one
-/// stream and one length; that, from some draw on, the states come again after the period; and
-/// that a request of any size, or a further one of fewer than eight bytes, ends at a draw, at
-/// least one draw on and at most one for each eight bytes begun. An implementation of your own has
-/// to see to all three. The states are those that whole draws leave; which state lies within a
-/// draw is not promised. Two different states may draw the same numbers. The blocks of `WyRand`
-/// and `Pcg64` have no smaller period, which is proved too. For ChaCha's blocks that is not known.
+/// The following is proved for the source of this crate's generators, and must be ensured by an
+/// implementation of your own:
+///
+/// - No state occurs in two parts of the same length of one stream.
+/// - From some draw on, the states repeat after the period.
+/// - A request (one read of n bytes), or else a further request of fewer than eight bytes after it,
+///   ends at a draw. That is at most one draw further on for each eight bytes begun, and at least
+///   one if n is not 0.
+///
+/// The states meant here are those after whole draws; which state lies within a draw is
+/// unspecified. Two different states may draw the same numbers. It is also proved that the blocks
+/// of `WyRand` and `Pcg64` have no smaller period. For the blocks of ChaCha this is not known.
 ///
 /// # Examples
 ///
@@ -51,17 +57,17 @@ impl std::error::Error for PastPeriod {}
 /// # Ok::<(), PastPeriod>(())
 /// ```
 pub trait Parts<const OUTPUT: usize>: Rng<OUTPUT> {
-    /// The generator at the beginning of a part, which is `index * draws` draws further on. The stream
-    /// itself does not move.
+    /// Returns the generator at the beginning of a part, which is `index * draws` draws ahead. This
+    /// generator does not change.
     ///
     /// # Errors
     ///
-    /// It returns `PastPeriod` exactly if the part ends past the period. Nothing keeps a task within
-    /// its part: one that draws more than `draws` draws goes on in the next one.
+    /// Returns `PastPeriod` if and only if the part ends beyond the period. Nothing stops a task at
+    /// the end of its part: if it draws more than `draws` draws, it continues in the next part.
     fn part(&self, index: u64, draws: u64) -> Result<Self, PastPeriod>;
 }
 
-// The draws before a part, if it ends within the period.
+// Returns the number of draws before a part, if the part ends within the period.
 #[inline]
 pub(crate) fn draws_before(index: u64, draws: u64, period: u128) -> Result<u128, PastPeriod> {
     let draws = u128::from(draws);

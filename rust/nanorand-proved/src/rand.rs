@@ -25,11 +25,17 @@ pub use keystream::{
 pub use pcg64::Pcg64;
 pub use wyrand::WyRand;
 
-/// A generator of random values, by blocks of `OUTPUT` bytes.
+/// A random generator that produces blocks of `OUTPUT` bytes.
 ///
-/// A generator of your own writes `rand` alone, which returns a block as bytes. Its requests then start
-/// each on a new block, and drop what is left of the last; [`BufferedRng`](crate::BufferedRng) over it
-/// joins them without a break. A `fill_bytes` of its own fills with the same bytes as the blocks.
+/// `OUTPUT` is the number of bytes of a block: 8 for `WyRand` and `Pcg64`, 64 for `ChaCha`, and 512
+/// for a ChaCha stream. It is at least 1: blocks of 0 bytes do not compile. A *request* is one read
+/// of n bytes. A *word* is a random integer of N bits, read by one request of N / 8 bytes in
+/// little-endian order.
+///
+/// To write your own generator, implement `rand`, which returns a block. Each request then starts
+/// with a new block, and drops what is left of its last block. Wrap the generator in a
+/// [`BufferedRng`](crate::BufferedRng) to join the requests without a break. If you also implement
+/// `fill_bytes`, it must fill the slice with the same bytes as the blocks.
 ///
 /// ```
 /// use nanorand_proved::{RangeError, Rng};
@@ -50,10 +56,10 @@ pub use wyrand::WyRand;
 /// # Ok::<(), RangeError>(())
 /// ```
 ///
-/// Functions over generators are generic: `fn f<R: Rng<OUTPUT>, const OUTPUT: usize>(rng: &mut R)`. A
-/// `&mut R` is a generator too, so it can be lent where a generator is taken. There is no `dyn Rng`,
-/// since the calls are generic: [`AnyRng`](crate::AnyRng) has one, and no parameter. `OUTPUT` is at
-/// least 1: blocks of no bytes do not compile.
+/// Functions that take any generator are generic:
+/// `fn f<R: Rng<OUTPUT>, const OUTPUT: usize>(rng: &mut R)`. `&mut R` is a generator too, so pass a
+/// generator by reference where one is expected. There is no `dyn Rng`, since the methods are
+/// generic; use `dyn` [`AnyRng`](crate::AnyRng) instead, which also does without `OUTPUT`.
 pub trait Rng<const OUTPUT: usize>: Sized {
     /// Draws the next block.
     fn rand(&mut self) -> [u8; OUTPUT];
@@ -64,34 +70,37 @@ pub trait Rng<const OUTPUT: usize>: Sized {
         fill_by_blocks(self, buffer);
     }
 
-    /// Draws a value, as [`RandomGen`] says for the type.
+    /// Draws a value of the type `T`. [`RandomGen`] lists the types, and what each takes from the
+    /// stream.
     #[inline(always)]
     fn generate<T: RandomGen<Self, OUTPUT>>(&mut self) -> T {
         T::random(self)
     }
 
-    /// Fills the slice with values, drawn one after another in the order of the items, each by a call
-    /// of `generate`. An empty slice draws nothing.
+    /// Fills the slice with values, drawn in the order of the items, each by a call of `generate`.
+    /// An empty slice draws nothing.
     ///
-    /// For bytes, call `fill_bytes`: it makes one request for the whole slice. `fill` makes a request
-    /// for each byte, so a plain generator draws a whole block for it.
+    /// To fill a slice of bytes, call `fill_bytes`, which makes one request for the whole slice.
+    /// `fill` makes one request for each byte, and a generator without a buffer draws a whole block
+    /// for each request.
     fn fill<T: RandomGen<Self, OUTPUT>>(&mut self, target: &mut [T]) {
         for item in target.iter_mut() {
             *item = self.generate();
         }
     }
 
-    /// Draws a number of the range, such as `1..=6` or `..10`, or a value of a type of your own.
+    /// Draws a number from a range such as `1..=6` or `..10`, or a value of a type of your own
+    /// within two bounds.
     ///
-    /// Each number of a range of an integer type is named by equally many words, after Daniel Lemire
-    /// ("Fast Random Integer Generation in an Interval", 2019). [`RandomRange`] says what the ranges of
-    /// `char` and of floats are. A type of your own says what its bounds mean, and when it returns each
-    /// error.
+    /// Each number of an integer range is produced by the same number of words, by the method of
+    /// Daniel Lemire ("Fast Random Integer Generation in an Interval", 2019). [`RandomRange`]
+    /// describes the ranges of `char` and of floats. A type of your own defines what its bounds
+    /// mean, and when it returns each error.
     ///
     /// # Errors
     ///
-    /// For the types of the library `Empty` if the range has no number; nothing is drawn then.
-    /// `Exhausted` if 128 words in a row were rejected; they stay consumed.
+    /// The types of this library return `Empty` if the range is empty; nothing is drawn then. They
+    /// return `Exhausted` if 128 words in a row were rejected; they stay consumed.
     #[inline(always)]
     fn generate_range<T: RandomRange<Self, OUTPUT> + Clone>(
         &mut self,
@@ -104,16 +113,17 @@ pub trait Rng<const OUTPUT: usize>: Sized {
         )
     }
 
-    /// Shuffles the slice: for each index, from 0 up, swaps the item there with the one at an index
-    /// drawn from that index and those after it.
+    /// Shuffles the slice: for each index i, from 0 up, draws an index from i to the last one, and
+    /// swaps the items at i and at that index.
     ///
-    /// It is the shuffle of Fisher and Yates (1938) in Durstenfeld's form ("Algorithm 235: Random
-    /// permutation", 1964), from the first index up. It leaves a permutation of the items. Each
-    /// permutation of the indices 0, 1, .. is made by exactly one list of drawn indices.
+    /// This is the Fisher-Yates shuffle (1938) in the form of Richard Durstenfeld ("Algorithm 235:
+    /// Random permutation", 1964), running from the first index up. The result is a permutation of
+    /// the items. Each permutation of the indices is produced by exactly one sequence of drawn
+    /// indices. The time is O(n) for n items.
     ///
     /// # Errors
     ///
-    /// It returns `Exhausted` if 128 words in a row were rejected for one index. The swaps before that
+    /// Returns `Exhausted` if 128 words in a row were rejected for one index. The swaps before that
     /// stay, and the words stay consumed. An empty slice draws nothing.
     #[inline]
     fn shuffle<T>(&mut self, target: &mut [T]) -> Result<(), RangeError> {
@@ -141,11 +151,12 @@ pub trait Rng<const OUTPUT: usize>: Sized {
         Ok(())
     }
 
-    /// Draws a number of the range as `generate_range` does, for ranges that are known to have one.
+    /// Draws a number from a range as `generate_range` does. Use it for ranges that are known not
+    /// to be empty.
     ///
     /// # Panics
     ///
-    /// Panics with the text of the error where `generate_range` returns one. If 128 words in a
+    /// Panics with the text of the error if `generate_range` would return one. If 128 words in a
     /// row were rejected, they stay consumed.
     #[inline(always)]
     #[track_caller]
@@ -156,12 +167,12 @@ pub trait Rng<const OUTPUT: usize>: Sized {
         }
     }
 
-    /// Shuffles the slice as `shuffle` does.
+    /// Shuffles the slice as `shuffle` does, without returning a `Result`.
     ///
     /// # Panics
     ///
-    /// Panics with the text of the error where `shuffle` returns one: after 128 rejected words in a
-    /// row. The swaps before that stay, and the words stay consumed.
+    /// Panics with the text of the error if `shuffle` would return one, which is after 128 rejected
+    /// words in a row. The swaps before that stay, and the words stay consumed.
     #[inline]
     #[track_caller]
     fn permute<T>(&mut self, items: &mut [T]) {
@@ -170,84 +181,87 @@ pub trait Rng<const OUTPUT: usize>: Sized {
         }
     }
 
-    /// Shuffles the beginning of the slice, as [`partial_shuffle`](shuffles::partial_shuffle) does: the
-    /// first `count` items are then a selection from all items, in random order.
+    /// Shuffles the beginning of the slice, as [`partial_shuffle`](shuffles::partial_shuffle) does.
+    /// The first `count` items are then a random selection from all items, in random order.
     ///
     /// # Errors
     ///
-    /// It returns `Exhausted` if 128 words in a row were rejected for one index. The swaps before
-    /// that stay, and the words stay consumed. A `count` of 0 or an empty slice draws nothing.
+    /// Returns `Exhausted` if 128 words in a row were rejected for one index. The swaps before that
+    /// stay, and the words stay consumed. If `count` is 0 or the slice is empty, nothing is drawn.
     #[inline]
     fn partial_shuffle<T>(&mut self, items: &mut [T], count: usize) -> Result<(), RangeError> {
         shuffles::partial_shuffle(self, items, count)
     }
 
-    /// Chooses an item of the slice; each is chosen by equally many words.
+    /// Chooses an item of the slice. Each item is chosen by the same number of words.
     ///
     /// # Errors
     ///
-    /// It returns `Empty` for an empty slice, and draws nothing then. It returns `Exhausted` if 128
+    /// Returns `Empty` if the slice is empty; nothing is drawn then. Returns `Exhausted` if 128
     /// words in a row were rejected; they stay consumed.
     #[inline]
     fn choose<'a, T>(&mut self, items: &'a [T]) -> Result<&'a T, RangeError> {
         choices::choose(self, items)
     }
 
-    /// Chooses an item of the slice as `choose` does, and lends it for writing.
+    /// Chooses an item of the slice as `choose` does, and returns a mutable reference to it.
     ///
     /// # Errors
     ///
-    /// It returns `Empty` for an empty slice, and draws nothing then. It returns `Exhausted` if 128
+    /// Returns `Empty` if the slice is empty; nothing is drawn then. Returns `Exhausted` if 128
     /// words in a row were rejected; they stay consumed.
     #[inline]
     fn choose_mut<'a, T>(&mut self, items: &'a mut [T]) -> Result<&'a mut T, RangeError> {
         choices::choose_mut(self, items)
     }
 
-    /// Chooses an item by its weight, and returns its index: `weights[i]` is the weight of item i.
-    /// The time is O(n) a draw for n weights: each call adds them all up.
+    /// Chooses an item by weight, and returns its index: `weights[i]` is the weight of item i. Each
+    /// call takes time O(n) for n weights, since it adds them up.
     ///
     /// # Errors
     ///
-    /// It returns `NoWeight` if there are no weights or all of them are 0, `TooHeavy` if they add up
-    /// to 2^64 or more, and `Exhausted` if 128 words in a row were rejected. After `Exhausted` the
-    /// 128 words stay consumed; after any other error nothing was drawn.
+    /// Returns `NoWeight` if there are no weights or all of them are 0, `TooHeavy` if their sum is
+    /// 2^64 or more, and `Exhausted` if 128 words in a row were rejected. After `Exhausted` the 128
+    /// words stay consumed. After any other error nothing was drawn.
     #[inline]
     fn choose_weighted(&mut self, weights: &[u64]) -> Result<usize, WeightError> {
         choices::choose_weighted(self, weights)
     }
 
-    /// Returns true in `numerator` of `denominator` cases, and always if `numerator` is the greater.
+    /// Returns true with probability `numerator` / `denominator`, and always if `numerator` is
+    /// `denominator` or more.
     ///
     /// # Errors
     ///
-    /// It returns `Empty` if `denominator` is 0, and draws nothing then. It returns `Exhausted` if
-    /// 128 words in a row were rejected; they stay consumed.
+    /// Returns `Empty` if `denominator` is 0; nothing is drawn then. Returns `Exhausted` if 128
+    /// words in a row were rejected; they stay consumed.
     #[inline]
     fn ratio(&mut self, numerator: u64, denominator: u64) -> Result<bool, RangeError> {
         choices::ratio(self, numerator, denominator)
     }
 
-    /// Samples different numbers below `count`, one into each slot, as [`sample`](samples::sample)
-    /// does. The order of the slots is not random. The expected time is O(k) for k slots; without the
-    /// feature `std` it is O(k^2). Without slots nothing is drawn.
+    /// Draws a sample without replacement from the numbers 0, 1, .., `count` - 1 (so `count` is the
+    /// size of the population), one number into each slot, as [`sample`](samples::sample) does.
+    ///
+    /// The order of the slots is not random. The expected time is O(k) for k slots; without the
+    /// feature `std`, or without memory for a table, it is O(k^2). If there are no slots, nothing
+    /// is drawn.
     ///
     /// # Errors
     ///
-    /// It returns `Exhausted` if 128 words in a row were rejected for one slot. The slots before it
-    /// then hold the numbers drawn so far, all other slots are as before, and the words stay
+    /// Returns `Exhausted` if 128 words in a row were rejected for one slot. The slots before it
+    /// then hold the numbers drawn so far, all other slots are unchanged, and the words stay
     /// consumed.
     ///
     /// # Panics
     ///
-    /// Panics unless there are at most `count` slots.
+    /// Panics if there are more than `count` slots.
     #[inline]
     fn sample(&mut self, count: usize, places: &mut [usize]) -> Result<(), RangeError> {
         samples::sample(self, count, places)
     }
 
-    /// The values that `generate` draws, as an iterator without an end. It draws each when it is asked
-    /// for it.
+    /// Returns an endless iterator of values, each drawn by `generate` when it is asked for.
     ///
     /// ```
     /// use nanorand_proved::{Rng, WyRand};
@@ -261,7 +275,7 @@ pub trait Rng<const OUTPUT: usize>: Sized {
         GenerateIter::new(self)
     }
 
-    /// Lends the generator as an [`AnyRng`](crate::AnyRng), for functions that take one.
+    /// Borrows the generator as an [`AnyRng`](crate::AnyRng), for functions that take one.
     ///
     /// ```
     /// use nanorand_proved::{AnyRng, Rng, WyRand};
@@ -280,31 +294,32 @@ pub trait Rng<const OUTPUT: usize>: Sized {
         Lent(self)
     }
 
-    /// Draws a `u32`: the number of the next four bytes, least byte first.
+    /// Draws a `u32` from the next four bytes, in little-endian order.
     #[inline]
     fn next_u32(&mut self) -> u32 {
         self.generate()
     }
 
-    /// Draws a `u64`: the number of the next eight bytes, least byte first.
+    /// Draws a `u64` from the next eight bytes, in little-endian order.
     #[inline]
     fn next_u64(&mut self) -> u64 {
         self.generate()
     }
 }
 
-/// A generator that can be reseeded.
+/// A generator that can be reseeded from `SEED_SIZE` bytes. `OUTPUT` is the number of bytes of a
+/// block.
 pub trait SeedableRng<const SEED_SIZE: usize, const OUTPUT: usize>: Rng<OUTPUT> {
-    /// Seeds the generator anew from the bytes of `seed`.
+    /// Reseeds the generator with the bytes of `seed`.
     ///
     /// Each generator defines the state that this leaves. It may keep some of the old state, as a
-    /// buffer keeps its bytes, so the trait does not promise that the seed alone decides what is
-    /// drawn.
+    /// buffered generator keeps its buffered bytes. So the trait does not guarantee that the seed
+    /// alone determines what is drawn next.
     fn reseed(&mut self, seed: [u8; SEED_SIZE]);
 }
 
-// Draws the index that the item at `place` is swapped with: its own or a later one. A number below the
-// items that are left is drawn faster than one between two bounds.
+// Draws the index with which the item at `place` is swapped: `place` or a later index. Drawing a
+// number below the count of the items left is faster than drawing one between two bounds.
 #[inline]
 pub(crate) fn draw_partner<G: Rng<OUTPUT>, const OUTPUT: usize>(
     rng: &mut G,
@@ -319,15 +334,15 @@ pub(crate) fn draw_partner<G: Rng<OUTPUT>, const OUTPUT: usize>(
 
 /// Fills the slice block by block through `rand`, and drops the unused bytes of the last block.
 ///
-/// It is the `fill_bytes` of a plain generator, which starts each request on a new block. `WyRand`
-/// and `Pcg64` use it, `ChaCha` uses it for the bytes after the last whole group of four blocks,
-/// and a user's generator may.
+/// It is the `fill_bytes` of a generator without a buffer, which starts each request with a new
+/// block. `WyRand`, `Pcg64` and `ChaChaGroups` use it, `ChaCha` uses it for the bytes after the
+/// last whole group of four blocks, and your own generator may use it too.
 #[inline(always)]
 pub fn fill_by_blocks<G: Rng<OUTPUT>, const OUTPUT: usize>(rng: &mut G, buffer: &mut [u8]) {
     let () = crate::layer::BlockLength::<OUTPUT>::POSITIVE;
 
     let mut filled = 0;
-    // This test is the one that the slice needs, so LLVM drops the slice's own.
+    // The slice below needs exactly this test, so LLVM drops the bounds check of the slice.
     while filled + OUTPUT <= buffer.len() {
         let block = rng.rand();
         buffer[filled..filled + OUTPUT].copy_from_slice(&block);

@@ -1,9 +1,10 @@
-//! Lists of calls on a generator, made in order, with one answer each.
+//! Replays lists of calls: makes the calls of a list in order on a generator, and records one
+//! answer for each.
 
 use crate::{RandomGen, RandomRange, RangeError, Rng};
 use core::ops::Bound;
 
-/// The type of the value that `Call::Gen` draws.
+/// The type of the value that [`Call::Gen`] draws.
 #[derive(Clone, Copy, Debug, PartialEq, Eq)]
 pub enum Kind {
     /// An `i8`.
@@ -16,7 +17,7 @@ pub enum Kind {
     I64,
     /// An `i128`.
     I128,
-    /// An `isize`. The answer is the whole number of 64 bits on every machine.
+    /// An `isize`. The answer is the whole 64-bit number on every machine.
     Isize,
     /// A `u8`.
     U8,
@@ -28,7 +29,7 @@ pub enum Kind {
     U64,
     /// A `u128`.
     U128,
-    /// A `usize`. The answer is the whole number of 64 bits on every machine.
+    /// A `usize`. The answer is the whole 64-bit number on every machine.
     Usize,
     /// A `bool`.
     Bool,
@@ -59,12 +60,12 @@ pub enum Span {
     Usize(Bound<usize>, Bound<usize>),
 }
 
-/// A call on a generator.
+/// A call of a method of a generator.
 #[derive(Clone, Copy, Debug, PartialEq, Eq)]
 pub enum Call {
     /// Draws a value of a type, as `Rng::generate` does.
     Gen(Kind),
-    /// Draws a number of a range, as `Rng::generate_range` does.
+    /// Draws a number from a range, as `Rng::generate_range` does.
     Range(Span),
     /// Shuffles the items, as `Rng::shuffle` does.
     Shuffle,
@@ -79,10 +80,10 @@ pub enum Answer {
     Signed(i128),
     /// A `bool`.
     Truth(bool),
-    /// The range has no number, and nothing was drawn.
+    /// The range is empty, and nothing was drawn.
     Empty,
-    /// 128 words in a row were rejected, for a number or for one index of a shuffle. They stay
-    /// consumed.
+    /// 128 words (random integers of the type's width) in a row were rejected, for a number or for
+    /// one index of a shuffle. They stay consumed.
     Exhausted,
     /// The items were shuffled.
     Shuffled,
@@ -90,13 +91,14 @@ pub enum Answer {
 
 /// Makes the calls in order on the generator, and writes one answer for each.
 ///
-/// Both may be empty. A call that fails is answered by `Empty` or `Exhausted` and does not stop
-/// the list. The replay itself always succeeds, and nothing is allocated. Equal generators, items
-/// and calls give equal answers, items and generators.
+/// The list of calls and the items may be empty. A call that fails is answered by `Empty` or
+/// `Exhausted`, and the replay continues with the next call. The replay itself always succeeds, and
+/// nothing is allocated. Equal generators, items and calls produce equal answers, items and
+/// generators.
 ///
 /// # Panics
 ///
-/// Panics unless `answers` is as long as `calls`.
+/// Panics if `answers` and `calls` differ in length.
 ///
 /// # Examples
 ///

@@ -1,34 +1,36 @@
-//! Samples without repetition.
+//! Samples without replacement.
 
 use crate::rand::Rng;
 use crate::values::{RandomRange, RangeError};
 use core::ops::Bound;
 
-/// Samples `places.len()` different numbers below `count`, one into each slot.
+/// Draws a sample without replacement: `places.len()` different numbers below `count`, one into
+/// each slot. `count` is the size of the population, whose members are numbered from 0.
 ///
-/// It is Robert Floyd's algorithm (Bentley and Floyd, "Programming Pearls: a Sample of
-/// Brilliance", Communications of the ACM 30(9), 1987), which needs no memory beside the slots.
-/// With k slots, slot i takes a number t drawn from `0..=j`, where j is `count - k + i`. If a slot
-/// before it holds t already, it takes j.
+/// This is Robert Floyd's algorithm (Bentley and Floyd, "Programming Pearls: a Sample of
+/// Brilliance", Communications of the ACM 30(9), 1987). With k slots, a number t is drawn from
+/// `0..=j` for slot i, where j is `count - k + i`. The slot takes t, or j if an earlier slot
+/// already holds t.
 ///
-/// The expected time is O(k): from 16 slots on a table is allocated, as `sample_with` takes one.
-/// Without the feature `std`, or if there is no memory, each number drawn is compared with the
-/// slots before it, in O(k^2). If k is a large part of `count`, fill a slice with 0, 1, .. and
-/// call `shuffles::partial_shuffle`: it makes k steps, in memory for all `count` numbers.
+/// The expected time is O(k). From 16 slots on, it allocates a table like the one that
+/// `sample_with` takes. Without the feature `std`, or if there is no memory for the table, nothing
+/// is allocated, and each number is compared with all slots before it, which takes O(k^2). If k is
+/// a large part of `count`, fill a slice with 0, 1, .. and call `shuffles::partial_shuffle`
+/// instead: it takes k steps, and memory for all `count` numbers.
 ///
-/// Each set of k numbers is the sample for equally many sequences of draws. The order of the slots
-/// is not uniform: by the algorithm, the number `count - 1` can only be in the last slot. Shuffle
-/// the slots for a random order.
+/// Each set of k numbers is produced by the same number of sequences of draws. The order of the
+/// slots is not uniform: the number `count - 1` can only be in the last slot. Shuffle the slots if
+/// you need a random order.
 ///
 /// # Errors
 ///
-/// The only error is `Exhausted`: 128 words in a row were rejected for one slot. The slots before
-/// it then hold the numbers drawn so far, all other slots are as before, and the words stay
-/// consumed. A slice without slots draws nothing.
+/// Returns `Exhausted`, the only error, if 128 words (random integers of 64 bits) in a row were
+/// rejected for one slot. The slots before it then hold the numbers drawn so far, all other slots
+/// are unchanged, and the words stay consumed. If there are no slots, nothing is drawn.
 ///
 /// # Panics
 ///
-/// Panics unless there are at most `count` slots.
+/// Panics if there are more than `count` slots.
 ///
 /// # Examples
 ///
@@ -52,21 +54,23 @@ pub fn sample<G: Rng<OUTPUT>, const OUTPUT: usize>(
     extend_sample(rng, count, places, 0, &mut crate::layer::table(places))
 }
 
-/// Samples as `sample` does, in expected time O(k) for k slots.
+/// Draws a sample as `sample` does, with a table that the caller provides. The expected time is
+/// O(k) for k slots.
 ///
-/// The caller lends a table. Its length and items change nothing but the time: numbers, state and
-/// errors are those of `sample`. In the table, slots whose numbers agree in their low bits are
-/// linked to a chain, so that a number drawn is compared with the slots of one chain. With 3k
-/// items a number meets at most one slot on average; with 2k at most two. With k or fewer there
-/// are no chains, and the time is O(k^2). What the table holds afterwards means nothing.
+/// The length and the items of the table change only the time: the numbers, the state and the
+/// errors are those of `sample`. The table links the slots whose numbers agree in their low bits to
+/// a chain, so that a new number is compared with the slots of one chain only. A table of 3k items
+/// makes that at most one slot on average, and a table of 2k items at most two. With k items or
+/// fewer there are no chains, and the time is O(k^2). The contents of the table are unspecified
+/// afterwards.
 ///
 /// # Errors
 ///
-/// The only error is `Exhausted`, as `sample` has it.
+/// Returns `Exhausted`, the only error, as `sample` does.
 ///
 /// # Panics
 ///
-/// Panics unless there are at most `count` slots.
+/// Panics if there are more than `count` slots.
 ///
 /// # Examples
 ///
@@ -91,23 +95,24 @@ pub fn sample_with<G: Rng<OUTPUT>, const OUTPUT: usize>(
     extend_sample(rng, count, places, 0, table)
 }
 
-/// Goes on with a sample whose first `filled` slots stand: fills the other slots.
+/// Continues a sample: keeps the first `filled` slots, and fills the others.
 ///
-/// To draw a long sample in pieces, give the whole slice but its end: the first k slots of a
-/// sample are a sample of k of the numbers below `count - (places.len() - k)`. With `filled` 0
-/// this is `sample_with`, which says what the table is for. The slots that stand are linked anew,
-/// in O(k).
+/// Use it to draw a long sample in pieces. Pass the slice without its end first: the first k slots
+/// of a sample are a sample of k of the numbers below `count - (places.len() - k)`. If `filled` is
+/// 0, this is `sample_with`, which describes the table. The slots that are kept are linked into the
+/// table again, which takes O(k).
 ///
-/// The sample is below `count` and without repetition if the slots that stand are below `count -
-/// places.len() + filled` and without repetition.
+/// Precondition: the kept slots hold different numbers below `count - places.len() + filled`. Then
+/// all slots hold different numbers below `count` afterwards.
 ///
 /// # Errors
 ///
-/// The only error is `Exhausted`, as `sample` has it; the slots before it hold the sample so far.
+/// Returns `Exhausted`, the only error, as `sample` does. The slots before the failure hold the
+/// sample so far.
 ///
 /// # Panics
 ///
-/// Panics unless there are at most `count` slots, and at most all of them are filled.
+/// Panics if there are more than `count` slots, or if `filled` is greater than the number of slots.
 ///
 /// # Examples
 ///
@@ -146,7 +151,8 @@ pub fn extend_sample<G: Rng<OUTPUT>, const OUTPUT: usize>(
     Ok(())
 }
 
-// The number that joins the sample: the number drawn, or `last` if the sample holds that already.
+// Returns the number that joins the sample: the number drawn, or `last` if the sample already holds
+// that number.
 fn joining(sample: &[usize], table: &[usize], chains: usize, last: usize, drawn: usize) -> usize {
     if holds(sample, table, chains, drawn) {
         last
@@ -155,7 +161,7 @@ fn joining(sample: &[usize], table: &[usize], chains: usize, last: usize, drawn:
     }
 }
 
-// Whether the sample holds the number. Without chains it is sought in all of the sample.
+// Returns whether the sample holds the number. Without chains, the whole sample is searched.
 fn holds(sample: &[usize], table: &[usize], chains: usize, number: usize) -> bool {
     if chains == 0 {
         return sample.contains(&number);
@@ -179,7 +185,7 @@ fn link_all(places: &[usize], filled: usize, table: &mut [usize], chains: usize)
     }
 }
 
-// Puts the slot into the chain of its number, as the last of that chain.
+// Links the slot into the chain of its number, at the head of the chain.
 fn link(places: &[usize], slot: usize, table: &mut [usize], chains: usize) {
     if chains > 0 {
         let chain = chain_of(places[slot], chains);
@@ -188,12 +194,13 @@ fn link(places: &[usize], slot: usize, table: &mut [usize], chains: usize) {
     }
 }
 
-// The chain to which a number belongs: its low bits, since the number of chains is a power of two.
+// Returns the chain of a number: its low bits, since the number of chains is a power of two.
 fn chain_of(number: usize, chains: usize) -> usize {
     number & (chains - 1)
 }
 
-// How many chains there are: the greatest power of two that is no more than the room, or none.
+// Returns the number of chains: the greatest power of two that is at most `room`, or 0 if there is
+// no room.
 fn chains_in(room: usize) -> usize {
     if room == 0 {
         return 0;
@@ -209,30 +216,31 @@ fn draw_up_to<G: Rng<OUTPUT>, const OUTPUT: usize>(
     usize::random_range(rng, Bound::Included(0), Bound::Included(last))
 }
 
-/// Samples `chosen.len()` of the items of an iterator, in one pass, without knowing how many come.
+/// Draws a sample of `chosen.len()` items from an iterator, in one pass, without knowing its
+/// length.
 ///
-/// It is Alan Waterman's algorithm R (Knuth, "The Art of Computer Programming", volume 2; Vitter,
+/// This is Alan Waterman's algorithm R (Knuth, "The Art of Computer Programming", volume 2; Vitter,
 /// "Random Sampling with a Reservoir", ACM Transactions on Mathematical Software 11(1), 1985). The
-/// first items fill the slots in turn. Each later item, number i from 0, draws a number from
-/// `0..=i`: if there is a slot of that number, the item replaces what is in it.
+/// first items fill the slots in order. For each later item, which has number i counting from 0, a
+/// number is drawn from `0..=i`: if there is a slot of that number, the item replaces the one in
+/// it.
 ///
-/// It returns how many slots hold items: all of them, unless the iterator ends before. The slots
-/// after these are as before. It takes n steps for n items, and draws n - k numbers with k slots:
-/// none for n up to k. It needs no memory beside the slots. If the items are in a slice,
-/// `samples::sample` of their indices draws k numbers.
+/// Returns the number of filled slots: all of them, unless the iterator ends earlier. The slots
+/// after these are unchanged. For n items and k slots, n steps are taken and n - k numbers are
+/// drawn (none if n is at most k). No memory is needed apart from the slots. If the items are in a
+/// slice, `samples::sample` of their indices draws only k numbers.
 ///
-/// Each set of k items is the sample for equally many sequences of draws. The order of the slots
-/// is not uniform: by the algorithm, item 0 can only be in slot 0. Shuffle the slots for a random
-/// order.
+/// Each set of k items is produced by the same number of sequences of draws. The order of the slots
+/// is not uniform: item 0 can only be in slot 0. Shuffle the slots if you need a random order.
 ///
-/// The iterator ends, and gives at most `usize::MAX` items.
+/// Precondition: the iterator ends, after at most `usize::MAX` items.
 ///
 /// # Errors
 ///
-/// The only error is `Exhausted`: 128 words in a row were rejected for one item. That item is
-/// dropped, and the items after it are not taken; with `&mut items` the caller keeps them. The
-/// slots then hold a sample of the items before it, and the words stay consumed. Without slots, it
-/// draws for each item all the same.
+/// Returns `Exhausted`, the only error, if 128 words (random integers of 64 bits) in a row were
+/// rejected for one item. That item is dropped, and the items after it are not taken: pass
+/// `&mut items` to keep them. The slots then hold a sample of the items before it, and the words
+/// stay consumed. If there are no slots, a number is drawn for each item all the same.
 ///
 /// # Examples
 ///
@@ -260,8 +268,8 @@ pub fn reservoir<I: Iterator, G: Rng<OUTPUT>, const OUTPUT: usize>(
     Ok(taken.min(chosen.len()))
 }
 
-// The slot for an item: its own number for the first items, which fill the slots in turn. A later
-// item draws.
+// Returns the slot for an item: the item's own number for the first items, which fill the slots in
+// order, and a drawn number for a later item.
 fn slot_for<G: Rng<OUTPUT>, const OUTPUT: usize>(
     rng: &mut G,
     item: usize,
@@ -274,7 +282,7 @@ fn slot_for<G: Rng<OUTPUT>, const OUTPUT: usize>(
     }
 }
 
-// Puts the item into the slot, if there is such a slot.
+// Puts the item into the slot, if the slot exists.
 fn place_at<T>(slots: &mut [T], slot: usize, item: T) {
     if slot < slots.len() {
         slots[slot] = item;

@@ -1,11 +1,12 @@
-//! Shuffles as lists of choices, and the shuffle that draws from all indices.
+//! Shuffles as lists of choices, which can be stored, applied and recovered; a partial shuffle; and
+//! the shuffle of `nanorand` 0.7.0.
 
 use crate::rand::{draw_partner, Rng};
 use crate::swap::swap;
 use crate::values::{RandomRange, RangeError};
 use core::ops::Bound;
 
-/// The list is not a permutation of the numbers below its length.
+/// The error of [`choices_of`]: the list is not a permutation of the numbers below its length.
 #[derive(Clone, Copy, Debug, PartialEq, Eq)]
 pub struct NotArrangement;
 
@@ -18,8 +19,8 @@ impl core::fmt::Display for NotArrangement {
 #[cfg(feature = "std")]
 impl std::error::Error for NotArrangement {}
 
-/// Writes the identity to the slice: 0, 1, .., one number into each slot, as the cards of a deck
-/// in order, or the places of a list.
+/// Writes the identity permutation to the slice: 0, 1, .., one number into each slot. These can be
+/// the cards of a deck in order, or the positions in a list.
 ///
 /// # Examples
 ///
@@ -34,15 +35,16 @@ pub fn identity(slots: &mut [usize]) {
     }
 }
 
-/// Applies stored choices: for each index i, from 0 up, swaps the items at i and `choices[i]`.
+/// Applies stored choices to the items: for each index i, from 0 up, swaps the items at i and
+/// `choices[i]`.
 ///
-/// It leaves a permutation of the items. Applied to the items that a shuffle started from, the
-/// choices that `shuffle_and_record` recorded leave the items that the shuffle left.
+/// The result is a permutation of the items. Applying the choices that `shuffle_and_record`
+/// recorded to the items that it started from repeats its shuffle.
 ///
 /// # Panics
 ///
-/// Panics unless there is one choice for each item, and the choice of index i is i or a later
-/// index.
+/// Panics if `choices` and `items` differ in length, or if a choice is less than its index or not
+/// an index of an item.
 ///
 /// # Examples
 ///
@@ -67,18 +69,21 @@ pub fn apply_choices<T>(choices: &[usize], items: &mut [T]) {
     }
 }
 
-/// Writes to `out` the unique valid choices that turn the identity 0, 1, .. into `order`.
+/// Writes to `out` the choices that turn the identity 0, 1, .. into `order`. There is exactly one
+/// such list of valid choices.
 ///
-/// Their old contents do not matter, and nothing is allocated. The time is O(n^2) for n numbers.
+/// The old contents of `out` and `scratch` are ignored, and nothing is allocated. The time is
+/// O(n^2) for n numbers.
 ///
 /// # Errors
 ///
-/// It returns `NotArrangement` exactly if `order` is not a permutation of the numbers below its
-/// length; the contents of `out` are then unspecified. Those of `scratch` always are.
+/// Returns `NotArrangement` if and only if `order` is not a permutation of the numbers below its
+/// length. The contents of `out` are unspecified then. The contents of `scratch` are always
+/// unspecified afterwards.
 ///
 /// # Panics
 ///
-/// Panics unless `out` and `scratch` are as long as `order`.
+/// Panics if `out` or `scratch` differs in length from `order`.
 ///
 /// # Examples
 ///
@@ -115,7 +120,7 @@ pub fn choices_of(
     Ok(())
 }
 
-// An index from `from` up whose item is `wanted`.
+// Returns an index, `from` or later, whose item is `wanted`.
 fn place_from(items: &[usize], from: usize, wanted: usize) -> Option<usize> {
     for place in from..items.len() {
         if items[place] == wanted {
@@ -125,21 +130,21 @@ fn place_from(items: &[usize], from: usize, wanted: usize) -> Option<usize> {
     None
 }
 
-/// Shuffles the slice as `Rng::shuffle` does, and records the choices that it draws.
+/// Shuffles the slice as `Rng::shuffle` does, and records the drawn choices in `choices`.
 ///
-/// Its old contents are overwritten. Result, items and generator are those of `Rng::shuffle`. On
-/// success `choices` holds the drawn choices. Nothing is allocated. An empty slice draws nothing.
+/// The result, the items and the generator are those of `Rng::shuffle`. The old contents of
+/// `choices` are overwritten. Nothing is allocated. An empty slice draws nothing.
 ///
 /// # Errors
 ///
-/// It returns `Exhausted` if 128 words in a row were rejected for one index. The swaps before that
-/// stay, and the words stay consumed. Then `choices` holds those drawn before the failure, and for
-/// each index from there on that index itself, which moves nothing. So the choices are valid in
-/// both cases, and `apply_choices` repeats with them what was done here.
+/// Returns `Exhausted` if 128 words (random integers of 64 bits) in a row were rejected for one
+/// index. The swaps before that stay, and the words stay consumed. `choices` then holds the choices
+/// drawn before the failure and, for each index from there on, the index itself, which moves
+/// nothing. So the choices are valid in this case too, and `apply_choices` repeats what was done.
 ///
 /// # Panics
 ///
-/// Panics unless `choices` is as long as `target`.
+/// Panics if `choices` and `target` differ in length.
 ///
 /// # Examples
 ///
@@ -178,14 +183,15 @@ pub fn shuffle_and_record<G: Rng<OUTPUT>, T, const OUTPUT: usize>(
 /// Shuffles the beginning of the slice: makes the first `count` steps of `Rng::shuffle`, or all of
 /// them if there are fewer items.
 ///
-/// The first `count` items are then a selection from all items, in random order, and the other
-/// items follow. For each index below `count`, from 0 up, it swaps the item there with the one at
-/// an index drawn from that index and all later ones.
+/// The first `count` items are then a random selection from all items, in random order, and the
+/// other items follow. For each index i below `count`, from 0 up, an index is drawn from i to the
+/// last one, and the items at i and at that index are swapped. The time is O(`count`).
 ///
 /// # Errors
 ///
-/// It returns `Exhausted` if 128 words in a row were rejected for one index. The swaps before that
-/// stay, and the words stay consumed. A `count` of 0 or an empty slice draws nothing.
+/// Returns `Exhausted` if 128 words (random integers of 64 bits) in a row were rejected for one
+/// index. The swaps before that stay, and the words stay consumed. If `count` is 0 or the slice is
+/// empty, nothing is drawn.
 ///
 /// # Examples
 ///
@@ -212,17 +218,17 @@ pub fn partial_shuffle<G: Rng<OUTPUT>, T, const OUTPUT: usize>(
     Ok(())
 }
 
-/// Shuffles the slice as the Rust crate `nanorand` 0.7.0 does: for each index, from 0 up, swaps
-/// the item there with the one at an index drawn from the whole slice.
+/// Shuffles the slice as the Rust crate `nanorand` 0.7.0 does: for each index i, from 0 up, swaps
+/// the item at i with the one at an index drawn from the whole slice.
 ///
-/// It is not the shuffle of Fisher and Yates, whose partners come from the rest of the slice
-/// alone. It leaves a permutation of the items, but several lists of choices make the same
-/// permutation.
+/// This is not the Fisher-Yates shuffle, which draws only from i and the indices after it. The
+/// result is a permutation of the items. Several lists of choices produce the same permutation, so
+/// the shuffle is biased for three or more items.
 ///
 /// # Errors
 ///
-/// It returns `Exhausted` if 128 words in a row were rejected for one index. The swaps before that
-/// stay, and the words stay consumed. An empty slice draws nothing.
+/// Returns `Exhausted` if 128 words (random integers of 64 bits) in a row were rejected for one
+/// index. The swaps before that stay, and the words stay consumed. An empty slice draws nothing.
 ///
 /// # Examples
 ///

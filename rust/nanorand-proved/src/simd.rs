@@ -1,14 +1,15 @@
-//! Four and eight words of 32 bits side by side: what the proved code uses of `std::simd::u32x4` and
-//! `u32x8`, which are not stable.
+//! Vectors of four and of eight 32-bit words, with the operations that the proved code uses of
+//! `std::simd::u32x4` and `u32x8`, which are not stable.
 //!
-//! On four words SSE2 computes on x86-64, NEON on `AArch64` with the least byte first, and plain words
-//! elsewhere. Both belong to every processor of these targets, so nothing is asked of the processor. On
-//! eight words AVX2 computes, where the processor has it, and elsewhere nothing: [`EightLanes::find`]
-//! asks. The words are the same everywhere: the tests compare with plain words.
+//! Vectors of four words use SSE2 on x86-64, NEON on little-endian `AArch64`, and scalar code
+//! elsewhere. Every processor of these targets has SSE2 or NEON, so nothing is detected at run
+//! time. Vectors of eight words use AVX2, and are available only if the processor has it:
+//! [`EightLanes::find`] detects it. The results are the same everywhere; the tests compare them
+//! with scalar code.
 //!
 //! This is one of the two files with unsafe code; `system.rs` is the other.
 
-// The rounds are fast only if every operation becomes its one instruction.
+// The rounds are fast only if every operation compiles to a single instruction.
 #![allow(clippy::inline_always)]
 
 use core::ops::{Add, BitOr, BitXor, Shl, Shr};
@@ -33,7 +34,7 @@ use sse2 as lanes;
 ))]
 use neon as lanes;
 
-/// Four words of 32 bits. `+` wraps in each.
+/// A vector of four 32-bit words. `+` wraps around in each word.
 #[derive(Clone, Copy)]
 pub(crate) struct U32x4(lanes::Words);
 
@@ -53,8 +54,8 @@ impl U32x4 {
         lanes::to_array(self.0)
     }
 
-    // The one number of bits by which all four words are shifted: SSE2 has no other shifts. Shifts by 32
-    // and more differ from processor to processor, so there are none.
+    // Returns the number of bits by which all four words are shifted. It is the same for all, since
+    // SSE2 has no other shifts. Shifts by 32 and more differ between processors and do not occur.
     #[inline(always)]
     fn shift(self) -> u32 {
         let [bits, ..] = self.to_array();
@@ -94,7 +95,7 @@ impl BitOr for U32x4 {
     }
 }
 
-/// The words of the right side are equal, and below 32.
+/// Precondition: the words of the right operand are equal, and below 32.
 impl Shl for U32x4 {
     type Output = Self;
 
@@ -104,7 +105,7 @@ impl Shl for U32x4 {
     }
 }
 
-/// The words of the right side are equal, and below 32.
+/// Precondition: the words of the right operand are equal, and below 32.
 impl Shr for U32x4 {
     type Output = Self;
 
@@ -120,7 +121,8 @@ use plain_eight as eight;
 #[cfg(all(target_arch = "x86_64", target_feature = "sse2"))]
 use avx2 as eight;
 
-/// Leave to compute on eight words. `find` alone gives it, where the processor has AVX2.
+/// The permission to compute on vectors of eight words. Only `find` grants it, if the processor has
+/// AVX2.
 #[derive(Clone, Copy)]
 pub(crate) struct EightLanes(());
 
@@ -158,21 +160,23 @@ impl EightLanes {
     }
 }
 
-/// What computes on eight words. `EightLanes::run` and `next` call it, compiled for them, and it has to be
-/// inlined there with all that it calls: elsewhere each operation on eight words is a call.
+/// Code that computes on vectors of eight words. `EightLanes::run` and `next` call it, compiled for
+/// AVX2. It must be inlined there with everything that it calls: elsewhere, each operation on eight
+/// words is a function call.
 pub(crate) trait Wide {
     fn fill_eight(&mut self, lanes: EightLanes, out: &mut [u8]);
 
-    /// The same, as a value: the vectors write the caller's array, which is not cleared first.
+    /// Does the same, and returns the bytes as a value: they are written directly to the caller's
+    /// array, which is not cleared first.
     fn next_eight(&mut self, lanes: EightLanes) -> [u8; 512];
 }
 
-/// Eight words of 32 bits. `+` wraps in each. `EightLanes` alone makes one.
+/// A vector of eight 32-bit words. `+` wraps around in each word. Only `EightLanes` creates one.
 #[derive(Clone, Copy)]
 pub(crate) struct U32x8(eight::Words);
 
 impl U32x8 {
-    /// Rotates each word by 1 to 31 bits.
+    /// Rotates each word to the left by 1 to 31 bits.
     #[inline(always)]
     pub(crate) fn rotate_left(self, bits: u32) -> Self {
         debug_assert!(0 < bits && bits < 32, "a word is rotated by 1 to 31 bits");
@@ -184,21 +188,21 @@ impl U32x8 {
         eight::to_array(self.0)
     }
 
-    /// Words of both by turns: the words 0, 1, 4 and 5 of each, and the others.
+    /// Interleaves the words of both: first words 0, 1, 4 and 5 of each, then the other words.
     #[inline(always)]
     pub(crate) fn woven(self, other: Self) -> (Self, Self) {
         let (front, back) = eight::woven(self.0, other.0);
         (Self(front), Self(back))
     }
 
-    /// The same with pairs of words for words.
+    /// Does the same with pairs of words in place of words.
     #[inline(always)]
     pub(crate) fn woven_pairs(self, other: Self) -> (Self, Self) {
         let (front, back) = eight::woven_pairs(self.0, other.0);
         (Self(front), Self(back))
     }
 
-    /// The first halves of both, and the second halves.
+    /// Returns the first halves of both, and then the second halves.
     #[inline(always)]
     pub(crate) fn joined(self, other: Self) -> (Self, Self) {
         let (front, back) = eight::joined(self.0, other.0);
@@ -224,7 +228,7 @@ impl BitXor for U32x8 {
     }
 }
 
-// All but `is_here` are called only by who has leave for eight lanes.
+// All functions except `is_here` are called only with the permission for eight lanes.
 #[cfg(all(target_arch = "x86_64", target_feature = "sse2"))]
 mod avx2 {
     use super::{EightLanes, Wide};
@@ -238,9 +242,9 @@ mod avx2 {
 
     pub(super) type Words = __m256i;
 
-    // Which byte of 16 comes to each place, for rotations by 8 and by 16 bits. They are read as if they could
-    // change: where the compiler sees which bytes move, it draws two rotations together, and then moves the
-    // bytes of nearly twice as many vectors.
+    // The order of the bytes for rotations by 8 and by 16 bits. They are read as volatile: if the
+    // compiler knows which bytes move, it merges two rotations, and then moves the bytes of nearly
+    // twice as many vectors.
     static BY_8: Words = in_both_halves([0x0201_0003, 0x0605_0407, 0x0a09_080b, 0x0e0d_0c0f]);
     static BY_16: Words = in_both_halves([0x0100_0302, 0x0504_0706, 0x0908_0b0a, 0x0d0c_0f0e]);
 
@@ -259,7 +263,7 @@ mod avx2 {
         std::is_x86_feature_detected!("avx2")
     }
 
-    // Without std nothing asks the processor.
+    // Without std, the features of the processor cannot be detected.
     #[cfg(not(feature = "std"))]
     #[inline]
     pub(super) fn is_here() -> bool {
@@ -268,7 +272,7 @@ mod avx2 {
 
     #[inline(always)]
     pub(super) fn run<W: Wide>(lanes: EightLanes, work: &mut W, out: &mut [u8]) {
-        // SAFETY: the processor has AVX2, or there would be no leave for eight lanes.
+        // SAFETY: the processor has AVX2, or there would be no permission for eight lanes.
         unsafe { with_avx2(lanes, work, out) }
     }
 
@@ -279,7 +283,7 @@ mod avx2 {
 
     #[inline(always)]
     pub(super) fn next<W: Wide>(lanes: EightLanes, work: &mut W) -> [u8; 512] {
-        // SAFETY: the processor has AVX2, or there would be no leave for eight lanes.
+        // SAFETY: the processor has AVX2, or there would be no permission for eight lanes.
         unsafe { next_with_avx2(lanes, work) }
     }
 
@@ -301,19 +305,19 @@ mod avx2 {
 
     #[inline(always)]
     pub(super) fn woven(a: Words, b: Words) -> (Words, Words) {
-        // SAFETY: the processor has AVX2, or there would be no leave for eight lanes.
+        // SAFETY: the processor has AVX2, or there would be no permission for eight lanes.
         unsafe { (_mm256_unpacklo_epi32(a, b), _mm256_unpackhi_epi32(a, b)) }
     }
 
     #[inline(always)]
     pub(super) fn woven_pairs(a: Words, b: Words) -> (Words, Words) {
-        // SAFETY: the processor has AVX2, or there would be no leave for eight lanes.
+        // SAFETY: the processor has AVX2, or there would be no permission for eight lanes.
         unsafe { (_mm256_unpacklo_epi64(a, b), _mm256_unpackhi_epi64(a, b)) }
     }
 
     #[inline(always)]
     pub(super) fn joined(a: Words, b: Words) -> (Words, Words) {
-        // SAFETY: the processor has AVX2, or there would be no leave for eight lanes.
+        // SAFETY: the processor has AVX2, or there would be no permission for eight lanes.
         unsafe {
             (
                 _mm256_permute2x128_si256::<0x20>(a, b),
@@ -324,19 +328,19 @@ mod avx2 {
 
     #[inline(always)]
     pub(super) fn add(a: Words, b: Words) -> Words {
-        // SAFETY: the processor has AVX2, or there would be no leave for eight lanes.
+        // SAFETY: the processor has AVX2, or there would be no permission for eight lanes.
         unsafe { _mm256_add_epi32(a, b) }
     }
 
     #[inline(always)]
     pub(super) fn xor(a: Words, b: Words) -> Words {
-        // SAFETY: the processor has AVX2, or there would be no leave for eight lanes.
+        // SAFETY: the processor has AVX2, or there would be no permission for eight lanes.
         unsafe { _mm256_xor_si256(a, b) }
     }
 
     #[inline(always)]
     pub(super) fn rotate_left(words: Words, bits: u32) -> Words {
-        // SAFETY: the processor has AVX2, or there would be no leave for eight lanes.
+        // SAFETY: the processor has AVX2, or there would be no permission for eight lanes.
         unsafe {
             match bits {
                 8 => return _mm256_shuffle_epi8(words, read_volatile(&BY_8)),
@@ -350,14 +354,14 @@ mod avx2 {
     }
 }
 
-// Compiled in tests too, where AVX2 is compared with it.
+// Also compiled in tests, which compare AVX2 with it.
 #[cfg(any(test, not(all(target_arch = "x86_64", target_feature = "sse2"))))]
 mod plain_eight {
     use super::{EightLanes, Wide};
 
     pub(super) type Words = [u32; 8];
 
-    // Four words side by side are as fast.
+    // Vectors of four words are just as fast here.
     #[inline]
     #[cfg_attr(test, allow(dead_code))]
     pub(super) fn is_here() -> bool {
@@ -484,7 +488,7 @@ mod sse2 {
     }
 }
 
-// Compiled in tests on x86-64 too, with plain words in place of the processor's.
+// Also compiled in tests on x86-64, with scalar code in place of the NEON instructions.
 #[cfg(any(
     all(test, target_arch = "x86_64"),
     all(
@@ -543,7 +547,7 @@ mod neon {
         unsafe { vshlq_u32(words, vreinterpretq_s32_u32(vdupq_n_u32(bits))) }
     }
 
-    // NEON shifts to the right by a negative number.
+    // NEON shifts to the right by a negative number of bits.
     #[inline(always)]
     pub(super) fn right(words: Words, bits: u32) -> Words {
         // SAFETY: the target has NEON, or this module would not be compiled.
@@ -551,7 +555,7 @@ mod neon {
     }
 }
 
-// Compiled in tests too, where the others are compared with it.
+// Also compiled in tests, which compare the others with it.
 #[cfg(any(
     test,
     not(any(
@@ -624,7 +628,8 @@ mod tests {
         GROUPS.fetch_add(1, Ordering::Relaxed);
     }
 
-    // Random words for the cases alone: xorshift, which is nothing of this library.
+    // Random words for the test cases. The generator is xorshift, so that the tests do not use this
+    // library.
     struct Words(u64);
 
     impl Words {
@@ -635,7 +640,7 @@ mod tests {
             u32::try_from(self.0 >> 32).unwrap()
         }
 
-        // Some words are those where carries and bits get lost.
+        // Some words are chosen so that carries and lost bits show.
         fn word(&mut self) -> u32 {
             match self.next() % 8 {
                 0 => 0,
@@ -707,7 +712,7 @@ mod tests {
         }
     }
 
-    /// The functions of NEON that are used, as ARM describes them.
+    /// The NEON functions that are used, written as ARM describes them.
     #[cfg(target_arch = "x86_64")]
     #[allow(non_camel_case_types)]
     pub(super) mod neon_of_plain_words {
@@ -746,7 +751,7 @@ mod tests {
             int32x4_t(a.0.map(i32::wrapping_neg))
         }
 
-        // To the left by the low byte of each lane, as a number with a sign.
+        // Shifts each lane to the left by the low byte of `bits`, taken as a signed number.
         pub(crate) unsafe fn vshlq_u32(a: uint32x4_t, bits: int32x4_t) -> uint32x4_t {
             by_lane(|lane| {
                 let by = i8::from_ne_bytes([bits.0[lane].to_le_bytes()[0]]);
@@ -787,7 +792,7 @@ mod tests {
         });
     }
 
-    // Where the processor has AVX2. Elsewhere nothing calls these operations.
+    // Runs only if the processor has AVX2. Without it, nothing calls these operations.
     #[test]
     fn eight_words_are_plain_words() {
         let lanes = match EightLanes::find() {
@@ -811,7 +816,7 @@ mod tests {
         });
     }
 
-    // No other unit test computes groups, so none changes the count meanwhile.
+    // No other unit test computes groups, so no other test changes the count meanwhile.
     #[test]
     fn eight_words_are_used_where_they_can_be() {
         #[cfg(all(feature = "std", target_arch = "x86_64"))]
@@ -838,7 +843,7 @@ mod tests {
         }
     }
 
-    // Without std nothing asks the processor, so the target alone gives leave.
+    // Without std, nothing is detected at run time, so the target decides.
     #[cfg(not(feature = "std"))]
     #[test]
     fn leave_of_the_target_alone() {

@@ -1,24 +1,25 @@
-//! Random bytes of the operating system, by its own call: no file is opened.
+//! Random bytes from the operating system, by its own call: no file is opened.
 //!
-//! This is one of the two files with unsafe code; `simd.rs` is the other. It is trusted that each system
-//! has the function that is declared here, and that a call writes to no byte but those that it is given.
+//! This is one of the two files with unsafe code; `simd.rs` is the other. It is trusted that each
+//! system has the function declared here, and that a call writes only to the bytes that it is
+//! given.
 
 use std::io::{self, ErrorKind};
 
-/// Fills the slice with the operating system's random bytes, and asks for nothing if it is empty. They are
-/// not proved to be random.
+/// Fills the slice with random bytes from the operating system. For an empty slice it makes no
+/// call. Nothing is proved about the randomness of the bytes.
 ///
 /// # Errors
 ///
-/// The error of the system's call, or `Unsupported` where none is known. What the slice holds is then
-/// unspecified.
+/// Returns the error of the system call, or an error of kind `Unsupported` if no call is known for
+/// the system. The contents of the slice are unspecified then.
 #[inline]
 pub fn fill(bytes: &mut [u8]) -> io::Result<()> {
     fill_by(bytes, call::MOST, call::request)
 }
 
-// Fills a slice by requests of at most `most` bytes each. A request says how many bytes it wrote, from the
-// first one on. One that a signal interrupted is made again.
+// Fills a slice by requests of at most `most` bytes each. A request returns how many bytes it
+// wrote, counted from the first one. A request that a signal interrupted is made again.
 #[inline]
 fn fill_by(
     bytes: &mut [u8],
@@ -39,7 +40,7 @@ fn fill_by(
     Ok(())
 }
 
-/// `getrandom`, which returns a count, or -1 and sets `errno`.
+/// `getrandom`, which returns the number of bytes written, or -1 and sets `errno`.
 #[cfg(any(target_os = "linux", target_os = "android", target_os = "dragonfly"))]
 mod call {
     use std::io;
@@ -55,7 +56,8 @@ mod call {
         request_with(bytes, 0)
     }
 
-    // Without flags the call waits until the system has gathered enough, once after its start.
+    // Without flags, the call blocks until the system has gathered enough entropy, which happens
+    // once after it starts.
     pub(super) fn request_with(bytes: &mut [u8], flags: c_uint) -> io::Result<usize> {
         // SAFETY: the slice may be written over its whole size.
         let count = unsafe { getrandom(bytes.as_mut_ptr().cast(), bytes.len(), flags) };
@@ -74,8 +76,8 @@ mod call {
 ))]
 use getentropy as call;
 
-/// `getentropy`, which fills at most 256 bytes whole, or returns -1 and sets `errno`. Linux has it too, for the
-/// tests.
+/// `getentropy`, which fills at most 256 bytes completely, or returns -1 and sets `errno`. It is
+/// also compiled on Linux, for the tests.
 #[cfg(any(
     all(test, target_os = "linux"),
     target_os = "macos",
@@ -108,8 +110,8 @@ mod getentropy {
 #[cfg(all(target_vendor = "apple", not(target_os = "macos")))]
 use common_crypto as call;
 
-/// `CCRandomGenerateBytes` of iOS and its kin, which fills the slice whole, or returns its own status. On Linux the
-/// tests have one in its place.
+/// `CCRandomGenerateBytes` of iOS and its relatives, which fills the slice completely, or returns a
+/// status. On Linux, the tests provide a replacement.
 #[cfg(any(
     all(test, target_os = "linux"),
     all(target_vendor = "apple", not(target_os = "macos")),
@@ -139,7 +141,8 @@ mod common_crypto {
 #[cfg(target_os = "wasi")]
 use wasi as call;
 
-/// `random_get` of WASI, which fills the slice whole, or returns its error. On Linux the tests have one in its place.
+/// `random_get` of WASI, which fills the slice completely, or returns its error. On Linux, the
+/// tests provide a replacement.
 #[cfg(any(all(test, target_os = "linux"), target_os = "wasi"))]
 mod wasi {
     use std::io;
@@ -166,8 +169,9 @@ mod wasi {
 #[cfg(windows)]
 use process_prng as call;
 
-/// `ProcessPrng` of Windows, which fills the slice whole. Its library has no part for a linker, so it is
-/// loaded, and stays so. On Linux the tests have one in its place.
+/// `ProcessPrng` of Windows, which fills the slice completely. There is no import library for its
+/// DLL, so the DLL is loaded at run time, and stays loaded. On Linux, the tests provide a
+/// replacement.
 #[cfg(any(all(test, target_os = "linux"), windows))]
 mod process_prng {
     use std::io;
@@ -177,7 +181,8 @@ mod process_prng {
 
     pub(super) const MOST: usize = usize::MAX;
 
-    // The system's folder alone: beside the program a library of that name would be anyone's.
+    // Search only the system directory: anyone could place a library of that name next to the
+    // program.
     const LOAD_LIBRARY_SEARCH_SYSTEM32: u32 = 0x800;
 
     #[cfg_attr(windows, link(name = "kernel32"))]
@@ -241,7 +246,7 @@ mod tests {
 
     const EINTR: i32 = 4;
 
-    // The size that is asked for, and the count or the error of the system that comes back.
+    // The size of a request, and the count or the system error that is returned for it.
     type Request = (usize, Result<usize, i32>);
 
     // Fills bytes by exactly these requests, of at most 20 bytes each, which write 1, 2, 3, ..
@@ -286,7 +291,7 @@ mod tests {
         }
     }
 
-    // A request is made again however often it was interrupted in a row.
+    // A request is repeated no matter how often in a row it was interrupted.
     #[test]
     fn many_interruptions() {
         let mut requests: Vec<Request> = vec![(8, Err(EINTR)); 10_000];
@@ -298,7 +303,8 @@ mod tests {
         assert_eq!(bytes, [1, 2, 3, 4, 5, 6, 7, 8]);
     }
 
-    // More bytes than 32 bits count are one request. None is written, so they take no memory.
+    // More bytes than a 32-bit count can hold are one request. None of them is written, so they
+    // take no memory.
     #[cfg(all(target_pointer_width = "64", not(miri)))]
     #[test]
     fn more_than_4_gibibytes() {
@@ -313,7 +319,7 @@ mod tests {
         }
     }
 
-    // Any error but an interruption ends a fill at any of its requests, and is returned.
+    // Any error other than an interruption, at any request, ends the fill and is returned.
     #[test]
     fn failures() {
         for number in (1..134).filter(|number| *number != EINTR) {
@@ -333,7 +339,7 @@ mod tests {
         }
     }
 
-    // Linux refuses flags that it does not know, and `getentropy` more than 256 bytes.
+    // Linux rejects unknown flags, and `getentropy` rejects more than 256 bytes.
     #[cfg(all(target_os = "linux", not(miri)))]
     #[test]
     fn the_systems_own_error() {
@@ -361,7 +367,7 @@ mod tests {
             .all(|part| part.iter().any(|byte| *byte != 0)));
     }
 
-    // What stands for the calls of other systems. Each fills the bytes with ones.
+    // Replacements for the calls of other systems. Each fills the bytes with ones.
     #[cfg(target_os = "linux")]
     #[allow(non_snake_case)]
     mod other_systems {
@@ -373,9 +379,9 @@ mod tests {
         use std::thread_local;
 
         thread_local! {
-            // What they return.
+            // The status that the calls return.
             pub(super) static STATUS: Cell<i32> = const { Cell::new(0) };
-            // Whether Windows has the library, and the library the function.
+            // Whether Windows has the library, and whether the library has the function.
             pub(super) static LIBRARY: Cell<bool> = const { Cell::new(true) };
             pub(super) static FUNCTION: Cell<bool> = const { Cell::new(true) };
         }
@@ -430,7 +436,7 @@ mod tests {
         }
     }
 
-    // The bytes of a fill and its outcome where the system's call returns this status.
+    // Returns the bytes of a fill, and its result, if the system call returns this status.
     #[cfg(target_os = "linux")]
     fn filled_with_status(
         status: i32,
@@ -443,7 +449,7 @@ mod tests {
         (bytes, outcome)
     }
 
-    // Windows says by 0 that it failed, and the others by any other number.
+    // On Windows the status 0 means failure. On the others, any other status does.
     #[cfg(target_os = "linux")]
     #[test]
     fn statuses_of_other_systems() {
@@ -465,7 +471,7 @@ mod tests {
         }
     }
 
-    // They fill slices of any size whole.
+    // These calls fill slices of any size completely.
     #[cfg(target_os = "linux")]
     #[test]
     fn long_fills_by_other_systems() {

@@ -11,18 +11,22 @@ use crate::rand::Rng;
 pub use range::{RandomRange, RangeError};
 pub use word::pick_word;
 
-/// A type whose values can be drawn from a generator. A draw of a value cannot be refused.
+/// A type whose values can be drawn from a generator. Drawing a value cannot return an error.
+/// `OUTPUT` is the number of bytes of the generator's blocks.
 ///
-/// | Type | Taken | Value |
+/// A request is one read of n bytes from the generator, and a word is a random integer of N bits,
+/// read by one request of N / 8 bytes.
+///
+/// | Type | Taken from the stream | Value |
 /// |---|---|---|
-/// | an integer of N bits | one request of N / 8 bytes | their number, least byte first, in two's complement |
-/// | `usize`, `isize` | one request of 8 bytes | of a `u64` or an `i64` the bits that the type has |
-/// | `bool` | one byte | true if it is below 128 |
-/// | `f32`, `f64` | as `u32`, `u64` | the top 24 or 53 bits as a part of 1, from 0 to below 1 |
-/// | `char` | as `u32`, at most 128 times | one of all 1,112,064; U+0000 after 128 rejected words |
-/// | `NonZeroU8`, .. | as the integer, at most 128 times | the first that is not 0; 1 after 128 zeros |
+/// | an integer of N bits | one request of N / 8 bytes | little-endian, in two's complement |
+/// | `usize`, `isize` | one request of 8 bytes | the low bits of a `u64` or an `i64` |
+/// | `bool` | one byte | true if the byte is below 128 |
+/// | `f32`, `f64` | as `u32`, `u64` | the top 24 or 53 bits as a fraction in [0, 1) |
+/// | `char` | as `u32`, at most 128 times | one of 1,112,064; U+0000 after 128 rejections |
+/// | `NonZeroU8`, .. | as the integer, at most 128 times | the first nonzero; 1 after 128 zeros |
 /// | `[u8; N]` | one request of N bytes | the bytes |
-/// | another array, a tuple | as its items | the items, drawn in their order |
+/// | another array, a tuple | as its items | the items, drawn in order |
 #[cfg_attr(
     diagnostic_hints,
     diagnostic::on_unimplemented(
@@ -34,7 +38,8 @@ pub trait RandomGen<G: Rng<OUTPUT>, const OUTPUT: usize> {
     /// Draws a value.
     fn random(rng: &mut G) -> Self;
 
-    /// Draws an array of values: one after another, but bytes by one request.
+    /// Draws an array of values, one after another. For bytes, it makes one request for all of
+    /// them.
     #[doc(hidden)]
     #[inline]
     fn array<const N: usize>(rng: &mut G) -> [Self; N]
@@ -45,7 +50,7 @@ pub trait RandomGen<G: Rng<OUTPUT>, const OUTPUT: usize> {
     }
 }
 
-/// Takes one byte, and is true if it is below 128.
+/// Takes one byte; the value is true if the byte is below 128.
 impl<G: Rng<OUTPUT>, const OUTPUT: usize> RandomGen<G, OUTPUT> for bool {
     #[inline(always)]
     fn random(rng: &mut G) -> bool {
@@ -53,10 +58,10 @@ impl<G: Rng<OUTPUT>, const OUTPUT: usize> RandomGen<G, OUTPUT> for bool {
     }
 }
 
-/// Fills the slice by a closure: calls `draw` once for each item, in the order of the items.
+/// Fills the slice by calling `draw` once for each item, in the order of the items.
 ///
-/// It is `Rng::fill` for draws that are no type of their own, as a range or a choice. For an empty
-/// slice `draw` is not called.
+/// Use it in place of `Rng::fill` for draws that have no type of their own, such as a range or a
+/// choice. For an empty slice `draw` is not called.
 ///
 /// # Examples
 ///
@@ -75,7 +80,7 @@ pub fn fill_with<G, T, F: FnMut(&mut G) -> T>(rng: &mut G, target: &mut [T], mut
     }
 }
 
-// The next `SIZE` bytes, by one request.
+// Returns the next `SIZE` bytes, by one request.
 #[inline(always)]
 fn next_bytes<G: Rng<OUTPUT>, const SIZE: usize, const OUTPUT: usize>(rng: &mut G) -> [u8; SIZE] {
     let mut bytes = [0; SIZE];

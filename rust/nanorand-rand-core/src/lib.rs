@@ -1,4 +1,4 @@
-//! The generators of `nanorand-proved` behind the traits of `rand_core` 0.6, which `rand` 0.8 takes.
+//! The generators of `nanorand-proved` with the traits of `rand_core` 0.6, which `rand` 0.8 uses.
 //!
 //! ```
 //! use nanorand_proved::WyRand;
@@ -10,12 +10,13 @@
 //! assert_eq!(rng, Core::from_seed(rng.0.seed().to_le_bytes()));
 //! ```
 //!
-//! A generator of your own serves too. None is a `CryptoRng`: for keys, tokens and passwords, or
-//! where an adversary matters, take a vetted cryptographic generator.
+//! It also works with your own generator. No generator implements `CryptoRng`: for keys, tokens and
+//! passwords, or if there is an adversary, use a vetted cryptographic generator.
 //!
-//! `from_seed` of `WyRand` and `Pcg64` takes the bytes as the state, and does not mix them:
-//! generators with neighbouring seeds draw correlated numbers. `seed_from_u64` mixes its number: it
-//! is the generator's own, by SplitMix64, and not the one by PCG32 that `rand_core` provides.
+//! `from_seed` of `WyRand` and `Pcg64` uses the bytes as the state, without mixing them: generators
+//! with neighbouring seeds draw correlated numbers. `seed_from_u64` mixes its number. It is the
+//! function of the generator, which uses SplitMix64, and not the one that `rand_core` provides,
+//! which uses PCG32.
 #![no_std]
 #![forbid(unsafe_code)]
 #![deny(missing_docs)]
@@ -27,10 +28,10 @@ use rand_core::{Error, RngCore, SeedableRng};
 #[doc = include_str!("../README.md")]
 struct Readme;
 
-/// A generator for what takes an `RngCore`.
+/// Adapts a generator to [`RngCore`].
 ///
-/// `OUTPUT` is the size of the generator's blocks, which the compiler finds: 64 for `ChaCha`, 8 for
-/// `WyRand` and `Pcg64`.
+/// `OUTPUT` is the number of bytes of the generator's blocks: 64 for `ChaCha`, and 8 for `WyRand`
+/// and `Pcg64`. The compiler infers it.
 #[derive(Clone, Debug, PartialEq, Eq)]
 pub struct Core<G, const OUTPUT: usize>(pub G);
 
@@ -50,7 +51,7 @@ impl<G: Rng<OUTPUT>, const OUTPUT: usize> RngCore for Core<G, OUTPUT> {
         self.0.fill_bytes(bytes);
     }
 
-    /// Never an error.
+    /// Never returns an error.
     #[inline]
     fn try_fill_bytes(&mut self, bytes: &mut [u8]) -> Result<(), Error> {
         self.0.fill_bytes(bytes);
@@ -82,8 +83,8 @@ impl SeedableRng for Core<Pcg64, 8> {
     }
 }
 
-/// The seed of a `ChaCha`, 32 bytes of key and 8 of nonce. An array of that length has no `Default`,
-/// which `rand_core` asks for.
+/// The seed of a `ChaCha`: 32 bytes of key and 8 bytes of nonce. `rand_core` requires that a seed
+/// implements `Default`, and an array of this length does not.
 #[derive(Clone, Copy)]
 pub struct ChaChaSeed(pub [u8; 40]);
 

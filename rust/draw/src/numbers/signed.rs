@@ -1,4 +1,4 @@
-//! Signed numbers: decimal digits after at most one minus, with a value that fits the type.
+//! Signed numbers: decimal digits after at most one minus sign, with a value that fits the type.
 
 use super::{read_signed, ReadNumber};
 

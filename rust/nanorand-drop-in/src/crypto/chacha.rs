@@ -1,8 +1,9 @@
-//! ChaCha by states: 16 words, of which words 4 to 11 are the key, 12 and 13 the counter, 14 and 15 the nonce.
+//! Functions on states of ChaCha: 16 words of 32 bits, of which words 4 to 11 are the key, words 12
+//! and 13 the counter, and words 14 and 15 the nonce.
 
 use nanorand_proved::crypto::chacha as proved;
 
-/// The block of a state.
+/// Returns the block of a state.
 ///
 /// # Panics
 ///
@@ -18,8 +19,8 @@ pub fn chacha_block<const ROUNDS: u8>(input: [u32; 16]) -> [u32; 16] {
     }
 }
 
-// nanorand_proved refuses odd rounds while a program is compiled. Here `ChaCha<7>` compiles, so the rounds are made
-// two at a time, by a number that is asked for at run time.
+// In `nanorand_proved` an odd number of rounds does not compile. Here `ChaCha<7>` compiles, so the
+// rounds are computed two at a time, by a number that is checked at run time.
 fn block_of_rounds(rounds: u8, input: [u32; 16]) -> [u32; 16] {
     assert!(
         rounds % 2 == 0,
@@ -32,15 +33,16 @@ fn block_of_rounds(rounds: u8, input: [u32; 16]) -> [u32; 16] {
     block
 }
 
-/// The state of a key and a nonce, with the counter 0. Four bytes make a word, least byte first.
+/// Returns the state of a key and a nonce, with the counter 0. Each word is four bytes, in
+/// little-endian order.
 #[inline]
 #[must_use]
 pub const fn chacha_init(key: [u8; 32], nonce: [u8; 8]) -> [u32; 16] {
     proved::chacha_init(key, nonce)
 }
 
-/// Adds 1 to the counter, whose low half is word 12 and whose high half is word 13, and returns true. At the greatest
-/// counter it returns false and changes nothing.
+/// Adds 1 to the counter and returns true. Word 12 is the low half of the counter, and word 13 the
+/// high half. At the greatest counter, 2^64 - 1, it returns false and changes nothing.
 #[inline]
 pub fn chacha_increment_counter(state: &mut [u32; 16]) -> bool {
     proved::chacha_increment_counter(state)
@@ -50,7 +52,7 @@ pub fn chacha_increment_counter(state: &mut [u32; 16]) -> bool {
 mod tests {
     use super::*;
 
-    /// The rounds that are made two at a time are those of the proved block.
+    /// Computing the rounds two at a time gives the same blocks as the proved function.
     #[test]
     fn rounds() {
         macro_rules! check {

@@ -1,4 +1,5 @@
-//! The one function that asks the system. Which one it is depends on the features and the target.
+//! The one function that asks the operating system. The features and the target determine which one
+//! is compiled.
 
 #[cfg(feature = "getrandom")]
 pub(crate) fn fill(out: &mut [u8]) -> bool {
@@ -10,7 +11,8 @@ pub(crate) fn fill(out: &mut [u8]) -> bool {
     nanorand_proved::system::fill(out).is_ok()
 }
 
-// nanorand_proved asks no system without std, where 0.7.0 calls libc. This is the crate's one use of unsafe code.
+// Without std, `nanorand_proved` cannot ask the system, while 0.7.0 calls libc. This is the only
+// unsafe code of the crate.
 #[cfg(all(
     not(any(feature = "std", feature = "getrandom")),
     any(target_os = "linux", target_os = "android")
@@ -20,9 +22,9 @@ pub(crate) fn fill(out: &mut [u8]) -> bool {
     extern "C" {
         fn getrandom(buffer: *mut u8, length: usize, flags: u32) -> isize;
     }
-    // The system gives up to 256 bytes at once, or none.
+    // The system fills up to 256 bytes completely, or returns an error.
     out.chunks_mut(256).all(|part| {
-        // SAFETY: the part is writable for its length, and the call writes no more.
+        // SAFETY: `part` is writable for its whole length, and the call writes no more than that.
         let given = unsafe { getrandom(part.as_mut_ptr(), part.len(), 0) };
         usize::try_from(given) == Ok(part.len())
     })

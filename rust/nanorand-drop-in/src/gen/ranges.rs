@@ -1,4 +1,4 @@
-//! Numbers of ranges, and the texts of the panics.
+//! Numbers from ranges, and the messages of the panics.
 
 use super::RandomRange;
 use crate::adapter::Lent;
@@ -11,7 +11,7 @@ use nanorand_proved::RangeError;
 macro_rules! proved_ranges {
     ($($number:ty),+) => { $(
         impl<G: Rng<OUTPUT>, const OUTPUT: usize> RandomRange<G, OUTPUT> for $number {
-            // In line, a range that the compiler knows costs less.
+            // Inlining makes a range faster if its bounds are constants.
             #[allow(clippy::inline_always)]
             #[inline(always)]
             #[track_caller]
@@ -36,7 +36,7 @@ fn refused(range: &dyn Display, error: RangeError) -> ! {
     }
 }
 
-/// A range as a program writes it.
+/// A range, displayed as a program writes it.
 struct Bounded<Number>(Bound<Number>, Bound<Number>);
 
 impl<Number: Debug> Display for Bounded<Number> {

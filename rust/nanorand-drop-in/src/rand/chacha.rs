@@ -1,4 +1,4 @@
-//! `ChaCha` as a generator: a block of 64 bytes per draw, from a 256-bit key.
+//! `ChaCha` as a generator: each draw is a block of 64 bytes, computed from a 256-bit key.
 
 use crate::adapter::Lent;
 use crate::crypto::chacha::{chacha_block, chacha_increment_counter, chacha_init};
@@ -18,16 +18,17 @@ pub type ChaCha12 = ChaCha<12>;
 /// ChaCha with the standard's 20 rounds.
 pub type ChaCha20 = ChaCha<20>;
 
-// The bytes that nanorand_proved computes side by side.
+// The number of bytes that `nanorand_proved` computes at once.
 const GROUP: usize = 256;
 
-/// The keystream of the stream cipher ChaCha, as [`nanorand_proved::ChaCha`] says. It was not audited, and it is
-/// not a vetted cryptographic generator: for keys, tokens and passwords, or where an adversary matters, take a
-/// vetted one.
+/// The keystream of the stream cipher ChaCha: see [`nanorand_proved::ChaCha`]. It has not been
+/// audited, and it is not a vetted cryptographic generator. For keys, tokens and passwords, or if
+/// there is an adversary, use a vetted generator.
 ///
-/// Each request begins a new block, so every number, a single byte too, costs a block of 64 bytes.
+/// Each request starts with a new block, so that even a single byte takes a whole block of 64
+/// bytes.
 ///
-/// With an odd number of rounds the first draw panics.
+/// If the number of rounds is odd, the first draw panics.
 #[derive(Clone)]
 pub struct ChaCha<const ROUNDS: u8> {
     state: [u32; 16],
@@ -37,13 +38,14 @@ pub struct ChaCha<const ROUNDS: u8> {
 super::wiped::wiped!([const ROUNDS: u8] ChaCha<ROUNDS>: state);
 
 impl<const ROUNDS: u8> ChaCha<ROUNDS> {
-    /// A generator with a key and a nonce from the system. It panics if the system gives none.
+    /// Creates a generator with a key and a nonce from the operating system. Panics if the system
+    /// provides none.
     #[must_use]
     pub fn new() -> Self {
         Self::new_key(system_seed(), system_seed())
     }
 
-    /// A generator with this key and nonce and the counter 0.
+    /// Creates a generator with this key and nonce and the counter 0.
     #[must_use]
     pub const fn new_key(key: [u8; 32], nonce: [u8; 8]) -> Self {
         Self {
@@ -55,7 +57,7 @@ impl<const ROUNDS: u8> ChaCha<ROUNDS> {
         u64::from(self.state[12]) | u64::from(self.state[13]) << 32
     }
 
-    // A word has a half of the counter.
+    // Each word holds half of the counter.
     #[allow(clippy::cast_possible_truncation)]
     fn set_counter(&mut self, counter: u64) {
         self.state[12] = counter as u32;
@@ -79,7 +81,7 @@ impl<const ROUNDS: u8> ChaCha<ROUNDS> {
     }
 }
 
-/// [`ChaCha::new`].
+/// Calls [`ChaCha::new`].
 impl<const ROUNDS: u8> Default for ChaCha<ROUNDS> {
     fn default() -> Self {
         Self::new()
@@ -87,7 +89,7 @@ impl<const ROUNDS: u8> Default for ChaCha<ROUNDS> {
 }
 
 impl<const ROUNDS: u8> Rng<64> for ChaCha<ROUNDS> {
-    /// After the block of the greatest counter the counter is 0 again.
+    /// After the block of the greatest counter, 2^64 - 1, the counter is 0 again.
     #[inline]
     fn rand(&mut self) -> [u8; 64] {
         let block = chacha_block::<ROUNDS>(self.state);
@@ -110,7 +112,8 @@ impl<const ROUNDS: u8> Rng<64> for ChaCha<ROUNDS> {
 }
 
 impl<const ROUNDS: u8> SeedableRng<40, 64> for ChaCha<ROUNDS> {
-    /// The first 32 bytes of the seed become the key and the other 8 the nonce. The counter is 0.
+    /// Uses the first 32 bytes of the seed as the key and the other 8 as the nonce. The counter is
+    /// 0.
     fn reseed(&mut self, seed: [u8; 40]) {
         let mut key = [0; 32];
         let mut nonce = [0; 8];
@@ -120,14 +123,15 @@ impl<const ROUNDS: u8> SeedableRng<40, 64> for ChaCha<ROUNDS> {
     }
 }
 
-/// The name, the address and the number of rounds.
+/// Displays the name, the address and the number of rounds.
 impl<const ROUNDS: u8> Display for ChaCha<ROUNDS> {
     fn fmt(&self, f: &mut Formatter<'_>) -> fmt::Result {
         write!(f, "ChaCha ({self:p}, {ROUNDS} rounds)")
     }
 }
 
-/// The rounds and the counter, and no key. The name is `ChaCha20` for any number of rounds, as in `nanorand` 0.7.0.
+/// Shows the rounds and the counter, but not the key. The name is `ChaCha20` for any number of
+/// rounds, as in `nanorand` 0.7.0.
 impl<const ROUNDS: u8> Debug for ChaCha<ROUNDS> {
     fn fmt(&self, f: &mut Formatter<'_>) -> fmt::Result {
         f.debug_struct("ChaCha20")
@@ -137,7 +141,7 @@ impl<const ROUNDS: u8> Debug for ChaCha<ROUNDS> {
     }
 }
 
-// The words as bytes, each least byte first.
+// Returns the words as bytes, each in little-endian order.
 fn bytes_of(words: &[u32; 16]) -> [u8; 64] {
     let mut bytes = [0; 64];
     for (place, word) in bytes.chunks_exact_mut(4).zip(words) {
@@ -150,7 +154,8 @@ fn bytes_of(words: &[u32; 16]) -> [u8; 64] {
 mod tests {
     use super::*;
 
-    /// A fill goes on over the carry of the counter and over its end as blocks do.
+    /// Across a carry of the counter, and across its end, a fill returns the same bytes as single
+    /// blocks.
     #[test]
     fn counters() {
         for counter in [0, u64::from(u32::MAX) - 1, (7 << 32) - 2, u64::MAX - 1] {

@@ -1,4 +1,4 @@
-//! `Pcg64`: a 128-bit seed, and a 64-bit word per draw.
+//! `Pcg64`: a generator with a 128-bit seed that draws a 64-bit word at a time.
 
 use crate::entropy::system_seed;
 use crate::rand::{Rng, SeedableRng};
@@ -6,13 +6,13 @@ use core::fmt::{self, Debug, Display, Formatter};
 use nanorand_proved as proved;
 use nanorand_proved::Rng as _;
 
-/// The generator `Pcg64` of `nanorand` 0.7.0, as [`nanorand_proved::Pcg64`] says.
+/// The generator `Pcg64` of `nanorand` 0.7.0: see [`nanorand_proved::Pcg64`].
 ///
 /// **Not cryptographically secure:** its state can be recovered from its outputs.
 #[derive(Clone)]
 pub struct Pcg64 {
     seed: u128,
-    // Of the last draw. The Debug text alone reads them.
+    // `state` and `inc` describe the last draw. Only the `Debug` text reads them.
     state: u128,
     inc: u128,
 }
@@ -21,17 +21,18 @@ pub struct Pcg64 {
 super::wiped::wiped!([] Pcg64: seed, state, inc);
 
 impl Pcg64 {
-    /// A generator with a seed from the system. It panics if the system gives none.
+    /// Creates a generator with a seed from the operating system. Panics if the system provides
+    /// none.
     #[must_use]
     pub fn new() -> Self {
         Self::new_seed(u128::from_le_bytes(system_seed()))
     }
 
-    /// A generator with this seed.
+    /// Creates a generator with this seed.
     ///
-    /// The seed is the state itself, and is not mixed. Generators with neighbouring seeds, such as 0, 1, 2, ..,
-    /// draw correlated numbers. For many generators take mixed seeds: numbers that another generator drew, or the
-    /// first 16 bytes of a SHA-256 of a name.
+    /// The seed is the state itself, and is not mixed. Generators with neighbouring seeds, such as
+    /// 0, 1, 2, .., draw correlated numbers. If you need many generators, use mixed seeds: numbers
+    /// that another generator drew, or the first 16 bytes of the SHA-256 of a name.
     #[inline]
     #[must_use]
     pub const fn new_seed(seed: u128) -> Self {
@@ -43,7 +44,7 @@ impl Pcg64 {
     }
 }
 
-/// [`Pcg64::new`].
+/// Calls [`Pcg64::new`].
 impl Default for Pcg64 {
     fn default() -> Self {
         Self::new()
@@ -63,13 +64,13 @@ impl Rng<8> for Pcg64 {
 }
 
 impl SeedableRng<16, 8> for Pcg64 {
-    /// The bytes are the new seed, least byte first.
+    /// Uses these bytes as the new seed, in little-endian order.
     fn reseed(&mut self, seed: [u8; 16]) {
         self.seed = u128::from_le_bytes(seed);
     }
 }
 
-/// The name and the address.
+/// Displays the name and the address.
 impl Display for Pcg64 {
     fn fmt(&self, f: &mut Formatter<'_>) -> fmt::Result {
         write!(f, "Pcg64 ({self:p})")

@@ -1,4 +1,4 @@
-//! Generators that are `Zeroize`, and wipe their words when they are dropped.
+//! Implements `Zeroize` for the generators, which wipe their state when they are dropped.
 
 macro_rules! wiped {
     ([$($parameters:tt)*] $generator:ty: $($word:ident),+) => {

@@ -1,4 +1,4 @@
-//! `WyRand`: a 64-bit seed, and a 64-bit word per draw.
+//! `WyRand`: a generator with a 64-bit seed that draws a 64-bit word at a time.
 
 use crate::entropy::system_seed;
 use crate::rand::{Rng, SeedableRng};
@@ -6,7 +6,7 @@ use core::fmt::{self, Debug, Display, Formatter};
 use nanorand_proved as proved;
 use nanorand_proved::Rng as _;
 
-/// The generator wyrand, as [`nanorand_proved::WyRand`] says.
+/// The generator wyrand: see [`nanorand_proved::WyRand`].
 ///
 /// **Not cryptographically secure:** its state can be recovered from its outputs.
 #[derive(Clone)]
@@ -18,17 +18,18 @@ pub struct WyRand {
 super::wiped::wiped!([] WyRand: seed);
 
 impl WyRand {
-    /// A generator with a seed from the system. It panics if the system gives none.
+    /// Creates a generator with a seed from the operating system. Panics if the system provides
+    /// none.
     #[must_use]
     pub fn new() -> Self {
         Self::new_seed(u64::from_le_bytes(system_seed()))
     }
 
-    /// A generator with this seed.
+    /// Creates a generator with this seed.
     ///
-    /// The seed is the state itself, and is not mixed. Generators with neighbouring seeds, such as 0, 1, 2, ..,
-    /// draw correlated numbers. For many generators take mixed seeds: numbers that another generator drew, or the
-    /// first 8 bytes of a SHA-256 of a name.
+    /// The seed is the state itself, and is not mixed. Generators with neighbouring seeds, such as
+    /// 0, 1, 2, .., draw correlated numbers. If you need many generators, use mixed seeds: numbers
+    /// that another generator drew, or the first 8 bytes of the SHA-256 of a name.
     #[inline]
     #[must_use]
     pub const fn new_seed(seed: u64) -> Self {
@@ -36,7 +37,7 @@ impl WyRand {
     }
 }
 
-/// [`WyRand::new`].
+/// Calls [`WyRand::new`].
 impl Default for WyRand {
     fn default() -> Self {
         Self::new()
@@ -54,13 +55,13 @@ impl Rng<8> for WyRand {
 }
 
 impl SeedableRng<8, 8> for WyRand {
-    /// The bytes are the new seed, least byte first.
+    /// Uses these bytes as the new seed, in little-endian order.
     fn reseed(&mut self, seed: [u8; 8]) {
         self.seed = u64::from_le_bytes(seed);
     }
 }
 
-/// The name and the address.
+/// Displays the name and the address.
 impl Display for WyRand {
     fn fmt(&self, f: &mut Formatter<'_>) -> fmt::Result {
         write!(f, "WyRand ({self:p})")

@@ -1,14 +1,15 @@
-//! Choices by weight, in whole numbers and exactly: no floating point takes part.
+//! Weighted choices. The weights are integers, and the choice is exact: no floating-point
+//! arithmetic is used.
 
 use crate::rand::Rng;
 use crate::values::word::draw_below;
 
-/// Why nothing was chosen.
+/// The reasons why no item was chosen.
 #[derive(Clone, Copy, Debug, PartialEq, Eq)]
 pub enum WeightError {
     /// There are no weights, or all of them are 0. Nothing was drawn.
     NoWeight,
-    /// The weights add up to 2^64 or more. Nothing was drawn.
+    /// The sum of the weights is 2^64 or more. Nothing was drawn.
     TooHeavy,
     /// 128 words in a row were rejected. They stay consumed.
     Exhausted,
@@ -27,19 +28,19 @@ impl core::fmt::Display for WeightError {
 #[cfg(feature = "std")]
 impl std::error::Error for WeightError {}
 
-/// Chooses an item by its weight, and returns its index: `weights[i]` is the weight of item i.
+/// Chooses an item by weight, and returns its index: `weights[i]` is the weight of item i.
 ///
-/// It draws a number below the sum of the weights, from words of 64 bits, at most 128 of them.
-/// Item i has `weights[i]` of these numbers, so an item of weight 0 is never chosen.
+/// A number below the sum of the weights is drawn, from at most 128 words (random integers of 64
+/// bits). Item i has `weights[i]` of these numbers, so an item of weight 0 is never chosen.
 ///
-/// The time is O(n) a draw for n weights: each call adds them all up, and looks for the item from
-/// the first one on.
+/// Each call takes time O(n) for n weights: it adds up all weights, and then searches for the item
+/// from the first one on.
 ///
 /// # Errors
 ///
-/// It returns `NoWeight` if there are no weights or all of them are 0, `TooHeavy` if they add up
-/// to 2^64 or more, and `Exhausted` if 128 words in a row were rejected. After `Exhausted` exactly
-/// 128 words were drawn, and they stay consumed; after any other error, none was drawn.
+/// Returns `NoWeight` if there are no weights or all of them are 0, `TooHeavy` if their sum is 2^64
+/// or more, and `Exhausted` if 128 words in a row were rejected. After `Exhausted` exactly 128
+/// words were drawn, and they stay consumed. After any other error nothing was drawn.
 ///
 /// # Examples
 ///
@@ -67,7 +68,7 @@ pub fn choose_weighted<G: Rng<OUTPUT>, const OUTPUT: usize>(
     }
 }
 
-// The sum of the weights, unless it is 0, or 2^64 or more.
+// Returns the sum of the weights, or an error if the sum is 0, or 2^64 or more.
 fn total_weight(weights: &[u64]) -> Result<u64, WeightError> {
     let mut total: u64 = 0;
     for weight in weights {
@@ -79,7 +80,7 @@ fn total_weight(weights: &[u64]) -> Result<u64, WeightError> {
     Ok(total)
 }
 
-// The item whose share contains the number.
+// Returns the index of the item whose share contains the number.
 fn item_at(weights: &[u64], number: u64) -> usize {
     let mut left = number;
     for (i, weight) in weights.iter().enumerate() {

@@ -1,12 +1,14 @@
-//! Generators behind `dyn`, and generics without the size of a block. Written by hand, tested, not proved.
+//! Generators behind `dyn`, and generic functions without the block size as a parameter.
+//! Hand-written and tested, not proved.
 
 use crate::buffer::BufferedRng;
 use crate::rand::{ChaCha, ChaChaGroups, Pcg64, Rng, WyRand};
 
-/// Any generator, whatever the size of its blocks: `&mut dyn AnyRng`, or `rng: &mut impl AnyRng`.
+/// Any generator, whatever the size of its blocks: take it as `&mut dyn AnyRng` or
+/// `&mut impl AnyRng`.
 ///
-/// [`rng`](Self::rng) lends it as an [`Rng`], which has ranges, shuffles and all other calls. They
-/// draw what the generator itself draws by these calls.
+/// [`rng`](Self::rng) borrows it as an [`Rng`], which has ranges, shuffles and all other methods.
+/// They draw the same values as the methods of the generator itself.
 ///
 /// ```
 /// use nanorand_proved::{AnyRng, ChaCha20, RangeError, Rng, WyRand};
@@ -25,7 +27,7 @@ use crate::rand::{ChaCha, ChaChaGroups, Pcg64, Rng, WyRand};
 /// # Ok::<(), RangeError>(())
 /// ```
 ///
-/// A generator of your own has it by one function:
+/// To implement it for your own generator, write one function:
 ///
 /// ```
 /// # use nanorand_proved::{AnyRng, Rng};
@@ -54,13 +56,14 @@ use crate::rand::{ChaCha, ChaChaGroups, Pcg64, Rng, WyRand};
     )
 )]
 pub trait AnyRng: AsDyn {
-    /// Fills the slice with the next bytes, by one request. An empty slice draws nothing.
+    /// Fills the slice with the next bytes, by one request (one read from the generator). An empty
+    /// slice draws nothing.
     ///
-    /// `io::Read` has another `bytes`: where both are imported, a `BufferedRng` is asked for this one by
-    /// `AnyRng::bytes(&mut rng, buffer)`.
+    /// `io::Read` has a method named `bytes` too. If both traits are imported, call this one on a
+    /// `BufferedRng` as `AnyRng::bytes(&mut rng, buffer)`.
     fn bytes(&mut self, buffer: &mut [u8]);
 
-    /// Draws a `u32`: the number of the next four bytes, least byte first.
+    /// Draws a `u32` from the next four bytes, in little-endian order.
     #[inline]
     fn u32(&mut self) -> u32 {
         let mut bytes = [0; 4];
@@ -68,7 +71,7 @@ pub trait AnyRng: AsDyn {
         u32::from_le_bytes(bytes)
     }
 
-    /// Draws a `u64`: the number of the next eight bytes, least byte first.
+    /// Draws a `u64` from the next eight bytes, in little-endian order.
     #[inline]
     fn u64(&mut self) -> u64 {
         let mut bytes = [0; 8];
@@ -76,16 +79,17 @@ pub trait AnyRng: AsDyn {
         u64::from_le_bytes(bytes)
     }
 
-    /// Lends the generator as an [`Rng`], which `&mut dyn AnyRng` is.
+    /// Borrows the generator as `&mut dyn AnyRng`, which implements [`Rng`].
     #[inline]
     fn rng(&mut self) -> &mut dyn AnyRng {
         self.as_dyn()
     }
 }
 
-/// What a provided method cannot do, as the size of `Self` is not known there. Every `AnyRng` has it.
+/// Converts a generator to `dyn AnyRng`, which a provided method of `AnyRng` cannot do, since the
+/// size of `Self` is not known there. Every `AnyRng` implements it.
 pub trait AsDyn {
-    /// Forgets the type.
+    /// Returns the generator as a trait object.
     fn as_dyn(&mut self) -> &mut dyn AnyRng;
 }
 
@@ -96,7 +100,8 @@ impl<R: AnyRng> AsDyn for R {
     }
 }
 
-/// Each request is made to the generator that is lent. A block has 8 bytes, and is a request of 8.
+/// Each request is passed on to the borrowed generator. A block has 8 bytes, and is one request for
+/// 8 bytes.
 impl Rng<8> for &mut (dyn AnyRng + '_) {
     #[inline]
     fn rand(&mut self) -> [u8; 8] {
@@ -109,7 +114,7 @@ impl Rng<8> for &mut (dyn AnyRng + '_) {
     }
 }
 
-/// A lent generator as an [`AnyRng`]: see [`Rng::as_any`].
+/// A borrowed generator as an [`AnyRng`]. [`Rng::as_any`] creates it.
 #[derive(Debug)]
 pub struct Lent<'a, G, const OUTPUT: usize>(pub(crate) &'a mut G);
 
@@ -141,7 +146,7 @@ any_rng! {
 
 macro_rules! any_rng_by_reference {
     ($reference:ty) => {
-        /// Each call is made on the generator that it refers to.
+        /// Each call is passed on to the generator behind the reference.
         impl<R: AnyRng + ?Sized> AnyRng for $reference {
             #[inline]
             fn bytes(&mut self, buffer: &mut [u8]) {

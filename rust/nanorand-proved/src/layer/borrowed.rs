@@ -1,9 +1,9 @@
-//! A borrowed generator is a generator: `f(&mut rng)` where `f` takes any `Rng`.
+//! A mutable reference to a generator is a generator: call `f(&mut rng)` where `f` takes any `Rng`.
 
 use crate::rand::{Rng, SeedableRng};
 use crate::values::RangeError;
 
-/// Each call is made on the generator that is borrowed.
+/// Each call is passed on to the borrowed generator.
 impl<R: Rng<OUTPUT>, const OUTPUT: usize> Rng<OUTPUT> for &mut R {
     #[inline]
     fn rand(&mut self) -> [u8; OUTPUT] {

@@ -1,4 +1,5 @@
-//! Characters, and ranges of them. Written by hand over the proved draw, tested, not proved.
+//! Random characters, and ranges of characters. Hand-written on top of the proved draw, and tested,
+//! not proved.
 
 use super::mapped;
 use crate::rand::Rng;
@@ -6,14 +7,15 @@ use crate::values::word::draw_below;
 use crate::values::{RandomGen, RandomRange, RangeError};
 use core::ops::Bound;
 
-// The surrogates, which are no characters, stand from here on, and so many they are.
+// The first surrogate, and the number of surrogates. A surrogate is not a character.
 const SURROGATES: u32 = 0xd800;
 const SURROGATE_COUNT: u32 = 0x800;
 
 const CHARACTERS: u32 = char::MAX as u32 + 1 - SURROGATE_COUNT;
 
-/// One of the 1,112,064 scalar values of Unicode, each named by equally many words of 32 bits. U+0000
-/// if 128 words in a row were rejected, since a draw of a value cannot be refused.
+/// Draws one of the 1,112,064 Unicode scalar values. Each is produced by the same number of words
+/// of 32 bits. The value is U+0000 if 128 words in a row were rejected, since drawing a value
+/// cannot return an error.
 impl<G: Rng<OUTPUT>, const OUTPUT: usize> RandomGen<G, OUTPUT> for char {
     #[inline]
     fn random(rng: &mut G) -> char {
@@ -21,8 +23,8 @@ impl<G: Rng<OUTPUT>, const OUTPUT: usize> RandomGen<G, OUTPUT> for char {
     }
 }
 
-/// The scalar values that both bounds admit, each named by equally many words of 32 bits: surrogates
-/// are passed over. The errors are those of the integer types.
+/// Draws one of the Unicode scalar values within both bounds. Each is produced by the same number
+/// of words of 32 bits; surrogates are skipped. The errors are those of the integer types.
 impl<G: Rng<OUTPUT>, const OUTPUT: usize> RandomRange<G, OUTPUT> for char {
     #[inline]
     fn random_range(rng: &mut G, low: Bound<char>, high: Bound<char>) -> Result<char, RangeError> {

@@ -1,10 +1,10 @@
-//! Debug text of a buffer.
+//! The debug text of a buffered generator.
 
 use crate::buffer::BufferedRng;
 use crate::rand::Rng;
 use core::fmt;
 
-/// The inner generator's text, and how many bytes are buffered. The bytes are not shown.
+/// Shows the text of the inner generator, and how many bytes are buffered. The bytes are not shown.
 impl<G: Rng<OUTPUT> + fmt::Debug, const OUTPUT: usize> fmt::Debug for BufferedRng<G, OUTPUT> {
     fn fmt(&self, f: &mut fmt::Formatter<'_>) -> fmt::Result {
         f.debug_struct("BufferedRng")

@@ -1,10 +1,11 @@
-//! `Default` of generators, with a seed from the operating system. Written by hand, tested, not proved.
+//! `Default` for generators, with a seed from the operating system. Hand-written and tested, not
+//! proved.
 #![cfg(feature = "std")]
 
 use crate::rand::{ChaCha, ChaChaGroups, Pcg64, WyRand};
 use std::io;
 
-/// `from_entropy`, which panics where it returns an error.
+/// Calls `from_entropy`, and panics if it returns an error.
 impl Default for WyRand {
     #[track_caller]
     fn default() -> Self {
@@ -12,7 +13,7 @@ impl Default for WyRand {
     }
 }
 
-/// `from_entropy`, which panics where it returns an error.
+/// Calls `from_entropy`, and panics if it returns an error.
 impl Default for Pcg64 {
     #[track_caller]
     fn default() -> Self {
@@ -20,7 +21,7 @@ impl Default for Pcg64 {
     }
 }
 
-/// `from_entropy`, which panics where it returns an error.
+/// Calls `from_entropy`, and panics if it returns an error.
 impl<const ROUNDS: u8> Default for ChaCha<ROUNDS> {
     #[track_caller]
     fn default() -> Self {
@@ -28,7 +29,8 @@ impl<const ROUNDS: u8> Default for ChaCha<ROUNDS> {
     }
 }
 
-/// With the key and the nonce of a `ChaCha` by default.
+/// Takes the key and the nonce of a default `ChaCha`, and panics if the operating system provides
+/// none.
 impl<const ROUNDS: u8> Default for ChaChaGroups<ROUNDS> {
     #[track_caller]
     fn default() -> Self {

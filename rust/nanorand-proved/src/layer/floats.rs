@@ -1,11 +1,12 @@
-//! Floating-point numbers, and ranges of them. Written by hand, tested, not proved.
+//! Random floating-point numbers, and ranges of them. Hand-written and tested, not proved.
 
 use super::first_accepted;
 use crate::rand::Rng;
 use crate::values::{RandomGen, RandomRange, RangeError};
 use core::ops::{Add, Bound, Div, Mul, Sub};
 
-/// The word's top 24 bits times 2^-24: a multiple of 2^-24 from 0 to below 1, each equally likely.
+/// Multiplies the top 24 bits of a 32-bit word by 2^-24: a multiple of 2^-24 in [0, 1), each
+/// equally likely.
 impl<G: Rng<OUTPUT>, const OUTPUT: usize> RandomGen<G, OUTPUT> for f32 {
     #[inline(always)]
     fn random(rng: &mut G) -> f32 {
@@ -13,18 +14,22 @@ impl<G: Rng<OUTPUT>, const OUTPUT: usize> RandomGen<G, OUTPUT> for f32 {
     }
 }
 
-/// The word's top 53 bits times 2^-53: a multiple of 2^-53 from 0 to below 1, each equally likely.
+/// Multiplies the top 53 bits of a 64-bit word by 2^-53: a multiple of 2^-53 in [0, 1), each
+/// equally likely.
 impl<G: Rng<OUTPUT>, const OUTPUT: usize> RandomGen<G, OUTPUT> for f64 {
     #[inline(always)]
     #[allow(clippy::cast_precision_loss)] // 53 bits, as many as an `f64` has
     fn random(rng: &mut G) -> f64 {
-        // Signed, it is 2^52 less. LLVM does not vectorize the conversion of a signed number, which would be slower.
+        // Taken as a signed number it is smaller by 2^52, which is added back below. LLVM does not
+        // vectorize the conversion of a signed number to a float; a vectorized conversion would be
+        // slower.
         let signed = (i64::random(rng) ^ i64::MIN) >> 11;
         (signed as f64 + f64::STEPS / 2.0) / f64::STEPS
     }
 }
 
-/// A number that both bounds admit, by the top 24 bits of a word, as [`RandomRange`] says.
+/// Draws a number within both bounds from the top 24 bits of a 32-bit word, as [`RandomRange`]
+/// describes.
 impl<G: Rng<OUTPUT>, const OUTPUT: usize> RandomRange<G, OUTPUT> for f32 {
     #[inline(always)]
     fn random_range(rng: &mut G, low: Bound<f32>, high: Bound<f32>) -> Result<f32, RangeError> {
@@ -32,7 +37,8 @@ impl<G: Rng<OUTPUT>, const OUTPUT: usize> RandomRange<G, OUTPUT> for f32 {
     }
 }
 
-/// A number that both bounds admit, by the top 53 bits of a word, as [`RandomRange`] says.
+/// Draws a number within both bounds from the top 53 bits of a 64-bit word, as [`RandomRange`]
+/// describes.
 impl<G: Rng<OUTPUT>, const OUTPUT: usize> RandomRange<G, OUTPUT> for f64 {
     #[inline(always)]
     fn random_range(rng: &mut G, low: Bound<f64>, high: Bound<f64>) -> Result<f64, RangeError> {
@@ -40,7 +46,7 @@ impl<G: Rng<OUTPUT>, const OUTPUT: usize> RandomRange<G, OUTPUT> for f64 {
     }
 }
 
-// A type of floating-point numbers, whose whole numbers from 0 to `STEPS` are all exact.
+// A floating-point type that represents all integers from 0 to `STEPS` exactly.
 trait Float: Copy + PartialOrd
 where
     Self: Add<Output = Self> + Sub<Output = Self> + Mul<Output = Self> + Div<Output = Self>,
@@ -51,10 +57,10 @@ where
     const LEAST: Self;
     const GREATEST: Self;
 
-    // A whole number below `STEPS`, by one word.
+    // Draws an integer below `STEPS`, from one word.
     fn draw_step<G: Rng<OUTPUT>, const OUTPUT: usize>(rng: &mut G) -> Self;
 
-    // Neither infinite nor NaN.
+    // Returns whether the number is finite: not infinite and not NaN.
     fn is_number(self) -> bool {
         Self::LEAST <= self && self <= Self::GREATEST
     }
@@ -98,7 +104,7 @@ fn draw_between<T: Float, G: Rng<OUTPUT>, const OUTPUT: usize>(
     first_accepted(rng, |rng| range.draw(rng)).ok_or(RangeError::Exhausted)
 }
 
-// The two ends of a range that has a number, and which of them are excluded.
+// The ends of a range that is not empty, and whether each of them is excluded.
 #[derive(Clone, Copy)]
 struct Range<T> {
     low: T,
@@ -122,7 +128,7 @@ impl<T: Float> Range<T> {
         })
     }
 
-    // The number that the next word names, unless it is an excluded end.
+    // Returns the number that the next word produces, or `None` if it is an excluded end.
     #[inline(always)]
     fn draw<G: Rng<OUTPUT>, const OUTPUT: usize>(self, rng: &mut G) -> Option<T> {
         let step = T::draw_step(rng);
@@ -139,9 +145,9 @@ impl<T: Float> Range<T> {
         (!excluded).then_some(number)
     }
 
-    // The number at a part of the way from `low` to `high`. No number passes `high`: what the part takes off the
-    // way is more than rounding added to it. Where the way is longer than any number, the halves of both ends
-    // have one that is not.
+    // Returns the number at a fraction `part` of the way from `low` to `high`. The result never
+    // exceeds `high`: the fraction shortens the way by more than rounding lengthens it. If
+    // `high - low` overflows, the difference of the halves of both ends does not.
     #[inline(always)]
     fn at(self, part: T) -> T {
         let (low, high) = (self.low, self.high);
@@ -154,7 +160,7 @@ impl<T: Float> Range<T> {
     }
 }
 
-// The number where a range ends, and whether it is excluded.
+// Returns the number where a range ends, and whether it is excluded.
 #[inline]
 fn end_of<T>(bound: Bound<T>, unbounded: T) -> (T, bool) {
     match bound {

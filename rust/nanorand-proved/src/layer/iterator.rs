@@ -1,12 +1,11 @@
-//! An iterator of drawn values. Written by hand, tested, not proved.
+//! An iterator of random values. Hand-written and tested, not proved.
 
 use crate::rand::Rng;
 use crate::values::RandomGen;
 use core::iter::FusedIterator;
 use core::marker::PhantomData;
 
-/// The values that a generator draws, one after another without an end: see
-/// [`Rng::generate_iter`].
+/// An endless iterator of the values that a generator draws. [`Rng::generate_iter`] creates it.
 #[derive(Debug)]
 pub struct GenerateIter<'a, T, G, const OUTPUT: usize> {
     rng: &'a mut G,

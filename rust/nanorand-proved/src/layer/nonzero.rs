@@ -1,4 +1,4 @@
-//! Integers that are not 0. Written by hand, tested, not proved.
+//! Random integers other than 0. Hand-written and tested, not proved.
 
 use super::first_accepted;
 use crate::rand::Rng;
@@ -8,7 +8,8 @@ use core::num::{NonZeroU128, NonZeroU16, NonZeroU32, NonZeroU64, NonZeroU8, NonZ
 
 macro_rules! nonzero {
     ($($number:ident)+) => { $(
-        /// The first of at most 128 values of the integer type that is not 0, and 1 if all are 0.
+        /// Draws values of the integer type, at most 128, and returns the first that is not 0.
+        /// Returns 1 if all of them are 0.
         impl<G: Rng<OUTPUT>, const OUTPUT: usize> RandomGen<G, OUTPUT> for $number {
             #[inline]
             fn random(rng: &mut G) -> Self {

@@ -1,13 +1,14 @@
-//! The table by which a sample is drawn in linear time.
+//! The table that lets `sample` run in linear time.
 
 #[cfg(feature = "std")]
 use std::vec::Vec;
 
-// The least number of slots with which a table saves more time than it takes.
+// The smallest number of slots for which a table saves more time than it costs.
 #[cfg(feature = "std")]
 const LEAST: usize = 16;
 
-// A table for these slots: without items if it does not pay, or if there is no memory for it.
+// Returns a table for these slots. It has no items if it would not pay off, or if there is no
+// memory for it.
 #[cfg(feature = "std")]
 pub(crate) fn table(slots: &[usize]) -> Vec<usize> {
     let mut table = Vec::new();
@@ -29,7 +30,7 @@ pub(crate) fn table(_slots: &[usize]) -> [usize; 0] {
 mod tests {
     use super::*;
 
-    /// No chain has more than one slot on average, and few slots have no table.
+    /// A table has at least one chain for each slot. With fewer than 16 slots there is no table.
     #[test]
     fn a_table_has_a_chain_for_each_slot() {
         for (slots, items) in [(0, 0), (1, 0), (15, 0), (16, 32), (17, 49), (1000, 2024)] {

@@ -1,5 +1,5 @@
-//! Seeds as bytes, and seeds from the operating system. The latter are not proved: what the system
-//! gives is its own.
+//! Seeds from bytes, and seeds from the operating system. The latter are not proved, since the
+//! bytes come from the system.
 
 use crate::rand::{chacha_stream_from_u64, ChaCha, ChaChaStream, Keystream, Pcg64, WyRand};
 
@@ -9,22 +9,24 @@ use crate::{entropy::EntropyError, system};
 use std::io;
 
 impl WyRand {
-    /// A generator whose seed is these bytes, little-endian. They are not mixed: see
-    /// [`new_seed`](Self::new_seed).
+    /// Creates a generator whose seed is these bytes, in little-endian order. They are not mixed:
+    /// see [`new_seed`](Self::new_seed).
     #[inline]
     #[must_use]
     pub const fn from_seed(seed: [u8; 8]) -> Self {
         Self::new_seed(u64::from_le_bytes(seed))
     }
 
-    /// A generator whose seed is the operating system's next 8 random bytes.
+    /// Creates a generator whose seed is 8 random bytes from the operating system.
     ///
-    /// They are not proved to be random. The call that gives them is `getrandom`, `getentropy`,
-    /// `CCRandomGenerateBytes`, `random_get` or `ProcessPrng`, as the system has it.
+    /// Nothing is proved about the randomness of these bytes. They come from `getrandom`,
+    /// `getentropy`, `CCRandomGenerateBytes`, `random_get` or `ProcessPrng`, depending on the
+    /// system.
     ///
     /// # Errors
     ///
-    /// The error of the system's call; an error of kind `Unsupported` where there is no such call.
+    /// Returns the error of the system call, or an error of kind `Unsupported` if the system has
+    /// none of these calls.
     #[cfg(feature = "std")]
     pub fn from_entropy() -> io::Result<Self> {
         system_seed().map(Self::from_seed)
@@ -32,22 +34,24 @@ impl WyRand {
 }
 
 impl Pcg64 {
-    /// A generator whose seed is these bytes, little-endian. They are not mixed: see
-    /// [`new_seed`](Self::new_seed). `state` and `inc` are 0.
+    /// Creates a generator whose seed is these bytes, in little-endian order. They are not mixed:
+    /// see [`new_seed`](Self::new_seed). `state` and `inc` are 0.
     #[inline]
     #[must_use]
     pub const fn from_seed(seed: [u8; 16]) -> Self {
         Self::new_seed(u128::from_le_bytes(seed))
     }
 
-    /// A generator whose seed is the operating system's next 16 random bytes.
+    /// Creates a generator whose seed is 16 random bytes from the operating system.
     ///
-    /// They are not proved to be random. The call that gives them is `getrandom`, `getentropy`,
-    /// `CCRandomGenerateBytes`, `random_get` or `ProcessPrng`, as the system has it.
+    /// Nothing is proved about the randomness of these bytes. They come from `getrandom`,
+    /// `getentropy`, `CCRandomGenerateBytes`, `random_get` or `ProcessPrng`, depending on the
+    /// system.
     ///
     /// # Errors
     ///
-    /// The error of the system's call; an error of kind `Unsupported` where there is no such call.
+    /// Returns the error of the system call, or an error of kind `Unsupported` if the system has
+    /// none of these calls.
     #[cfg(feature = "std")]
     pub fn from_entropy() -> io::Result<Self> {
         system_seed().map(Self::from_seed)
@@ -55,21 +59,23 @@ impl Pcg64 {
 }
 
 impl<const ROUNDS: u8> ChaCha<ROUNDS> {
-    /// A generator with the first 32 of these bytes as its key, the other 8 as its nonce, and the
-    /// counter 0. `ROUNDS` is even: another number does not compile.
+    /// Creates a generator whose key is the first 32 of these bytes and whose nonce is the other 8,
+    /// with the counter 0. An odd `ROUNDS` does not compile.
     #[must_use]
     pub const fn from_seed(seed: [u8; 40]) -> Self {
         Self::new_key(part(&seed, 0), part(&seed, 32))
     }
 
-    /// A generator whose key and nonce are the operating system's next 40 random bytes.
+    /// Creates a generator whose key and nonce are 40 random bytes from the operating system.
     ///
-    /// They are not proved to be random. The call that gives them is `getrandom`, `getentropy`,
-    /// `CCRandomGenerateBytes`, `random_get` or `ProcessPrng`, as the system has it.
+    /// Nothing is proved about the randomness of these bytes. They come from `getrandom`,
+    /// `getentropy`, `CCRandomGenerateBytes`, `random_get` or `ProcessPrng`, depending on the
+    /// system.
     ///
     /// # Errors
     ///
-    /// The error of the system's call; an error of kind `Unsupported` where there is no such call.
+    /// Returns the error of the system call, or an error of kind `Unsupported` if the system has
+    /// none of these calls.
     #[cfg(feature = "std")]
     pub fn from_entropy() -> io::Result<Self> {
         system_seed().map(Self::from_seed)
@@ -77,36 +83,37 @@ impl<const ROUNDS: u8> ChaCha<ROUNDS> {
 }
 
 impl<const ROUNDS: u8> ChaChaStream<ROUNDS> {
-    /// The stream of a number, which may be small, at its byte 0: see
-    /// [`ChaCha::seed_from_u64`](crate::ChaCha::seed_from_u64). `ROUNDS` is even: another number
-    /// does not compile.
+    /// Creates a stream from a number, which may be small, at byte 0: see
+    /// [`ChaCha::seed_from_u64`](crate::ChaCha::seed_from_u64). An odd `ROUNDS` does not compile.
     #[must_use]
     pub fn seed_from_u64(number: u64) -> Self {
         chacha_stream_from_u64(number)
     }
 
-    /// The stream with the first 32 of these bytes as its key and the other 8 as its nonce, at its
-    /// byte 0. `ROUNDS` is even: another number does not compile.
+    /// Creates a stream whose key is the first 32 of these bytes and whose nonce is the other 8, at
+    /// byte 0. An odd `ROUNDS` does not compile.
     #[must_use]
     pub fn from_seed(seed: [u8; 40]) -> Self {
         Self::new_key(part(&seed, 0), part(&seed, 32))
     }
 
-    /// A stream whose key and nonce are the operating system's next 40 random bytes.
+    /// Creates a stream whose key and nonce are 40 random bytes from the operating system.
     ///
-    /// They are not proved to be random. The call that gives them is `getrandom`, `getentropy`,
-    /// `CCRandomGenerateBytes`, `random_get` or `ProcessPrng`, as the system has it.
+    /// Nothing is proved about the randomness of these bytes. They come from `getrandom`,
+    /// `getentropy`, `CCRandomGenerateBytes`, `random_get` or `ProcessPrng`, depending on the
+    /// system.
     ///
     /// # Errors
     ///
-    /// The error of the system's call; an error of kind `Unsupported` where there is no such call.
+    /// Returns the error of the system call, or an error of kind `Unsupported` if the system has
+    /// none of these calls.
     #[cfg(feature = "std")]
     pub fn from_entropy() -> io::Result<Self> {
         system_seed().map(Self::from_seed)
     }
 }
 
-// Bytes of a seed, while a program is compiled too, where slices cannot be copied yet.
+// Returns a part of a seed. It also runs in constants, where Rust 1.63 cannot copy slices.
 const fn part<const SIZE: usize>(seed: &[u8; 40], first: usize) -> [u8; SIZE] {
     let mut bytes = [0; SIZE];
     let mut place = 0;
@@ -117,7 +124,7 @@ const fn part<const SIZE: usize>(seed: &[u8; 40], first: usize) -> [u8; SIZE] {
     bytes
 }
 
-// The operating system's next bytes, by one call.
+// Returns random bytes of the operating system, by one call of `system::fill`.
 #[cfg(feature = "std")]
 fn system_seed<const SIZE: usize>() -> io::Result<[u8; SIZE]> {
     let mut seed = [0; SIZE];
@@ -125,7 +132,8 @@ fn system_seed<const SIZE: usize>() -> io::Result<[u8; SIZE]> {
     Ok(seed)
 }
 
-/// An error of `from_entropy`: `Unavailable` if it is `Unsupported`, and else `Fault`.
+/// Converts an error of `from_entropy`: to `Unavailable` if its kind is `Unsupported`, and to
+/// `Fault` otherwise.
 #[cfg(feature = "std")]
 impl From<io::Error> for EntropyError {
     fn from(error: io::Error) -> Self {

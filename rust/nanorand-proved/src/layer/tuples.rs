@@ -1,9 +1,9 @@
-//! Tuples of up to twelve values, drawn in their order. Written by hand, tested, not proved.
+//! Tuples of up to twelve values, drawn in order. Hand-written and tested, not proved.
 
 use crate::rand::Rng;
 use crate::values::RandomGen;
 
-// One tuple, and those that lack its first members.
+// Implements `RandomGen` for one tuple, and then for the same tuple without its first members.
 macro_rules! tuples {
     ($first:ident $($other:ident)*) => {
         impl<$first, $($other,)* G, const OUTPUT: usize> RandomGen<G, OUTPUT> for ($first, $($other,)*)

@@ -1,12 +1,13 @@
-//! Ranges of 128-bit numbers, by the rule of the proved `pick_word`. Written by hand, tested, not proved.
+//! Ranges of 128-bit integers, by the rule of the proved `pick_word`. Hand-written and tested, not
+//! proved.
 
 use super::{first_accepted, mapped};
 use crate::rand::Rng;
 use crate::values::{RandomGen, RandomRange, RangeError};
 use core::ops::Bound;
 
-/// Each number of the range is named by equally many words of 128 bits. The errors are those of the
-/// other integer types.
+/// Each number of the range is produced by the same number of words of 128 bits. The errors are
+/// those of the other integer types.
 impl<G: Rng<OUTPUT>, const OUTPUT: usize> RandomRange<G, OUTPUT> for u128 {
     #[inline]
     fn random_range(rng: &mut G, low: Bound<u128>, high: Bound<u128>) -> Result<u128, RangeError> {
@@ -14,8 +15,8 @@ impl<G: Rng<OUTPUT>, const OUTPUT: usize> RandomRange<G, OUTPUT> for u128 {
     }
 }
 
-/// Each number of the range is named by equally many words of 128 bits. The errors are those of the
-/// other integer types.
+/// Each number of the range is produced by the same number of words of 128 bits. The errors are
+/// those of the other integer types.
 impl<G: Rng<OUTPUT>, const OUTPUT: usize> RandomRange<G, OUTPUT> for i128 {
     #[inline]
     fn random_range(rng: &mut G, low: Bound<i128>, high: Bound<i128>) -> Result<i128, RangeError> {
@@ -26,7 +27,7 @@ impl<G: Rng<OUTPUT>, const OUTPUT: usize> RandomRange<G, OUTPUT> for i128 {
 
 const SIGN: u128 = 1 << 127;
 
-// Rank 0 is the least number.
+// The rank of a number: the least number has rank 0.
 #[inline]
 fn rank_of(number: i128) -> u128 {
     number as u128 ^ SIGN
@@ -67,16 +68,16 @@ fn last_of(high: Bound<u128>) -> Option<u128> {
     }
 }
 
-// The number below `size` that a word of `bits` bits names, or `None` if the word is rejected. The size
-// is from 1 to 2^bits - 1.
+// Returns the number below `size` that a word of `bits` bits produces, or `None` if the word is
+// rejected. `size` is from 1 to 2^bits - 1.
 #[inline]
 fn pick_number(size: u128, bits: u32, word: u128) -> Option<u128> {
     let (number, low) = product(size, bits, word);
     (low >= size || low >= rejected(size, bits)).then_some(number)
 }
 
-// How many words are rejected: 2^bits modulo the size. If it is more than half of all words, this needs
-// no division.
+// Returns how many words are rejected: 2^bits modulo `size`. This needs no division if `size` is
+// more than half of 2^bits.
 #[inline]
 fn rejected(size: u128, bits: u32) -> u128 {
     let others = ones(bits) - size + 1;
@@ -87,8 +88,8 @@ fn rejected(size: u128, bits: u32) -> u128 {
     }
 }
 
-// The halves of `word * size`, each of `bits` bits, the high one first. They are multiplied by halves
-// of their own, whose products have `bits` bits.
+// Returns the two halves of `word * size`, each of `bits` bits, the high half first. The factors
+// are multiplied half by half, since a product of halves has only `bits` bits.
 #[inline]
 fn product(size: u128, bits: u32, word: u128) -> (u128, u128) {
     let half = bits / 2;
@@ -126,7 +127,7 @@ mod tests {
         }
     }
 
-    // Numbers at both ends, and spread between them.
+    // Numbers at both ends of the range of the type, and numbers spread between them.
     fn numbers(bits: u32) -> impl Iterator<Item = u64> {
         (0..20_u64).flat_map(move |step| {
             let spread = step.wrapping_mul(0x9e37_79b9_7f4a_7c15);

@@ -1,4 +1,4 @@
-//! ChaCha by groups of eight blocks, for streams: a block of 512 bytes per draw.
+//! ChaCha in groups of eight blocks, for streams: each draw is a block of 512 bytes.
 
 use crate::rand::chacha::ChaCha;
 use crate::rand::{fill_by_blocks, Rng, SeedableRng};
@@ -6,10 +6,10 @@ use core::fmt;
 
 /// A `ChaCha` that draws its next eight blocks at once.
 ///
-/// A draw returns 512 bytes, and adds 8 to the counter. It is a plain generator: each request
-/// starts a new group and drops the rest of its last one. With a buffer, as `ChaCha20Stream`, it
-/// drops nothing: from a state with nothing buffered, it delivers what a buffered `ChaCha`
-/// delivers. Without one, every number costs eight blocks.
+/// A draw returns 512 bytes, and adds 8 to the counter. The generator does not buffer: each request
+/// starts with a new group and drops the rest of its last group, so every number takes eight
+/// blocks. With a buffer, as in `ChaCha20Stream`, no bytes are dropped: starting with an empty
+/// buffer, it delivers the same bytes as a buffered `ChaCha`.
 ///
 /// Like `ChaCha`, it is not a vetted cryptographic generator.
 ///
@@ -19,7 +19,8 @@ pub struct ChaChaGroups<const ROUNDS: u8> {
 }
 
 impl<const ROUNDS: u8> ChaChaGroups<ROUNDS> {
-    /// A generator with this key and nonce and the counter 0. An odd `ROUNDS` does not compile.
+    /// Creates a generator with this key and nonce and the counter 0. An odd `ROUNDS` does not
+    /// compile.
     #[must_use]
     pub fn new_key(key: [u8; 32], nonce: [u8; 8]) -> Self {
         let () = crate::layer::Rounds::<ROUNDS>::EVEN;
@@ -29,11 +30,11 @@ impl<const ROUNDS: u8> ChaChaGroups<ROUNDS> {
         }
     }
 
-    /// A generator with this key and nonce, whose next group begins with the block at this index: the
-    /// counter is `index`. An odd `ROUNDS` does not compile.
+    /// Creates a generator with this key and nonce whose next group begins with the block at this
+    /// index: the counter is `index`. An odd `ROUNDS` does not compile.
     ///
-    /// `key`, `nonce` and `counter` are what has to be stored of a generator: `at` of the three makes
-    /// an equal one.
+    /// To store a generator, store its `key`, `nonce` and `counter`. `at` restores an equal one
+    /// from the three.
     #[must_use]
     pub fn at(key: [u8; 32], nonce: [u8; 8], index: u64) -> Self {
         let () = crate::layer::Rounds::<ROUNDS>::EVEN;
@@ -43,8 +44,8 @@ impl<const ROUNDS: u8> ChaChaGroups<ROUNDS> {
         }
     }
 
-    /// The generator with the same key and nonce, whose next group begins with the block at this
-    /// index.
+    /// Creates a generator with the same key and nonce whose next group begins with the block at
+    /// this index.
     #[must_use]
     pub fn at_index(&self, index: u64) -> Self {
         ChaChaGroups {
@@ -52,33 +53,33 @@ impl<const ROUNDS: u8> ChaChaGroups<ROUNDS> {
         }
     }
 
-    /// The key, as 32 bytes. With the nonce and the counter it makes up the state.
+    /// Returns the key, as 32 bytes. The key, the nonce and the counter make up the state.
     #[must_use]
     pub fn key(&self) -> [u8; 32] {
         self.chacha.key()
     }
 
-    /// The nonce, as 8 bytes.
+    /// Returns the nonce, as 8 bytes.
     #[must_use]
     pub fn nonce(&self) -> [u8; 8] {
         self.chacha.nonce()
     }
 
-    /// The counter: the index of the next group's first block under this key and nonce.
+    /// Returns the counter: the index of the next group's first block for this key and nonce.
     #[inline]
     #[must_use]
     pub fn counter(&self) -> u64 {
         self.chacha.counter()
     }
 
-    /// Advances by n blocks of 64 bytes, with one addition. A draw advances by 8 of them.
+    /// Jumps ahead by n blocks of 64 bytes, by one addition. A draw advances by 8 of them.
     #[inline]
     pub fn jump_blocks(&mut self, n: u64) {
         self.chacha.jump(n);
     }
 }
 
-/// An equal generator. Nothing is allocated.
+/// The clone equals the original. Nothing is allocated.
 impl<const ROUNDS: u8> Clone for ChaChaGroups<ROUNDS> {
     #[inline]
     fn clone(&self) -> Self {
@@ -88,7 +89,7 @@ impl<const ROUNDS: u8> Clone for ChaChaGroups<ROUNDS> {
     }
 }
 
-/// Equal exactly if the states are: the key, the nonce and the counter.
+/// Two generators are equal if and only if their states are: the key, the nonce and the counter.
 impl<const ROUNDS: u8> PartialEq for ChaChaGroups<ROUNDS> {
     #[inline]
     fn eq(&self, other: &Self) -> bool {
@@ -123,7 +124,8 @@ impl<const ROUNDS: u8> Rng<512> for ChaChaGroups<ROUNDS> {
 }
 
 impl<const ROUNDS: u8> SeedableRng<40, 512> for ChaChaGroups<ROUNDS> {
-    /// The first 32 bytes of the seed become the key and the last 8 the nonce. The counter is 0.
+    /// Uses the first 32 bytes of the seed as the key and the last 8 as the nonce. The counter is
+    /// 0.
     fn reseed(&mut self, seed: [u8; 40]) {
         self.chacha.reseed(seed);
     }

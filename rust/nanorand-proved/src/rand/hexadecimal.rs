@@ -1,7 +1,7 @@
 use core::fmt;
 
-// A number whose text is its lower-case hexadecimal digits. It is written in two halves because
-// std's contract does not say what `{:x}` writes for a 128-bit integer.
+// A number that is displayed as lower-case hexadecimal digits. It is written as two halves, because
+// the contract of std does not say what `{:x}` writes for a 128-bit integer.
 pub(crate) struct Hexadecimal(pub(crate) u128);
 
 impl fmt::Display for Hexadecimal {

@@ -7,64 +7,70 @@ use crate::rand::chacha_groups::ChaChaGroups;
 use crate::rand::split_mix::seed_from;
 use crate::rand::Rng;
 
-/// The keystream of a ChaCha, as one unbroken stream of bytes that computes eight blocks at once.
+/// The keystream of ChaCha as one unbroken stream of bytes, of which eight blocks are computed at
+/// once.
 ///
-/// Like `ChaCha`, it is not a vetted cryptographic generator: nothing here erases keys from memory
-/// or reseeds on its own, and nothing was audited. For keys, tokens and passwords, or where an
-/// adversary matters, take one that is vetted.
+/// Like `ChaCha`, it is not a vetted cryptographic generator: it does not erase keys from memory,
+/// does not reseed itself, and has not been audited. For keys, tokens and passwords, or if there is
+/// an adversary, use a vetted generator.
 pub type ChaChaStream<const ROUNDS: u8> = BufferedRng<ChaChaGroups<ROUNDS>, 512>;
 
-/// The stream of ChaCha with 8 rounds, fewer than the standard's 20. Not a vetted cryptographic
+/// A stream of ChaCha with 8 rounds, fewer than the standard's 20. Not a vetted cryptographic
 /// generator: see `ChaChaStream`.
 pub type ChaCha8Stream = ChaChaStream<8>;
 
-/// The stream of ChaCha with 12 rounds, fewer than the standard's 20. Not a vetted cryptographic
+/// A stream of ChaCha with 12 rounds, fewer than the standard's 20. Not a vetted cryptographic
 /// generator: see `ChaChaStream`.
 pub type ChaCha12Stream = ChaChaStream<12>;
 
-/// The stream of ChaCha with the standard's 20 rounds. Not a vetted cryptographic generator: see
+/// A stream of ChaCha with the standard's 20 rounds. Not a vetted cryptographic generator: see
 /// `ChaChaStream`.
 pub type ChaCha20Stream = ChaChaStream<20>;
 
 /// The keystream of a key and a nonce: 2^70 bytes, in blocks of 64 bytes. The bytes are numbered
-/// from 0, and after the last one the first one comes again.
+/// from 0, and after the last byte the stream continues with byte 0.
 ///
-/// Requests join without a break: two in a row take the bytes that one of their total size takes.
-/// An implementation of your own has to see to that. The trait fixes how a stream continues, not
-/// which bytes a key and a nonce give it.
+/// Requests join without a break: two requests in a row return the bytes that one request of their
+/// total size returns. An implementation of your own must ensure that. The trait fixes how a stream
+/// continues, not which bytes it has for a key and a nonce. `OUTPUT` is the block size of [`Rng`],
+/// not the 64 bytes of a keystream block.
 pub trait Keystream<const OUTPUT: usize>: Rng<OUTPUT> {
-    /// The stream of this key and nonce, at its byte 0. For ChaCha the number of rounds is even.
+    /// Creates the stream of this key and nonce, at byte 0. For ChaCha, an odd number of rounds
+    /// does not compile.
     fn new_key(key: [u8; 32], nonce: [u8; 8]) -> Self;
 
-    /// The stream of this key and nonce, at the first byte of the block at this index, which is byte
-    /// `index * 64`. For ChaCha the number of rounds is even.
+    /// Creates the stream of this key and nonce, at the first byte of the block at this index,
+    /// which is byte `index * 64`. For ChaCha, an odd number of rounds does not compile.
     fn at_block(key: [u8; 32], nonce: [u8; 8], index: u64) -> Self;
 
-    /// The stream whose key and nonce are made from a number, which may be small, at its byte 0: they
-    /// are 40 bytes that SplitMix64 draws, as [`ChaCha::seed_from_u64`](crate::ChaCha::seed_from_u64)
-    /// says. There are only 2^64 such keys: they keep no secret. For ChaCha the number of rounds is
-    /// even.
+    /// Creates a stream whose key and nonce are made from a number, which may be small, at byte 0.
+    /// They are 40 bytes that SplitMix64 produces, as
+    /// [`ChaCha::seed_from_u64`](crate::ChaCha::seed_from_u64) describes. There are only 2^64 such
+    /// keys, so they keep no secret. For ChaCha, an odd number of rounds does not compile.
     #[must_use]
     fn seed_from_u64(number: u64) -> Self {
         let (key, nonce) = split_seed(&seed_from(number));
         Self::new_key(key, nonce)
     }
 
-    /// Goes to this byte, forward or back. Byte 2^70 is byte 0 again. Buffered bytes are dropped.
+    /// Moves to this byte of the stream, forward or back. Byte 2^70 is byte 0 again. Buffered bytes
+    /// are dropped.
     ///
-    /// The state is the one that a request for the bytes before this byte leaves, from byte 0 on.
+    /// The state is then the one that a request for all bytes before this one leaves, made at byte
+    /// 0.
     fn seek(&mut self, byte: u128);
 
-    /// The number of the next byte of a stream that `new_key`, `at_block` or `seek` made. A request
-    /// for n bytes adds n to it, modulo 2^70.
+    /// Returns the number of the next byte, for a stream that was created by `new_key` or
+    /// `at_block` or moved by `seek`. A request for n bytes adds n to it, modulo 2^70.
     ///
-    /// A buffer that `BufferedRng::with_rest` made, or that was reseeded, may hold bytes of no stream,
-    /// or of another one. They come next and are counted all the same, until a `seek`.
+    /// A buffered generator that was created by `BufferedRng::with_rest`, or that was reseeded, may
+    /// hold buffered bytes of another stream, or of none. They are delivered next and counted all
+    /// the same, until a `seek`.
     fn position(&self) -> u128;
 }
 
-/// The stream of this key and nonce, at its byte 0, as `Keystream::new_key` makes it. A call needs
-/// no import of that trait. An odd `ROUNDS` does not compile.
+/// Creates the stream of this key and nonce, at byte 0, as `Keystream::new_key` does, without the
+/// need to import that trait. An odd `ROUNDS` does not compile.
 #[must_use]
 pub fn chacha_stream<const ROUNDS: u8>(key: [u8; 32], nonce: [u8; 8]) -> ChaChaStream<ROUNDS> {
     let () = crate::layer::Rounds::<ROUNDS>::EVEN;
@@ -72,8 +78,8 @@ pub fn chacha_stream<const ROUNDS: u8>(key: [u8; 32], nonce: [u8; 8]) -> ChaChaS
     Keystream::new_key(key, nonce)
 }
 
-/// The stream of this key and nonce, at the first byte of the block at this index, as
-/// `Keystream::at_block` makes it. A call needs no import of that trait. An odd `ROUNDS` does not
+/// Creates the stream of this key and nonce, at the first byte of the block at this index, as
+/// `Keystream::at_block` does, without the need to import that trait. An odd `ROUNDS` does not
 /// compile.
 #[must_use]
 pub fn chacha_stream_at<const ROUNDS: u8>(
@@ -86,8 +92,8 @@ pub fn chacha_stream_at<const ROUNDS: u8>(
     Keystream::at_block(key, nonce, index)
 }
 
-/// The stream of a number, which may be small, at its byte 0, as [`Keystream::seed_from_u64`]
-/// makes it. A call needs no import of that trait. An odd `ROUNDS` does not compile.
+/// Creates the stream of a number, which may be small, at byte 0, as [`Keystream::seed_from_u64`]
+/// does, without the need to import that trait. An odd `ROUNDS` does not compile.
 #[must_use]
 pub fn chacha_stream_from_u64<const ROUNDS: u8>(number: u64) -> ChaChaStream<ROUNDS> {
     let () = crate::layer::Rounds::<ROUNDS>::EVEN;
@@ -115,7 +121,7 @@ impl<const ROUNDS: u8> Keystream<512> for BufferedRng<ChaChaGroups<ROUNDS>, 512>
     }
 }
 
-/// The period is 2^67 draws, which have eight bytes each.
+/// A draw is eight bytes. The period is 2^67 draws.
 impl<const ROUNDS: u8> Parts<512> for BufferedRng<ChaChaGroups<ROUNDS>, 512> {
     fn part(&self, index: u64, draws: u64) -> Result<Self, PastPeriod> {
         let bytes = draws_before(index, draws, 1 << 67)? * 8;
@@ -129,7 +135,7 @@ impl<const ROUNDS: u8> Parts<512> for BufferedRng<ChaChaGroups<ROUNDS>, 512> {
     }
 }
 
-// The stream of these groups, with these bytes buffered.
+// Returns a stream that continues with these buffered bytes and then these groups.
 fn stream_with<const ROUNDS: u8>(
     groups: &ChaChaGroups<ROUNDS>,
     rest: &[u8],
@@ -138,7 +144,7 @@ fn stream_with<const ROUNDS: u8>(
     BufferedRng::with_rest(groups, rest).unwrap()
 }
 
-// The stream of these groups, after so many bytes.
+// Returns the stream that begins this many bytes after the start of these groups.
 fn stream_from<const ROUNDS: u8>(
     groups: &ChaChaGroups<ROUNDS>,
     bytes: u128,

@@ -19,14 +19,14 @@ impl Rng<8> for SplitMix64 {
     }
 }
 
-// The first bytes that SplitMix64 draws from a number.
+// Returns the first `SIZE` bytes that SplitMix64 produces from a number.
 pub(crate) fn seed_from<const SIZE: usize>(number: u64) -> [u8; SIZE] {
     let mut seed = [0; SIZE];
     fill_by_blocks(&mut SplitMix64 { state: number }, &mut seed);
     seed
 }
 
-// The word of a new state.
+// Returns the word that belongs to a new state.
 fn mixed(state: u64) -> u64 {
     let first = (state ^ (state >> 30)).wrapping_mul(0xbf58_476d_1ce4_e5b9);
     let second = (first ^ (first >> 27)).wrapping_mul(0x94d0_49bb_1331_11eb);

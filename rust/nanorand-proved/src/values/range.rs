@@ -1,4 +1,4 @@
-//! Numbers between two bounds.
+//! Numbers within two bounds.
 
 mod signed;
 mod unsigned;
@@ -9,13 +9,15 @@ use crate::values::word::draw_below;
 use crate::values::RandomGen;
 use core::ops::Bound;
 
-/// Why a ranged draw returned no number. `Rng::range` and `Rng::permute` panic in its place. The
-/// meanings are those of the integer types; a type of your own defines when it returns each error.
+/// The reasons why a draw from a range returned no number. `Rng::range` and `Rng::permute` panic
+/// instead. The meanings given here are those of the integer types; a type of your own defines when
+/// it returns each error.
 #[derive(Clone, Copy, Debug, PartialEq, Eq)]
 pub enum RangeError {
-    /// The range has no number. Nothing was drawn.
+    /// The range is empty. Nothing was drawn.
     Empty,
-    /// 128 words were drawn, and none named a number of the range. They stay consumed.
+    /// 128 words (random integers of the type's width) were drawn, and all were rejected. They stay
+    /// consumed.
     Exhausted,
 }
 
@@ -32,18 +34,22 @@ impl core::fmt::Display for RangeError {
 impl std::error::Error for RangeError {}
 
 /// A type whose values can be drawn within two bounds: the integer types, `char`, `f32` and `f64`.
+/// `OUTPUT` is the number of bytes of the generator's blocks.
 ///
-/// A range of an integer type holds the numbers that both bounds admit. Words of the type's width,
-/// and of `usize` and `isize` of 64 bits, are drawn, each by one request, until one names a number,
-/// at most 128; each number of the range is produced by equally many words. So are the characters of
-/// a range of `char`, by words of 32 bits; surrogates are passed over.
+/// **Integers.** A word is a random integer of the type's width (64 bits for `usize` and `isize`),
+/// read by one request. At most 128 words are drawn, and the first that is not rejected decides.
+/// Each number within both bounds is produced by the same number of words.
 ///
-/// A float is `low + (high - low) * part`, rounded. With k the top 53 bits of a word of 64, the part
-/// is k / 2^53 if `high` is excluded, and k / (2^53 - 1) if it is included, so that it can come. Of
-/// `f32` it is the same with 24 bits of 32. An unbounded side ends with the type's least or greatest
-/// finite number. A number that rounding moved to an excluded bound is drawn again, by the next of at
-/// most 128 words. The numbers are rounded, so they are not equally likely to the last bit,
-/// which may differ on an x86 without SSE2.
+/// **Characters.** A range of `char` is drawn in the same way from words of 32 bits; surrogates are
+/// skipped.
+///
+/// **Floats.** The value is `low + (high - low) * part`, rounded. Let k be the top 53 bits of a
+/// 64-bit word. `part` is k / 2^53 if `high` is excluded, and k / (2^53 - 1) if it is included, so
+/// that `high` can occur. For `f32` it is the same with the top 24 bits of a 32-bit word. An
+/// unbounded side ends at the least or greatest finite number of the type. A number that rounding
+/// moves to an excluded bound is rejected and the next word is used, with at most 128 words.
+/// Because of the rounding, the numbers are not exactly equally likely, and on x86 without SSE2
+/// their last bit may differ.
 ///
 /// A type of your own defines what its bounds mean and when a draw fails.
 #[cfg_attr(
@@ -54,27 +60,27 @@ impl std::error::Error for RangeError {}
     )
 )]
 pub trait RandomRange<G: Rng<OUTPUT>, const OUTPUT: usize>: RandomGen<G, OUTPUT> + Sized {
-    /// Draws a value between the bounds.
+    /// Draws a value within the bounds.
     ///
     /// # Errors
     ///
-    /// It returns an error as the type defines. The library's types return `Exhausted` after 128
-    /// words without a value; they stay consumed. They return `Empty` if the range has no value;
-    /// nothing is drawn then. A range of floats is empty if a bound is infinite or NaN, if the low
-    /// one is above the high one, or if both are equal and one is excluded.
+    /// Returns an error as the type defines. The types of this library return `Empty` if the range
+    /// is empty; nothing is drawn then. They return `Exhausted` after 128 rejected words; they stay
+    /// consumed. A range of floats is empty if a bound is infinite or NaN, if the low bound is
+    /// above the high one, or if both are equal and one is excluded.
     fn random_range(rng: &mut G, low: Bound<Self>, high: Bound<Self>) -> Result<Self, RangeError>;
 }
 
-/// Draws a number that both bounds admit; each is produced by equally many words, after Daniel
-/// Lemire ("Fast Random Integer Generation in an Interval", 2019).
+/// Draws a number within both bounds. Each number is produced by the same number of words, by the
+/// method of Daniel Lemire ("Fast Random Integer Generation in an Interval", 2019).
 ///
-/// It draws at most 128 words of the type's width, each by one request, and the first word that
-/// names a number decides.
+/// At most 128 words of the type's width are drawn, each by one request, and the first that is not
+/// rejected decides.
 ///
 /// # Errors
 ///
-/// It returns `Empty` if no number is admitted, and draws nothing then. It returns `Exhausted` if
-/// 128 words in a row were rejected; they stay consumed.
+/// Returns `Empty` if there is no number within the bounds; nothing is drawn then. Returns
+/// `Exhausted` if 128 words in a row were rejected; they stay consumed.
 #[inline(always)]
 pub fn draw_number<T: Number, G: Rng<OUTPUT>, const OUTPUT: usize>(
     rng: &mut G,
@@ -92,7 +98,7 @@ pub fn draw_number<T: Number, G: Rng<OUTPUT>, const OUTPUT: usize>(
     }
 }
 
-// The least rank whose number the low bound admits, or 2^BITS if there is none.
+// Returns the least rank whose number the low bound allows, or 2^BITS if there is none.
 #[inline(always)]
 fn first_place<T: Number>(low: Bound<T>) -> u128 {
     match low {
@@ -102,7 +108,7 @@ fn first_place<T: Number>(low: Bound<T>) -> u128 {
     }
 }
 
-// The rank after the greatest whose number the high bound admits, or 0 if there is none.
+// Returns the greatest rank whose number the high bound allows, plus 1, or 0 if there is none.
 #[inline(always)]
 fn end_place<T: Number>(high: Bound<T>) -> u128 {
     match high {

@@ -1,4 +1,4 @@
-//! The signed types: one request of their bytes, read least byte first, in two's complement.
+//! The signed types: one request for their bytes, in little-endian order and two's complement.
 
 use super::RandomGen;
 use crate::rand::Rng;

@@ -1,4 +1,4 @@
-//! The unsigned types: one request of their bytes, read least byte first.
+//! The unsigned types: one request for their bytes, in little-endian order.
 
 use super::{next_bytes, RandomGen};
 use crate::rand::Rng;

@@ -1,21 +1,22 @@
-//! Random words of 8, 16, 32 or 64 bits, and the numbers that they name.
+//! Words, which are random integers of 8, 16, 32 or 64 bits, and the unbiased mapping of words to
+//! numbers below a size.
 
 use crate::rand::Rng;
 use crate::values::RandomGen;
 
-// The most words that are drawn for one number.
+// The greatest number of words that are drawn for one number.
 pub(crate) const MAX_WORDS: usize = 128;
 
-/// The number below `size` that a word of `bits` bits names, or `None` if the word is rejected.
+/// Returns the number below `size` that a word of `bits` bits is mapped to, or `None` if the word
+/// is rejected.
 ///
-/// The method is that of Daniel Lemire, "Fast Random Integer Generation in an Interval" (2019):
-/// each number has a run of floor(2^bits / size) consecutive words, in the order of the numbers,
+/// The method is that of Daniel Lemire, "Fast Random Integer Generation in an Interval" (2019).
+/// Each number has a run of floor(2^bits / size) consecutive words, in the order of the numbers,
 /// and the 2^bits % size words outside all runs are rejected.
 ///
 /// # Panics
 ///
-/// Panics unless `bits` is 8, 16, 32 or 64, `size` is from 1 to 2^bits, and `word` is below
-/// 2^bits.
+/// Panics unless `bits` is 8, 16, 32 or 64, `size` is from 1 to 2^bits, and `word` is below 2^bits.
 #[inline(always)]
 #[must_use]
 pub fn pick_word(size: u128, bits: u32, word: u64) -> Option<u64> {
@@ -33,8 +34,8 @@ pub fn pick_word(size: u128, bits: u32, word: u64) -> Option<u64> {
     pick_below(size as u64, bits, word)
 }
 
-// As `pick_word`, for a size that fits in 64 bits. Fewer than `size` words are rejected, so a low
-// part of at least `size` is accepted without computing how many.
+// Does the same as `pick_word`, for a size that fits in 64 bits. Fewer than `size` words are
+// rejected, so a low half of `size` or more is accepted without computing how many.
 #[inline(always)]
 pub(crate) fn pick_below(size: u64, bits: u32, word: u64) -> Option<u64> {
     let (number, low) = halves_of(size, bits, word);
@@ -45,21 +46,23 @@ pub(crate) fn pick_below(size: u64, bits: u32, word: u64) -> Option<u64> {
     }
 }
 
-// As `pick_below`, where the number of rejected words is already computed.
+// Does the same as `pick_below`, with the number of rejected words already computed.
 #[inline(always)]
 pub(crate) fn pick_counted(size: u64, bits: u32, rejects: u64, word: u64) -> Option<u64> {
     let (number, low) = halves_of(size, bits, word);
     (low >= rejects).then_some(number)
 }
 
-// The halves of `word * size`: the high one is the number, and the low one accepts or rejects.
+// Returns the halves of `word * size`: the high half is the number, and the low half decides
+// whether the word is accepted.
 #[inline(always)]
 fn halves_of(size: u64, bits: u32, word: u64) -> (u64, u64) {
     let product = product_of(size, bits, word);
     (high_of(product, bits), low_of(product, bits))
 }
 
-// The product of a word and the size. Words of fewer than 64 bits are multiplied in 64.
+// Returns the product of a word and the size. Words of fewer than 64 bits are multiplied in 64
+// bits.
 #[inline(always)]
 fn product_of(size: u64, bits: u32, word: u64) -> u128 {
     if bits < 64 {
@@ -69,19 +72,20 @@ fn product_of(size: u64, bits: u32, word: u64) -> u128 {
     }
 }
 
-// The high half of a product.
+// Returns the high half of a product.
 #[inline(always)]
 fn high_of(product: u128, bits: u32) -> u64 {
     (product >> bits) as u64
 }
 
-// The low half of a product.
+// Returns the low half of a product.
 #[inline(always)]
 fn low_of(product: u128, bits: u32) -> u64 {
     (product % (1 << bits)) as u64
 }
 
-// Whether the low half of a product is below a number, compared in the type of the word.
+// Returns whether the low half of a product is below a number. The comparison is made in the type
+// of the word.
 #[inline(always)]
 fn low_is_below(product: u128, number: u64, bits: u32) -> bool {
     let low = low_of(product, bits);
@@ -93,7 +97,8 @@ fn low_is_below(product: u128, number: u64, bits: u32) -> bool {
     }
 }
 
-// How many words are rejected. If `size` is more than half of all words, this needs no division.
+// Returns how many words are rejected. This needs no division if `size` is more than half of
+// 2^bits.
 #[inline(always)]
 pub(crate) fn rejected(size: u64, bits: u32) -> u64 {
     let others = ((1u128 << bits) - u128::from(size)) as u64;
@@ -104,9 +109,10 @@ pub(crate) fn rejected(size: u64, bits: u32) -> u64 {
     }
 }
 
-// No fewer than the words that are rejected, without a division: a low half of at least that many is
-// accepted as it is. Sizes above half are common among small words: there it is the number of rejected
-// words itself, so that a draw has one test that no processor foresees.
+// Returns an upper bound of the number of rejected words, without a division: a low half of at
+// least this bound is accepted at once. Sizes above half of 2^bits are common for words of 8 and 16
+// bits. The bound is then the exact number of rejected words, so that a draw makes only one
+// unpredictable test.
 #[inline(always)]
 fn most_rejected(size: u64, bits: u32) -> u64 {
     if bits > 16 {
@@ -116,19 +122,20 @@ fn most_rejected(size: u64, bits: u32) -> u64 {
     others.min(size)
 }
 
-// Few words need the division, so it is kept apart from the path that draws. It is no call: LLVM must
-// take one of another crate to unwind, and would then store the state of a generator before each.
+// Few words need this division, so it is kept apart from the usual path. It is inlined all the
+// same: LLVM must assume that a call into another crate unwinds, and would store the state of the
+// generator before each call.
 #[cold]
 #[inline]
 fn remainder(others: u64, size: u64) -> u64 {
     others % size
 }
 
-/// Draws a number below `size`; each is named by equally many words of `bits` bits.
+/// Draws a number below `size`. Each number is produced by the same number of words of `bits` bits.
 ///
-/// Each word is one request, and the first word that names a number, as `pick_word` says, decides.
-/// It returns `None` if 128 words in a row were rejected; they stay consumed. A size that divides
-/// 2^bits, such as a power of two, rejects no word.
+/// Each word is one request, and the first word that `pick_word` does not reject decides. Returns
+/// `None` if 128 words in a row were rejected; they stay consumed. If `size` divides 2^bits, as a
+/// power of two does, no word is rejected.
 ///
 /// # Panics
 ///
@@ -158,7 +165,8 @@ pub fn draw_below<G: Rng<OUTPUT>, const OUTPUT: usize>(
     }
     let rejects = rejected(size, bits);
     let mut drawn = 1;
-    // `&` makes one exit: with two, LLVM vectorizes the search, which takes four times as long.
+    // `&` gives the loop a single exit: with two, LLVM vectorizes it, which makes it four times
+    // slower.
     while low_is_below(product, rejects, bits) & (drawn < MAX_WORDS) {
         let word = draw_word(rng, bits);
         product = product_of(size, bits, word);
@@ -170,7 +178,7 @@ pub fn draw_below<G: Rng<OUTPUT>, const OUTPUT: usize>(
     Some(high_of(product, bits))
 }
 
-// The next word of `bits` bits, by one request.
+// Draws the next word of `bits` bits, by one request.
 #[inline(always)]
 pub(crate) fn draw_word<G: Rng<OUTPUT>, const OUTPUT: usize>(rng: &mut G, bits: u32) -> u64 {
     match bits {

@@ -1,12 +1,12 @@
-//! The rounds and the block.
+//! The rounds of ChaCha and its block function.
 
 use super::lanes::{matrix_of, mix, rows_of};
 use super::vectors::Vector;
 
-/// The matrix after the rounds alone, without the final addition of the input.
+/// Returns the matrix after `ROUNDS` rounds, without the final addition of the input.
 ///
-/// An odd `ROUNDS` does not compile. A double round is one round on the columns and then one on
-/// the diagonals.
+/// A double round is one round on the columns and then one on the diagonals. An odd `ROUNDS` does
+/// not compile.
 #[must_use]
 pub fn chacha_rounds<const ROUNDS: u8>(input: [u32; 16]) -> [u32; 16] {
     let () = crate::layer::Rounds::<ROUNDS>::EVEN;
@@ -14,9 +14,10 @@ pub fn chacha_rounds<const ROUNDS: u8>(input: [u32; 16]) -> [u32; 16] {
     matrix_of(mix::<ROUNDS>(rows_of(&input)))
 }
 
-/// The block: the matrix after the rounds plus the input, word by word, modulo 2^32.
+/// Returns the block of a state: the matrix after the rounds plus the input, word by word, modulo
+/// 2^32.
 ///
-/// An odd `ROUNDS` does not compile. With 0 rounds the block is the input plus itself.
+/// With 0 rounds the block is the input plus itself. An odd `ROUNDS` does not compile.
 #[must_use]
 pub fn chacha_block<const ROUNDS: u8>(input: [u32; 16]) -> [u32; 16] {
     let () = crate::layer::Rounds::<ROUNDS>::EVEN;

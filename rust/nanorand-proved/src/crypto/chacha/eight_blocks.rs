@@ -1,4 +1,4 @@
-//! Eight blocks side by side.
+//! The blocks of eight consecutive counters, computed at once on vectors of eight lanes.
 
 use super::four_blocks::FourBlocks;
 use super::side_by_side::{blocks_of, Matrices, Row};
@@ -6,7 +6,7 @@ use super::state::{counter, high, low};
 use super::wide::{joined, woven, woven_pairs, EightLanes};
 use crate::simd::U32x8;
 
-// A row of four words, each in all lanes.
+// Four vectors, each with one word in all of its lanes.
 #[inline(always)]
 fn splat_row(lanes: EightLanes, a: u32, b: u32, c: u32, d: u32) -> Row<U32x8> {
     (
@@ -17,7 +17,7 @@ fn splat_row(lanes: EightLanes, a: u32, b: u32, c: u32, d: u32) -> Row<U32x8> {
     )
 }
 
-// A state and the seven after it. The counter may wrap within the eight.
+// The given state and the seven that follow it. The counter may wrap around within the eight.
 #[inline(always)]
 fn eight_states(lanes: EightLanes, x: &[u32; 16]) -> Matrices<U32x8> {
     let first = counter(x);
@@ -44,7 +44,7 @@ fn eight_states(lanes: EightLanes, x: &[u32; 16]) -> Matrices<U32x8> {
     )
 }
 
-// Vector k of the result has the lanes k of the four vectors, and then their lanes 4 + k.
+// Vector k of the result holds lane k of each of the four vectors, and then lane 4 + k of each.
 #[inline(always)]
 fn woven_row(row: Row<U32x8>) -> Row<U32x8> {
     let (a, b, c, d) = row;
@@ -55,7 +55,7 @@ fn woven_row(row: Row<U32x8>) -> Row<U32x8> {
     (first, second, third, fourth)
 }
 
-// The words of two vectors, one after the other.
+// The words of `a`, and then those of `b`.
 #[inline(always)]
 fn sixteen_of(a: U32x8, b: U32x8) -> [u32; 16] {
     let [a0, a1, a2, a3, a4, a5, a6, a7] = a.to_array();
@@ -65,7 +65,8 @@ fn sixteen_of(a: U32x8, b: U32x8) -> [u32; 16] {
     ]
 }
 
-// Of four vectors with a row of one matrix and then one of another: the two matrices.
+// Each of the four vectors holds a row of one matrix and then the same row of another. Returns the
+// two matrices.
 #[inline(always)]
 fn two_matrices(p: U32x8, q: U32x8, r: U32x8, s: U32x8) -> ([u32; 16], [u32; 16]) {
     let (a, c) = joined(p, q);
@@ -89,7 +90,7 @@ fn eight_matrices(x: Matrices<U32x8>) -> (FourBlocks, FourBlocks) {
     )
 }
 
-// The blocks of a state and of the seven after it.
+// Returns the block of the given state and those of the seven states that follow it.
 #[inline(always)]
 pub(crate) fn eight_blocks<const ROUNDS: u8>(
     lanes: EightLanes,

@@ -1,4 +1,4 @@
-//! Four blocks side by side.
+//! The blocks of four consecutive counters, computed at once on vectors of four lanes.
 
 use super::lanes::{matrix_of, Rows};
 use super::side_by_side::{blocks_of, Matrices, Row};
@@ -7,7 +7,7 @@ use crate::simd::U32x4;
 
 pub(crate) type FourBlocks = ([u32; 16], [u32; 16], [u32; 16], [u32; 16]);
 
-// A state and the three after it. The counter may wrap within the four.
+// The given state and the three that follow it. The counter may wrap around within the four.
 #[inline(always)]
 fn four_states(x: &[u32; 16]) -> Matrices<U32x4> {
     let first = counter(x);
@@ -42,7 +42,7 @@ fn four_states(x: &[u32; 16]) -> Matrices<U32x4> {
     )
 }
 
-// Vector j of the result has lane j of each of the four vectors.
+// Vector j of the result holds lane j of each of the four vectors.
 #[inline(always)]
 fn transposed(row: Row<U32x4>) -> Rows {
     let (a, b, c, d) = row;
@@ -72,7 +72,7 @@ fn matrices(x: Matrices<U32x4>) -> FourBlocks {
     )
 }
 
-// The blocks of a state and of the three after it.
+// Returns the block of the given state and those of the three states that follow it.
 #[inline(always)]
 pub(crate) fn four_blocks<const ROUNDS: u8>(x: &[u32; 16]) -> FourBlocks {
     matrices(blocks_of::<U32x4, ROUNDS>(four_states(x)))

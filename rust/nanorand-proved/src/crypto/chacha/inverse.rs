@@ -1,6 +1,7 @@
 //! The inverse of the rounds, computed in place.
 
-/// The inverse of `chacha_rounds`: the only matrix that the rounds turn into `output`.
+/// Returns the matrix that the rounds turn into `output`. There is exactly one: this function is
+/// the inverse of `chacha_rounds`.
 ///
 /// An odd `ROUNDS` does not compile.
 #[must_use]
@@ -47,7 +48,7 @@ fn unmix_line(x: &mut [u32; 16], a: usize, b: usize, c: usize, d: usize) {
     x[d] = s;
 }
 
-// The steps of the quarter round undone, the last one first.
+// Undoes the steps of the quarter round, the last one first.
 #[inline(always)]
 fn unquarter_round(a: u32, b: u32, c: u32, d: u32) -> (u32, u32, u32, u32) {
     let b = b.rotate_right(7) ^ c;

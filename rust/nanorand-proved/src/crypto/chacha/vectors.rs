@@ -1,13 +1,14 @@
-//! Vectors of 32-bit words, and those of four lanes.
+//! Vectors of 32-bit words: the operations that the rounds need, and their implementation on four
+//! lanes.
 
 use crate::simd::U32x4;
 
-// What the rounds ask of a vector, in the same way in each lane.
+// The operations of the rounds on a vector. Each applies to all lanes alike.
 pub(crate) trait Vector: Copy {
-    // The sum, which wraps in each lane.
+    // Adds lane by lane, modulo 2^32.
     fn add(self, other: Self) -> Self;
 
-    // Each lane xor that of `other`, rotated left by `n` bits.
+    // Computes the xor of each lane with that of `other`, and rotates it left by `n` bits.
     fn xor_rotate(self, other: Self, n: u32) -> Self;
 }
 

@@ -1,4 +1,5 @@
-//! Vectors of eight lanes, written by hand: which processor has them, Rattle cannot ask.
+//! Vectors of eight lanes. They are hand-written, since Rattle has no way to ask which processor
+//! has them.
 
 use super::vectors::Vector;
 use crate::simd::U32x8;
@@ -16,19 +17,20 @@ impl Vector for U32x8 {
     }
 }
 
-// Words of two vectors by turns: those of the lanes 0, 1, 4 and 5, and those of the others.
+// Interleaves the words of two vectors: first the words of lanes 0, 1, 4 and 5, then the words of
+// the other lanes.
 #[inline(always)]
 pub(crate) fn woven(a: U32x8, b: U32x8) -> (U32x8, U32x8) {
     a.woven(b)
 }
 
-// The same with pairs of words for words.
+// Does the same with pairs of words in place of words.
 #[inline(always)]
 pub(crate) fn woven_pairs(a: U32x8, b: U32x8) -> (U32x8, U32x8) {
     a.woven_pairs(b)
 }
 
-// The first halves of two vectors, and their second halves.
+// Returns the first halves of both vectors, and then their second halves.
 #[inline(always)]
 pub(crate) fn joined(a: U32x8, b: U32x8) -> (U32x8, U32x8) {
     a.joined(b)
