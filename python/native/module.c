@@ -70,7 +70,8 @@ static int check_version(PyObject *Py_UNUSED(module))
 static int add_version(PyObject *module)
 {
     char text[16];
-    snprintf(text, sizeof text, "%d.%d.%d", NANORAND_VERSION / 10000, NANORAND_VERSION / 100 % 100, NANORAND_VERSION % 100);
+    snprintf(text, sizeof text, "%d.%d.%d", NANORAND_VERSION / 10000, NANORAND_VERSION / 100 % 100,
+             NANORAND_VERSION % 100);
     return PyModule_AddStringConstant(module, "__version__", text);
 }
 
