@@ -43,7 +43,7 @@ CHANGES = [
     ("tests/quotes.py", "docs/PROMISES.md", "`buffers_equal_by_their_generators`", "`wyrand_seed_stays`"),
     ("tests/quotes.py", "crates/nanorand/CALLING.md", "ensures", "requires"),
     ("tests/quotes.py", "crates/nanorand/TASKS.md", "returns c =", "returns d ="),
-    ("tests/quotes.py", "crates/nanorand/CONTRACTS.md", "`wyrand_requests`", "`wyrand_request`"),
+    ("tests/quotes.py", "crates/nanorand/CONTRACTS.md", "`plain_after`", "`plainly_after`"),
     ("tests/quotes.py", "crates/dice/src/main.rt", "pips ≤ 6", "pips ≤ 7"),
     ("tests/declarations.py", "c/include/nanorand.h", "const uint8_t *list", "uint8_t *list"),
     ("tests/declarations.py", "c/include/nanorand.h", "uint32_t first, uint32_t last", "uint32_t first, uint64_t last"),
