@@ -1,7 +1,8 @@
 #!/usr/bin/env bash
 # Tests ./copy_library: tests/copy_library.sh. First a small stand-in for the library is copied: what is said, copied,
 # kept and ignored, with and without kept proofs, over an older copy, and with the wrappers for the kit's rand. Then the
-# library: CALLING's first steps in a fresh repository, where its two programs run, unproved. All that takes seconds.
+# library: CALLING's first steps in a fresh repository, and those of TASKS with `rand`. Both programs run, unproved. All
+# that takes seconds.
 # `tests/copy_library.sh proved` then copies the library with its proofs, which it makes where they are missing, and
 # proves and runs the program, which must prove nothing of the library again: that takes minutes.
 # shellcheck source=tests/lib.sh
@@ -48,6 +49,7 @@ make_library() {
         echo "$name" | tee "$1/crates/$name"/{src/lib.rt,specs/Lib.antt,proofs/Lib.antt,mutants/a.edit} >/dev/null
     done
     echo 'See [the list](../../docs/PROMISES.md) and [the source](src/lib.rt).' >"$1/crates/nanorand/CALLING.md"
+    echo 'See [the steps](CALLING.md#first) and [another page](OTHER.md).' >"$1/crates/nanorand/TASKS.md"
 }
 
 of_a_stand_in() {
@@ -59,9 +61,11 @@ of_a_stand_in() {
 
     expect 'a first copy' "$without" "$(copy "$library" "$own/crates")"
     for name in "${crates[@]}"; do
-        expect "the files of $name" ".gitignore $sources" "$(files "$own/crates/$name" | sed 's/CALLING.md //')"
+        expect "the files of $name" ".gitignore $sources" "$(files "$own/crates/$name" | sed -E 's/(CALLING|TASKS).md //g')"
     done
     expect 'its links' 'See the list and [the source](src/lib.rt).' "$(cat "$own/crates/nanorand/CALLING.md")"
+    expect 'links from page to page' 'See [the steps](CALLING.md#first) and another page.' \
+        "$(cat "$own/crates/nanorand/TASKS.md")"
 
     keep "$own/crates" older
     echo changed >"$library/crates/nanorand_core/src/lib.rt"
@@ -148,7 +152,7 @@ first_steps() {
     cp "$top/crates/dice/src/main.rt" "$2/crates/dice/src/main.rt"
 }
 
-# The steps of CALLING's "Together with `rand`" after them.
+# The steps of TASKS's "Together with `rand`" after them.
 steps_with_rand() {
     mkdir -p "$2/crates/rand_dice/src"
     "$1/copy_library" --rand "$2/crates" >/dev/null
@@ -170,9 +174,9 @@ of_the_library() {
         mkdir "$library/crates/$name"
         cp -R "$top/crates/$name"/{src,specs,proofs} "$library/crates/$name"
     done
-    cp "$top/crates/nanorand/CALLING.md" "$library/crates/nanorand"
+    cp "$top/crates/nanorand"/*.md "$library/crates/nanorand"
     first_steps "$library" "$work/fresh"
-    broken=$(cd "$work/fresh/crates/nanorand" && grep -oE '\]\([^)#]+' CALLING.md | sed 's/](//' | sort -u |
+    broken=$(cd "$work/fresh/crates/nanorand" && grep -ohE '\]\([^)#]+' -- *.md | sed 's/](//' | sort -u |
         while read -r link; do [ -e "$link" ] || echo "$link"; done)
     expect 'links that resolve' '' "$broken"
     expect 'the throws' '2 6 2 5 1 4 4 4 6 4' "$(throws dice "$work/fresh" rt try)"

@@ -28,7 +28,13 @@ sys.path.insert(0, str(ROOT / "tools"))
 from edits import all_edits  # noqa: E402
 from rattle import bare, items_at  # noqa: E402
 
-DOCUMENTS = ["README.md", "crates/nanorand/CALLING.md", "docs/LANGUAGES.md"]
+DOCUMENTS = [
+    "README.md",
+    "crates/nanorand/CALLING.md",
+    "crates/nanorand/CONTRACTS.md",
+    "crates/nanorand/TASKS.md",
+    "docs/LANGUAGES.md",
+]
 MARK = re.compile(r"^<!-- (?P<path>\S+\.(rt|rs|antt)): (?P<items>.+) -->$")
 WORDS = re.compile(r"^\| \[[^\]]*\]\((?P<path>\S+\.antt)\) \| (?P<words>[^|]*) \|")
 
