@@ -127,7 +127,7 @@ CHANGES = [
     ("tools/contracts.py --check", "tools/contracts.sums", "nanorand/src/laws.rt", "nanorand/src/law.rt"),
     ("tools/bodies.py", "rust/lots/src/draws.rs", "number(places);", ""),
     ("tools/bodies.py", "crates/draw_core/src/command.rt", "1000", "999"),
-    ("tools/bodies.py", "rust/nanorand-proved/src/samples.rs", "count - places.len()", "count - places.len() - 1"),
+    ("tools/bodies.py", "rust/nanorand-proved/src/samples.rs", "= count - places.len()", "= count - places.len() - 1"),
     ("tools/bodies.py", "crates/nanorand_core/src/samples.rt", "Ok(())", "Ok(Default::default())"),
     ("tools/pictures.py --check", "docs/runs.svg", "first", "second"),
     ("tools/pictures.py --check", "docs/delivery.svg", "first", "second"),
