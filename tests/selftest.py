@@ -131,6 +131,11 @@ CHANGES = [
     ("tools/bodies.py", "crates/nanorand_core/src/samples.rt", "Ok(())", "Ok(Default::default())"),
     ("tools/pictures.py --check", "docs/runs.svg", "first", "second"),
     ("tools/pictures.py --check", "docs/delivery.svg", "first", "second"),
+    ("tools/pictures.py --check", "docs/ARCHITECTURE.md", "exports --> lots\n", ""),
+    ("tools/pictures.py --check", "crates/nanorand/src/rand/chacha.rt", "use crate::entropy::{EntropyError, system};", ""),
+    ("tools/pictures.py --check", "crates/nanorand/src/rand/keystream.rt", "use crate::parts::", "use crate::entropy::"),
+    ("tools/pictures.py --check", "crates.txt", "\nlots: lots_core", "\nmore: lots_core\nlots: lots_core"),
+    ("tools/pictures.py --check", "tools/layers.py", '"rand::halves", ', ""),
 ]
 # What writes files: the command, each file, and a text in it that is taken out.
 WRITERS = {
@@ -138,7 +143,7 @@ WRITERS = {
     "tests/answers/make.py": {"tests/answers/answers.tsv": "12558987674375533620"},
     "tools/contracts.py --sums": {"tools/contracts.sums": "  crates/nanorand/src/laws.rt\n"},
     "tools/record.py": {"docs/PAGE.md": "3: Chidi\n"},
-    "tools/pictures.py": {"docs/runs.svg": "first"},
+    "tools/pictures.py": {"docs/runs.svg": "first", "docs/ARCHITECTURE.md": "exports --> lots\n"},
     "tools/header.py": {"c/include/nanorand.h": "const uint8_t *list"},
     "tools/bodies.py --write": {"rust/PROVED.md": "nanorand-proved/src/system.rs"},
 }

@@ -1,17 +1,20 @@
 #!/usr/bin/env python3
-"""Draws docs/runs.svg and docs/delivery.svg from the definitions' formulas.
+"""Draws docs/runs.svg and docs/delivery.svg by the definitions' formulas, and the diagram of docs/ARCHITECTURE.md.
 
-    tools/pictures.py            writes both files
-    tools/pictures.py --check    says whether the files are what the script draws
+    tools/pictures.py            writes both files, and the diagram into its document
+    tools/pictures.py --check    says whether the files and the diagram are what the script draws
 
-The last line of the check is "N passed, M failed". Each picture has its own background, for a light
-and for a dark page.
+The last line of the check is "N passed, M failed". Each picture has its own background, for a light and for a dark
+page.
 """
 
+import re
 import sys
 from html import escape
 from itertools import groupby
 from pathlib import Path
+
+import layers
 
 DOCS = Path(__file__).resolve().parent.parent / "docs"
 MARGIN = 20
@@ -306,14 +309,30 @@ def delivery():
 PICTURES = {"runs.svg": runs, "delivery.svg": delivery}
 
 
+def architecture():
+    """docs/ARCHITECTURE.md with the diagram that tools/layers.py draws."""
+    before = (DOCS / "ARCHITECTURE.md").read_text(encoding="utf-8")
+    return re.sub(r"(?<=```mermaid\n).*?(?=```\n)", lambda _: layers.diagram(), before, count=1, flags=re.DOTALL)
+
+
+WRITTEN = {**PICTURES, "ARCHITECTURE.md": architecture}
+
+
+def is_drawn(name, draw):
+    """Whether a file of docs/ is what its function draws; says what is wrong."""
+    path = DOCS / name
+    try:
+        if path.exists() and path.read_text(encoding="utf-8") == draw():
+            return True
+        print(f"docs/{name} is not what tools/pictures.py draws")
+    except layers.LayersError as error:
+        print(error)
+    return False
+
+
 def check():
-    failed = 0
-    for name, draw in PICTURES.items():
-        path = DOCS / name
-        if not path.exists() or path.read_text(encoding="utf-8") != draw():
-            print(f"docs/{name} is not what tools/pictures.py draws")
-            failed += 1
-    print(f"{len(PICTURES) - failed} passed, {failed} failed")
+    failed = sum(not is_drawn(name, draw) for name, draw in WRITTEN.items())
+    print(f"{len(WRITTEN) - failed} passed, {failed} failed")
     return 1 if failed else 0
 
 
@@ -323,7 +342,7 @@ def main():
     if sys.argv[1:]:
         print(__doc__.strip())
         return 2
-    for name, draw in PICTURES.items():
+    for name, draw in WRITTEN.items():
         (DOCS / name).write_text(draw(), encoding="utf-8")
     return 0
 

@@ -50,7 +50,7 @@ def reached_from_above(opened, neighbours, side):
 
 
 def draw_estimates(axes, totals):
-    """Draws the mean share of open sites of each side, with its standard error."""
+    """Draws the mean share of open sites of each side, with bars of one standard error up and down."""
     means, errors = zip(*[estimate(side, *sums) for side, sums in zip(SIDES, totals)])
     axes.axhline(PUBLISHED, color=ORANGE, linewidth=1.2)
     axes.annotate(f"published: {PUBLISHED}", (0, PUBLISHED), (-20, 5), textcoords="offset points", color=ORANGE)
@@ -58,7 +58,7 @@ def draw_estimates(axes, totals):
     for place, (mean, error) in enumerate(zip(means, errors)):
         axes.annotate(f"{mean:.5f}\n± {error:.5f}", (place, mean - error), (0, -6), textcoords="offset points",
                       ha="center", va="top", fontsize=9)
-    axes.set_title("Mean share of open sites when first spanned,\nwith its standard error")
+    axes.set_title("Mean share of open sites when first spanned;\nbars: ± one standard error")
     axes.set_xticks(range(len(SIDES)), [f"{side} × {side}" for side in SIDES])
     axes.margins(x=0.16, y=0.3)
     axes.yaxis.set_major_locator(MaxNLocator(5))
