@@ -123,7 +123,7 @@ def _entrants(entrants: object) -> "Sequence[Any]":
     if isinstance(entrants, (bytes, bytearray, memoryview)):
         return _lines(bytes(entrants))
     if isinstance(entrants, str):
-        raise TypeError("entrants is a str: give a list's bytes, or a sequence of entrants")
+        raise TypeError("entrants is a str: pass the bytes of a list, or a sequence of entrants")
     return check_entrants(entrants)
 
 

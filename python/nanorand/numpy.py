@@ -54,9 +54,9 @@ class GeneratorBits(BitGenerator):
 
     def __init__(self, seed: Any = None) -> None:
         if not hasattr(self, "_kind"):
-            raise TypeError("GeneratorBits has no generator: take one of its subclasses")
+            raise TypeError("GeneratorBits cannot be instantiated: use one of its subclasses")
         if self.capsule is not None:
-            raise TypeError("a bit generator is made once: another may draw from its memory")
+            raise TypeError("__init__ cannot be called again: other objects may draw from this bit generator")
         super().__init__(seed)
         words = self._seed_seq.generate_state(self._seed_length // 8, numpy.uint64)
         state = words.astype("<u8").tobytes() + bytes(self._zeros)

@@ -100,7 +100,7 @@ class GeneratorRandom(BaseRandom):
         if isinstance(seed, float):
             return self._digest(b"\xfffloat " + seed.hex().encode())
         if not hasattr(type(seed), "__index__"):
-            raise TypeError(f"seed is a {type(seed).__name__}, not a number, a text, bytes or None")
+            raise TypeError(f"seed is a {type(seed).__name__}, not an integer, a float, a str, bytes or None")
         whole = operator.index(seed)
         if 0 <= whole < 256**self._seed_length:
             return whole.to_bytes(self._seed_length, "little")

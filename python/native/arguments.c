@@ -54,7 +54,7 @@ int take_arguments(const Parameters *wanted, PyObject *const *given, Py_ssize_t 
                    PyObject **values)
 {
     if (placed > wanted->placed) {
-        PyErr_Format(PyExc_TypeError, "%s() takes no more than %d arguments by their place (%zd given)",
+        PyErr_Format(PyExc_TypeError, "%s() takes at most %d positional arguments (%zd given)",
                      wanted->call, wanted->placed, placed);
         return -1;
     }
@@ -85,7 +85,7 @@ PyObject *take_index(const char *name, PyObject *value)
     if (PyIndex_Check(value)) {
         return PyNumber_Index(value);
     }
-    PyErr_Format(PyExc_TypeError, "%s is a %s, not a whole number", name, type_name(value));
+    PyErr_Format(PyExc_TypeError, "%s is a %s, not an integer", name, type_name(value));
     return NULL;
 }
 

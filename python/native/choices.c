@@ -86,7 +86,7 @@ static int read_shares(PyObject *weights, PyObject *sums, Shares *shares)
 {
     int summed = sums != Py_None;
     if (summed && weights != Py_None) {
-        PyErr_SetString(PyExc_TypeError, "choices() takes weights or cum_weights, and not both");
+        PyErr_SetString(PyExc_TypeError, "choices() takes weights or cum_weights, not both");
         return -1;
     }
     PyObject *given = summed ? sums : weights;

@@ -33,7 +33,7 @@ static int check_buffer(const Py_buffer *view, const char *formats)
     if (view->readonly) {
         PyErr_SetString(PyExc_BufferError, "buffer is read-only");
     } else if (!PyBuffer_IsContiguous(view, 'C')) {
-        PyErr_SetString(PyExc_BufferError, "the items of buffer do not lie one after another");
+        PyErr_SetString(PyExc_BufferError, "buffer is not contiguous");
     } else if (!fits_formats(view, formats)) {
         PyErr_Format(PyExc_TypeError, "buffer has items of the format '%.100s', not one of '%s'", whole_format_of(view),
                      formats);
@@ -47,7 +47,7 @@ static int check_buffer(const Py_buffer *view, const char *formats)
 static int open_buffer(PyObject *buffer, const char *formats, Py_buffer *view)
 {
     if (!PyObject_CheckBuffer(buffer)) {
-        PyErr_Format(PyExc_TypeError, "buffer is a %s, not memory that can be written", type_name(buffer));
+        PyErr_Format(PyExc_TypeError, "buffer is a %s, not a writable buffer", type_name(buffer));
         return -1;
     }
     if (PyObject_GetBuffer(buffer, view, PyBUF_FULL_RO) < 0) {

@@ -19,7 +19,8 @@ PyObject *make_generator(PyTypeObject *type, const Kind *kind)
 
 static PyObject *make_none(PyTypeObject *type, PyObject *Py_UNUSED(placed), PyObject *Py_UNUSED(named))
 {
-    PyErr_Format(PyExc_TypeError, "%s is no generator: take WyRand, Pcg64, Stream, or a ChaCha", name_of(type));
+    PyErr_Format(PyExc_TypeError, "%s cannot be instantiated: use WyRand, Pcg64, Stream, ChaCha8, ChaCha12 or ChaCha20",
+                 name_of(type));
     return NULL;
 }
 

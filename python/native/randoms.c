@@ -111,7 +111,7 @@ static PyObject *kind_of(PyTypeObject *type)
 {
     PyObject *kind = PyObject_GetAttrString((PyObject *)type, "_kind");
     if (kind == NULL && PyErr_ExceptionMatches(PyExc_AttributeError)) {
-        PyErr_Format(PyExc_TypeError, "%s has no generator: take one of its subclasses", name_of(type));
+        PyErr_Format(PyExc_TypeError, "%s cannot be instantiated: use one of its subclasses", name_of(type));
     }
     return kind;
 }

@@ -92,7 +92,8 @@ static int require_replaceable(const char *name, PyObject *items)
     }
     int owned = is_owned(items);
     if (owned == 0) {
-        PyErr_Format(PyExc_TypeError, "%s is a %s, whose items are views of it", name, type_name(items));
+        PyErr_Format(PyExc_TypeError, "%s is a %s, whose items are views of it: shuffle the indices instead", name,
+                     type_name(items));
     }
     return owned == 1 ? 0 : -1;
 }

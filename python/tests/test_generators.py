@@ -322,7 +322,7 @@ class States(unittest.TestCase):
 
     def test_generator_alone_is_none(self):
         for call in (Generator, Generator.from_entropy, lambda: Generator.from_state(bytes(8))):
-            with self.assertRaisesRegex(TypeError, "Generator is no generator"):
+            with self.assertRaisesRegex(TypeError, "Generator cannot be instantiated"):
                 call()
 
     def test_threads_take_turns(self):
@@ -425,7 +425,7 @@ class Numbers(unittest.TestCase):
                     lambda rng, other=other: rng.sample_below(9, other),
                 ):
                     error = refuses(self, rng, TypeError, call)
-                    self.assertIn(f" is a {type(other).__name__}, not a whole number", str(error))
+                    self.assertIn(f" is a {type(other).__name__}, not an integer", str(error))
                 if hasattr(rng, "jump"):
                     refuses(self, rng, TypeError, lambda rng, other=other: rng.jump(other))
 
