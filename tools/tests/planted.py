@@ -151,10 +151,10 @@ PLANTED = (
     (f"{NANORAND}/rand/wyrand.rt", "seed: 0x{:x}", "seed: {:x}"),
     ("rust/lots/src/run.rs", "lots: {error}", "lots:  {error}"),
     # Preconditions.
-    ("rust/nanorand-proved/src/values/word.rs", "    assert!(1 <= size, \"the size is at least 1\");\n", ""),
+    ("rust/nanorand-proved/src/values/word.rs", "    assert!(1 <= size, \"`size` must be at least 1\");\n", ""),
     ("rust/nanorand-proved/src/rand/chacha.rs", "        let () = crate::layer::Rounds::<ROUNDS>::EVEN;\n", ""),
     ("rust/nanorand-proved/src/samples.rs", "assert!(filled <= places.len()", "assert!(filled < places.len()"),
-    ("rust/draw/src/generators.rs", "\"there is one answer for each call\"", "\"there is an answer for each call\""),
+    ("rust/draw/src/generators.rs", "\"`answers` must be as long as `calls`\"", "\"there is an answer for each call\""),
     (f"{CORE}/values/word.rt", "requires some { 1 ≤ size }", "requires some { 2 ≤ size }"),
     (f"{CORE}/samples.rt", "pub fn reservoir", "pub fn more(n: u8) requires { n ≤ 9 } {}\n\npub fn reservoir"),
     # Functions that depart, on both sides.

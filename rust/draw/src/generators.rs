@@ -18,7 +18,7 @@ pub fn replay_seeded(
 ) {
     assert!(
         answers.len() == calls.len(),
-        "there is one answer for each call"
+        "`answers` must be as long as `calls`"
     );
 
     match generator {

@@ -27,14 +27,14 @@ use core::ops::Bound;
 pub(crate) struct Rounds<const ROUNDS: u8>;
 
 impl<const ROUNDS: u8> Rounds<ROUNDS> {
-    pub(crate) const EVEN: () = assert!(ROUNDS % 2 == 0, "the number of rounds is even");
+    pub(crate) const EVEN: () = assert!(ROUNDS % 2 == 0, "the number of rounds must be even");
 }
 
 /// Makes blocks of 0 bytes a compile-time error.
 pub(crate) struct BlockLength<const OUTPUT: usize>;
 
 impl<const OUTPUT: usize> BlockLength<OUTPUT> {
-    pub(crate) const POSITIVE: () = assert!(0 < OUTPUT, "a block has a byte or more");
+    pub(crate) const POSITIVE: () = assert!(0 < OUTPUT, "a block must have at least one byte");
 }
 
 // `Bound::map`, which Rust 1.63 does not have.

@@ -127,7 +127,7 @@ pub fn replay<G: Rng<OUTPUT>, const OUTPUT: usize>(
 ) {
     assert!(
         answers.len() == calls.len(),
-        "there is one answer for each call"
+        "`answers` must be as long as `calls`"
     );
 
     for (place, call) in calls.iter().enumerate() {

@@ -49,7 +49,10 @@ pub fn sample<G: Rng<OUTPUT>, const OUTPUT: usize>(
     count: usize,
     places: &mut [usize],
 ) -> Result<(), RangeError> {
-    assert!(places.len() <= count, "there are at most `count` slots");
+    assert!(
+        places.len() <= count,
+        "`places` must have at most `count` slots"
+    );
 
     extend_sample(rng, count, places, 0, &mut crate::layer::table(places))
 }
@@ -90,7 +93,10 @@ pub fn sample_with<G: Rng<OUTPUT>, const OUTPUT: usize>(
     places: &mut [usize],
     table: &mut [usize],
 ) -> Result<(), RangeError> {
-    assert!(places.len() <= count, "there are at most `count` slots");
+    assert!(
+        places.len() <= count,
+        "`places` must have at most `count` slots"
+    );
 
     extend_sample(rng, count, places, 0, table)
 }
@@ -135,8 +141,14 @@ pub fn extend_sample<G: Rng<OUTPUT>, const OUTPUT: usize>(
     filled: usize,
     table: &mut [usize],
 ) -> Result<(), RangeError> {
-    assert!(places.len() <= count, "there are at most `count` slots");
-    assert!(filled <= places.len(), "at most all slots are filled");
+    assert!(
+        places.len() <= count,
+        "`places` must have at most `count` slots"
+    );
+    assert!(
+        filled <= places.len(),
+        "`filled` must be at most the length of `places`"
+    );
 
     let first = count - places.len();
     let chains = chains_in(table.len().saturating_sub(places.len()));

@@ -56,12 +56,12 @@ pub fn identity(slots: &mut [usize]) {
 pub fn apply_choices<T>(choices: &[usize], items: &mut [T]) {
     assert!(
         choices.len() == items.len(),
-        "there is one choice for each item"
+        "`choices` must be as long as `items`"
     );
     let within = |(place, choice): (usize, &usize)| (place..choices.len()).contains(choice);
     assert!(
         choices.iter().enumerate().all(within),
-        "the choice of an index is it or a later one"
+        "each choice must be its own index or a later one"
     );
 
     for (place, choice) in choices.iter().enumerate() {
@@ -101,10 +101,10 @@ pub fn choices_of(
     out: &mut [usize],
     scratch: &mut [usize],
 ) -> Result<(), NotArrangement> {
-    assert!(out.len() == order.len(), "`out` is as long as `order`");
+    assert!(out.len() == order.len(), "`out` must be as long as `order`");
     assert!(
         scratch.len() == order.len(),
-        "`scratch` is as long as `order`"
+        "`scratch` must be as long as `order`"
     );
 
     identity(scratch);
@@ -167,7 +167,7 @@ pub fn shuffle_and_record<G: Rng<OUTPUT>, T, const OUTPUT: usize>(
 ) -> Result<(), RangeError> {
     assert!(
         choices.len() == target.len(),
-        "`choices` is as long as `target`"
+        "`choices` must be as long as `target`"
     );
 
     identity(choices);

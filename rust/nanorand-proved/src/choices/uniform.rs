@@ -81,7 +81,10 @@ pub fn between<T: Number, G: Rng<OUTPUT>, const OUTPUT: usize>(
 /// ```
 #[inline]
 pub fn bits<T: Number, G: Rng<OUTPUT>, const OUTPUT: usize>(rng: &mut G, count: u32) -> T {
-    assert!(count <= T::BITS, "`count` is at most the width of the type");
+    assert!(
+        count <= T::BITS,
+        "`count` must be at most the width of the type"
+    );
 
     let word = draw_word(rng, T::BITS);
     // For `count` 0 the shift is by the whole width, which a `u64` does not allow.

@@ -22,11 +22,14 @@ pub(crate) const MAX_WORDS: usize = 128;
 pub fn pick_word(size: u128, bits: u32, word: u64) -> Option<u64> {
     assert!(
         matches!(bits, 8 | 16 | 32 | 64),
-        "a word has 8, 16, 32 or 64 bits"
+        "`bits` must be 8, 16, 32 or 64"
     );
-    assert!(1 <= size, "the size is at least 1");
-    assert!(size <= 1 << bits, "the size is at most 2^bits");
-    assert!(u128::from(word) < 1 << bits, "the word is below 2^bits");
+    assert!(1 <= size, "`size` must be at least 1");
+    assert!(size <= 1 << bits, "`size` must be at most 2^bits");
+    assert!(
+        u128::from(word) < 1 << bits,
+        "`word` must be less than 2^bits"
+    );
 
     if size > u128::from(u64::MAX) {
         return Some(word);
@@ -148,10 +151,10 @@ pub fn draw_below<G: Rng<OUTPUT>, const OUTPUT: usize>(
 ) -> Option<u64> {
     assert!(
         matches!(bits, 8 | 16 | 32 | 64),
-        "a word has 8, 16, 32 or 64 bits"
+        "`bits` must be 8, 16, 32 or 64"
     );
-    assert!(1 <= size, "the size is at least 1");
-    assert!(size <= 1 << bits, "the size is at most 2^bits");
+    assert!(1 <= size, "`size` must be at least 1");
+    assert!(size <= 1 << bits, "`size` must be at most 2^bits");
 
     let first = draw_word(rng, bits);
     if size == 1 << bits {
