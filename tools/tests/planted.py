@@ -153,7 +153,7 @@ PLANTED = (
     # Preconditions.
     ("rust/nanorand-proved/src/values/word.rs", "    assert!(1 <= size, \"`size` must be at least 1\");\n", ""),
     ("rust/nanorand-proved/src/rand/chacha.rs", "        let () = crate::layer::Rounds::<ROUNDS>::EVEN;\n", ""),
-    ("rust/nanorand-proved/src/samples.rs", "assert!(filled <= places.len()", "assert!(filled < places.len()"),
+    ("rust/nanorand-proved/src/samples.rs", "filled <= places.len(),", "filled < places.len(),"),
     ("rust/draw/src/generators.rs", "\"`answers` must be as long as `calls`\"", "\"there is an answer for each call\""),
     (f"{CORE}/values/word.rt", "requires some { 1 ≤ size }", "requires some { 2 ≤ size }"),
     (f"{CORE}/samples.rt", "pub fn reservoir", "pub fn more(n: u8) requires { n ≤ 9 } {}\n\npub fn reservoir"),
