@@ -222,9 +222,9 @@ pub fn seeds_differ()
 
 /// The parts of equal length of a stream, joined, are the stream.
 ///
-/// A draw is what a `u64` takes. `numbers`: number j of part i, counted from 0, is number i * draws
-/// + j of the stream. `joined`: the numbers of the first parts, one part after another, are those
-/// of the stream. `next`: the next part begins where a part ends.
+/// A draw is what a `u64` takes. `numbers`: number j of part i, counted from 0, is number
+/// i * draws + j of the stream. `joined`: the numbers of the first parts, one part after another,
+/// are those of the stream. `next`: the next part begins where a part ends.
 pub fn parts_are_the_stream<G: Rng<OUTPUT>, const OUTPUT: usize>()
     ensures numbers { (draws i j : ℕ) (g : G) → j < draws
         → slice_index (numbers_of_part G.requests draws g i) j

@@ -105,8 +105,8 @@ pub fn choices_and_arrangements()
 /// `0..=count - 1`. By `fairness` each number of a range has the same number of words.
 ///
 /// `numbers`: each number below `count` is in the same fraction of the samples, k / `count`.
-/// `sets`: each set of k numbers below `count` is the sample for the same number of sequences, 1 *
-/// 2 * .. * k.
+/// `sets`: each set of k numbers below `count` is the sample for the same number of sequences,
+/// 1 * 2 * .. * k.
 pub fn samples_are_fair()
     ensures numbers { NumbersAreFair }
     ensures sets { SetsAreFair }

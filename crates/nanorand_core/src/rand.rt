@@ -43,9 +43,10 @@ pub trait Blocks<const OUTPUT: usize> {
 /// A *request* is one read of n bytes. A *word* is a random integer of N bits, read by one request
 /// of N / 8 bytes in little-endian order.
 ///
-/// Functions that take any generator are generic: `fn f<G: Rng<OUTPUT>, const OUTPUT: usize>(rng:
-/// &mut G)`. There is no `dyn Rng`, since the methods are generic too. `&mut G` is not an `Rng`,
-/// since a reference cannot be cloned: pass `rng` on as it is.
+/// Functions that take any generator are generic:
+/// `fn f<G: Rng<OUTPUT>, const OUTPUT: usize>(rng: &mut G)`. There is no `dyn Rng`, since the
+/// methods are generic too. `&mut G` is not an `Rng`, since a reference cannot be cloned: pass
+/// `rng` on as it is.
 ///
 /// To write your own generator, implement `Clone` and `Blocks`, write `fill_bytes`, define
 /// `requests` (the bytes that a request of n bytes takes, and the state that it leaves), and prove
@@ -93,7 +94,7 @@ pub trait Rng<const OUTPUT: usize>: Clone + Blocks<OUTPUT> {
     /// For the ten integer types of 8 to 64 bits, each number is produced by the same number of
     /// words, by the method of Daniel Lemire ("Fast Random Integer Generation in an Interval",
     /// 2019). A returned number lies within both bounds, and bounds that admit a number never give
-    /// `Empty`; a caller's proof has both facts without citing a lemma.
+    /// `Empty`. The clause `limits` states both facts, so a caller's proof needs no lemma for them.
     ///
     /// For these types it returns `Empty` if the range is empty; nothing is drawn then. It returns
     /// `Exhausted` if 128 words in a row were rejected; they stay consumed. A type of your own

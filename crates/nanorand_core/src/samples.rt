@@ -270,9 +270,9 @@ fn draw_up_to<G: Rng<OUTPUT>, const OUTPUT: usize>(
 /// 0. Shuffle the slots if you need a random order.
 ///
 /// Returns `Exhausted`, the only error, if 128 words (random integers of 64 bits) in a row were
-/// rejected for one item. That item is dropped, and the items after it are not taken: pass `&mut
-/// items` to keep them. The slots then hold a sample of the items before it, and the words stay
-/// consumed. If there are no slots, a number is drawn for each item all the same.
+/// rejected for one item. That item is dropped, and the items after it are not taken: pass
+/// `&mut items` to keep them. The slots then hold a sample of the items before it, and the words
+/// stay consumed. If there are no slots, a number is drawn for each item all the same.
 ///
 /// Preconditions: `next` can be called (`can`), the iterator ends (`ends`), and it yields fewer
 /// than 2^64 items (`fits`).

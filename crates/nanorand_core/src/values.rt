@@ -18,12 +18,12 @@ pub use word::pick_word;
 /// A type whose values can be drawn from a generator. Drawing a value cannot return an error.
 /// `OUTPUT` is the number of bytes in a block of the generator.
 ///
-/// A request is one read of n bytes from the generator. An integer of N bits takes one request of N
-/// / 8 bytes, in little-endian order; signed types are in two's complement. `usize` and `isize`
+/// A request is one read of n bytes from the generator. An integer of N bits takes one request of
+/// N / 8 bytes, in little-endian order; signed types are in two's complement. `usize` and `isize`
 /// have 64 bits. An array of N bytes takes one request of N bytes.
 ///
-/// Floats cannot be drawn. Use `choices::below` with a power of two for a fraction, and
-/// `choices::ratio` for an event that happens in n of m cases.
+/// There are no floats. Draw a number below a power of two with `choices::below`, and an event that
+/// happens in n of m cases with `choices::ratio`.
 pub trait RandomGen<G: Rng<OUTPUT>, const OUTPUT: usize> {
     // The value that is drawn from a state.
     ghost value: { G → Self };

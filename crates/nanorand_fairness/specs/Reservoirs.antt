@@ -28,8 +28,8 @@ SampledItemsAreFair =
     → let lists = word_lists_that 64 n (later_sizes size count) in
     lists (λ slots. holds item (reservoir_by size slots)) * count ≡ size * lists (λ slots. true)
 
--- Each set of `size` of `count` items is sampled by the same number of lists of words: (count -
--- size)! times the product of the quotas. The set is given by a test.
+-- Each set of `size` of `count` items is sampled by the same number of lists of words:
+-- (count - size)! times the product of the quotas. The set is given by a test.
 abbrev pub SampledItemSetsAreFair : Type 0
 SampledItemSetsAreFair =
     (size count : ℕ) (test : ℕ → Bool) → size ≤ count → count ≤ 2 ^ 64

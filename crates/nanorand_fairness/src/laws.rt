@@ -83,14 +83,14 @@ pub fn numbers_in_turn_are_fair()
 /// A shuffle prefers no order, and a partial shuffle prefers no deal.
 ///
 /// A deal is the first k items of a shuffle of n items, in their order. `deals`: each list of k
-/// different indices is dealt by the same number of lists of k words, the product of floor(2^64 /
-/// (n - i)) for i from 0 to k - 1. `orders`: so each order of n items is made by the same number of
-/// lists of n words. `swaps`: for any two deals there is a map on lists of words, of any length and
-/// with rejected words, that is an involution, keeps the length and which words are rejected, and
-/// exchanges the two deals. `shares`: of the lists of m words that draw a whole deal, rejected
-/// words included, exactly the fraction k / n deals a given index. So any two indices are dealt by
-/// the same number of lists. `parts`: of these lists, exactly one in n (n - 1) .. (n - k + 1) deals
-/// a given deal.
+/// different indices is dealt by the same number of lists of k words, the product of
+/// floor(2^64 / (n - i)) for i from 0 to k - 1. `orders`: so each order of n items is made by the
+/// same number of lists of n words. `swaps`: for any two deals there is a map on lists of words, of
+/// any length and with rejected words, that is an involution, keeps the length and which words are
+/// rejected, and exchanges the two deals. `shares`: of the lists of m words that draw a whole deal,
+/// rejected words included, exactly the fraction k / n deals a given index. So any two indices are
+/// dealt by the same number of lists. `parts`: of these lists, exactly one in n (n - 1) ..
+/// (n - k + 1) deals a given deal.
 ///
 /// This does not say that all deals are equally frequent over all seeds: a seed of b bits gives at
 /// most 2^b of the n! orders.

@@ -137,8 +137,8 @@ impl<G: Rng<OUTPUT>, const OUTPUT: usize> BufferedRng<G, OUTPUT> {
     /// Nothing is drawn, since the stream has no end. If the buffer is empty, the call allocates
     /// nothing, leaves the capacity of the vector as it is, and returns 0.
     ///
-    /// Returns an error only if the vector has too little room and the allocator does not grow it.
-    /// The items and the capacity of the vector, and the buffer, are unchanged then.
+    /// Returns an error only if the vector has too little room and cannot be grown. The items and
+    /// the capacity of the vector, and the buffer, are unchanged then.
     pub fn read_to_end<A: Allocator>(&mut self, out: &mut Vec<u8, A>) -> Result<usize, AllocError>
         ensures count { IfOk result (λ count. count ≡ length self.old.rest) }
         ensures appended { OnOk result (out.new.items ≡ out.old.items ++ self.old.rest) }

@@ -204,8 +204,9 @@ impl<const ROUNDS: u8> ChaCha<ROUNDS> {
         write_four(out, blocks);
     }
 
-    // Fills as many whole groups of eight blocks as fit, if eight lanes are available, and returns
-    // the number of bytes filled. The rest of the slice is filled as by a request of its own.
+    // Fills as many whole groups of eight blocks as fit, if eight lanes are faster than four, and
+    // returns the number of bytes filled. Otherwise it fills nothing. The rest of the slice is
+    // filled as by a request of its own.
     #[inline]
     fn fill_wide(&mut self, buffer: &mut [u8]) -> usize
         ensures within { result ≤ length buffer.new }
@@ -226,7 +227,7 @@ impl<const ROUNDS: u8> ChaCha<ROUNDS> {
         filled
     }
 
-    // Returns the next eight blocks, computed on eight lanes if these are available.
+    // Returns the next eight blocks, computed on eight lanes if these are faster than four.
     #[inline]
     pub(crate) fn next_group(&mut self) -> [u8; 512]
         ensures bytes { result ≡ (chacha_requests ROUNDS).bytes self.old 512 }

@@ -63,9 +63,9 @@ ItemsAreFair =
     → reservoirs_that size count (holds item) * count
     ≡ size * reservoirs_that size count (λ chosen. true)
 
--- Each set of `size` of `count` items is the sample for the same number of sequences of draws, 1 *
--- 2 * .. * (count - size). A set is given by a test. A sample has `size` different items, so if all
--- of them pass, they are the whole set.
+-- Each set of `size` of `count` items is the sample for the same number of sequences of draws,
+-- 1 * 2 * .. * (count - size). A set is given by a test. A sample has `size` different items, so if
+-- all of them pass, they are the whole set.
 abbrev pub ItemSetsAreFair : Type 0
 ItemSetsAreFair =
     (size count : ℕ) (test : ℕ → Bool) → size ≤ count

@@ -58,8 +58,8 @@ module _ {G : Type 0} (word : G → ℕ) (after : G → G) where
   left_by bits numbers g =
       if length numbers == 0 then g else left_after word_limit bits (length numbers) g
 
--- The next word of `bits` bits: the unsigned number of the bytes of one request (one read) of bits
--- / 8 bytes, in little-endian order. Signed types use it too.
+-- The next word of `bits` bits: the unsigned number of the bytes of one request (one read) of
+-- bits / 8 bytes, in little-endian order. Signed types use it too.
 abbrev pub next_word : {G : Type 0} → Requests G → ℕ → G → ℕ
 next_word requests bits g = number_of (requests.bytes g (bits / 8))
 

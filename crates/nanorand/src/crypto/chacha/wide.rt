@@ -5,12 +5,12 @@ ghost use Rattle.nanorand.specs.support.ChaChaRows.{lanes, last_lanes};
 use super::vectors::Vector;
 use std::simd::u32x8;
 
-// Permission to compute on eight lanes. The words enter the lanes by the methods of this type.
+// A token that allows computing on eight lanes. Its methods make vectors from words.
 #[derive(Clone, Copy, Drop)]
 pub(crate) struct EightLanes;
 
 impl EightLanes {
-    // Returns the permission if eight lanes are faster than four. The blocks are the same in either
+    // Returns the token if eight lanes are faster than four. The blocks are the same in either
     // case. Here it always returns `None`.
     #[inline]
     pub(crate) fn find() -> Option<EightLanes> {
