@@ -241,8 +241,9 @@ pub fn parts_are_the_stream<G: Rng<OUTPUT>, const OUTPUT: usize>()
 /// no state occurs in two of them, and none occurs twice in one.
 ///
 /// A draw is what a `u64` takes. For `Pcg64` the law is about the seeds, since the seed alone
-/// determines the blocks. For a stream of ChaCha, fewer than 512 bytes are buffered. `bytes`:
-/// within 2^70 bytes of a stream no state occurs twice, whatever the sizes of the requests are.
+/// determines the blocks. For a stream of ChaCha it assumes that fewer than 512 bytes are buffered.
+/// `bytes`: within 2^70 bytes of a stream no state occurs twice, whatever the sizes of the requests
+/// are.
 pub fn parts_are_apart<const ROUNDS: u8>()
     ensures wyrand { (seed : ℕ) → seed < 2 ^ 64
         → PartsAreApart (2 ^ 64) (λ n. after_draws wyrand_requests n seed) }
@@ -256,8 +257,8 @@ pub fn parts_are_apart<const ROUNDS: u8>()
         → NothingTwice (2 ^ 70) (λ n. (stream_requests ROUNDS).after b n) }
 {}
 
-/// The parts of every generator that implements `Parts` (and `Drop`) do not overlap, and what it
-/// draws repeats after its period.
+/// For every generator that implements `Parts` (and `Drop`), the parts of a stream do not overlap,
+/// and what the generator draws repeats after its period.
 ///
 /// A draw is what a `u64` takes. `apart`: parts of one length that together stay within the period
 /// do not overlap: no state occurs in two of them, and none occurs twice in one. The states are
@@ -289,8 +290,8 @@ pub fn parts_in_any_order<G: Rng<OUTPUT>, const OUTPUT: usize, T>()
         results_after own schedule results ≡ map own (range_with_len 0 count) }
 {}
 
-/// Tasks that each use up one part of a stream give the results of one loop that runs them one
-/// after another over one generator.
+/// If each task uses up one part of a stream, the tasks give the results of one loop that runs them
+/// one after another over one generator.
 ///
 /// A task is a function of its index and of the state of the generator: it gives a result and the
 /// state that it leaves. The premise of the first three clauses: on each part, the task leaves the
@@ -300,9 +301,9 @@ pub fn parts_in_any_order<G: Rng<OUTPUT>, const OUTPUT: usize, T>()
 /// at the part after the last one. `schedules`: tasks that run by a schedule, in any order and each
 /// at least once, give the results of the loop.
 ///
-/// `jumps` has no premise: a loop that runs each task on a copy of its generator, and then jumps
-/// `draws` draws ahead, has the results of the tasks on their parts. `jumping_schedules`: tasks
-/// that run by a schedule give the results of this loop.
+/// `jumps` has no premise: if a loop runs each task on a copy of its generator, and then jumps
+/// `draws` draws ahead, its results are those of the tasks on their parts. `jumping_schedules`:
+/// tasks that run by a schedule give the results of this loop.
 pub fn parts_as_one_loop<G: Rng<OUTPUT>, const OUTPUT: usize, T>()
     ensures parts { (task : ℕ → G → T × G) (draws count : ℕ) (g : G) →
         let start = λ (i : ℕ). part_at G.requests draws i g in

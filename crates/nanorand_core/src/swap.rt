@@ -4,9 +4,9 @@ ghost use Rattle.std.specs.List.{swap};
 
 /// Swaps the items at two indices, which may be equal.
 ///
-/// Both items are read and written in any case, without a branch. `swap` of std tests whether the
-/// indices are equal. In a shuffle they are equal at random, so in short slices that branch is
-/// often mispredicted, which costs more than the swap.
+/// Both items are read and written in any case, without a branch. `swap` of Rattle's std tests
+/// whether the indices are equal. In a shuffle they are equal at random, so in short slices that
+/// branch is often mispredicted, which costs more than the swap.
 ///
 /// Precondition: both indices are below the length.
 pub fn swap<T>(items: &mut [T], a: usize, b: usize)

@@ -64,17 +64,16 @@ number_lists_that (size ∷ sizes) test =
 abbrev pub AreSizes : ℕ → List ℕ → Type 0
 AreSizes bits sizes = All (λ size. (1 ≤ size) × (size ≤ 2 ^ bits)) sizes
 
--- Of the lists with one word for each size, every list of numbers is drawn by the same number: the
--- product of the quotas. So the number of lists of words whose numbers pass a test is this product
--- for each list of numbers that passes it.
+-- Of the lists with one word for each size, the same number draws every list of numbers: the
+-- product of the quotas. So the number of lists of words whose numbers pass a test is this product,
+-- times the number of lists of numbers that pass it.
 abbrev pub NumbersInTurnAreFair : Type 0
 NumbersInTurnAreFair =
     (bits : ℕ) (sizes : List ℕ) (test : List ℕ → Bool) → IsWordWidth bits → AreSizes bits sizes
     → word_lists_that bits (length sizes) sizes test
     ≡ number_lists_that sizes test * quotas bits sizes
 
--- The same with rejections: of all lists of n words, every list of numbers is drawn by the same
--- number.
+-- The same with rejections: of all lists of n words, the same number draws every list of numbers.
 abbrev pub RejectionsPreferNothing : Type 0
 RejectionsPreferNothing =
     (bits n : ℕ) (sizes : List ℕ) (test : List ℕ → Bool) → IsWordWidth bits → AreSizes bits sizes

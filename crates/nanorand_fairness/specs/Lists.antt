@@ -58,8 +58,9 @@ DrawsTakeFewWords =
     (bits size n : ℕ) → IsWordWidth bits → 1 ≤ size → size ≤ 2 ^ bits
     → sum_over_lists bits n (words_taken bits size) < 2 * (2 ^ bits) ^ n
 
--- An event is given by a test that some numbers below the size pass. Over all lists of n words, it
--- is decided by as many lists as one number, times the number of numbers that pass.
+-- An event is given by a test that some numbers below the size pass. The number of lists of n words
+-- that decide the event is the number of lists that decide one number, times the number of numbers
+-- that pass.
 abbrev pub EventsInListsAreFair : Type 0
 EventsInListsAreFair =
     (bits size n k : ℕ) (test : ℕ → Bool) → IsWordWidth bits → size ≤ 2 ^ bits → k < size
@@ -78,7 +79,8 @@ RatiosInListsAreFair =
     lists_that bits n (λ words. passes (λ j. nat_lt j numerator) (drawn words))
     ≡ numerator * lists_that bits n (λ words. passes (λ j. j == k) (drawn words))
 
--- An item is chosen by as many lists as one number, times the weight of the item.
+-- The number of lists that choose an item is the number of lists that decide one number, times the
+-- weight of the item.
 abbrev pub WeightsInListsAreFair : Type 0
 WeightsInListsAreFair =
     (bits : ℕ) (weights : List ℕ) (n i k : ℕ) → IsWordWidth bits → sum weights ≤ 2 ^ bits

@@ -38,7 +38,7 @@ SampledItemSetsAreFair =
     (λ slots. list_all test (reservoir_by size slots))
     ≡ factorial (count - size) * quotas 64 (later_sizes size count)
 
--- The same with rejections: of all lists of n words, any two sets are sampled by the same number.
+-- The same with rejections: any two sets are sampled by the same number of lists of n words.
 abbrev pub NoItemSetIsPreferred : Type 0
 NoItemSetIsPreferred =
     (size count n : ℕ) (test other : ℕ → Bool) → size ≤ count → count ≤ 2 ^ 64

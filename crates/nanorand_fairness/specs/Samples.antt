@@ -26,7 +26,7 @@ SampledSetsAreFair =
     (λ draws. list_all test (sample_by (count - size) draws []))
     ≡ factorial size * quotas 64 (sample_sizes size count)
 
--- The same with rejections: of all lists of n words, any two sets are sampled by the same number.
+-- The same with rejections: any two sets are sampled by the same number of lists of n words.
 abbrev pub NoSetIsPreferred : Type 0
 NoSetIsPreferred =
     (size count n : ℕ) (test other : ℕ → Bool) → size ≤ count → count ≤ 2 ^ 64

@@ -51,9 +51,9 @@ pub fn draws_by_words<G: Rng<OUTPUT>, const OUTPUT: usize>()
 ///
 /// `events`: an event of m numbers is decided by m times as many lists as one number, and all
 /// numbers by the same number of lists. `ratios`: so, for a numerator up to the denominator,
-/// `choices::ratio` is true for `numerator` times as many lists as one number has. `weights`:
-/// `choices::choose_weighted` returns an item of weight w for w times as many lists as one number
-/// has.
+/// `choices::ratio` is true for `numerator` times as many lists as decide one number. `weights`:
+/// `choices::choose_weighted` returns an item of weight w for w times as many lists as decide one
+/// number.
 pub fn fairness_with_rejections()
     ensures events { EventsInListsAreFair }
     ensures ratios { RatiosInListsAreFair }
@@ -67,9 +67,9 @@ pub fn fairness_with_rejections()
 /// Numbers drawn one after another, below the sizes of any list, prefer no list of numbers.
 ///
 /// A draw takes at most 128 words, and the next draw begins with the word after these. `numbers`:
-/// of the lists with one word for each size, each list of numbers is drawn by the same number, the
-/// product of floor(2^N / size) over the sizes. `rejections`: of all lists of n words, each list of
-/// numbers is drawn by the same number. `swaps`: exchanging two numbers of each draw, word by word,
+/// of the lists with one word for each size, the same number draws each list of numbers: the
+/// product of floor(2^N / size) over the sizes. `rejections`: of all lists of n words, the same
+/// number draws each list of numbers. `swaps`: exchanging two numbers of each draw, word by word,
 /// is an involution on lists of words. It keeps the length of the list and which words are
 /// rejected, and exchanges these numbers and nothing else.
 pub fn numbers_in_turn_are_fair()
@@ -116,7 +116,7 @@ pub fn shuffles_draw_in_turn<G: Rng<OUTPUT>, T, const OUTPUT: usize>()
 {}
 
 /// A shuffle whose partners are drawn from all indices, as `shuffles::shuffle_full` draws them, is
-/// biased.
+/// biased for three or more items.
 ///
 /// `shared`: for n of 3 or more, the number n^n of lists of choices is not a multiple of the number
 /// n! of orders. `unequal`: so not all orders are made by the same number of lists of choices.
@@ -136,8 +136,8 @@ pub fn full_shuffles_prefer_orders()
 /// A sample of `samples::sample` prefers no set of numbers. `count` is the size of the population.
 ///
 /// `sets`: each set of k of the numbers below `count` is sampled by the same number of lists of k
-/// words, k! times the product of floor(2^64 / size) over the sizes of the draws. `rejections`: of
-/// all lists of n words, rejected words included, any two sets are sampled by the same number.
+/// words, k! times the product of floor(2^64 / size) over the sizes of the draws. `rejections`: any
+/// two sets are sampled by the same number of lists of n words, which may contain rejected words.
 pub fn sampled_sets_are_fair()
     ensures sets { SampledSetsAreFair }
     ensures rejections { NoSetIsPreferred }
@@ -159,8 +159,8 @@ pub fn samples_draw_in_turn<G: Rng<OUTPUT>, const OUTPUT: usize>()
 /// that draw a whole sample, rejected words included, exactly the fraction k / n has a given item
 /// in the sample. `sets`: each set of k items is sampled by the same number of lists of n - k
 /// words, (n - k)! times the product of floor(2^64 / size) over the sizes of the draws.
-/// `rejections`: of all lists of m words, rejected words included, any two sets are sampled by the
-/// same number.
+/// `rejections`: any two sets are sampled by the same number of lists of m words, which may contain
+/// rejected words.
 pub fn reservoir_words_are_fair()
     ensures items { SampledItemsAreFair }
     ensures sets { SampledItemSetsAreFair }

@@ -21,7 +21,7 @@ abbrev pub items_at : {A : Type 0} → List A → List ℕ → List A
 items_at items numbers = filter_map (slice_get items) numbers
 
 -- A slot from 0 to i is drawn for item i. The item replaces the one in that slot, if there is such
--- a slot, and the pass continues. An error of the draw ends it.
+-- a slot, and the pass continues. If the draw returns an error, the pass ends.
 abbrev pub draws : {G : Type 0} → ℕ → Result ℕ RangeError → List ℕ → G → (List ℕ → Pass G) → Pass G
 draws i (Ok slot) chosen g pass = pass (slice_set chosen slot i)
 draws i (Err refusal) chosen g pass =

@@ -28,7 +28,7 @@ IsArrangement order = IsPermutation (rising (length order)) order
 abbrev pub copies : ℕ → List ℕ → ℕ
 copies number numbers = count_by (λ other. other == number) numbers
 
--- Every number occurs equally often in both lists.
+-- Every number occurs the same number of times in both lists.
 abbrev pub HoldEquallyOften : List ℕ → List ℕ → Type 0
 HoldEquallyOften xs ys = (number : ℕ) → copies number xs ≡ copies number ys
 

@@ -27,7 +27,8 @@ from_all i = 0
 abbrev pub from_itself : ℕ → ℕ
 from_itself i = i
 
--- A choice, followed by the other choices. An error of the draw ends the list.
+-- A choice, followed by the other choices. If the draw of the choice returned an error, the list
+-- ends there.
 abbrev pub choice_before : Result ℕ RangeError → List ℕ → List ℕ
 choice_before (Ok choice) choices = choice ∷ choices
 choice_before (Err refusal) choices = []

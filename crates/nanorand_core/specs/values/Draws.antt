@@ -43,9 +43,9 @@ module _ {G : Type 0} (word : G → ℕ) (after : G → G) where
       let place = deciding_place bits size (words_from limit g) in
       iterate after (option_map_or (λ i. i + 1) place limit) g
 
-  -- The result of a draw from a range that contains these numbers: the number at the drawn index,
-  -- counted from 0. The result is the error `Empty` if the range is empty, and `Exhausted` if 128
-  -- words were rejected.
+  -- The result of a draw from a range that consists of these numbers: the number at the drawn
+  -- index, counted from 0. The result is the error `Empty` if the range is empty, and `Exhausted`
+  -- if 128 words were rejected.
   unfoldable pub value_drawn : {T : Type 0} → ℕ → List T → G → Result T RangeError
   value_drawn bits numbers g =
       if length numbers == 0 then Err Empty
@@ -88,7 +88,7 @@ module _ {G : Type 0} (requests : Requests G) where
         state = left_after word after word_limit bits size g;
       }
 
-  -- The result of a draw from a range that contains these numbers, of a type of `bits` bits, and
+  -- The result of a draw from a range that consists of these numbers, of a type of `bits` bits, and
   -- the state that the draw leaves.
   abbrev pub range_outcome : {T : Type 0} → ℕ → List T → G → Result T RangeError × G
   range_outcome bits numbers g =
