@@ -1,5 +1,5 @@
--- The generators: their blocks and requests, what many draws leave, their parts, their seeds and
--- their texts.
+-- The generators: their blocks and requests, the state after many draws, their parts, their seeds,
+-- and the texts that `{:?}` writes.
 pub mod Halves
 pub mod WyRand
 pub mod ChaChaRounds

@@ -1,3 +1,3 @@
-//! Stream ciphers whose keystream is a source of blocks.
+//! Stream ciphers whose keystream is used as a source of random blocks.
 
 pub mod chacha;

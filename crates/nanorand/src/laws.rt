@@ -1,5 +1,8 @@
-//! Laws of the three generators, beside those of every generator. Each contract states a law. The
-//! functions do nothing; a proof calls one to use its law.
+//! Laws of the three generators, in addition to those of every generator. Each contract states a
+//! law. The functions do nothing; a proof calls one to use its law.
+//!
+//! A word is a random integer of 64 bits, unless its width is given. A draw takes one block of a
+//! generator, unless a law says otherwise. A request is one read of n bytes.
 ghost use Rattle.std.specs.Prelude.{◌≡◌, ◌<◌, ◌≤◌, Bool, ℕ, ◌+◌, ◌*◌, ◌^◌, bit_xor, ◌≢◌, ◌%◌, ◌↔◌, List, [], length, slice_index, map};
 ghost use Rattle.std.specs.List.{Contains, flat_map, range_with_len};
 ghost use Rattle.std.specs.Fn.{iterate};
@@ -39,8 +42,8 @@ pub use nanorand_fairness::laws::{
 use nanorand_replay::buffer::BufferedRng;
 pub use nanorand_replay::laws::{equal_buffers, fresh_delivery, replays_join, unbroken_delivery};
 
-/// The generators implement the traits by the definitions that the laws below speak of: their
-/// blocks, the states that draws leave, and their requests. `ChaChaGroups` draws ChaCha's blocks by
+/// The generators implement the traits by the definitions that the laws below use: their blocks,
+/// the states that draws leave, and their requests. `ChaChaGroups` draws the blocks of ChaCha in
 /// groups of eight, and a stream is a buffer over it.
 pub fn generators_as_defined<const ROUNDS: u8>()
     ensures wyrand_blocks { ⟦<WyRand as Blocks<8>>⟧.block ≡ wyrand.wyrand_block }
@@ -59,7 +62,7 @@ pub fn generators_as_defined<const ROUNDS: u8>()
         stream.requests ≡ stream_requests ROUNDS }
 {}
 
-/// `==` of two generators is true exactly if their states are equal.
+/// `==` of two generators is true if and only if their states are equal.
 pub fn equal_generators<const ROUNDS: u8>()
     ensures wyrand { DecidesEquality ⟦<WyRand as PartialEq>⟧.eq }
     ensures pcg64 { DecidesEquality ⟦<Pcg64 as PartialEq>⟧.eq }
@@ -67,7 +70,7 @@ pub fn equal_generators<const ROUNDS: u8>()
     ensures groups { DecidesEquality ⟦<ChaChaGroups<ROUNDS> as PartialEq>⟧.eq }
 {}
 
-/// ChaCha's rounds are injective on matrices, for every even number of rounds.
+/// The rounds of ChaCha are injective on matrices, for every even number of rounds.
 pub fn rounds_are_injective()
     ensures { RoundsAreInjective }
 {}
@@ -75,11 +78,12 @@ pub fn rounds_are_injective()
 /// The seeds of `WyRand` form one cycle of length 2^64, and the periods of its blocks are exactly
 /// the multiples of 2^64.
 ///
-/// `steps`, `more`, `adds`: `wyrand_after n` is the state after n single draws, from every number.
-/// `closed`, `seeds`: from a seed, or if n is at least 1, it is the closed form `seed_after n`.
-/// `fits`: from a seed it is a seed, a number below 2^64. `words`: block n, counted from 0, is the
-/// word of the seed after n + 1 draws. `agree`: i draws and j draws lead to the same seed exactly
-/// if i and j agree modulo 2^64. `periods`: d is a period exactly if 2^64 divides d.
+/// `steps`, `more`, `adds`: `wyrand_after n` is the state after n single draws, for every number as
+/// the start. `closed`, `seeds`: from a seed, or if n is at least 1, it equals the closed form
+/// `seed_after n`. `fits`: from a seed it leads to a seed, that is, a number below 2^64. `words`:
+/// block n, counted from 0, is the word of the seed after n + 1 draws. `agree`: i draws and j draws
+/// lead to the same seed if and only if i and j agree modulo 2^64. `periods`: d is a period if and
+/// only if 2^64 divides d.
 pub fn wyrand_cycle()
     ensures steps { DrawsLeave wyrand.next_seed wyrand.wyrand_after }
     ensures more { OneMoreDraw wyrand.next_seed wyrand.wyrand_after }
@@ -113,12 +117,12 @@ pub fn words_as_numbers()
 /// exactly the multiples of 2^126.
 ///
 /// `steps`, `more`, `adds`: `pcg64_after n` is the generator after n single draws. `closed`,
-/// `seeds`: from a seed, or if n is at least 1, its seed is the closed form `seed_after n`. `fits`:
-/// from a seed it is a seed, a number below 2^128. `words`: block n, counted from 0, is the word of
-/// the seed after n + 1 draws. `blocks`: blocks depend on the seed alone. `agree`: i draws and j
-/// draws lead to the same seed exactly if i and j agree modulo 2^126. `top_bit`: 2^125 draws
-/// further on, a word differs in the top bit and in no other. `periods`: d is a period exactly if
-/// 2^126 divides d.
+/// `seeds`: from a seed, or if n is at least 1, its seed equals the closed form `seed_after n`.
+/// `fits`: from a seed it leads to a seed, that is, a number below 2^128. `words`: block n, counted
+/// from 0, is the word of the seed after n + 1 draws. `blocks`: blocks depend on the seed alone.
+/// `agree`: i draws and j draws lead to the same seed if and only if i and j agree modulo 2^126.
+/// `top_bit`: the words at a distance of 2^125 draws differ in the top bit and in no other.
+/// `periods`: d is a period if and only if 2^126 divides d.
 pub fn pcg64_cycles()
     ensures steps { DrawsLeave pcg64.next pcg64.pcg64_after }
     ensures more { OneMoreDraw pcg64.next pcg64.pcg64_after }
@@ -143,14 +147,14 @@ pub fn pcg64_cycles()
 
 /// The states of `ChaCha` form cycles of length 2^64, and the counter is the position in the cycle.
 ///
-/// `steps`, `more`, `adds`: `chacha_after n` is the state after n single draws, from every list.
-/// `closed`, `matrices`: from a matrix, sixteen 32-bit words, it is the state with n added to the
-/// counter, modulo 2^64, and a matrix again. `counts`, `keeps`: n draws add n to the counter,
-/// modulo 2^64, and change no word but 12 and 13, which hold it. `key`, `nonce`: so draws keep the
-/// key and the nonce. `blocks`: block n, counted from 0, is the block of the state with n added to
-/// the counter. `agree`: i draws and j draws leave the same state exactly if i and j agree modulo
-/// 2^64. `periods`: every multiple of 2^64 is a period of the blocks; that no other number is one
-/// is not claimed.
+/// `steps`, `more`, `adds`: `chacha_after n` is the state after n single draws, for every list as
+/// the start. `closed`, `matrices`: from a matrix, that is, sixteen 32-bit words, it is the state
+/// with n added to the counter, modulo 2^64, and a matrix again. `counts`, `keeps`: n draws add n
+/// to the counter, modulo 2^64, and change only words 12 and 13, which hold the counter. `key`,
+/// `nonce`: so draws keep the key and the nonce. `blocks`: block n, counted from 0, is the block of
+/// the state with n added to the counter. `agree`: i draws and j draws leave the same state if and
+/// only if i and j agree modulo 2^64. `periods`: every multiple of 2^64 is a period of the blocks.
+/// The law does not say that there are no other periods.
 pub fn chacha_counter()
     ensures steps { DrawsLeave next_state chacha_after }
     ensures more { OneMoreDraw next_state chacha_after }
@@ -171,10 +175,10 @@ pub fn chacha_counter()
         → IsPeriod next_state (chacha_block R) x d }
 {}
 
-/// A stream of ChaCha delivers what a buffered `ChaCha` delivers.
+/// A stream of ChaCha delivers the same bytes as a buffered `ChaCha`.
 ///
-/// Both begin in the same state, with nothing buffered. `each`: after requests of the same sizes,
-/// the next request takes the same bytes of both. `all`: so do all requests of a list, one after
+/// Both begin in the same state, with an empty buffer. `each`: after requests of the same sizes,
+/// the next request takes the same bytes from both. `all`: so do all requests of a list, one after
 /// another. `positions`: a request of n bytes of a stream adds n to the number of the next byte,
 /// modulo 2^70. `keys`, `nonces`: it keeps the key and the nonce.
 pub fn streams_deliver_chacha<const ROUNDS: u8>()
@@ -202,8 +206,8 @@ pub fn streams_deliver_chacha<const ROUNDS: u8>()
 
 /// Different numbers below 2^64 give different seeds.
 ///
-/// `words`: the first words that SplitMix64 draws from them differ. `wyrand`, `pcg64`, `chacha`: so
-/// the states that `seed_from_u64` makes of them differ.
+/// `words`: the first words that SplitMix64 produces from them differ. `wyrand`, `pcg64`, `chacha`:
+/// so the states that `seed_from_u64` makes from them differ.
 pub fn seeds_differ()
     ensures words { (m n : ℕ) → m < 2 ^ 64 → n < 2 ^ 64
         → mixed (split_mix_next m) ≡ mixed (split_mix_next n) → m ≡ n }
@@ -216,11 +220,11 @@ pub fn seeds_differ()
         → seeded_state (seed_from 40 m) ≡ seeded_state (seed_from 40 n) → m ≡ n }
 {}
 
-/// Parts of equal length are the stream, cut.
+/// The parts of equal length of a stream, joined, are the stream.
 ///
-/// A draw is what a number of 64 bits takes. `numbers`: number j of part i, counted from 0, is
-/// number i * draws + j of the stream. `joined`: the numbers of the first parts, one part after
-/// another, are those of the stream. `next`: where a part ends the next one begins.
+/// A draw is what a `u64` takes. `numbers`: number j of part i, counted from 0, is number
+/// i * draws + j of the stream. `joined`: the numbers of the first parts, one part after another,
+/// are those of the stream. `next`: the next part begins where a part ends.
 pub fn parts_are_the_stream<G: Rng<OUTPUT>, const OUTPUT: usize>()
     ensures numbers { (draws i j : ℕ) (g : G) → j < draws
         → slice_index (numbers_of_part G.requests draws g i) j
@@ -233,12 +237,13 @@ pub fn parts_are_the_stream<G: Rng<OUTPUT>, const OUTPUT: usize>()
         after_draws G.requests draws (start i g) ≡ start (i + 1) g }
 {}
 
-/// Parts that together stay within the period do not overlap: no state comes in two of them, and in
-/// none twice.
+/// The parts of a generator of this library do not overlap if together they stay within the period:
+/// no state occurs in two of them, and none occurs twice in one.
 ///
-/// For `Pcg64`, no seed comes twice, and the seed alone decides the blocks. For a stream of ChaCha,
-/// fewer than 512 bytes are buffered. `bytes`: in 2^70 bytes it is in no state twice, whatever the
-/// sizes of its requests are.
+/// A draw is what a `u64` takes. For `Pcg64` the law is about the seeds, since the seed alone
+/// determines the blocks. For a stream of ChaCha it assumes that fewer than 512 bytes are buffered.
+/// `bytes`: within 2^70 bytes of a stream no state occurs twice, whatever the sizes of the requests
+/// are.
 pub fn parts_are_apart<const ROUNDS: u8>()
     ensures wyrand { (seed : ℕ) → seed < 2 ^ 64
         → PartsAreApart (2 ^ 64) (λ n. after_draws wyrand_requests n seed) }
@@ -252,14 +257,15 @@ pub fn parts_are_apart<const ROUNDS: u8>()
         → NothingTwice (2 ^ 70) (λ n. (stream_requests ROUNDS).after b n) }
 {}
 
-/// The parts of every generator that implements `Parts` (and `Drop`) are apart, and what it draws
-/// comes again after its period.
+/// For every generator that implements `Parts` (and `Drop`), the parts of a stream do not overlap,
+/// and what the generator draws repeats after its period.
 ///
-/// `apart`: parts of one length that together stay within the period do not overlap: no state comes
-/// in two of them, and in none twice, where states are those that whole draws leave. `again`: from
-/// some draw on, the 64-bit numbers that are drawn are those of `period` draws before. That the
-/// numbers have no smaller period is not claimed, since two states may have equal blocks.
-/// `wyrand_cycle` and `pcg64_cycles` prove it of the blocks of their generators.
+/// A draw is what a `u64` takes. `apart`: parts of one length that together stay within the period
+/// do not overlap: no state occurs in two of them, and none occurs twice in one. The states are
+/// those after whole draws. `again`: from some draw on, the 64-bit numbers that are drawn are those
+/// of `period` draws before. The law does not say that the numbers have no smaller period, since
+/// two states may have equal blocks. For the blocks of `WyRand` and `Pcg64`, `wyrand_cycle` and
+/// `pcg64_cycles` prove it.
 pub fn all_parts_are_apart<G: Parts<OUTPUT> + Drop, const OUTPUT: usize>(stream: &G)
     ensures apart { PartsAreApart G.period (λ n. after_draws G.requests n stream.now) }
     ensures again { ComesAgain G.period
@@ -268,14 +274,15 @@ pub fn all_parts_are_apart<G: Parts<OUTPUT> + Drop, const OUTPUT: usize>(stream:
     let _ = stream.part(0, 0);
 }
 
-/// If each task draws only from the part of its own index, the results are the same in whatever
-/// order the tasks run, each at least once: for each index, what its task gives on its part.
+/// If each task draws only from the part of its own index, the results do not depend on the order
+/// in which the tasks run, or on how often each runs, as long as each runs at least once. The
+/// result of an index is what its task gives on its part.
 ///
 /// A task is a function of its index and of the generator that it is given, and writes its own
-/// result whole. A schedule is the list of the indices in the order in which their tasks end, and
-/// has each index below `count` at least once. What stood in the results before does not matter,
-/// nor do runs that were cut off before they wrote. That these are the results of one loop over one
-/// generator is `parts_as_one_loop`.
+/// result as a whole. A schedule is the list of the indices in the order in which their tasks end,
+/// and has each index below `count` at least once. The old results do not matter, nor do runs that
+/// stopped before they wrote. The law `parts_as_one_loop` proves that these are the results of one
+/// loop over one generator.
 pub fn parts_in_any_order<G: Rng<OUTPUT>, const OUTPUT: usize, T>()
     ensures { (task : ℕ → G → T) (draws count : ℕ) (g : G) (schedule : List ℕ) (results : List T)
         → length results ≡ count → ((i : ℕ) → i < count → Contains schedule i) →
@@ -283,20 +290,20 @@ pub fn parts_in_any_order<G: Rng<OUTPUT>, const OUTPUT: usize, T>()
         results_after own schedule results ≡ map own (range_with_len 0 count) }
 {}
 
-/// Tasks that each use up one part of a stream do what one loop does that runs them one after
-/// another over one generator.
+/// If each task uses up one part of a stream, the tasks give the results of one loop that runs them
+/// one after another over one generator.
 ///
-/// A task is a function of its index and of the generator's state: it gives a result and the state
-/// that it leaves. The premise of the first three clauses: on each part, the task leaves the state
-/// `draws` draws further on. So it does if it draws exactly `draws` times, or fewer times and then
-/// jumps to the end of its part. `parts`: the loop's results are those of the tasks, each alone on
-/// the part of its index. `left`: the loop leaves the stream at the part after the last one.
-/// `schedules`: tasks that run by a schedule, in whatever order and however often, leave the loop's
-/// results.
+/// A task is a function of its index and of the state of the generator: it gives a result and the
+/// state that it leaves. The premise of the first three clauses: on each part, the task leaves the
+/// state that is `draws` draws ahead. A task does so if it draws exactly `draws` times, or if it
+/// draws fewer times and then jumps to the end of its part. `parts`: the results of the loop are
+/// those of the tasks, each run alone on the part of its index. `left`: the loop leaves the stream
+/// at the part after the last one. `schedules`: tasks that run by a schedule, in any order and each
+/// at least once, give the results of the loop.
 ///
-/// `jumps` has no premise: a loop that runs each task on an equal generator, and then jumps its own
-/// `draws` draws ahead, has the results of the tasks on their parts. `jumping_schedules`: tasks
-/// that run by a schedule leave this loop's results.
+/// `jumps` has no premise: if a loop runs each task on a copy of its generator, and then jumps
+/// `draws` draws ahead, its results are those of the tasks on their parts. `jumping_schedules`:
+/// tasks that run by a schedule give the results of this loop.
 pub fn parts_as_one_loop<G: Rng<OUTPUT>, const OUTPUT: usize, T>()
     ensures parts { (task : ℕ → G → T × G) (draws count : ℕ) (g : G) →
         let start = λ (i : ℕ). part_at G.requests draws i g in
@@ -324,9 +331,9 @@ pub fn parts_as_one_loop<G: Rng<OUTPUT>, const OUTPUT: usize, T>()
         ≡ results_in_turn (on_a_copy G.requests task draws) count g }
 {}
 
-/// Which seeds of `Pcg64` are reached from which.
+/// Which seeds of `Pcg64` can be reached from which by draws.
 ///
-/// `reached`: some number of draws leads from s to t exactly if both are in the same one of the
+/// `reached`: some number of draws leads from s to t if and only if both are in the same one of the
 /// four cycles. `once`: then exactly one number of draws below 2^126 does.
 pub fn pcg64_reach()
     ensures reached { (s t : ℕ) → s < 2 ^ 128 → t < 2 ^ 128
@@ -335,10 +342,10 @@ pub fn pcg64_reach()
         → ReachesOnceBelow (2 ^ 126) pcg64.seed_after s t }
 {}
 
-/// In 2^126 draws in a row, each of the 2^64 words of `Pcg64` comes exactly 2^62 times.
+/// In 2^126 draws in a row, each of the 2^64 words of `Pcg64` occurs exactly 2^62 times.
 ///
-/// `words`: from every seed, so also after any number of draws. `events`: the words that pass a
-/// test are 2^62 for each 64-bit number that passes it.
+/// `words`: this holds from every seed, so also after any number of draws. `events`: the number of
+/// words that pass a test is 2^62 for each 64-bit number that passes it.
 pub fn pcg64_words_are_equally_frequent()
     ensures words { (seed w : ℕ) → seed < 2 ^ 128 → w < 2 ^ 64
         → pcg64_word_count (2 ^ 126) seed w ≡ 2 ^ 62 }
@@ -346,12 +353,12 @@ pub fn pcg64_words_are_equally_frequent()
         → pcg64_words_that (2 ^ 126) seed test ≡ words_that 64 test * 2 ^ 62 }
 {}
 
-/// The words of `WyRand` are not equally frequent: the word 0 comes at least twice in 2^64 draws,
-/// and some word never comes.
+/// The words of `WyRand` are not equally frequent: the word 0 occurs at least twice in 2^64 draws,
+/// and some word never occurs.
 ///
-/// `seeds`: in 2^64 draws in a row, from any seed, a word comes as often as there are seeds that
-/// have it. `twice`: at least two seeds have the word 0. `never`: some 64-bit word comes at no draw
-/// from any seed.
+/// `seeds`: in 2^64 draws in a row, from any seed, a word occurs as often as there are seeds that
+/// have it. `twice`: at least two seeds have the word 0. `never`: some 64-bit word occurs at no
+/// draw from any seed.
 pub fn wyrand_words_are_not_equally_frequent()
     ensures seeds { (seed w : ℕ) → seed < 2 ^ 64
         → wyrand_word_count (2 ^ 64) seed w ≡ wyrand_seeds_with (2 ^ 64) w }

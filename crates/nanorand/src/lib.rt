@@ -1,22 +1,22 @@
-//! Seeded random generators, exact values and ranges, shuffles, and lists of calls that can be
+//! Seeded random generators, unbiased values and ranges, shuffles, and lists of calls that can be
 //! replayed.
 //!
-//! Equal generators give equal values: nothing here reads a clock, a device, or memory that the
+//! Equal generators draw equal values: nothing here reads a clock, a device, or memory that the
 //! caller did not pass in. The contract of each call states what it returns and the state that it
 //! leaves.
 //!
 //! The traits, values, ranges, choices, samples and shuffles are those of `nanorand_core`, and the
-//! buffers and replays those of `nanorand_replay`. These two crates name no generator; what they
-//! have is passed on here under the same paths.
+//! buffers and replays those of `nanorand_replay`. These two crates contain no generator. This
+//! crate exports their items under the same paths.
 //!
-//! `WyRand` and `Pcg64` are not cryptographically secure: never draw a key, a token or a password
-//! from them. `ChaCha` and its streams are not vetted cryptographic generators either: no key is
-//! erased from memory, and nothing reseeds itself. For keys, tokens and passwords, or where an
-//! adversary matters, take a vetted one.
+//! `WyRand` and `Pcg64` are not cryptographically secure: never use them to generate a key, a token
+//! or a password. `ChaCha` and its streams are not vetted cryptographic generators either: they do
+//! not erase keys from memory, and do not reseed themselves. For keys, tokens and passwords, or if
+//! there is an adversary, use a vetted generator.
 //!
-//! `seed_from_u64` makes a generator of any number, as 0, 1, 2, ..; it mixes the number. The seed
-//! that `new_seed` of `WyRand` or `Pcg64` takes is the state itself: generators with neighbouring
-//! seeds draw correlated numbers.
+//! `seed_from_u64` makes a generator from any number, such as 0, 1, 2, ..; it mixes the number. The
+//! seed that `new_seed` of `WyRand` or `Pcg64` takes is the state itself: generators with
+//! neighbouring seeds draw correlated numbers.
 #![tactic(auto)]
 
 pub mod crypto;

@@ -1,5 +1,5 @@
--- What a reader of the contracts must believe, by topic, except `support`, which nobody has to
--- believe.
+-- The definitions that give the contracts their meaning, by topic. To rely on the contracts, a
+-- reader has to check these definitions, but not those in `support`.
 pub mod generators
 pub mod support
 pub mod values

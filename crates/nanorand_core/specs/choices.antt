@@ -1,3 +1,3 @@
--- Choices by one drawn number.
+-- Choices that take one drawn number.
 pub mod Uniform
 pub mod Weighted

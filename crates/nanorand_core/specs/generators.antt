@@ -1,4 +1,5 @@
--- Any generator: its blocks and requests, what many draws leave, and tests of equality.
+-- Generators in general: their blocks and requests, the state after many draws, and tests of
+-- equality.
 pub mod Blocks
 pub mod Cycles
 pub mod Equality

@@ -1,3 +1,3 @@
--- Samples without repetition.
+-- Samples without replacement.
 pub mod Samples
 pub mod Reservoir

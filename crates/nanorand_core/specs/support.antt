@@ -1,5 +1,5 @@
--- Nobody has to believe the files in this folder: lemmas that laws of impls cite, and words used
--- only in clauses of private functions.
+-- Not needed to understand the contracts: lemmas that laws of impls cite, and definitions that only
+-- the clauses of private functions use.
 pub mod BlockLemmas
 pub mod BoundLemmas
 pub mod NumberOrderLemmas

@@ -1,4 +1,4 @@
--- Values from bytes, ranges of numbers, bounded draws and their fairness.
+-- Values made from bytes, ranges of numbers, draws of numbers and their fairness.
 pub mod Values
 pub mod Runs
 pub mod Range

@@ -1,9 +1,11 @@
-//! Choices by one drawn number: a number below another or between two, some bits, an item of a
-//! slice, an event of a given ratio, an index by its weight.
+//! Random choices that take one drawn number: a number below a bound or between two bounds, a given
+//! number of bits, an item of a slice, a boolean with a given probability, or an index chosen by
+//! weight.
 //!
-//! Each draws words of 64 bits (`below`, `between` and `bits` words of their type's width), each by
-//! one request, at most 128 of them, and `bits` exactly one. The first word that names a number
-//! decides, as `values::pick_word` says.
+//! A word is a random integer of N bits, read by one request of N / 8 bytes. Each function draws
+//! words of 64 bits, except `below`, `between` and `bits`, whose words have the width of their
+//! type. The first word that is not rejected decides, by the rule of `values::pick_word`. At most
+//! 128 words are drawn; `bits` draws exactly one.
 pub mod uniform;
 pub mod weighted;
 

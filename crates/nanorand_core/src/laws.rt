@@ -1,5 +1,9 @@
-//! Laws of the definitions, over every generator. Each contract states a law. The functions do
+//! Laws about the definitions, for every generator. Each contract states a law. The functions do
 //! nothing; a proof calls one to use its law.
+//!
+//! A word is a random integer of N bits. A word *names* a number if it lies in the run of words
+//! that `values::pick_word` maps to that number; a word that names no number is rejected. `OUTPUT`
+//! is the number of bytes of a generator's blocks.
 ghost use Rattle.std.specs.Prelude.{◌≡◌, ◌<◌, ◌≤◌, ◌+◌, ◌++◌, length, sum, ℕ, ℤ, nat_le, nat_lt, int_le, int_lt, ◌^◌, ◌↔◌, List, [], ◌∷◌, take, IsPermutation, All, AllPairs, ◌≢◌};
 ghost use Rattle.std.specs.Fn.{iterate};
 ghost use Rattle.std.specs.List.{range_with_len};
@@ -20,16 +24,16 @@ ghost use Rattle.nanorand_core.specs.shuffles.Shuffles.{from_itself, partly_shuf
 
 use crate::rand::Rng;
 
-/// A bounded draw prefers no number, for words of N = 8, 16, 32 and 64 bits and every size from 1
-/// to 2^N.
+/// A draw of a number below a size is unbiased, for words of N = 8, 16, 32 and 64 bits and every
+/// size from 1 to 2^N.
 ///
 /// `runs`: each number below the size has a run of floor(2^N / size) words, the runs do not
-/// overlap, and fewer than half of all words name no number. `swaps`: swapping the runs of two
+/// overlap, and fewer than half of all words are rejected. `swaps`: swapping the runs of two
 /// numbers word by word is an involution on lists of words. It keeps the index of the deciding
 /// word, swaps the two numbers in the result, and leaves every other result, and every failure,
-/// unchanged. `events`: an event, a test that m of the numbers pass, is named by exactly m times as
-/// many words as one number. `divisors`: a size that divides 2^N, such as a power of two, rejects
-/// no word.
+/// unchanged. `events`: an event is given by a test; if m numbers pass it, it is named by exactly m
+/// times as many words as one number. `divisors`: a size that divides 2^N, such as a power of two,
+/// rejects no word.
 pub fn fairness()
     ensures runs { RunsAreFair }
     ensures swaps { NoNumberIsPreferred }
@@ -37,15 +41,14 @@ pub fn fairness()
     ensures divisors { DivisorsRejectNothing }
 {}
 
-/// A word of a draw from a range prefers no number of it, for words of N = 8, 16, 32 and 64 bits.
+/// A draw from a range is unbiased, for words of N = 8, 16, 32 and 64 bits.
 ///
-/// A range is given by two bounds of the integer type of N bits, and a word gives the number of the
-/// range whose index the word names. `unsigned`: in a range of s numbers, each number that both
-/// bounds admit is given by exactly floor(2^N / s) of the 2^N words. `signed`: the same for the
-/// signed type. `indices`: the range from 0 to n, without n, is 0, 1, .., n - 1, so a draw from it
-/// is the draw of an index that `fairness` speaks of. `events`: in every list of s items, s from 1
-/// to 2^N, of which m pass a test, items that pass it are given by exactly m * floor(2^N / s)
-/// words.
+/// A range is given by two bounds of the integer type of N bits. A word names an index of the
+/// range, and gives the number at that index. `unsigned`: in a range of s numbers, each number that
+/// both bounds admit is given by exactly floor(2^N / s) of the 2^N words. `signed`: the same for
+/// the signed type. `indices`: the range from 0 to n, without n, is 0, 1, .., n - 1, so `fairness`
+/// applies to a draw from it. `events`: in every list of s items, s from 1 to 2^N, of which m pass
+/// a test, exactly m * floor(2^N / s) words give an item that passes it.
 pub fn ranges_are_fair<T>()
     ensures unsigned { UnsignedRangesAreFair }
     ensures signed { SignedRangesAreFair }
@@ -54,7 +57,7 @@ pub fn ranges_are_fair<T>()
     ensures events { EventsOfListsAreFair T }
 {}
 
-/// The choices of `choices` prefer nothing, for words of N = 8, 16, 32 and 64 bits.
+/// The uniform choices of `choices` are unbiased, for words of N = 8, 16, 32 and 64 bits.
 ///
 /// `items`: of `count` items, at most 2^N, each is chosen by exactly floor(2^N / count) words.
 /// `ratios`: for a numerator up to the denominator, the event of a ratio is named by exactly
@@ -64,22 +67,21 @@ pub fn choices_are_fair()
     ensures ratios { RatiosAreFair }
 {}
 
-/// Choices by weight are fair, for words of 8, 16, 32 and 64 bits and all weights whose sum is from
-/// 1 to the number of words: exactly as many words choose an item as its weight times the number of
-/// words of one number.
+/// Weighted choices are exact, for words of 8, 16, 32 and 64 bits and all weights whose sum is from
+/// 1 to the number of words. The number of words that choose an item is exactly its weight times
+/// the number of words that name one number.
 ///
-/// So an item of twice the weight is chosen by twice as many words. It is the law of
+/// So an item of twice the weight is chosen by twice as many words. This is the law of
 /// `choices::weighted::choose_weighted`.
 pub fn weighted_choices_are_fair()
     ensures { ChoicesAreFair }
 {}
 
-/// The limits that every ranged draw of an integer type keeps, over every generator.
+/// The limits of every draw of an integer from a range, for every generator.
 ///
-/// A number that is drawn lies within both bounds, and at most 128 words are drawn. `Empty` is
-/// returned only if the range has no number, and then nothing was drawn. `Exhausted` is returned
-/// after exactly 128 words. The outcomes of this law are those that the contract of
-/// `generate_range` states.
+/// A drawn number lies within both bounds, and at most 128 words are drawn. `Empty` is returned
+/// only if the range has no number, and nothing is drawn then. `Exhausted` is returned after
+/// exactly 128 words. The outcomes in this law are those in the contract of `generate_range`.
 pub fn range_limits<G: Rng<OUTPUT>, const OUTPUT: usize>()
     ensures unsigned { (bits : ℕ) (g : G) (low high : Bound ℕ) →
         KeepsLimits nat_le nat_lt bits unsigned_number (after_word G.requests bits) low high g
@@ -89,22 +91,22 @@ pub fn range_limits<G: Rng<OUTPUT>, const OUTPUT: usize>()
         (signed_outcome G.requests bits g low high) }
 {}
 
-/// For every n, valid lists of n choices and permutations of 0, 1, .., n - 1 correspond one to one:
-/// a valid list makes a permutation, no other valid list makes the same one, and each permutation
-/// is made by one.
+/// For every n, the valid lists of n choices and the permutations of 0, 1, .., n - 1 correspond one
+/// to one: a valid list makes a permutation, no other valid list makes the same one, and each
+/// permutation is made by one.
 pub fn choices_and_arrangements()
     ensures { (n : ℕ) → CorrespondsOneToOne n }
 {}
 
 /// A sample of `samples::sample` prefers no number and no set of numbers.
 ///
-/// The samples are counted over all sequences of draws. With k slots and j = `count - k`, a sequence
-/// has one draw from each of `0..=j`, `0..=j + 1`, .., `0..=count - 1`. By `fairness` each number of
-/// a range has equally many words.
+/// The samples are counted over all sequences of draws. `count` is the size of the population. With
+/// k slots and j = `count - k`, a sequence has one draw from each of `0..=j`, `0..=j + 1`, ..,
+/// `0..=count - 1`. By `fairness` each number of a range has the same number of words.
 ///
-/// `numbers`: each number below the count is in the same fraction of the samples, k divided by the
-/// count. `sets`: each set of k numbers below the count is the sample for equally many sequences,
-/// 1 * 2 * .. * k of them.
+/// `numbers`: each number below `count` is in the same fraction of the samples, k / `count`.
+/// `sets`: each set of k numbers below `count` is the sample for the same number of sequences,
+/// 1 * 2 * .. * k.
 pub fn samples_are_fair()
     ensures numbers { NumbersAreFair }
     ensures sets { SetsAreFair }
@@ -113,21 +115,21 @@ pub fn samples_are_fair()
 /// A sample of `samples::reservoir` prefers no item and no set of items.
 ///
 /// The samples are counted over all sequences of draws. With k slots and `count` items, a sequence
-/// has one draw from each of `0..=k`, `0..=k + 1`, .., `0..=count - 1`. By `fairness` each number of a
-/// range has equally many words.
+/// has one draw from each of `0..=k`, `0..=k + 1`, .., `0..=count - 1`. By `fairness` each number
+/// of a range has the same number of words.
 ///
-/// `items`: each item is in the same fraction of the samples, k divided by the count. `sets`: each
-/// set of k items is the sample for equally many sequences, 1 * 2 * .. * (`count - k`) of them.
+/// `items`: each item is in the same fraction of the samples, k / `count`. `sets`: each set of k
+/// items is the sample for the same number of sequences, 1 * 2 * .. * (`count - k`).
 pub fn reservoirs_are_fair()
     ensures items { ItemsAreFair }
     ensures sets { ItemSetsAreFair }
 {}
 
-/// A partial shuffle is the beginning of the whole shuffle, over every generator.
+/// A partial shuffle is the beginning of the whole shuffle, for every generator.
 ///
 /// `begins`: its choices are the first choices of the whole shuffle. `whole`: with as many steps as
-/// there are items, or more, it is the whole shuffle. `first`: the first `steps` items that
-/// it leaves are those that the whole shuffle leaves. `arrangement`: it leaves a permutation of the
+/// there are items, or more, it is the whole shuffle. `first`: the first `steps` items that it
+/// leaves are those that the whole shuffle leaves. `arrangement`: it leaves a permutation of the
 /// items.
 pub fn partial_shuffles<G: Rng<OUTPUT>, T, const OUTPUT: usize>()
     ensures begins { (steps : ℕ) (g : G) (items : List T) →
@@ -143,12 +145,12 @@ pub fn partial_shuffles<G: Rng<OUTPUT>, T, const OUTPUT: usize>()
         IsPermutation items (partly_shuffled G.requests from_itself steps g items).items }
 {}
 
-/// Permutations are recognized by counting.
+/// Permutations can be recognized by counting.
 ///
-/// `permutations`: one list of numbers is a permutation of another exactly if every number occurs
+/// `permutations`: a list of numbers is a permutation of another if and only if every number occurs
 /// equally often in both. `arrangements`: a list is a permutation of the numbers below its length
-/// exactly if each of them occurs in it once; nothing has to be said of other numbers.
-/// `numbers`: the numbers of such a list are below its length, and different from one another.
+/// if and only if each of these numbers occurs in it once; other numbers need not be considered.
+/// `numbers`: the numbers of such a list are below its length, and all different.
 pub fn permutations_by_counting()
     ensures permutations { (xs ys : List ℕ) → IsPermutation xs ys ↔ HoldEquallyOften xs ys }
     ensures arrangements { (order : List ℕ) →
@@ -158,22 +160,23 @@ pub fn permutations_by_counting()
         × AllPairs (λ number other. number ≢ other) order }
 {}
 
-/// A request for as many bytes as a block has is a draw, over every generator.
+/// A request of `OUTPUT` bytes is the same as a draw of one block, for every generator.
 ///
 /// `bytes`: it takes the next block. `number`: so the number of these bytes is that of the block; a
 /// `u64` of a generator with blocks of 8 bytes is the number of its next block. `state`: it leaves
-/// the state that a draw leaves.
+/// the state that a draw of a block leaves.
 pub fn whole_blocks<G: Rng<OUTPUT>, const OUTPUT: usize>()
     ensures bytes { (g : G) → G.requests.bytes g OUTPUT ≡ G.block g }
     ensures number { (g : G) → number_of (G.requests.bytes g OUTPUT) ≡ number_of (G.block g) }
     ensures state { (g : G) → G.requests.after g OUTPUT ≡ G.step g }
 {}
 
-/// Values drawn one after another, in two parts.
+/// Values drawn in two parts, one after the other, are those drawn in one. A proof about a loop of
+/// draws needs this law to add the draws of one step to those before it.
 ///
-/// `values`: m + n values are m values and then n values from the state that the m leave. `states`:
-/// m steps and then n steps are m + n steps. `last_value`, `last_state`: the same, where the second
-/// part is one value or one step.
+/// `values`: m + n values are m values, followed by n values from the state that the m draws leave.
+/// `states`: m steps and then n steps are m + n steps. `last_value`, `last_state`: the same, where
+/// the second part is one value or one step.
 pub fn values_join<G, T>()
     ensures values { (value : G → T) (after : G → G) (m n : ℕ) (g : G) →
         values_from value after (m + n) g

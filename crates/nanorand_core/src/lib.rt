@@ -1,7 +1,11 @@
-//! What holds for every generator: the traits, values and ranges, choices, samples and shuffles.
+//! Everything that is common to all generators: the traits, values and ranges, choices, samples and
+//! shuffles.
 //!
-//! No generator stands here. The crate `nanorand_replay` has buffers and replays over any
-//! generator. The crate `nanorand` has the generators, and everything of both under the same paths.
+//! The parameter `OUTPUT` of the generic items is the number of bytes in a block of the generator.
+//!
+//! This crate contains no generator. The crate `nanorand_replay` has buffers and replays for any
+//! generator. The crate `nanorand` has the generators, and all items of these two crates under the
+//! same paths.
 #![tactic(auto)]
 
 pub mod choices;

@@ -1,4 +1,5 @@
-//! The traits that every generator implements, and the `fill_bytes` that plain generators share.
+//! The traits that every generator implements, and the `fill_bytes` of the generators without a
+//! buffer.
 ghost use Rattle.std.specs.Prelude.{◌≡◌, ℕ, ◌*◌, ◌^◌, ◌<◌, ◌≤◌, List, length, IfErr, OnOk, IsPermutation};
 ghost use Rattle.std.specs.Fn.{iterate};
 ghost use Rattle.nanorand_core.specs.shuffles.Arrangements.{IsValid};
@@ -15,7 +16,8 @@ use std::ops::Bound;
 
 /// A source of blocks of `OUTPUT` bytes.
 ///
-/// `OUTPUT` is at least 1 and below 2^63: each implementation proves it.
+/// `OUTPUT` is the number of bytes of a block: 8 for `WyRand` and `Pcg64`, 64 for `ChaCha`, and 512
+/// for a ChaCha stream. It is at least 1 and below 2^63; each implementation proves that.
 pub trait Blocks<const OUTPUT: usize> {
     // The next block of a state.
     ghost block: { Self → List ℕ };
@@ -30,7 +32,7 @@ pub trait Blocks<const OUTPUT: usize> {
 
     ghost positive: { 0 < OUTPUT };
 
-    // True of every array that fits in memory.
+    // Holds for every array that fits in memory.
     ghost in_memory: { OUTPUT < 2 ^ 63 };
 
     ghost block_length: { (g : Self) → length (block g) ≡ OUTPUT };
@@ -38,16 +40,20 @@ pub trait Blocks<const OUTPUT: usize> {
 
 /// A generator of random values.
 ///
-/// Functions over it are generic: `fn f<G: Rng<OUTPUT>, const OUTPUT: usize>(rng: &mut G)`. There
-/// is no `dyn Rng`, since its calls are generic too, and no `Rng` of a `&mut G`, since a reference
-/// has no clone: pass `rng` on as it is.
+/// A *request* is one read of n bytes. A *word* is a random integer of N bits, read by one request
+/// of N / 8 bytes in little-endian order.
 ///
-/// To implement it, implement `Clone` and `Blocks`, write `fill_bytes`, define `requests` (the
-/// bytes that a request of n bytes takes, and the state that it leaves), and prove the three laws
-/// at the end of the trait. They decide what a request takes, and the state that it leaves if n is
-/// 0 or `OUTPUT`. For every other n that state is the generator's own choice: it may skip bytes or
-/// deliver some again. The other functions follow from these, and each may be replaced by one with
-/// the same contract.
+/// Functions that take any generator are generic:
+/// `fn f<G: Rng<OUTPUT>, const OUTPUT: usize>(rng: &mut G)`. There is no `dyn Rng`, since the
+/// methods are generic too. `&mut G` is not an `Rng`, since a reference cannot be cloned: pass
+/// `rng` on as it is.
+///
+/// To write your own generator, implement `Clone` and `Blocks`, write `fill_bytes`, define
+/// `requests` (the bytes that a request of n bytes takes, and the state that it leaves), and prove
+/// the three laws at the end of the trait. The laws determine what a request takes, and the state
+/// that it leaves if n is 0 or `OUTPUT`. For every other n the generator chooses the state: it may
+/// skip bytes or deliver some again. The other functions follow from these, and an implementation
+/// may replace each of them by one with the same contract.
 pub trait Rng<const OUTPUT: usize>: Clone + Blocks<OUTPUT> {
     // The bytes that a request of n bytes takes, and the state that it leaves, for every n.
     ghost requests: { Requests Self };
@@ -66,11 +72,12 @@ pub trait Rng<const OUTPUT: usize>: Clone + Blocks<OUTPUT> {
         T::random(self)
     }
 
-    /// Fills the slice with values, drawn one after another in the order of the items, each by a
-    /// call of `generate`. An empty slice draws nothing.
+    /// Fills the slice with values, drawn in the order of the items, each by a call of `generate`.
+    /// An empty slice draws nothing.
     ///
-    /// For bytes, call `fill_bytes`: it makes one request for the whole slice. `fill` makes a
-    /// request for each byte, so a plain generator draws a whole block for it.
+    /// To fill a slice of bytes, call `fill_bytes`, which makes one request for the whole slice.
+    /// `fill` makes one request for each byte, and a generator without a buffer draws a whole block
+    /// for each request.
     fn fill<T: RandomGen<Self, OUTPUT> + Drop>(&mut self, target: &mut [T])
         ensures values { let count = length target.old in
             target.new ≡ values_from T.value T.state_after count self.old }
@@ -81,17 +88,17 @@ pub trait Rng<const OUTPUT: usize>: Clone + Blocks<OUTPUT> {
         }
     }
 
-    /// Draws a value for the bounds `low` and `high`, as `RandomRange` defines it for the type.
+    /// Draws a value within the bounds `low` and `high`, as `RandomRange` defines it for the type.
     /// Rust's `generate_range(1..=6)` is `generate_range(Bound::Included(1), Bound::Included(6))`.
     ///
-    /// For the ten integer types of 8 to 64 bits, a number that is returned lies within both
-    /// bounds, and bounds that admit a number never give `Empty`: a caller's proof has both, and
-    /// cites nothing. Words are mapped to numbers after Daniel Lemire ("Fast Random Integer
-    /// Generation in an Interval", 2019).
+    /// For the ten integer types of 8 to 64 bits, each number is produced by the same number of
+    /// words, by the method of Daniel Lemire ("Fast Random Integer Generation in an Interval",
+    /// 2019). A returned number lies within both bounds, and bounds that admit a number never give
+    /// `Empty`. The clause `limits` states both facts, so a caller's proof needs no lemma for them.
     ///
-    /// For these types it returns `Empty` if the range has no number, and draws nothing then. It
-    /// returns `Exhausted` if 128 words in a row were rejected; they stay consumed. A user's type
-    /// defines when it returns each of the two.
+    /// For these types it returns `Empty` if the range is empty; nothing is drawn then. It returns
+    /// `Exhausted` if 128 words in a row were rejected; they stay consumed. A type of your own
+    /// defines what its bounds mean, and when it returns each error.
     #[inline]
     fn generate_range<T: RandomRange<Self, OUTPUT>>(
         &mut self,
@@ -105,15 +112,17 @@ pub trait Rng<const OUTPUT: usize>: Clone + Blocks<OUTPUT> {
         T::random_range(self, low, high)
     }
 
-    /// Shuffles the slice: for each index, from 0 up, swaps the item there with the one at an index
-    /// drawn from that index and those after it.
+    /// Shuffles the slice: for each index i, from 0 up, draws an index from i to the last one, and
+    /// swaps the items at i and at that index.
     ///
-    /// It is the shuffle of Fisher and Yates (1938) in Durstenfeld's form ("Algorithm 235: Random
-    /// permutation", 1964), from the first index up. It leaves a permutation of the items. Each
-    /// permutation of the indices 0, 1, .. is made by exactly one list of drawn indices.
+    /// This is the Fisher-Yates shuffle (1938) in the form of Richard Durstenfeld ("Algorithm 235:
+    /// Random permutation", 1964), running from the first index up. The result is a permutation of
+    /// the items. Each permutation of the indices is produced by exactly one sequence of drawn
+    /// indices. The time is O(n) for n items.
     ///
-    /// It returns `Exhausted` if 128 words in a row were rejected for one index. The swaps before
-    /// that stay, and the words stay consumed. An empty slice draws nothing.
+    /// Returns `Exhausted` if 128 words (random integers of 64 bits) in a row were rejected for one
+    /// index. The swaps before that stay, and the words stay consumed. An empty slice draws
+    /// nothing.
     fn shuffle<T>(&mut self, target: &mut [T]) -> Result<(), RangeError>
         ensures answer { result ≡ (shuffled requests from_itself self.old target.old).answer }
         ensures items { target.new ≡ (shuffled requests from_itself self.old target.old).items }
@@ -159,22 +168,23 @@ pub trait Rng<const OUTPUT: usize>: Clone + Blocks<OUTPUT> {
     ghost after_block: { (g : Self) → requests.after g OUTPUT ≡ Self.step g };
 }
 
-/// A generator that can be reseeded.
+/// A generator that can be reseeded from `SEED_SIZE` bytes. `OUTPUT` is the number of bytes of a
+/// block.
 pub trait SeedableRng<const SEED_SIZE: usize, const OUTPUT: usize>: Rng<OUTPUT> {
-    // The state after a reseed, by the state before it and the bytes of the seed.
+    // The state after a reseed, given the state before it and the bytes of the seed.
     ghost seeded: { Self → List ℕ → Self };
 
-    /// Seeds the generator anew from the bytes of `seed`.
+    /// Reseeds the generator with the bytes of `seed`.
     ///
     /// Each generator defines the state that this leaves. It may keep some of the old state, as a
-    /// buffer keeps its bytes, so the trait does not promise that the seed alone decides what is
-    /// drawn.
+    /// buffered generator keeps its buffered bytes. So the trait does not guarantee that the seed
+    /// alone determines what is drawn next.
     fn reseed(&mut self, seed: [u8; SEED_SIZE])
         ensures { self.new ≡ seeded self.old seed.entry };
 }
 
-// Draws the index that the item at `place` is swapped with: its own or a later one. A number below the
-// items that are left is drawn faster than one between two bounds.
+// Draws the index with which the item at `place` is swapped: `place` or a later index. Drawing a
+// number below the count of the items left is faster than drawing one between two bounds.
 #[inline]
 pub(crate) fn draw_partner<G: Rng<OUTPUT>, const OUTPUT: usize>(
     rng: &mut G,
@@ -193,16 +203,16 @@ pub(crate) fn draw_partner<G: Rng<OUTPUT>, const OUTPUT: usize>(
 
 /// Fills the slice block by block through `rand`, and drops the unused bytes of the last block.
 ///
-/// It is the `fill_bytes` of a plain generator, which starts each request on a new block. `WyRand`
-/// and `Pcg64` use it, `ChaCha` uses it for the bytes after the last whole group of four blocks,
-/// and a user's generator may.
+/// It is the `fill_bytes` of a generator without a buffer, which starts each request with a new
+/// block. `WyRand`, `Pcg64` and `ChaChaGroups` use it, `ChaCha` uses it for the bytes after the
+/// last whole group of four blocks, and your own generator may use it too.
 #[inline]
 pub fn fill_by_blocks<G: Blocks<OUTPUT>, const OUTPUT: usize>(rng: &mut G, buffer: &mut [u8])
     ensures bytes { buffer.new ≡ taken G.block G.step rng.old (length buffer.old) }
     ensures state { rng.new ≡ plain_after G.step OUTPUT rng.old (length buffer.old) }
 {
     let mut filled = 0;
-    // This test is the one that the slice needs, so LLVM drops the slice's own.
+    // The slice below needs exactly this test, so LLVM drops the bounds check of the slice.
     while filled + OUTPUT <= buffer.len() {
         let block = rng.rand();
         buffer[filled..filled + OUTPUT].copy_from_slice(&block);

@@ -1,4 +1,4 @@
-//! Samples without repetition.
+//! Samples without replacement.
 ghost use Rattle.std.specs.Prelude.{◌≡◌, ◌≢◌, ℕ, ◌+◌, ◌-◌, ◌*◌, ◌^◌, ◌<◌, ◌≤◌, ◌++◌, List, drop, length, take};
 ghost use Rattle.std.specs.Prelude.{All, Contains, is_ok, min, slice_set, IfOk, IfErr, OnErr, OnOk};
 ghost use Rattle.std.specs.List.{AllPairs};
@@ -14,26 +14,28 @@ use crate::rand::Rng;
 use crate::values::{RandomRange, RangeError};
 use std::ops::Bound;
 
-/// Samples `places.len()` different numbers below `count`, one into each slot.
+/// Draws a sample without replacement: `places.len()` different numbers below `count`, one into
+/// each slot. `count` is the size of the population, whose members are numbered from 0.
 ///
-/// It is Robert Floyd's algorithm (Bentley and Floyd, "Programming Pearls: a Sample of Brilliance",
-/// Communications of the ACM 30(9), 1987), which needs no memory beside the slots. With k slots,
-/// slot i takes a number t drawn from `0..=j`, where j is `count - k + i`. If a slot before it
-/// holds t already, it takes j.
+/// This is Robert Floyd's algorithm (Bentley and Floyd, "Programming Pearls: a Sample of
+/// Brilliance", Communications of the ACM 30(9), 1987), which needs no memory apart from the slots.
+/// With k slots, a number t is drawn from `0..=j` for slot i, where j is `count - k + i`. The slot
+/// takes t, or j if an earlier slot already holds t.
 ///
-/// The time is O(k^2), since each number drawn is compared with the slots before it. `sample_with`
-/// leaves the same in expected time O(k), by a table that the caller lends. If k is a large part of
-/// `count`, fill a slice with 0, 1, .. and call `shuffles::partial_shuffle`: it makes k steps, in
-/// memory for all `count` numbers.
+/// The time is O(k^2), since each number is compared with all slots before it. `sample_with` draws
+/// the same sample in expected time O(k), with a table that the caller provides. If k is a large
+/// part of `count`, fill a slice with 0, 1, .. and call `shuffles::partial_shuffle` instead: it
+/// takes k steps, and memory for all `count` numbers.
 ///
-/// Precondition: there are at most `count` slots. Each set of k numbers is the sample for equally
-/// many sequences of draws (`laws::samples_are_fair`). The order of the slots is not uniform: by
-/// the algorithm, the number `count - 1` can only be in the last slot. Shuffle the slots for a
-/// random order.
+/// Each set of k numbers is produced by the same number of sequences of draws
+/// (`laws::samples_are_fair`). The order of the slots is not uniform: the number `count - 1` can
+/// only be in the last slot. Shuffle the slots if you need a random order.
 ///
-/// The only error is `Exhausted`: 128 words in a row were rejected for one slot. The slots before
-/// it then hold the numbers drawn so far, all other slots are as before, and the words stay
-/// consumed. A slice without slots draws nothing.
+/// Returns `Exhausted`, the only error, if 128 words (random integers of 64 bits) in a row were
+/// rejected for one slot. The slots before it then hold the numbers drawn so far, all other slots
+/// are unchanged, and the words stay consumed. If there are no slots, nothing is drawn.
+///
+/// Precondition: there are at most `count` slots.
 pub fn sample<G: Rng<OUTPUT>, const OUTPUT: usize>(
     rng: &mut G,
     count: usize,
@@ -45,13 +47,13 @@ pub fn sample<G: Rng<OUTPUT>, const OUTPUT: usize>(
         places.new ≡ sample.numbers ++ drop (length sample.numbers) places.old }
     ensures state { rng.new ≡ (sampled G.requests (length places.old) count rng.old).state }
 
-    // What holds of a success.
+    // On success.
     ensures whole { let sample = sampled G.requests (length places.old) count rng.old in
         OnOk result (places.new ≡ sample.numbers) }
     ensures below { OnOk result (All (λ number. number < count) places.new) }
     ensures apart { OnOk result (AllPairs (λ number other. number ≢ other) places.new) }
 
-    // What holds in both cases.
+    // In both cases.
     ensures refusal { IfErr result (λ refusal. refusal ≡ Exhausted) }
     ensures words { (n : ℕ) × (n ≤ word_limit * length places.old)
         × (rng.new ≡ after_words G.requests 64 n rng.old) }
@@ -59,17 +61,19 @@ pub fn sample<G: Rng<OUTPUT>, const OUTPUT: usize>(
     extend_sample(rng, count, places, 0, &mut [])
 }
 
-/// Samples as `sample` does, in expected time O(k) for k slots.
+/// Draws a sample as `sample` does, with a table that the caller provides. The expected time is
+/// O(k) for k slots.
 ///
-/// The caller lends a table. Its length and items change nothing but the time: numbers, state and
-/// errors are those of `sample`. In the table, slots whose numbers agree in their low bits are linked
-/// to a chain, so that a number drawn is compared with the slots of one chain. With 3k items a number
-/// meets at most one slot on average; with 2k at most two. With k or fewer there are no chains, and
-/// the time is that of `sample`. What the table holds afterwards means nothing.
+/// The length and the items of the table change only the time: the numbers, the state and the
+/// errors are those of `sample`. The table links the slots whose numbers agree in their low bits to
+/// a chain, so that a new number is compared with the slots of one chain only. A table of 3k items
+/// makes that at most one slot on average, and a table of 2k items at most two. With k items or
+/// fewer there are no chains, and the time is O(k^2). The contents of the table are unspecified
+/// afterwards.
+///
+/// Returns `Exhausted`, the only error, as `sample` does.
 ///
 /// Precondition: there are at most `count` slots.
-///
-/// The only error is `Exhausted`, as `sample` has it.
 pub fn sample_with<G: Rng<OUTPUT>, const OUTPUT: usize>(
     rng: &mut G,
     count: usize,
@@ -82,13 +86,13 @@ pub fn sample_with<G: Rng<OUTPUT>, const OUTPUT: usize>(
         places.new ≡ sample.numbers ++ drop (length sample.numbers) places.old }
     ensures state { rng.new ≡ (sampled G.requests (length places.old) count rng.old).state }
 
-    // What holds of a success.
+    // On success.
     ensures whole { let sample = sampled G.requests (length places.old) count rng.old in
         OnOk result (places.new ≡ sample.numbers) }
     ensures below { OnOk result (All (λ number. number < count) places.new) }
     ensures apart { OnOk result (AllPairs (λ number other. number ≢ other) places.new) }
 
-    // What holds in both cases.
+    // In both cases.
     ensures refusal { IfErr result (λ refusal. refusal ≡ Exhausted) }
     ensures words { (n : ℕ) × (n ≤ word_limit * length places.old)
         × (rng.new ≡ after_words G.requests 64 n rng.old) }
@@ -96,17 +100,20 @@ pub fn sample_with<G: Rng<OUTPUT>, const OUTPUT: usize>(
     extend_sample(rng, count, places, 0, table)
 }
 
-/// Goes on with a sample whose first `filled` slots stand: fills the other slots.
+/// Continues a sample: keeps the first `filled` slots, and fills the others.
 ///
-/// To draw a long sample in pieces, give the whole slice but its end: the first k slots of a sample
-/// are a sample of k of the numbers below `count - (places.len() - k)`. With `filled` 0 this is
-/// `sample_with`, which says what the table is for. The slots that stand are linked anew, in O(k).
+/// Use it to draw a long sample in pieces. Pass the slice without its end first: the first k slots
+/// of a sample are a sample of k of the numbers below `count - (places.len() - k)`. If `filled` is
+/// 0, this is `sample_with`, which describes the table. The slots that are kept are linked into the
+/// table again, which takes O(k).
 ///
-/// Preconditions: there are at most `count` slots, and at most all of them are filled. The sample is
-/// below `count` and without repetition if the slots that stand are below
-/// `count - places.len() + filled` and without repetition.
+/// If the kept slots hold different numbers below `count - places.len() + filled`, then on success
+/// all slots hold different numbers below `count` (`different`).
 ///
-/// The only error is `Exhausted`, as `sample` has it; the slots before it hold the sample so far.
+/// Returns `Exhausted`, the only error, as `sample` does. The slots before the failure hold the
+/// sample so far.
+///
+/// Preconditions: there are at most `count` slots, and `filled` is at most the number of slots.
 pub fn extend_sample<G: Rng<OUTPUT>, const OUTPUT: usize>(
     rng: &mut G,
     count: usize,
@@ -121,14 +128,14 @@ pub fn extend_sample<G: Rng<OUTPUT>, const OUTPUT: usize>(
         places.new ≡ sample.numbers ++ drop (length sample.numbers) places.old }
     ensures state { rng.new ≡ (extended G.requests count rng.old places.old filled).state }
 
-    // What holds of a success.
+    // On success.
     ensures whole { let sample = extended G.requests count rng.old places.old filled in
         OnOk result (places.new ≡ sample.numbers) }
     ensures different { let limit = count - length places.old + filled in
         DifferentBelow limit (take filled places.old)
         → OnOk result (DifferentBelow count places.new) }
 
-    // What holds in both cases.
+    // In both cases.
     ensures refusal { IfErr result (λ refusal. refusal ≡ Exhausted) }
     ensures words { (n : ℕ) × (n ≤ word_limit * (length places.old - filled))
         × (rng.new ≡ after_words G.requests 64 n rng.old) }
@@ -146,7 +153,8 @@ pub fn extend_sample<G: Rng<OUTPUT>, const OUTPUT: usize>(
     Ok(())
 }
 
-// The number that joins the sample: the number drawn, or `last` if the sample holds that already.
+// Returns the number that joins the sample: the number drawn, or `last` if the sample already holds
+// that number.
 fn joining(sample: &[usize], table: &[usize], chains: usize, last: usize, drawn: usize) -> usize
     requires room { 0 < chains → chains + length sample.now ≤ length table.now }
     requires chained { Chained chains sample.now (length sample.now) table.now }
@@ -159,7 +167,7 @@ fn joining(sample: &[usize], table: &[usize], chains: usize, last: usize, drawn:
     }
 }
 
-// Whether the sample holds the number. Without chains it is sought in all of the sample.
+// Returns whether the sample holds the number. Without chains, the whole sample is searched.
 fn holds(sample: &[usize], table: &[usize], chains: usize, number: usize) -> bool
     requires room { 0 < chains → chains + length sample.now ≤ length table.now }
     requires chained { Chained chains sample.now (length sample.now) table.now }
@@ -192,7 +200,7 @@ fn link_all(places: &[usize], filled: usize, table: &mut [usize], chains: usize)
     }
 }
 
-// Puts the slot into the chain of its number, as the last of that chain.
+// Links the slot into the chain of its number, at the head of the chain.
 fn link(places: &[usize], slot: usize, table: &mut [usize], chains: usize)
     requires slot { slot < length places.now }
     requires room { 0 < chains → chains + slot < length table.old }
@@ -207,7 +215,7 @@ fn link(places: &[usize], slot: usize, table: &mut [usize], chains: usize)
     }
 }
 
-// The chain to which a number belongs: its low bits, since the number of chains is a power of two.
+// Returns the chain of a number: its low bits, since the number of chains is a power of two.
 fn chain_of(number: usize, chains: usize) -> usize
     requires { 0 < chains }
     ensures value { result ≡ chain_of chains number }
@@ -216,7 +224,8 @@ fn chain_of(number: usize, chains: usize) -> usize
     number & (chains - 1)
 }
 
-// How many chains there are: the greatest power of two that is no more than the room, or none.
+// Returns the number of chains: the greatest power of two that is at most `room`, or 0 if there is
+// no room.
 fn chains_in(room: usize) -> usize
     ensures power { 0 < room → (k : ℕ) × (result ≡ 2 ^ k) }
     ensures greatest { 0 < room → room < 2 * result }
@@ -242,28 +251,31 @@ fn draw_up_to<G: Rng<OUTPUT>, const OUTPUT: usize>(
     usize::random_range(rng, Bound::Included(0), Bound::Included(last))
 }
 
-/// Samples `chosen.len()` of the items of an iterator, in one pass, without knowing how many come.
+/// Draws a sample of `chosen.len()` items from an iterator, in one pass, without knowing its
+/// length.
 ///
-/// It is Alan Waterman's algorithm R (Knuth, "The Art of Computer Programming", volume 2; Vitter,
+/// This is Alan Waterman's algorithm R (Knuth, "The Art of Computer Programming", volume 2; Vitter,
 /// "Random Sampling with a Reservoir", ACM Transactions on Mathematical Software 11(1), 1985). The
-/// first items fill the slots in turn. Each later item, number i from 0, draws a number from
-/// `0..=i`: if there is a slot of that number, the item replaces what is in it.
+/// first items fill the slots in order. For each later item, which has number i counting from 0, a
+/// number is drawn from `0..=i`: if there is a slot of that number, the item replaces the one in
+/// it.
 ///
-/// It returns how many slots hold items: all of them, unless the iterator ends before. The slots
-/// after these are as before. It takes n steps for n items, and draws n - k numbers with k slots:
-/// none for n up to k. It needs no memory beside the slots. If the items are in a slice,
-/// `samples::sample` of their indices draws k numbers.
+/// Returns the number of filled slots: all of them, unless the iterator ends earlier. The slots
+/// after these are unchanged. For n items and k slots, n steps are taken and n - k numbers are
+/// drawn (none if n is at most k). No memory is needed apart from the slots. If the items are in a
+/// slice, `samples::sample` of their indices draws only k numbers.
 ///
-/// Each set of k items is the sample for equally many sequences of draws
-/// (`laws::reservoirs_are_fair`). The order of the slots is not uniform: by the algorithm, item 0
-/// can only be in slot 0. Shuffle the slots for a random order.
+/// Each set of k items is produced by the same number of sequences of draws
+/// (`laws::reservoirs_are_fair`). The order of the slots is not uniform: item 0 can only be in slot
+/// 0. Shuffle the slots if you need a random order.
 ///
-/// Preconditions: `next` may be called, the iterator ends, and it has fewer than 2^64 items.
+/// Returns `Exhausted`, the only error, if 128 words (random integers of 64 bits) in a row were
+/// rejected for one item. That item is dropped, and the items after it are not taken: pass
+/// `&mut items` to keep them. The slots then hold a sample of the items before it, and the words
+/// stay consumed. If there are no slots, a number is drawn for each item all the same.
 ///
-/// The only error is `Exhausted`: 128 words in a row were rejected for one item. That item is
-/// dropped, and the items after it are not taken; with `&mut items` the caller keeps them. The
-/// slots then hold a sample of the items before it, and the words stay consumed. Without slots, it
-/// draws for each item all the same.
+/// Preconditions: `next` can be called (`can`), the iterator ends (`ends`), and it yields fewer
+/// than 2^64 items (`fits`).
 pub fn reservoir<I: Iterator + Drop, G: Rng<OUTPUT>, const OUTPUT: usize>(
     rng: &mut G,
     items: I,
@@ -275,21 +287,22 @@ where
     requires ends { IsFinite (I.remaining items) }
     requires fits { CountFits I.next_gives I.remaining 0 items }
 
-    // A run is the items that the iterator gave: all of them, unless a draw was refused.
+    // A run is the list of items that the iterator gave: all of them, unless a draw returned an
+    // error.
     ensures sample { SomeRun I.next_gives items (λ run.
         let pass = reservoir G.requests (length chosen.old) run.len rng.old in
         (result ≡ pass.answer)
         × (chosen.new ≡ items_at run.items pass.chosen ++ drop (length pass.chosen) chosen.old)
         × (rng.new ≡ pass.state) × (run.len ≡ pass.taken) × (run.whole ≡ is_ok result)) }
 
-    // What holds of a success, and after a refusal.
+    // On success (`filled`), and after an error (`refused`).
     ensures filled { IfOk result (λ filled. WholeRun I.next_gives items (λ run.
         (filled ≡ min (length chosen.old) run.len)
         × All (Contains run.items) (take filled chosen.new))) }
     ensures refused { OnErr result (SomeRun I.next_gives items (λ run.
         All (Contains run.items) chosen.new)) }
 
-    // What holds in both cases.
+    // In both cases.
     ensures apart { SomeRun I.next_gives items (λ run. (numbers : List ℕ)
         × (chosen.new ≡ items_at run.items numbers ++ drop (length numbers) chosen.old)
         × (length numbers ≡ min (length chosen.old) run.len)
@@ -309,8 +322,8 @@ where
     Ok(taken.min(chosen.len()))
 }
 
-// The slot for an item: its own number for the first items, which fill the slots in turn. A later
-// item draws.
+// Returns the slot for an item: the item's own number for the first items, which fill the slots in
+// order, and a drawn number for a later item.
 fn slot_for<G: Rng<OUTPUT>, const OUTPUT: usize>(
     rng: &mut G,
     item: usize,
@@ -329,7 +342,7 @@ fn slot_for<G: Rng<OUTPUT>, const OUTPUT: usize>(
     }
 }
 
-// Puts the item into the slot, if there is such a slot.
+// Puts the item into the slot, if the slot exists.
 fn place_at<T: Drop>(slots: &mut [T], slot: usize, item: T)
     ensures { slots.new ≡ slice_set slots.old slot item }
 {

@@ -1,4 +1,5 @@
-//! Shuffles as lists of choices, and the shuffle that draws from all indices.
+//! Shuffles as lists of choices, which can be stored, applied and recovered; a partial shuffle; and
+//! the shuffle of `nanorand` 0.7.0.
 ghost use Rattle.std.specs.Prelude.{◌≡◌, ◌≢◌, ℕ, ◌*◌, ◌<◌, ◌≤◌, length, min, slice_index, MatchOption, IfErr, OnOk, OnErr, List, IsPermutation};
 ghost use Rattle.nanorand_core.specs.shuffles.Arrangements.{completed, rising, IsValid, IsArrangement};
 ghost use Rattle.nanorand_core.specs.shuffles.Shuffles.{arranged, from_all, from_itself, partly_shuffled, shuffled};
@@ -11,13 +12,13 @@ use crate::values::{RandomRange, RangeError};
 use std::ops::Bound;
 use thiserror::Error;
 
-/// The list is not a permutation of the numbers below its length.
+/// The error of `choices_of`: the list is not a permutation of the numbers below its length.
 #[derive(Clone, Copy, Debug, PartialEq, Eq, Error)]
 #[error("the list is no arrangement")]
 pub struct NotArrangement;
 
-/// Writes the identity to the slice: 0, 1, .., one number into each slot, as the cards of a deck in
-/// order, or the places of a list.
+/// Writes the identity permutation to the slice: 0, 1, .., one number into each slot. These can be
+/// the cards of a deck in order, or the positions in a list.
 pub fn identity(slots: &mut [usize])
     ensures { slots.new ≡ rising (length slots.old) }
 {
@@ -26,11 +27,14 @@ pub fn identity(slots: &mut [usize])
     }
 }
 
-/// Applies stored choices: for each index i, from 0 up, swaps the items at i and `choices[i]`.
+/// Applies stored choices to the items: for each index i, from 0 up, swaps the items at i and
+/// `choices[i]`.
+///
+/// The result is a permutation of the items. Applying the choices that `shuffle_and_record`
+/// recorded to the items that it started from repeats its shuffle.
 ///
 /// Preconditions: there is one choice for each item, and the choice of index i is i or a later
-/// index. It leaves a permutation of the items. Applied to the items that a shuffle started from,
-/// the choices that `shuffle_and_record` recorded leave the items that the shuffle left.
+/// index.
 pub fn apply_choices<T>(choices: &[usize], items: &mut [T])
     requires lengths { length choices.now ≡ length items.old }
     requires valid { IsValid choices.now }
@@ -42,12 +46,17 @@ pub fn apply_choices<T>(choices: &[usize], items: &mut [T])
     }
 }
 
-/// Writes to `out` the unique valid choices that turn the identity 0, 1, .. into `order`.
+/// Writes to `out` the choices that turn the identity 0, 1, .. into `order`. There is exactly one
+/// such list of valid choices.
 ///
-/// Precondition: `out` and `scratch` are as long as `order`. Their old contents do not matter, and
-/// nothing is allocated. The time is O(n^2) for n numbers. It returns `NotArrangement` exactly if
-/// `order` is not a permutation of the numbers below its length; the contents of `out` are then
-/// unspecified. Those of `scratch` always are.
+/// The old contents of `out` and `scratch` are ignored, and nothing is allocated. The time is
+/// O(n^2) for n numbers.
+///
+/// Returns `NotArrangement` if and only if `order` is not a permutation of the numbers below its
+/// length. The contents of `out` are unspecified then. The contents of `scratch` are always
+/// unspecified afterwards.
+///
+/// Precondition: `out` and `scratch` are as long as `order`.
 pub fn choices_of(
     order: &[usize],
     out: &mut [usize],
@@ -76,7 +85,7 @@ pub fn choices_of(
     Ok(())
 }
 
-// An index from `from` up whose item is `wanted`.
+// Returns an index, `from` or later, whose item is `wanted`.
 fn place_from(items: &[usize], from: usize, wanted: usize) -> Option<usize>
     requires { from ≤ length items.now }
     ensures { MatchOption result
@@ -91,16 +100,17 @@ fn place_from(items: &[usize], from: usize, wanted: usize) -> Option<usize>
     None
 }
 
-/// Shuffles the slice as `Rng::shuffle` does, and records the choices that it draws.
+/// Shuffles the slice as `Rng::shuffle` does, and records the drawn choices in `choices`.
 ///
-/// Precondition: `choices` is as long as `target`; its old contents are overwritten. Result, items
-/// and generator are those of `Rng::shuffle`. On success `choices` holds the drawn choices. Nothing
-/// is allocated. An empty slice draws nothing.
+/// The result, the items and the generator are those of `Rng::shuffle`. The old contents of
+/// `choices` are overwritten. Nothing is allocated. An empty slice draws nothing.
 ///
-/// It returns `Exhausted` if 128 words in a row were rejected for one index. The swaps before that
-/// stay, and the words stay consumed. Then `choices` holds those drawn before the failure, and for
-/// each index from there on that index itself, which moves nothing. So the choices are valid in
-/// both cases, and `apply_choices` repeats with them what was done here.
+/// Returns `Exhausted` if 128 words (random integers of 64 bits) in a row were rejected for one
+/// index. The swaps before that stay, and the words stay consumed. `choices` then holds the choices
+/// drawn before the failure and, for each index from there on, the index itself, which moves
+/// nothing. So the choices are valid in this case too, and `apply_choices` repeats what was done.
+///
+/// Precondition: `choices` is as long as `target`.
 pub fn shuffle_and_record<G: Rng<OUTPUT>, T, const OUTPUT: usize>(
     rng: &mut G,
     target: &mut [T],
@@ -134,13 +144,15 @@ pub fn shuffle_and_record<G: Rng<OUTPUT>, T, const OUTPUT: usize>(
 /// Shuffles the beginning of the slice: makes the first `count` steps of `Rng::shuffle`, or all of
 /// them if there are fewer items.
 ///
-/// The first `count` items are then a selection from all items, in random order, and the other
-/// items follow. For each index below `count`, from 0 up, it swaps the item there with the one at
-/// an index drawn from that index and all later ones. It returns `Exhausted` if 128 words in a row
-/// were rejected for one index. The swaps before that stay, and the words stay consumed. A `count`
-/// of 0 or an empty slice draws nothing.
+/// The first `count` items are then a random selection from all items, in random order, and the
+/// other items follow. For each index i below `count`, from 0 up, an index is drawn from i to the
+/// last one, and the items at i and at that index are swapped. The time is O(`count`).
 ///
-/// The law `partial_shuffles` says what it has in common with the whole shuffle.
+/// Returns `Exhausted` if 128 words (random integers of 64 bits) in a row were rejected for one
+/// index. The swaps before that stay, and the words stay consumed. If `count` is 0 or the slice is
+/// empty, nothing is drawn.
+///
+/// The law `partial_shuffles` compares it with the whole shuffle.
 pub fn partial_shuffle<G: Rng<OUTPUT>, T, const OUTPUT: usize>(
     rng: &mut G,
     target: &mut [T],
@@ -169,13 +181,15 @@ pub fn partial_shuffle<G: Rng<OUTPUT>, T, const OUTPUT: usize>(
     Ok(())
 }
 
-/// Shuffles the slice as the Rust crate `nanorand` 0.7.0 does: for each index, from 0 up, swaps the
-/// item there with the one at an index drawn from the whole slice.
+/// Shuffles the slice as the Rust crate `nanorand` 0.7.0 does: for each index i, from 0 up, swaps
+/// the item at i with the one at an index drawn from the whole slice.
 ///
-/// It is not the shuffle of Fisher and Yates, whose partners come from the rest of the slice alone.
-/// It leaves a permutation of the items, but several lists of choices make the same permutation. It
-/// returns `Exhausted` if 128 words in a row were rejected for one index. The swaps before that
-/// stay, and the words stay consumed. An empty slice draws nothing.
+/// This is not the Fisher-Yates shuffle, which draws only from i and the indices after it. The
+/// result is a permutation of the items. Several lists of choices produce the same permutation, so
+/// the shuffle is biased for three or more items.
+///
+/// Returns `Exhausted` if 128 words (random integers of 64 bits) in a row were rejected for one
+/// index. The swaps before that stay, and the words stay consumed. An empty slice draws nothing.
 pub fn shuffle_full<G: Rng<OUTPUT>, T, const OUTPUT: usize>(
     rng: &mut G,
     target: &mut [T],

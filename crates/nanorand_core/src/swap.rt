@@ -4,9 +4,11 @@ ghost use Rattle.std.specs.List.{swap};
 
 /// Swaps the items at two indices, which may be equal.
 ///
-/// Both indices are below the length. A shuffle asks for equal indices at random, and std's `swap`
-/// tests for them: in short slices its branch is often predicted wrongly, which costs more than the
-/// swap. Here both items are read, and both are written, in any case.
+/// Both items are read and written in any case, without a branch. `swap` of Rattle's std tests
+/// whether the indices are equal. In a shuffle they are equal at random, so in short slices that
+/// branch is often mispredicted, which costs more than the swap.
+///
+/// Precondition: both indices are below the length.
 pub fn swap<T>(items: &mut [T], a: usize, b: usize)
     requires { (a < length items.old) × (b < length items.old) }
     ensures { items.new ≡ swap items.old a b }

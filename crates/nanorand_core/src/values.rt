@@ -15,16 +15,17 @@ use crate::rand::Rng;
 pub use range::{RandomRange, RangeError};
 pub use word::pick_word;
 
-/// A type whose values can be drawn from a generator. A draw of a value cannot be refused.
+/// A type whose values can be drawn from a generator. Drawing a value cannot return an error.
+/// `OUTPUT` is the number of bytes in a block of the generator.
 ///
-/// There are no floats: draw a number below a power of two with `choices::below`, and an event that
+/// A request is one read of n bytes from the generator. An integer of N bits takes one request of
+/// N / 8 bytes, in little-endian order; signed types are in two's complement. `usize` and `isize`
+/// have 64 bits. An array of N bytes takes one request of N bytes.
+///
+/// There are no floats. Draw a number below a power of two with `choices::below`, and an event that
 /// happens in n of m cases with `choices::ratio`.
-///
-/// An integer of N bits takes one request of N / 8 bytes, read least byte first, the signed types
-/// in two's complement. `usize` and `isize` have 64 bits. An array of N bytes takes one request of
-/// N bytes.
 pub trait RandomGen<G: Rng<OUTPUT>, const OUTPUT: usize> {
-    // The value that is drawn in a state.
+    // The value that is drawn from a state.
     ghost value: { G → Self };
 
     // The state after that draw.
@@ -36,7 +37,7 @@ pub trait RandomGen<G: Rng<OUTPUT>, const OUTPUT: usize> {
         ensures state { rng.new ≡ state_after rng.old };
 }
 
-/// Takes one byte, and is true if it is below 128.
+/// Takes one byte; the value is true if the byte is below 128.
 impl<G: Rng<OUTPUT>, const OUTPUT: usize> RandomGen<G, OUTPUT> for bool {
     ghost value = { λ g. truth_of (G.requests.bytes g 1) };
 
@@ -48,19 +49,21 @@ impl<G: Rng<OUTPUT>, const OUTPUT: usize> RandomGen<G, OUTPUT> for bool {
     }
 }
 
-/// Fills the slice by a closure: calls `draw` once for each item, in the order of the items.
+/// Fills the slice by calling `draw` once for each item, in the order of the items.
 ///
-/// It is `Rng::fill` for draws that are no type of their own, as a range or a choice. For an empty
-/// slice `draw` is not called.
+/// Use it in place of `Rng::fill` for draws that have no type of their own, such as a range or a
+/// choice. For an empty slice `draw` is not called.
 ///
-/// `ran`: the items are what the calls returned, one after another. The other clauses follow from
-/// what holds of every call. `values`: if a call returns a function of the state before it, and
-/// leaves another function of it, the items are the values of these two. `state`: if a call leaves
-/// a function of the state before it, the state is that after one call for each item. `words`: if a
-/// call makes at most `most` steps, such as the 128 words of a range, all calls together make at
-/// most `most` steps per item. `all`: if the value of a call passes a test, all items pass.
+/// Precondition: the closure can be called in every state of the generator.
 ///
-/// Precondition: the closure may be called at any state.
+/// `ran`: the items are what the calls returned, in order, and the generator is left as the last
+/// call left it. The other clauses follow from what holds for every call. `values`: if each call
+/// returns `value` of the state before it and leaves `after` of that state, then the items are the
+/// values that these two functions give, one after another. `state`: if each call leaves `after` of
+/// the state before it, then the final state is that after one such step for each item. `words`: if
+/// each call makes at most `most` steps, such as the 128 words of a range, then all calls together
+/// make at most `most` steps for each item. `all`: if the value of each call passes a test, then
+/// all items pass it.
 pub fn fill_with<G, T: Drop, F: FnMut(&mut G) -> T>(rng: &mut G, target: &mut [T], mut draw: F)
     requires { F.IsAlwaysCallable draw }
     ensures ran { CallsReturn (CalledAtMut F.FnMut) draw rng.old target.new rng.new }
@@ -79,7 +82,7 @@ pub fn fill_with<G, T: Drop, F: FnMut(&mut G) -> T>(rng: &mut G, target: &mut [T
     }
 }
 
-// The next `SIZE` bytes, by one request.
+// Returns the next `SIZE` bytes, by one request.
 #[inline]
 fn next_bytes<G: Rng<OUTPUT>, const SIZE: usize, const OUTPUT: usize>(rng: &mut G) -> [u8; SIZE]
     ensures bytes { result ≡ G.requests.bytes rng.old SIZE }

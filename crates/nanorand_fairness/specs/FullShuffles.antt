@@ -1,5 +1,5 @@
--- Shuffles whose partners are drawn from all indices, as `shuffle_full` draws them: some orders
--- come more often than others.
+-- Shuffles whose partners are drawn from all indices, as `shuffle_full` draws them. They are
+-- biased: some orders are more frequent than others.
 use Rattle.std.specs.Prelude.{◌≡◌, ◌≢◌, ℕ, ◌*◌, ◌^◌, ◌≤◌, ◌==◌, List, [], ◌∷◌, length, replicate}
 use Rattle.std.specs.Cmp.Lexicographic.{pointwise}
 use Rattle.nanorand_core.specs.samples.Samples.{factorial}
@@ -7,31 +7,33 @@ use Rattle.nanorand_core.specs.shuffles.Arrangements.{rising, IsArrangement}
 use Rattle.nanorand_core.specs.shuffles.Shuffles.{arranged}
 use Rattle.nanorand_fairness.specs.InTurn.{number_lists_that, quotas, word_lists_that}
 
--- How many lists of n choices make the order of n items, where each choice is any of the n indices.
+-- The number of lists of n choices that make this order of n items, where each choice is any of the
+-- n indices.
 abbrev pub choices_making : List ℕ → ℕ
 choices_making order =
     let n = length order in
     number_lists_that (replicate n n)
     (λ choices. pointwise ◌==◌ (arranged choices (rising n)) order)
 
--- For three items or more, the n^n lists of choices cannot be shared equally by the n! orders: n!
--- does not divide n^n.
+-- For three items or more, the n^n lists of choices cannot be divided equally among the n! orders:
+-- n! does not divide n^n.
 abbrev pub OrdersCannotShare : Type 0
 OrdersCannotShare = (n m : ℕ) → 3 ≤ n → n ^ n ≢ m * factorial n
 
--- So not all orders of n items are made by equally many lists of choices.
+-- So not all orders of n items are made by the same number of lists of choices.
 abbrev pub OrdersAreUnequal : Type 0
 OrdersAreUnequal =
     (n m : ℕ) → 3 ≤ n
     → ¬ ((order : List ℕ) → length order ≡ n → IsArrangement order → choices_making order ≡ m)
 
--- Of the 27 lists of choices of three items, five exchange the first two, and four leave all in
--- place.
+-- Of the 27 lists of choices of three items, five exchange the first two items, and four leave all
+-- items in place.
 abbrev pub ThreeItemsPreferOrders : Type 0
 ThreeItemsPreferOrders =
     (choices_making (1 ∷ 0 ∷ 2 ∷ []) ≡ 5) × (choices_making (0 ∷ 1 ∷ 2 ∷ []) ≡ 4)
 
--- Words prefer orders as choices do: each list of choices is drawn by equally many lists of words.
+-- Words have the same bias as choices: each list of choices is drawn by the same number of lists of
+-- words.
 abbrev pub WordsPreferOrders : Type 0
 WordsPreferOrders =
     (order : List ℕ) → let n = length order in n ≤ 2 ^ 64

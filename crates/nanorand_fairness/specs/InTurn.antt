@@ -7,14 +7,15 @@ use Rattle.nanorand_core.specs.values.Draws.{word_limit}
 use Rattle.nanorand_core.specs.values.Fairness.{swapped_word, swapped_number}
 use Rattle.nanorand_fairness.specs.Lists.{lists_that}
 
--- What follows the next word of a draw: one thing if it names a number, another if it is rejected.
+-- What follows the next word of a draw: one value if the word names a number, another if it is
+-- rejected.
 abbrev pub by_word : {A : Type 0} → Option ℕ → (ℕ → A) → A → A
 by_word (Some number) decides rejects = decides number
 by_word None decides rejects = rejects
 
--- Draws below sizes of a list, one after another, from one list of words of `bits` bits. The first
--- draw may still take `left` words, each later one 128. Draws end at the first refused one, at the
--- last size, or where the words end.
+-- Draws of numbers below the sizes of a list, one after another, from one list of words of `bits`
+-- bits. The first draw may take `left` more words, and each later one 128. The draws end when one
+-- takes no number from its words, after the last size, or at the end of the words.
 module _ (bits : ℕ) where
   -- The numbers drawn.
   abbrev pub numbers_from : List ℕ → ℕ → List ℕ → List ℕ
@@ -28,7 +29,7 @@ module _ (bits : ℕ) where
   abbrev pub numbers_in_turn : List ℕ → List ℕ → List ℕ
   numbers_in_turn sizes words = numbers_from sizes word_limit words
 
-  -- For each word that is taken, whether it names a number.
+  -- For each word taken, whether it names a number.
   abbrev pub deciding_from : List ℕ → ℕ → List ℕ → List Bool
   deciding_from [] left words = []
   deciding_from (size ∷ sizes) zero words = []
@@ -40,18 +41,19 @@ module _ (bits : ℕ) where
   abbrev pub deciding_in_turn : List ℕ → List ℕ → List Bool
   deciding_in_turn sizes words = deciding_from sizes word_limit words
 
-  -- How many lists of n words draw a number below each size, and pass a test on these numbers.
+  -- The number of lists of n words that draw a number below each size and whose numbers pass a
+  -- test.
   abbrev pub word_lists_that : ℕ → List ℕ → (List ℕ → Bool) → ℕ
   word_lists_that n sizes test =
       lists_that bits n (λ words. let numbers = numbers_in_turn sizes words in
       length numbers == length sizes && test numbers)
 
-  -- The product of the numbers of words that name one number below each size.
+  -- The product, over the sizes, of the number of words that name one number.
   abbrev pub quotas : List ℕ → ℕ
   quotas [] = 1
   quotas (size ∷ sizes) = quota bits size * quotas sizes
 
--- How many lists of numbers, one below each size, pass a test.
+-- The number of lists of numbers, one below each size, that pass a test.
 abbrev pub number_lists_that : List ℕ → (List ℕ → Bool) → ℕ
 number_lists_that [] test = if test [] then 1 else 0
 number_lists_that (size ∷ sizes) test =
@@ -62,16 +64,16 @@ number_lists_that (size ∷ sizes) test =
 abbrev pub AreSizes : ℕ → List ℕ → Type 0
 AreSizes bits sizes = All (λ size. (1 ≤ size) × (size ≤ 2 ^ bits)) sizes
 
--- Of the lists with one word for each size, every list of numbers is drawn by equally many: the
--- product of the quotas. So a test is passed by that many for each list of numbers that passes it.
+-- Of the lists with one word for each size, the same number draws every list of numbers: the
+-- product of the quotas. So the number of lists of words whose numbers pass a test is this product,
+-- times the number of lists of numbers that pass it.
 abbrev pub NumbersInTurnAreFair : Type 0
 NumbersInTurnAreFair =
     (bits : ℕ) (sizes : List ℕ) (test : List ℕ → Bool) → IsWordWidth bits → AreSizes bits sizes
     → word_lists_that bits (length sizes) sizes test
     ≡ number_lists_that sizes test * quotas bits sizes
 
--- The same with rejections: of all lists of n words, every list of numbers is drawn by equally
--- many.
+-- The same with rejections: of all lists of n words, the same number draws every list of numbers.
 abbrev pub RejectionsPreferNothing : Type 0
 RejectionsPreferNothing =
     (bits n : ℕ) (sizes : List ℕ) (test : List ℕ → Bool) → IsWordWidth bits → AreSizes bits sizes
@@ -84,14 +86,14 @@ pub record Exchange : Type 0 where
   pub one : ℕ
   pub other : ℕ
 
--- It can be made on words of `bits` bits.
+-- The exchange can be made on words of `bits` bits.
 pub record IsExchange (bits : ℕ) (e : Exchange) : Type 0 where
   pub fits : e.size ≤ 2 ^ bits
   pub one : e.one < e.size
   pub other : e.other < e.size
 
--- The words with the runs of both numbers exchanged, for the words of each draw by its exchange.
--- Words that no draw takes stay.
+-- The words with the runs of both numbers exchanged; the words of each draw are changed by the
+-- exchange of that draw. Words that no draw takes are unchanged.
 module _ (bits : ℕ) where
   abbrev pub swapped_from : List Exchange → ℕ → List ℕ → List ℕ
   swapped_from [] left words = words
@@ -112,8 +114,8 @@ swapped_numbers (e ∷ exchanges) [] = []
 swapped_numbers (e ∷ exchanges) (number ∷ numbers) =
     swapped_number e.one e.other number ∷ swapped_numbers exchanges numbers
 
--- Exchanging runs word by word is an involution on lists of words. It keeps the length and which
--- words are rejected, and exchanges the numbers drawn.
+-- Exchanging runs word by word is an involution on lists of words. It keeps the length of the list
+-- and which words are rejected, and exchanges the numbers drawn.
 pub record SwapsInTurn (bits : ℕ) (exchanges : List Exchange) (words : List ℕ) : Type 0 where
   pub fits : All (λ word. word < 2 ^ bits) words
       → All (λ word. word < 2 ^ bits) (swapped_in_turn bits exchanges words)

@@ -1,4 +1,5 @@
--- What a reader of the fairness laws must believe.
+-- The definitions that give the fairness laws their meaning. To rely on the laws, a reader has to
+-- check them.
 pub mod Lists
 pub mod InTurn
 pub mod Deals

@@ -1,4 +1,4 @@
--- Samples by a reservoir, made of the numbers that words draw in turn.
+-- Reservoir samples, made from the numbers that words draw in turn.
 use Rattle.std.specs.Prelude.{◌≡◌, ℕ, ◌+◌, ◌-◌, ◌*◌, ◌^◌, ◌<◌, ◌≤◌, Bool, true, List, [], ◌∷◌, count_by, slice_set}
 use Rattle.std.specs.List.{list_all, range_with_len}
 use Rattle.nanorand_core.specs.generators.Blocks.{Requests}
@@ -11,25 +11,25 @@ use Rattle.nanorand_fairness.specs.InTurn.{quotas, numbers_in_turn, word_lists_t
 abbrev pub later_sizes : ℕ → ℕ → List ℕ
 later_sizes size count = range_with_len (size + 1) (count - size)
 
--- The sample after draws with these results, the first of them for item i.
+-- The sample after draws with these results. The first result is for item i.
 abbrev pub replaced_by : ℕ → List ℕ → List ℕ → List ℕ
 replaced_by i [] chosen = chosen
 replaced_by i (slot ∷ slots) chosen = replaced_by (i + 1) slots (slice_set chosen slot i)
 
--- The sample of `size` items: it begins with the first `size` items.
+-- The sample of `size` items. The pass begins with the first `size` items in the slots.
 abbrev pub reservoir_by : ℕ → List ℕ → List ℕ
 reservoir_by size slots = replaced_by size slots (range_with_len 0 size)
 
--- Of all lists of n words that draw a whole sample, rejected words included, exactly `size` of
--- every `count` have a given item in the sample.
+-- Of all lists of n words that draw a whole sample, rejected words included, exactly the fraction
+-- size / count has a given item in the sample.
 abbrev pub SampledItemsAreFair : Type 0
 SampledItemsAreFair =
     (size count n item : ℕ) → size ≤ count → count ≤ 2 ^ 64 → item < count
     → let lists = word_lists_that 64 n (later_sizes size count) in
     lists (λ slots. holds item (reservoir_by size slots)) * count ≡ size * lists (λ slots. true)
 
--- Each set of `size` of `count` items is sampled by equally many lists of words: (count - size)!
--- times the product of the quotas. A test gives the set.
+-- Each set of `size` of `count` items is sampled by the same number of lists of words:
+-- (count - size)! times the product of the quotas. The set is given by a test.
 abbrev pub SampledItemSetsAreFair : Type 0
 SampledItemSetsAreFair =
     (size count : ℕ) (test : ℕ → Bool) → size ≤ count → count ≤ 2 ^ 64
@@ -38,7 +38,7 @@ SampledItemSetsAreFair =
     (λ slots. list_all test (reservoir_by size slots))
     ≡ factorial (count - size) * quotas 64 (later_sizes size count)
 
--- The same with rejections: of all lists of n words, any two sets are sampled by equally many.
+-- The same with rejections: any two sets are sampled by the same number of lists of n words.
 abbrev pub NoItemSetIsPreferred : Type 0
 NoItemSetIsPreferred =
     (size count n : ℕ) (test other : ℕ → Bool) → size ≤ count → count ≤ 2 ^ 64
@@ -48,7 +48,8 @@ NoItemSetIsPreferred =
     lists (λ slots. list_all test (reservoir_by size slots))
     ≡ lists (λ slots. list_all other (reservoir_by size slots))
 
--- The items that `reservoir` keeps are those by the numbers that its words draw in turn.
+-- The items that `reservoir` keeps are those that follow from the numbers that its words draw in
+-- turn.
 abbrev pub ReservoirsDrawInTurn : {G : Type 0} → Requests G → Type 0
 ReservoirsDrawInTurn {G} requests =
     (size count : ℕ) (g : G) → size ≤ count → count ≤ 2 ^ 64

@@ -1,4 +1,5 @@
--- Samples by Floyd's algorithm, made of the numbers that words draw in turn.
+-- Samples by Floyd's algorithm, made from the numbers that words draw in turn. `count` is the size
+-- of the population, and `size` that of the sample.
 use Rattle.std.specs.Prelude.{◌≡◌, ℕ, ◌+◌, ◌-◌, ◌*◌, ◌^◌, ◌≤◌, Bool, List, [], ◌∷◌, count_by}
 use Rattle.std.specs.List.{list_all, range_with_len}
 use Rattle.nanorand_core.specs.generators.Blocks.{Requests}
@@ -10,13 +11,13 @@ use Rattle.nanorand_fairness.specs.InTurn.{quotas, numbers_in_turn, word_lists_t
 abbrev pub sample_sizes : ℕ → ℕ → List ℕ
 sample_sizes size count = range_with_len (count - size + 1) size
 
--- The sample after draws with these results, the first of them a number up to `last`.
+-- The sample after draws with these results. The first result is a number from 0 to `last`.
 abbrev pub sample_by : ℕ → List ℕ → List ℕ → List ℕ
 sample_by last [] sample = sample
 sample_by last (drawn ∷ draws) sample = sample_by (last + 1) draws (joined last drawn sample)
 
--- Each set of `size` of the numbers below `count` is sampled by equally many lists of words: size!
--- times the product of the quotas. A test gives the set.
+-- Each set of `size` of the numbers below `count` is sampled by the same number of lists of words:
+-- size! times the product of the quotas. The set is given by a test.
 abbrev pub SampledSetsAreFair : Type 0
 SampledSetsAreFair =
     (size count : ℕ) (test : ℕ → Bool) → size ≤ count → count ≤ 2 ^ 64
@@ -25,7 +26,7 @@ SampledSetsAreFair =
     (λ draws. list_all test (sample_by (count - size) draws []))
     ≡ factorial size * quotas 64 (sample_sizes size count)
 
--- The same with rejections: of all lists of n words, any two sets are sampled by equally many.
+-- The same with rejections: any two sets are sampled by the same number of lists of n words.
 abbrev pub NoSetIsPreferred : Type 0
 NoSetIsPreferred =
     (size count n : ℕ) (test other : ℕ → Bool) → size ≤ count → count ≤ 2 ^ 64
@@ -35,7 +36,7 @@ NoSetIsPreferred =
     lists (λ draws. list_all test (sample_by (count - size) draws []))
     ≡ lists (λ draws. list_all other (sample_by (count - size) draws []))
 
--- The numbers of `sample` are those by the numbers that its words draw in turn.
+-- The numbers of `sample` are those that follow from the numbers that its words draw in turn.
 abbrev pub SamplesDrawInTurn : {G : Type 0} → Requests G → Type 0
 SamplesDrawInTurn {G} requests =
     (size count : ℕ) (g : G) → size ≤ count → count ≤ 2 ^ 64

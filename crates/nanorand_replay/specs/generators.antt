@@ -1,2 +1,2 @@
--- A buffer over any generator.
+-- A buffered generator over any generator.
 pub mod Buffered

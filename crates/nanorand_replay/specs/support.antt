@@ -1,2 +1,2 @@
--- Nobody has to believe the file in this folder: lemmas that laws of impls cite.
+-- Not needed to understand the contracts: lemmas that laws of impls cite.
 pub mod BufferedLemmas

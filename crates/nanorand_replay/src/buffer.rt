@@ -13,13 +13,14 @@ use std::io::{self, Read};
 use std::marker::Model;
 use thiserror::Error;
 
-/// A generator that delivers the blocks of another one as one stream, and buffers the bytes that a
-/// request leaves over.
+/// A generator that delivers the blocks of another generator as one stream of bytes, and buffers
+/// the bytes that a request leaves over.
 ///
-/// A request of n bytes takes the buffered bytes first, and then draws the least number of inner
-/// blocks that covers the rest, by the inner `rand`. The bytes that it does not deliver, always
-/// less than a block, stay buffered for the next request. It may wrap any generator, another
-/// `BufferedRng` too.
+/// A request is one read of n bytes. It takes the buffered bytes first, and then draws as few
+/// blocks as cover the rest, by `rand` of the inner generator. `OUTPUT` is the number of bytes of a
+/// block. The bytes of the last block that are not delivered, always fewer than a block, stay
+/// buffered for the next request. The inner generator may be any generator, including another
+/// `BufferedRng`.
 #[derive(Drop)]
 pub struct BufferedRng<G: Rng<OUTPUT>, const OUTPUT: usize> {
     inner: G,
@@ -27,8 +28,9 @@ pub struct BufferedRng<G: Rng<OUTPUT>, const OUTPUT: usize> {
     cursor: usize,
 }
 
-// The view is the pair of the buffered bytes and the inner generator. The buffered bytes are those
-// of the block from the cursor on; the bytes before it mean nothing.
+// The model of the generator is the pair of the buffered bytes and the inner generator. The
+// buffered bytes are those of the block from the cursor on; the bytes before the cursor have no
+// meaning.
 impl<G: Rng<OUTPUT>, const OUTPUT: usize> Model for BufferedRng<G, OUTPUT> {
     ghost use Rattle.std.specs.Prelude.{◌≡◌, ◌<◌, ◌≤◌, length, drop};
     ghost use Rattle.nanorand_replay.specs.generators.Buffered.{Buffered, buffered_code};
@@ -42,18 +44,18 @@ impl<G: Rng<OUTPUT>, const OUTPUT: usize> Model for BufferedRng<G, OUTPUT> {
     ghost invariant = { λ b. (0 < b.cursor) × (b.cursor ≤ OUTPUT) × (length b.block ≡ OUTPUT) };
 }
 
-/// The error of `read_to_string`: the stream has no end and is not text.
+/// The error of `read_to_string`: the stream never ends and is not text.
 #[derive(Clone, Copy, Debug, PartialEq, Eq, Error)]
 #[error("a generator cannot be read into a string")]
 pub struct TextRefused;
 
-/// The error of `BufferedRng::with_rest`: the bytes fill a block or more.
+/// The error of `BufferedRng::with_rest`: the bytes would fill a block or more.
 #[derive(Clone, Copy, Debug, PartialEq, Eq, Error)]
 #[error("a buffer holds less than a block")]
 pub struct RestTooLong;
 
 impl<G: Rng<OUTPUT>, const OUTPUT: usize> BufferedRng<G, OUTPUT> {
-    /// Wraps a generator. Nothing is buffered yet, and nothing is drawn.
+    /// Wraps a generator. The buffer is empty, and nothing is drawn.
     #[inline]
     pub fn new(rng: G) -> Self
         ensures rest { result.rest ≡ [] }
@@ -66,9 +68,10 @@ impl<G: Rng<OUTPUT>, const OUTPUT: usize> BufferedRng<G, OUTPUT> {
         }
     }
 
-    /// Wraps a generator, with the bytes of `rest` buffered, the next one first. Nothing is drawn.
+    /// Wraps a generator and buffers the bytes of `rest`, which are delivered first, in their
+    /// order. Nothing is drawn.
     ///
-    /// It returns `RestTooLong` if the bytes fill a block or more. The generator is dropped then.
+    /// Returns `RestTooLong` if `rest` has `OUTPUT` bytes or more. The generator is dropped then.
     pub fn with_rest(rng: G, rest: &[u8]) -> Result<Self, RestTooLong>
     where
         G: Drop,
@@ -89,10 +92,11 @@ impl<G: Rng<OUTPUT>, const OUTPUT: usize> BufferedRng<G, OUTPUT> {
         })
     }
 
-    /// The buffered bytes, the next one first: always less than a block.
+    /// Returns the buffered bytes in the order in which they will be delivered. They are always
+    /// fewer than a block.
     ///
-    /// They and the state of `inner` are what has to be stored of a buffer: `with_rest` of both
-    /// makes an equal one.
+    /// To store a buffered generator, store these bytes and the state of `inner`. `with_rest`
+    /// restores an equal one from the two.
     #[inline]
     pub fn rest(&self) -> &[u8]
         ensures value { result.now ≡ self.now.rest }
@@ -102,7 +106,7 @@ impl<G: Rng<OUTPUT>, const OUTPUT: usize> BufferedRng<G, OUTPUT> {
         &bytes[self.cursor..]
     }
 
-    /// The inner generator, as the blocks drawn so far left it.
+    /// Returns the inner generator, in the state that the blocks drawn so far have left.
     #[inline]
     pub fn inner(&self) -> &G
         ensures { result.now ≡ self.now.inner }
@@ -110,7 +114,7 @@ impl<G: Rng<OUTPUT>, const OUTPUT: usize> BufferedRng<G, OUTPUT> {
         &self.inner
     }
 
-    /// Returns the inner generator. The buffered bytes are dropped.
+    /// Returns the inner generator and drops the buffered bytes.
     #[inline]
     pub fn into_inner(self) -> G
         ensures { result ≡ self.inner }
@@ -118,7 +122,7 @@ impl<G: Rng<OUTPUT>, const OUTPUT: usize> BufferedRng<G, OUTPUT> {
         self.inner
     }
 
-    /// The number of buffered bytes, always less than a block.
+    /// Returns the number of buffered bytes, which is always less than a block.
     #[inline]
     pub fn buffered(&self) -> usize
         ensures value { result ≡ length self.now.rest }
@@ -127,13 +131,14 @@ impl<G: Rng<OUTPUT>, const OUTPUT: usize> BufferedRng<G, OUTPUT> {
         OUTPUT - self.cursor
     }
 
-    /// Appends the buffered bytes alone to `out`, empties the buffer, and returns how many bytes it
-    /// appended.
+    /// Appends only the buffered bytes to `out`, empties the buffer, and returns how many bytes
+    /// were appended.
     ///
-    /// Nothing is drawn. If the buffer is empty, nothing is allocated, the vector keeps its capacity,
-    /// and the call returns 0. It returns an error only if the vector has too little room, when the
-    /// allocator refuses to grow it. The items and the capacity of the vector and the buffer are then
-    /// unchanged.
+    /// Nothing is drawn, since the stream has no end. If the buffer is empty, the call allocates
+    /// nothing, leaves the capacity of the vector as it is, and returns 0.
+    ///
+    /// Returns an error only if the vector has too little room and cannot be grown. The items and
+    /// the capacity of the vector, and the buffer, are unchanged then.
     pub fn read_to_end<A: Allocator>(&mut self, out: &mut Vec<u8, A>) -> Result<usize, AllocError>
         ensures count { IfOk result (λ count. count ≡ length self.old.rest) }
         ensures appended { OnOk result (out.new.items ≡ out.old.items ++ self.old.rest) }
@@ -142,7 +147,7 @@ impl<G: Rng<OUTPUT>, const OUTPUT: usize> BufferedRng<G, OUTPUT> {
         ensures capacity_stays { OnErr result (vec_capacity out.new ≡ vec_capacity out.old) }
         ensures buffer_stays { OnErr result (self.new ≡ self.old) }
 
-        // It fails only if the vector had too little room, and so never for an empty buffer.
+        // It fails only if the vector had too little room, so never if the buffer is empty.
         ensures full { let kept = length self.old.rest in
             OnErr result (vec_capacity out.old < vec_len out.old + kept) }
         ensures empty { self.old.rest ≡ [] → IsOk result }
@@ -154,13 +159,13 @@ impl<G: Rng<OUTPUT>, const OUTPUT: usize> BufferedRng<G, OUTPUT> {
         }
         let bytes = &self.block[..];
         out.reserve(count)?;
-        // There is room now, so this never fails.
+        // The vector has room now, so this cannot fail.
         out.extend_from_slice(&bytes[self.cursor..])?;
         self.cursor = OUTPUT;
         Ok(count)
     }
 
-    /// Changes nothing. It always returns `TextRefused`.
+    /// Changes neither the string nor the generator. Always returns `TextRefused`.
     pub fn read_to_string<A: Allocator>(
         &mut self,
         out: &mut String<A>,
@@ -174,8 +179,9 @@ impl<G: Rng<OUTPUT>, const OUTPUT: usize> BufferedRng<G, OUTPUT> {
     }
 }
 
-/// Equal buffered bytes, and the generator that the inner `clone` returns, whatever that is. It
-/// allocates nothing itself, so it never fails if the inner clone never does.
+/// The clone has the same buffered bytes, and the generator that `clone` of the inner generator
+/// returns. `BufferedRng` itself allocates nothing, so cloning never fails if cloning the inner
+/// generator never does.
 impl<G: Rng<OUTPUT>, const OUTPUT: usize> Clone for BufferedRng<G, OUTPUT> {
     ghost is_clone = { λ b c. (c.rest ≡ b.rest) × G.is_clone b.inner c.inner };
 
@@ -190,8 +196,8 @@ impl<G: Rng<OUTPUT>, const OUTPUT: usize> Clone for BufferedRng<G, OUTPUT> {
     }
 }
 
-/// Equal if the buffered bytes are and the inner generators are. Bytes that were delivered do not
-/// count.
+/// Two buffered generators are equal if their buffered bytes are equal and their inner generators
+/// are equal. Bytes that were already delivered are not compared.
 impl<G: Rng<OUTPUT> + PartialEq, const OUTPUT: usize> PartialEq for BufferedRng<G, OUTPUT> {
     ghost eq = { λ b c. pointwise ◌==◌ b.rest c.rest && G.eq b.inner c.inner };
 
@@ -260,7 +266,8 @@ where
 {
     ghost seeded = { λ b seed. buffer_of b.rest (G.seeded b.inner seed) };
 
-    /// Reseeds the inner generator. The buffered bytes stay, and are delivered first.
+    /// Reseeds the inner generator. The buffered bytes stay, and are delivered before the new
+    /// stream.
     fn reseed(&mut self, seed: [u8; SEED_SIZE])
         ensures { self.new ≡ buffer_of self.old.rest (G.seeded self.old.inner seed.entry) }
     {
@@ -268,7 +275,7 @@ where
     }
 }
 
-/// `BufferedRng::new` of the inner generator's default.
+/// Wraps the default of the inner generator, by `BufferedRng::new`.
 impl<G: Rng<OUTPUT> + Default, const OUTPUT: usize> Default for BufferedRng<G, OUTPUT> {
     ghost is_default = { λ b. (b.rest ≡ []) × G.is_default b.inner };
 
@@ -278,7 +285,7 @@ impl<G: Rng<OUTPUT> + Default, const OUTPUT: usize> Default for BufferedRng<G, O
 }
 
 /// Fills the whole slice as `fill_bytes` does, and returns its length. The stream never ends.
-/// Nothing is promised about the provided methods of `Read`.
+/// Nothing is guaranteed about the provided methods of `Read`.
 impl<G: Rng<OUTPUT>, const OUTPUT: usize> Read for BufferedRng<G, OUTPUT> {
     fn read(&mut self, buf: &mut [u8]) -> io::Result<usize>
         ensures bound { ReadsAtMost result buf.new }
@@ -292,7 +299,8 @@ impl<G: Rng<OUTPUT>, const OUTPUT: usize> Read for BufferedRng<G, OUTPUT> {
     }
 }
 
-// Delivers the buffered bytes first and then further blocks, and buffers what is left over.
+// Delivers the buffered bytes first, then further blocks, and buffers what the last block leaves
+// over.
 #[inline(always)]
 fn deliver<G: Rng<OUTPUT>, const OUTPUT: usize>(
     inner: &mut G,
@@ -313,24 +321,29 @@ fn deliver<G: Rng<OUTPUT>, const OUTPUT: usize>(
 {
     let start = *cursor;
     let bytes = &block[..];
-    // Asked so, a length that the compiler knows takes one comparison.
+    // Written in this order, the test is a single comparison if the compiler knows the length of
+    // `out`.
     if out.len() <= OUTPUT && start <= OUTPUT - out.len() {
         let end = start + out.len();
         out.copy_from_slice(&bytes[start..end]);
         *cursor = end;
     } else {
-        // The cursor is never past the block. Said here, it spares a check at each slice.
+        // The cursor is never beyond the block. Stating it here removes a bounds check from each
+        // slice below.
         let start = OUTPUT.min(start);
         let kept = OUTPUT - start;
         out[..kept].copy_from_slice(&bytes[start..]);
-        // In Rust the inner generator may panic: these bytes do not come again then.
+        // In Rust the inner generator may panic. The bytes delivered above must not be delivered
+        // again after that.
         *cursor = OUTPUT;
-        // Stored here, and not there, the cursor of a loop of draws stays in a register.
+        // The cursor is stored here and not in `deliver_blocks`, so that a loop of draws keeps it
+        // in a register.
         *cursor = deliver_blocks(inner, block, &mut out[kept..]);
     }
 }
 
-// As `deliver` with an empty buffer, whose bytes mean nothing. Returns the cursor.
+// Does the same as `deliver` with an empty buffer, whatever bytes `block` holds, and returns the
+// new cursor.
 fn deliver_blocks<G: Rng<OUTPUT>, const OUTPUT: usize>(
     inner: &mut G,
     block: &mut [u8; OUTPUT],

@@ -1,4 +1,4 @@
-//! Laws of buffers and replays, over every generator. Each contract states a law. The functions do
+//! Laws of buffers and replays, for every generator. Each contract states a law. The functions do
 //! nothing; a proof calls one to use its law.
 ghost use Rattle.std.specs.Prelude.{◌≡◌, ◌<◌, length, sum, ℕ, List, []};
 ghost use Rattle.nanorand_core.specs.generators.Blocks.{taken};
@@ -10,15 +10,16 @@ ghost use Rattle.nanorand_replay.specs.replay.Unbroken.{IsUnbroken, WordsFollow,
 use crate::buffer::BufferedRng;
 use nanorand_core::{Blocks, Rng};
 
-/// A `BufferedRng` over any generator delivers one unbroken stream, whatever requests it is split
-/// into.
+/// A `BufferedRng` over any generator delivers one unbroken stream, however it is divided into
+/// requests (reads of n bytes).
 ///
 /// `unbroken`: two requests in a row take the same bytes and leave the same state as one request
 /// for the sum of their sizes, and so does any list of requests. A replay leaves the state that one
 /// request for all the bytes of its calls would leave. `stream`: the buffer's own blocks, joined,
-/// are the buffered bytes and then the inner blocks. `below`: if less than a block is buffered, less
-/// than a block is buffered after each request. `words`: n words drawn one after another are the bytes
-/// of one request for n words, a word after the other, least byte first.
+/// are the buffered bytes followed by the inner blocks. `below`: if less than a block is buffered,
+/// less than a block is buffered after each request. `words`: a word is a random integer of N bits.
+/// n words drawn one after another are the bytes of one request for n words: word after word, each
+/// in little-endian order.
 pub fn unbroken_delivery<G: Rng<OUTPUT>, const OUTPUT: usize>()
     ensures unbroken { IsUnbroken ⟦<BufferedRng<G, OUTPUT> as Rng<OUTPUT>>⟧.requests }
     ensures stream { (b : Buffered G) (n : ℕ) →
@@ -31,11 +32,11 @@ pub fn unbroken_delivery<G: Rng<OUTPUT>, const OUTPUT: usize>()
         WordsFollow requests bits n b }
 {}
 
-/// A fresh `BufferedRng`, with nothing buffered, delivers the bytes of its inner generator.
+/// A new `BufferedRng`, whose buffer is empty, delivers the bytes of its inner generator.
 ///
-/// `one`: a request takes the bytes that the same request to the inner generator takes. `all`: any
-/// list of requests takes, one after another, the bytes of one request to the inner generator for
-/// the sum of their sizes.
+/// `one`: a request takes the bytes that the same request to the inner generator takes. `all`: the
+/// requests of any list take, one after another, the bytes of one request to the inner generator
+/// for the sum of their sizes.
 pub fn fresh_delivery<G: Rng<OUTPUT>, const OUTPUT: usize>()
     ensures one { (g : G) (n : ℕ) →
         buffered_taken G.block G.step OUTPUT (buffer_of [] g) n ≡ G.requests.bytes g n }
@@ -44,15 +45,16 @@ pub fn fresh_delivery<G: Rng<OUTPUT>, const OUTPUT: usize>()
         ≡ G.requests.bytes g (sum sizes) }
 {}
 
-/// `==` of two `BufferedRng` is true exactly if their states are equal, where the same holds of `==`
-/// of their inner generators.
+/// `==` of two `BufferedRng` is true if and only if their states are equal, provided that this
+/// holds for `==` of their inner generators.
 pub fn equal_buffers<G: Rng<OUTPUT> + PartialEq, const OUTPUT: usize>()
     ensures { DecidesEquality G.eq
         → DecidesEquality ⟦<BufferedRng<G, OUTPUT> as PartialEq>⟧.eq }
 {}
 
-/// Replaying two lists of calls one after the other is replaying their concatenation, over every
-/// generator: a replay that is stopped, stored and resumed gives what the whole replay gives.
+/// Replaying two lists of calls one after the other is the same as replaying their concatenation,
+/// for every generator. So a replay that is stopped, stored and resumed gives what the whole replay
+/// gives.
 pub fn replays_join<G: Rng<OUTPUT>, const OUTPUT: usize>()
     ensures { ReplaysJoin G.requests }
 {}

@@ -1,8 +1,8 @@
-//! Buffers and replays over any generator: the requests of a buffer join without a break, and a list
-//! of calls can be replayed.
+//! Buffers and replays for any generator: the requests of a buffered generator join without a
+//! break, and a list of calls can be replayed.
 //!
 //! The traits, values and shuffles are those of `nanorand_core`. The crate `nanorand` has the
-//! generators, and everything of this crate under the same paths.
+//! generators, and all items of this crate under the same paths.
 #![tactic(auto)]
 
 pub mod buffer;

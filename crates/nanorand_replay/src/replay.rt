@@ -1,4 +1,5 @@
-//! Lists of calls on a generator, made in order, with one answer each.
+//! Replays lists of calls: makes the calls of a list in order on a generator, and records one
+//! answer for each.
 ghost use Rattle.std.specs.Prelude.{◌≡◌, length};
 ghost use Rattle.nanorand_replay.specs.replay.Replay.{outcome, replayed, size_of, value_of, span_outcome, unsigned_answer, signed_answer, refusal_answer};
 
@@ -61,12 +62,12 @@ pub enum Span {
     Usize(Bound<usize>, Bound<usize>),
 }
 
-/// A call on a generator.
+/// A call of a method of a generator.
 #[derive(Drop)]
 pub enum Call {
     /// Draws a value of a type, as `Rng::generate` does.
     Gen(Kind),
-    /// Draws a number of a range, as `Rng::generate_range` does.
+    /// Draws a number from a range, as `Rng::generate_range` does.
     Range(Span),
     /// Shuffles the items, as `Rng::shuffle` does.
     Shuffle,
@@ -81,10 +82,10 @@ pub enum Answer {
     Signed(i128),
     /// A `bool`.
     Truth(bool),
-    /// The range has no number, and nothing was drawn.
+    /// The range is empty, and nothing was drawn.
     Empty,
-    /// 128 words in a row were rejected, for a number or for one index of a shuffle. They stay
-    /// consumed.
+    /// 128 words (random integers of the type's width) in a row were rejected, for a number or for
+    /// one index of a shuffle. They stay consumed.
     Exhausted,
     /// The items were shuffled.
     Shuffled,
@@ -92,10 +93,12 @@ pub enum Answer {
 
 /// Makes the calls in order on the generator, and writes one answer for each.
 ///
-/// Precondition: `answers` is as long as `calls`; both may be empty. A call that fails is answered
-/// by `Empty` or `Exhausted` and does not stop the list. The replay itself always succeeds, and
-/// nothing is allocated. Equal generators, items and calls give equal answers, items and
+/// The list of calls and the items may be empty. A call that fails is answered by `Empty` or
+/// `Exhausted`, and the replay continues with the next call. The replay itself always succeeds, and
+/// nothing is allocated. Equal generators, items and calls produce equal answers, items and
 /// generators.
+///
+/// Precondition: `answers` is as long as `calls`.
 pub fn replay<G: Rng<OUTPUT>, const OUTPUT: usize>(
     rng: &mut G,
     calls: &[Call],

@@ -1,6 +1,6 @@
--- ChaCha's rounds and block, after Daniel J. Bernstein ("ChaCha, a variant of Salsa20", 2008). A
--- word is a 32-bit word, a number below 2^32, and a matrix is the list of its sixteen words, row by
--- row.
+-- The rounds of ChaCha and its block, after Daniel J. Bernstein ("ChaCha, a variant of Salsa20",
+-- 2008). Here a word is a 32-bit word, that is, a number below 2^32, and a matrix is the list of
+-- its sixteen words, row by row.
 use Rattle.std.specs.Prelude.{◌≡◌, ℕ, ◌+◌, ◌/◌, ◌%◌, ◌^◌, ◌<◌, List, [], ◌∷◌, length, map, bit_xor, slice_index}
 use Rattle.std.specs.Fn.{iterate}
 use Rattle.std.specs.Int.{w32, rotate_left}
@@ -14,7 +14,7 @@ Words = ℕ × ℕ × ℕ × ℕ
 abbrev pub add : ℕ → ℕ → ℕ
 add a b = (a + b) % 2 ^ 32
 
--- d xored with a, and then rotated left by n bits.
+-- The xor of d and a, rotated left by n bits.
 abbrev pub xor_rotate : ℕ → ℕ → ℕ → ℕ
 xor_rotate d a n = rotate_left w32 (bit_xor d a) n
 
@@ -31,7 +31,7 @@ quarter_round (a, b, c, d) =
     let b'' = xor_rotate b' c'' 7 in
     (a'', b'', c'', d'')
 
--- f of the four words of a matrix at the indices a, b, c and d.
+-- f applied to the four words of a matrix at the indices a, b, c and d.
 abbrev pub line : (Words → Words) → List ℕ → ℕ → ℕ → ℕ → ℕ → Words
 line f x a b c d = f (slice_index x a, slice_index x b, slice_index x c, slice_index x d)
 
@@ -71,12 +71,12 @@ unfoldable pub rounds : ℕ → List ℕ → List ℕ
 rounds R x = iterate pair_of_rounds (R / 2) x
 
 -- The block of a matrix, as words: the matrix after R rounds plus the matrix itself, word by word,
--- modulo 2^32. It has sixteen words, whatever list is given.
+-- modulo 2^32. It has sixteen words, whatever the list is.
 unfoldable pub block : ℕ → List ℕ → List ℕ
 block R x = map (λ k. add (slice_index (rounds R x) k) (slice_index x k)) (range_with_len 0 16)
 
--- A list is a matrix: it has sixteen words, each below 2^32. (`slice_index` past the end of a list
--- is 0.)
+-- A list is a matrix: it has sixteen words, each below 2^32. (`slice_index` beyond the end of a
+-- list is 0.)
 pub record IsMatrix (x : List ℕ) : Type 0 where
   pub sixteen : length x ≡ 16
   pub words : (k : ℕ) → slice_index x k < 2 ^ 32

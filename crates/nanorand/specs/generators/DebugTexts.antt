@@ -5,7 +5,7 @@ use Rattle.std.specs.Fmt.{digits, decimal}
 use Rattle.std.specs.List.{concat}
 use Rattle.nanorand.specs.generators.Pcg64.{Generator}
 
--- The digits of a number in lower-case hexadecimal, without leading zeros.
+-- The digits of a number as lower-case hexadecimal, without leading zeros.
 abbrev pub hexadecimal : ℕ → List ℕ
 hexadecimal n = digits 16 false n
 
@@ -20,14 +20,15 @@ pcg64_debug g =
     ∷ hexadecimal g.state
     ∷ codes ", inc: 0x" ∷ hexadecimal g.inc ∷ codes " }" ∷ [])
 
--- The text for a ChaCha with this number of rounds and this counter. The name is `ChaCha20` for
--- every number of rounds, as in the Rust crate. Nothing of the key or the nonce is written.
+-- The text for a ChaCha with this number of rounds and this counter. The name in the text is
+-- `ChaCha20` for every number of rounds, as in the Rust crate. The text shows nothing of the key
+-- and the nonce.
 abbrev pub chacha_debug : ℕ → ℕ → List ℕ
 chacha_debug rounds counter =
     concat (codes "ChaCha20 { rounds: " ∷ decimal rounds ∷ codes ", counter: " ∷ decimal counter
     ∷ codes " }" ∷ [])
 
--- The text for a generator of ChaCha's groups.
+-- The text for a generator of groups of ChaCha blocks.
 abbrev pub chacha_groups_debug : ℕ → ℕ → List ℕ
 chacha_groups_debug rounds counter =
     concat (codes "ChaChaGroups { rounds: " ∷ decimal rounds ∷ codes ", counter: "

@@ -1,4 +1,4 @@
--- Pcg64: a linear congruential generator on a seed below 2^128. A draw multiplies the seed by
+-- Pcg64: a linear congruential generator with a seed below 2^128. A draw multiplies the seed by
 -- `factor` and adds `term`, modulo 2^128.
 use Rattle.std.specs.Prelude.{◌≡◌, ◌⊎◌, ◌==◌, Bool, ℕ, zero, suc, ◌+◌, ◌*◌, ◌%◌, ◌^◌, List}
 use Rattle.std.specs.Ordering.{on, eq_of_both}
@@ -11,11 +11,11 @@ use Rattle.nanorand_core.specs.values.Values.{number_of}
 abbrev pub multiplier : ℕ
 multiplier = 47026247687942121848144207491837523525
 
--- What a draw multiplies the seed by.
+-- The number by which a draw multiplies the seed.
 abbrev pub factor : ℕ
 factor = (3 * multiplier * multiplier + 2 * multiplier + 2) % 2 ^ 128
 
--- What a draw then adds.
+-- The number that a draw then adds.
 abbrev pub term : ℕ
 term = (multiplier * multiplier + multiplier + 1) % 2 ^ 128
 
@@ -23,8 +23,8 @@ term = (multiplier * multiplier + multiplier + 1) % 2 ^ 128
 abbrev pub next_seed : ℕ → ℕ
 next_seed seed = (factor * seed + term) % 2 ^ 128
 
--- The modelled state of a Pcg64. Only the seed decides what is drawn: a draw writes `state` and
--- `inc`, and no draw reads them.
+-- The state of a Pcg64 in the model. Only the seed determines what is drawn: a draw writes `state`
+-- and `inc`, and no draw reads them.
 pub record Generator : Type 0 where
   pub seed : ℕ
   pub state : ℕ
@@ -34,8 +34,7 @@ pub record Generator : Type 0 where
 abbrev pub initial_generator : ℕ → Generator
 initial_generator seed = record { seed = seed; state = 0; inc = 0 }
 
--- The generator that a seed of 16 bytes gives: the seed is their number, least significant byte
--- first.
+-- The generator made from a seed of 16 bytes: the seed is their little-endian number.
 abbrev pub seeded_generator : List ℕ → Generator
 seeded_generator seed = initial_generator (number_of seed)
 
@@ -48,17 +47,17 @@ next g = record {
   inc = (2 * g.seed + 1) % 2 ^ 128;
 }
 
--- The next block: the eight bytes of the new seed's word, least significant byte first. The word of
+-- The next block: the eight bytes of the word of the new seed, in little-endian order. The word of
 -- a seed is the xor of its two 64-bit halves.
 abbrev pub pcg64_block : Generator → List ℕ
 pcg64_block g = to_le_bytes w64 (folded (next_seed g.seed))
 
--- The requests of a Pcg64: a plain generator with blocks of 8 bytes.
+-- The requests of a Pcg64: those of a generator without a buffer, whose blocks have 8 bytes.
 abbrev pub pcg64_requests : Requests Generator
 pcg64_requests = plain pcg64_block next 8
 
--- The generator reseeded with these bytes: the seed is their number, least significant byte first,
--- and `state` and `inc` stay as they are.
+-- The generator reseeded with these bytes: the seed is their little-endian number, and `state` and
+-- `inc` are unchanged.
 abbrev pub reseeded : Generator → List ℕ → Generator
 reseeded g bytes = record { seed = number_of bytes; state = g.state; inc = g.inc }
 
@@ -72,7 +71,7 @@ unfoldable pub geometric_sum : ℕ → ℕ → ℕ
 geometric_sum a zero = 0
 geometric_sum a (suc n) = geometric_sum a n + a ^ n
 
--- s after n times x ↦ a * x + c, in closed form.
+-- The result of applying x ↦ a * x + c to s n times, in closed form.
 unfoldable pub affine_after : ℕ → ℕ → ℕ → ℕ → ℕ
 affine_after a c n s = a ^ n * s + c * geometric_sum a n
 
@@ -81,7 +80,7 @@ abbrev pub seed_after : ℕ → ℕ → ℕ
 seed_after n seed = affine_after factor term n seed % 2 ^ 128
 
 -- The generator after n draws, in closed form: `state` is its seed, and `inc` is made from the seed
--- one draw earlier. Zero draws change nothing.
+-- one draw earlier. After 0 draws it is unchanged.
 abbrev pub pcg64_after : ℕ → Generator → Generator
 pcg64_after zero g = g
 pcg64_after (suc n) g = record {

@@ -4,7 +4,7 @@ use Rattle.std.specs.Int.{w64, to_le_bytes}
 use Rattle.nanorand_core.specs.generators.Blocks.{Requests, plain}
 use Rattle.nanorand.specs.generators.Halves.{folded}
 
--- What one draw adds to the seed, modulo 2^64.
+-- The number that a draw adds to the seed, modulo 2^64.
 abbrev pub increment : ℕ
 increment = 0xa0761d6478bd642f
 
@@ -12,16 +12,16 @@ increment = 0xa0761d6478bd642f
 abbrev pub next_seed : ℕ → ℕ
 next_seed seed = (seed + increment) % 2 ^ 64
 
--- The 64-bit word that a new seed gives: the 128-bit product of the seed and the seed xored with a
--- constant, folded.
+-- The 64-bit word of a new seed: the 128-bit product of the seed and (the seed xor a constant),
+-- folded.
 abbrev pub word : ℕ → ℕ
 word seed = folded (seed * bit_xor seed 0xe7037ed1a0b428db)
 
--- The next block: the eight bytes of the new seed's word, least significant byte first.
+-- The next block: the eight bytes of the word of the new seed, in little-endian order.
 abbrev pub wyrand_block : ℕ → List ℕ
 wyrand_block seed = to_le_bytes w64 (word (next_seed seed))
 
--- The requests of a WyRand: a plain generator with blocks of 8 bytes.
+-- The requests of a WyRand: those of a generator without a buffer, whose blocks have 8 bytes.
 abbrev pub wyrand_requests : Requests ℕ
 wyrand_requests = plain wyrand_block next_seed 8
 
@@ -29,7 +29,7 @@ wyrand_requests = plain wyrand_block next_seed 8
 abbrev pub seed_after : ℕ → ℕ → ℕ
 seed_after n seed = (seed + n * increment) % 2 ^ 64
 
--- The state after n draws. Zero draws leave every number as it is, even one that is no seed.
+-- The state after n draws. After 0 draws every number is unchanged, even one that is not a seed.
 abbrev pub wyrand_after : ℕ → ℕ → ℕ
 wyrand_after zero seed = seed
 wyrand_after (suc n) seed = seed_after (suc n) seed

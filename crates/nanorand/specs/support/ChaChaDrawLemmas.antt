@@ -1,5 +1,5 @@
--- Lemmas about ChaCha's blocks and many draws. Nobody has to believe this file: it is in specs/
--- only because laws of impls cite its lemmas.
+-- Lemmas about blocks of ChaCha and many draws. Not needed to understand the contracts: this file
+-- is in specs/ only because laws of impls cite its lemmas.
 use Rattle.std.proofs.Common.{◌≡◌, ◌≢◌, ℕ, zero, suc, ◌+◌, ◌/◌, ◌%◌, ◌^◌, ◌<◌, ◌≤◌, ◌↔◌, List, [], ◌∷◌, length, take}
 use Rattle.std.proofs.Common.{drop, slice_index, slice_range, set, refl, sym, ap, ◌∙◌, arith, add-one, ⊎_elim}
 use Rattle.std.proofs.Common.{length-set, get_or-set_other}
@@ -28,7 +28,7 @@ with_counter-twice x m n =
     ∙ ap (λ (y : List ℕ). set y 13 high) (set-set x 12 (m % 2 ^ 32) low))
     ∙ set-set (set x 12 low) 13 high (n / 2 ^ 32)
 
--- the counter that was set is read back, if the list has both of its words
+-- a counter that was set is read back, if the list has both of its words
 pub counter-with_counter : (x : List ℕ) (n : ℕ) → 13 < length x → counter (with_counter x n) ≡ n
 counter-with_counter x n long =
     let low_there : 12 < length x = omega arith in
@@ -39,8 +39,8 @@ counter-with_counter x n long =
       get_or-set_same (set x 12 (n % 2 ^ 32)) 13 (n / 2 ^ 32) 0 high_there,
     ) (omega arith)
 
--- a list of at most thirteen words has no high half of a counter, and one of at most twelve no
--- counter
+-- a list of at most thirteen words has no high half of the counter, and one of at most twelve has
+-- no counter at all
 with_counter-short : (x : List ℕ) (n : ℕ) → length x ≤ 13 → with_counter x n ≡ set x 12 (n % 2 ^ 32)
 with_counter-short x n short =
     set_past (set x 12 (n % 2 ^ 32)) 13 (n / 2 ^ 32) (omega (arith, length-set x 12 (n % 2 ^ 32)))
@@ -48,7 +48,7 @@ with_counter-short x n short =
 with_counter-none : (x : List ℕ) (n : ℕ) → length x ≤ 12 → with_counter x n ≡ x
 with_counter-none x n none = with_counter-short x n (omega arith) ∙ set_past x 12 (n % 2 ^ 32) none
 
--- m blocks later, and then n more
+-- n blocks after m blocks are m + n blocks
 advanced-twice : (m n : ℕ) (x : List ℕ) → advanced n (advanced m x) ≡ advanced (m + n) x
 advanced-twice m n x =
     with_counter-twice x first ((counter (with_counter x first) + n) % 2 ^ 64)
@@ -95,12 +95,12 @@ chacha_steps = draws_leave next_state chacha_after chacha_none chacha_more
 pub chacha_adds : DrawsAdd chacha_after
 chacha_adds = draws_add next_state chacha_after chacha_none chacha_more
 
--- draws move the counter alone
+-- draws change only the counter
 pub with_counter-after : (n m : ℕ) (x : List ℕ) → with_counter (chacha_after n x) m ≡ with_counter x m
 with_counter-after zero m x = refl
 with_counter-after (suc n) m x = with_counter-twice x _ m
 
--- setting the counter that a matrix has changes nothing
+-- setting the counter of a matrix to its own value changes nothing
 with_counter-same : (x : List ℕ) → IsMatrix x → with_counter x (counter x % 2 ^ 64) ≡ x
 with_counter-same x matrix =
     let low : slice_index x 12 < 2 ^ 32 = matrix.words 12 in
@@ -109,7 +109,7 @@ with_counter-same x matrix =
     let high_is : counter x % 2 ^ 64 / 2 ^ 32 ≡ slice_index x 13 = omega arith in
     rw (low_is, high_is, set-get_or x 12 0) (set-get_or x 13 0)
 
--- at a matrix, the state after n draws is the closed form
+-- from a matrix, the state after n draws is the closed form
 pub chacha_closed : (n : ℕ) (x : List ℕ) → IsMatrix x → chacha_after n x ≡ advanced n x
 chacha_closed zero x matrix =
     let none : counter x ≡ counter x + 0 = omega arith in
@@ -147,7 +147,7 @@ unfolding nonce_of
 chacha_nonce zero x = refl
 chacha_nonce (suc n) x = ap bytes (nonce-set x _ _)
 
--- setting one word to a word keeps all words below 2^32
+-- replacing one element by a 32-bit word keeps all elements below 2^32
 words-set : (x : List ℕ) (i word : ℕ) → ((k : ℕ) → slice_index x k < 2 ^ 32) → word < 2 ^ 32
     → (k : ℕ) → slice_index (set x i word) k < 2 ^ 32
 words-set [] i word words fits k = words k
@@ -156,7 +156,7 @@ words-set (a ∷ x) zero word words fits (suc k) = words (suc k)
 words-set (a ∷ x) (suc i) word words fits zero = words zero
 words-set (a ∷ x) (suc i) word words fits (suc k) = words-set x i word (λ j. words (suc j)) fits k
 
--- draws keep a matrix a matrix
+-- draws lead from a matrix to a matrix
 pub chacha_matrix : (n : ℕ) (x : List ℕ) → IsMatrix x → IsMatrix (chacha_after n x)
 chacha_matrix zero x matrix = matrix
 chacha_matrix (suc n) x matrix =
@@ -167,12 +167,12 @@ chacha_matrix (suc n) x matrix =
       words = words-set low 13 (c / 2 ^ 32) (words-set x 12 (c % 2 ^ 32) matrix.words (omega arith)) (omega arith);
     }
 
--- block n is the block of the state whose counter is n more
+-- block n is the block of the state with n added to the counter
 pub chacha_blocks : (R n : ℕ) (x : List ℕ) → IsMatrix x
     → chacha_block R (iterate next_state n x) ≡ chacha_block R (advanced n x)
 chacha_blocks R n x matrix = ap (chacha_block R) (chacha_steps n x ∙ chacha_closed n x matrix)
 
--- i draws and j draws lead to the same state exactly if i and j agree modulo 2^64
+-- i draws and j draws lead to the same state if and only if i and j agree modulo 2^64
 pub chacha_agree : (i j : ℕ) (x : List ℕ) → IsMatrix x → (chacha_after i x ≡ chacha_after j x) ↔ (i % 2 ^ 64 ≡ j % 2 ^ 64)
 chacha_agree i j x matrix = (
   λ same.

@@ -1,5 +1,5 @@
--- Lemmas about blocks drawn by groups. Nobody has to believe this file: it is in specs/ only because
--- laws of impls cite its lemmas.
+-- Lemmas about blocks drawn in groups. Not needed to understand the contracts: this file is in
+-- specs/ only because laws of impls cite its lemmas.
 use Rattle.std.proofs.Common.{◌≡◌, ℕ, zero, suc, ◌+◌, ◌-◌, ◌*◌, ◌<◌, ◌≤◌, List, [], ◌++◌, length, take, refl, sym, ap, ◌∙◌, arith}
 use Rattle.std.proofs.lemmas.List.{take_at}
 use Rattle.std.proofs.Math.Nat.{suc-mul, zero-mul}
@@ -17,7 +17,7 @@ use Rattle.nanorand.specs.support.ChaChaDrawLemmas.{chacha_steps, length-chacha_
 one_more : (n k : ℕ) → k + n * k ≡ suc n * k
 one_more n k = omega (arith, suc-mul n k)
 
--- Blocks by groups of k.
+-- Blocks in groups of k.
 module _ {G : Type 0} (step : G → G) (k : ℕ) where
   -- n groups of k steps are n * k steps
   pub steps_grouped : (g : G) (n : ℕ) → iterate (iterate step k) n g ≡ iterate step (n * k) g
@@ -44,7 +44,7 @@ module _ {G : Type 0} (block : G → List ℕ) (step : G → G) (k : ℕ) where
         ∙ ap (take (m * output)) (blocks_add block step g m (m * output - m))
         ∙ take_at _ _ (m * output) (length-blocks block step output positive size g m)
 
-    -- a request takes the same bytes of groups as of blocks
+    -- a request takes the same bytes from the groups as from the blocks
     pub taken_grouped : 0 < k → (g : G) (n : ℕ) → taken (λ x. blocks block step x k) (iterate step k) g n ≡ taken block step g n
     unfolding taken
     taken_grouped some g n =
@@ -59,12 +59,12 @@ pub taken_chacha_group : (R : ℕ) (x : List ℕ) → taken (chacha_block R) nex
 unfolding chacha_group
 taken_chacha_group R x = taken_whole (chacha_block R) next_state 8 64 (omega arith) (length-chacha_block R) x 8
 
--- and leaves the state after it
+-- and it leaves the state after that group
 pub after_chacha_group : (x : List ℕ) → plain_after next_state 64 x 512 ≡ next_group x
 unfolding next_group
 after_chacha_group x = refl
 
--- a request takes the same bytes of ChaCha's groups as of its blocks
+-- a request takes the same bytes from groups of ChaCha blocks as from the blocks
 pub taken_chacha_groups : (R : ℕ) (x : List ℕ) (n : ℕ) → taken (chacha_group R) next_group x n ≡ taken (chacha_block R) next_state x n
 unfolding chacha_group next_group
 taken_chacha_groups R x n = taken_grouped (chacha_block R) next_state 8 64 (omega arith) (length-chacha_block R) (omega arith) x n
@@ -74,8 +74,8 @@ pub steps_of_groups : (n : ℕ) (x : List ℕ) → iterate next_group n x ≡ it
 unfolding next_group
 steps_of_groups n x = steps_grouped next_state 8 x n
 
--- The stream of a key and a nonce, over groups with a buffer: two requests are one of their total
--- size,
+-- The stream of a key and a nonce, which has groups and a buffer: two requests are the same as one
+-- of their total size,
 pub stream_states_join : (R : ℕ) (b : Buffered (List ℕ)) (m n : ℕ)
     → (stream_requests R).after ((stream_requests R).after b m) n ≡ (stream_requests R).after b (m + n)
 stream_states_join R = after_add (chacha_group R) next_group 512 (omega arith) (length-chacha_group R)
@@ -93,11 +93,11 @@ stream_stays R b n =
     ap (λ (x : List ℕ). buffer_of [] (with_counter x 0)) (steps_of_groups q b.inner ∙ chacha_steps (q * 8) b.inner)
     ∙ ap (buffer_of []) (with_counter-after (q * 8) 0 b.inner)
 
--- its byte 0 is its byte 0,
+-- returning to byte 0 twice is the same as returning once,
 pub stream_restarts : (b : Buffered (List ℕ)) → stream_start (stream_start b) ≡ stream_start b
 stream_restarts b = ap (buffer_of []) (with_counter-twice b.inner 0 0)
 
--- and each of its blocks leads back to its first byte
+-- and from every block, returning to byte 0 leads to the same state
 pub stream_starts : (key nonce : List ℕ) (index : ℕ) → stream_start (buffer_of [] (state_at key nonce index)) ≡ buffer_of [] (state_at key nonce 0)
 unfolding state_at
 stream_starts key nonce index = ap (buffer_of []) (with_counter-twice (initial_state key nonce) index 0)

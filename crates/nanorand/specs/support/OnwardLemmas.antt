@@ -1,5 +1,6 @@
--- Requests go onward by draws. Nobody has to believe this file: it is in specs/ only because laws
--- of impls cite its lemmas. An implementation of `Parts` of your own may cite `onward_8`.
+-- Requests advance by whole draws. Not needed to understand the contracts: this file is in specs/
+-- only because laws of impls cite its lemmas. Your own implementation of `Parts` may cite
+-- `onward_8`.
 use Rattle.std.proofs.Common.{◌≡◌, ℕ, zero, suc, ◌+◌, ◌-◌, ◌*◌, ◌<◌, ◌≤◌, List, inl, inr, refl, sym, ◌∙◌, ap, arith}
 use Rattle.std.proofs.Math.Nat.{suc-mul}
 use Rattle.std.specs.Fn.{iterate}
@@ -16,7 +17,7 @@ pub draws-leave : {G : Type 0} (requests : Requests G) (n : ℕ) (g : G) → aft
 unfolding after_draws
 draws-leave requests n g = refl
 
--- of a plain generator with blocks of eight bytes or more, whose draw is a block
+-- for a generator without a buffer whose blocks have eight bytes or more, so that a draw is a block
 module _ {G : Type 0} (block : G → List ℕ) (step : G → G) (output : ℕ) (none : div_ceil 0 output ≡ 0) (one : div_ceil 8 output ≡ 1)
     (fewer : (n : ℕ) → div_ceil n output ≤ div_ceil n 8) (some : (n : ℕ) → 0 < n → 0 < div_ceil n output) where
   steps : (n : ℕ) (g : G) → iterate (after_word (plain block step output) 64) n g ≡ iterate step n g
@@ -37,7 +38,7 @@ module _ {G : Type 0} (block : G → List ℕ) (step : G → G) where
   pub onward_64 : (g : G) (n : ℕ) → GoesOnward (plain block step 64) n g
   onward_64 = onward-plain block step 64 refl refl (λ n. omega arith) (λ n positive. omega arith)
 
--- of a generator that delivers its requests without a break, whose draw is eight bytes
+-- for a generator that delivers its requests without a break, so that a draw is eight bytes
 module _ {G : Type 0} (requests : Requests G) (nothing : (g : G) → requests.after g 0 ≡ g)
     (adds : (g : G) (m n : ℕ) → requests.after (requests.after g m) n ≡ requests.after g (m + n)) where
   iterated : (n : ℕ) (g : G) → iterate (after_word requests 64) n g ≡ requests.after g (n * 8)
@@ -60,7 +61,7 @@ module _ {G : Type 0} (requests : Requests G) (nothing : (g : G) → requests.af
         adds g n rest ∙ ap (requests.after g) (omega arith) ∙ sym (bytes-of-draws m g),
       )
 
--- of a stream of ChaCha
+-- for a stream of ChaCha
 module _ (R : ℕ) where
   stream_nothing : (b : Buffered (List ℕ)) → (stream_requests R).after b 0 ≡ b
   stream_nothing = after_nothing (chacha_group R) next_group 512 (omega arith) (length-chacha_group R)

@@ -1,5 +1,5 @@
--- Lemmas about many draws of Pcg64. Nobody has to believe this file: it is in specs/ only because
--- laws of impls cite its lemmas.
+-- Lemmas about many draws of Pcg64. Not needed to understand the contracts: this file is in specs/
+-- only because laws of impls cite its lemmas.
 use Rattle.std.proofs.Common.{◌≡◌, ℕ, zero, suc, ◌+◌, ◌*◌, ◌%◌, ◌^◌, ◌<◌, refl, sym, ap, ◌∙◌, arith, add-one}
 use Rattle.std.proofs.Math.Nat.{pow-zero, pow-suc, mod-eq_of_lt, add-zero, add-suc}
 use Rattle.std.specs.Fn.{iterate}
@@ -9,7 +9,7 @@ use Rattle.nanorand_core.specs.support.IterateLemmas.{draws_leave, draws_add}
 use Rattle.nanorand.specs.generators.Halves.{folded}
 use Rattle.nanorand.specs.generators.Pcg64.{factor, term, next_seed, Generator, next, pcg64_block, geometric_sum, affine_after, seed_after, pcg64_after}
 
--- a geometric sum from its other end
+-- a geometric sum, extended at its other end
 geometric_sum-more : (a n : ℕ) → geometric_sum a (suc n) ≡ a * geometric_sum a n + 1
 unfolding geometric_sum
 geometric_sum-more a zero = let first : 0 + a ^ 0 ≡ a * 0 + 1 = omega (arith, pow-zero a) in first
@@ -41,7 +41,7 @@ seed_after-zero s = ap (λ (t : ℕ). t % 2 ^ 128) (affine_after-zero factor ter
 pub seed_after-suc : (n s : ℕ) → seed_after (suc n) s ≡ next_seed (seed_after n s)
 seed_after-suc n s = omega (arith, affine_after-suc factor term n s)
 
--- m draws and then n draws
+-- n draws after m draws are m + n draws
 pub seed_after-add : (m n s : ℕ) → seed_after (m + n) s ≡ seed_after n (seed_after m s)
 seed_after-add m zero s = ap (λ (k : ℕ). seed_after k s) (add-zero m) ∙ omega (arith, seed_after-zero (seed_after m s))
 seed_after-add m (suc n) s =
@@ -74,7 +74,7 @@ pcg64_adds = draws_add next pcg64_after pcg64_none pcg64_more
 pub pcg64_seeds : (n : ℕ) (g : Generator) → (pcg64_after (n + 1) g).seed ≡ seed_after (n + 1) g.seed
 pcg64_seeds n g = ap (λ (k : ℕ). (pcg64_after k g).seed) (add-one n) ∙ ap (λ (k : ℕ). seed_after k g.seed) (sym (add-one n))
 
--- the closed form of the seed, at a seed
+-- from a seed, the seed after n draws is the closed form
 pub pcg64_closed : (n : ℕ) (g : Generator) → g.seed < 2 ^ 128 → (pcg64_after n g).seed ≡ seed_after n g.seed
 pcg64_closed zero g fits = sym (mod-eq_of_lt fits) ∙ sym (seed_after-zero g.seed)
 pcg64_closed (suc n) g fits = refl
@@ -90,7 +90,7 @@ pcg64_words n g =
     ∙ ap (λ (h : Generator). to_le_bytes w64 (folded h.seed)) (sym (pcg64_more n g))
     ∙ ap (λ (s : ℕ). to_le_bytes w64 (folded s)) (pcg64_seeds n g)
 
--- blocks read the seed alone
+-- blocks depend on the seed alone
 pub pcg64_blocks : (n : ℕ) (g h : Generator) → g.seed ≡ h.seed → pcg64_block (iterate next n g) ≡ pcg64_block (iterate next n h)
 pcg64_blocks n g h same =
     pcg64_words n g ∙ ap (λ (s : ℕ). to_le_bytes w64 (folded (seed_after (n + 1) s))) same ∙ sym (pcg64_words n h)

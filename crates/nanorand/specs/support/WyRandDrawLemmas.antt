@@ -1,5 +1,5 @@
--- Lemmas about many draws of WyRand. Nobody has to believe this file: it is in specs/ only because
--- laws of impls cite its lemmas.
+-- Lemmas about many draws of WyRand. Not needed to understand the contracts: this file is in specs/
+-- only because laws of impls cite its lemmas.
 use Rattle.std.proofs.Common.{◌≡◌, ℕ, zero, suc, ◌+◌, ◌^◌, ◌<◌, refl, sym, ap, ◌∙◌, arith, add-one}
 use Rattle.std.specs.Fn.{iterate}
 use Rattle.std.specs.Int.{w64, to_le_bytes}
@@ -20,7 +20,7 @@ wyrand_steps = draws_leave next_seed wyrand_after wyrand_none wyrand_more
 pub wyrand_adds : DrawsAdd wyrand_after
 wyrand_adds = draws_add next_seed wyrand_after wyrand_none wyrand_more
 
--- at a seed, and after at least one draw, it is the closed form
+-- from a seed, or after at least one draw, the state is the closed form
 pub wyrand_seeds : (n seed : ℕ) → wyrand_after (n + 1) seed ≡ seed_after (n + 1) seed
 wyrand_seeds n seed = ap (λ (k : ℕ). wyrand_after k seed) (add-one n) ∙ omega arith
 

@@ -1,12 +1,12 @@
-//! ChaCha, after Daniel J. Bernstein, "ChaCha, a variant of Salsa20" (2008), in its original
-//! layout: a 64-bit counter and a 64-bit nonce.
+//! The block function of ChaCha, after Daniel J. Bernstein, "ChaCha, a variant of Salsa20" (2008),
+//! in its original layout: a 64-bit counter and a 64-bit nonce.
 //!
 //! A word of ChaCha has 32 bits. The state is a matrix of 4 by 4 words, row by row: four words of
-//! constants, eight of key, two of counter, two of nonce. Words are read and written least byte
-//! first.
+//! constants, eight of the key, two of the counter and two of the nonce. Words are read and written
+//! in little-endian byte order.
 //!
-//! These functions erase no key from memory, and they were not audited. For encryption, or where an
-//! adversary matters, take a vetted implementation.
+//! These functions do not erase keys from memory, and they have not been audited. For encryption,
+//! or if there is an adversary, use a vetted implementation.
 
 mod block;
 mod eight_blocks;

@@ -1,4 +1,4 @@
-//! ChaCha as a generator: a block of 64 bytes per draw, from a 256-bit key.
+//! ChaCha as a generator: each draw is a block of 64 bytes, computed from a 256-bit key.
 ghost use Rattle.std.specs.Prelude.{◌≡◌, ◌==◌, ◌↔◌, ℕ, ◌+◌, ◌-◌, ◌*◌, ◌%◌, ◌^◌, ◌≤◌, ◌⊎◌, List, ◌++◌, length, take, drop, ⊤, refl, Some, IfOk, IfErr, OnErr, IsOk, IsTrue, codes};
 ghost use Rattle.std.specs.Cmp.Lexicographic.{pointwise};
 ghost use Rattle.std.specs.Cmp.Rules.{comparing};
@@ -28,39 +28,45 @@ use std::fmt;
 use std::io::Read;
 use std::marker::Model;
 
-/// ChaCha with 8 rounds, fewer than the standard's 20. Each number costs a block: see `ChaCha`.
+/// ChaCha with 8 rounds, fewer than the standard's 20. Each number takes a whole block: see
+/// `ChaCha`.
 pub type ChaCha8 = ChaCha<8>;
 
-/// ChaCha with 12 rounds, fewer than the standard's 20. Each number costs a block: see `ChaCha`.
+/// ChaCha with 12 rounds, fewer than the standard's 20. Each number takes a whole block: see
+/// `ChaCha`.
 pub type ChaCha12 = ChaCha<12>;
 
-/// ChaCha with the standard's 20 rounds. Each number costs a block: see `ChaCha`.
+/// ChaCha with the standard's 20 rounds. Each number takes a whole block: see `ChaCha`.
 pub type ChaCha20 = ChaCha<20>;
 
 /// The keystream of the stream cipher ChaCha, with a 64-bit counter and a 64-bit nonce, after
 /// Daniel J. Bernstein, "ChaCha, a variant of Salsa20" (2008).
 ///
-/// A draw returns the block of the state as 64 bytes, each 32-bit word least byte first, and adds 1
-/// to the counter. After the block of the greatest counter, 2^64 - 1, the counter is 0 again, under
-/// the same key and nonce. It is a plain generator: each request starts a new block.
+/// A draw returns the block of the current state as 64 bytes, each 32-bit word in little-endian
+/// order, and adds 1 to the counter. After the block of the greatest counter, 2^64 - 1, the counter
+/// is 0 again, with the same key and nonce.
 ///
-/// So every number, a single byte too, costs a whole block. For many numbers take the stream, such
-/// as `ChaCha20Stream`: it drops no bytes, and computes eight blocks at once.
+/// The generator does not buffer: each request starts with a new block, so that even a single byte
+/// takes a whole block. To draw many numbers, use a stream such as `ChaCha20Stream`: it drops no
+/// bytes, and computes eight blocks at once.
 ///
-/// It is for long reproducible streams whose blocks can be reached by index. The cipher is fast and
-/// long-studied, and its stream is believed unpredictable while the key is secret. It is not a
-/// vetted cryptographic generator: nothing here takes a seed from the system, reseeds on its own or
-/// erases keys from memory, and nothing was audited. For keys, tokens and passwords, or where an
-/// adversary matters, take one that is vetted. For encryption, never use a pair of key and nonce
-/// twice. `ChaCha8` and `ChaCha12` have fewer rounds than the standard's 20.
+/// Use it for long reproducible streams whose blocks can be reached by index. The cipher is fast
+/// and well studied, and its keystream is believed to be unpredictable while the key is secret.
+/// `ChaCha8` and `ChaCha12` have fewer rounds than the standard's 20.
 ///
-/// `ROUNDS` is even, as an invariant of the type.
+/// This is not a vetted cryptographic generator: it does not take a seed from the system, it does
+/// not reseed itself, it does not erase keys from memory, and it has not been audited. For keys,
+/// tokens and passwords, or if there is an adversary, use a vetted generator. For encryption, never
+/// use the same pair of key and nonce twice.
+///
+/// `ROUNDS` is even; this is an invariant of the type.
 #[derive(Drop)]
 pub struct ChaCha<const ROUNDS: u8> {
     state: [u32; 16],
 }
 
-// The view is the state, sixteen 32-bit words, of which the first four are the constants.
+// The model of the generator is its state: sixteen 32-bit words, of which the first four are the
+// constants.
 impl<const ROUNDS: u8> Model for ChaCha<ROUNDS> {
     ghost Value = { List ℕ };
 
@@ -70,7 +76,8 @@ impl<const ROUNDS: u8> Model for ChaCha<ROUNDS> {
 }
 
 impl<const ROUNDS: u8> ChaCha<ROUNDS> {
-    /// A generator with this key and nonce and the counter 0. Precondition: `ROUNDS` is even.
+    /// Creates a generator with this key and nonce and the counter 0. Precondition: `ROUNDS` is
+    /// even.
     pub fn new_key(key: [u8; 32], nonce: [u8; 8]) -> Self
         requires { ROUNDS % 2 ≡ 0 }
         ensures state { result ≡ initial_state key nonce }
@@ -81,11 +88,11 @@ impl<const ROUNDS: u8> ChaCha<ROUNDS> {
         }
     }
 
-    /// A generator with this key and nonce, whose next block is the one at this index: the counter
-    /// is `index`. Precondition: `ROUNDS` is even.
+    /// Creates a generator with this key and nonce whose next block is the one at this index: the
+    /// counter is `index`. Precondition: `ROUNDS` is even.
     ///
-    /// `key`, `nonce` and `counter` are what has to be stored of a generator: `at` of the three
-    /// makes an equal one.
+    /// To store a generator, store its `key`, `nonce` and `counter`. `at` restores an equal one
+    /// from the three.
     pub fn at(key: [u8; 32], nonce: [u8; 8], index: u64) -> Self
         requires { ROUNDS % 2 ≡ 0 }
         ensures state { result ≡ state_at key nonce index }
@@ -99,13 +106,13 @@ impl<const ROUNDS: u8> ChaCha<ROUNDS> {
         ChaCha { state }
     }
 
-    /// A generator whose key and nonce are made from a number, which may be small: 0, 1, 2, .., a
-    /// port, a year. Different numbers give different states (`laws::seeds_differ`). The counter is
-    /// 0. Precondition: `ROUNDS` is even.
+    /// Creates a generator whose key and nonce are made from a number, which may be small: 0, 1, 2,
+    /// .., a port, a year. Different numbers produce different states (`laws::seeds_differ`). The
+    /// counter is 0. Precondition: `ROUNDS` is even.
     ///
-    /// The 40 bytes of key and nonce are the first five words that SplitMix64 draws from the number
-    /// (Guy Steele, Doug Lea and Christine Flood, 2014, in Sebastiano Vigna's constants),
-    /// little-endian. There are only 2^64 such keys: they keep no secret.
+    /// The 40 bytes of key and nonce are the first five 64-bit words that SplitMix64 produces from
+    /// the number, in little-endian order (Guy Steele, Doug Lea and Christine Flood, 2014, with the
+    /// constants of Sebastiano Vigna). There are only 2^64 such keys, so they keep no secret.
     pub fn seed_from_u64(number: u64) -> Self
         requires { ROUNDS % 2 ≡ 0 }
         ensures state { result ≡ seeded_state (seed_from 40 number) }
@@ -115,11 +122,11 @@ impl<const ROUNDS: u8> ChaCha<ROUNDS> {
         ChaCha::new_key(key, nonce)
     }
 
-    /// A generator made of the reader's next 40 bytes, with the counter 0: the first 32 are the key
-    /// and the other 8 the nonce. Precondition: `ROUNDS` is even.
+    /// Creates a generator from the next 40 bytes of a reader, with the counter 0: the first 32 are
+    /// the key and the other 8 the nonce. Precondition: `ROUNDS` is even.
     ///
-    /// It returns `Short` or `Fault` as `entropy::system` does. A reader such as a slice of bytes has
-    /// given fewer than 40 bytes then.
+    /// Returns `Short` or `Fault`, as `entropy::system` does. A reader such as a slice of bytes has
+    /// then returned fewer than 40 bytes.
     pub fn new<R: Read>(source: &mut R) -> Result<Self, EntropyError>
         requires { ROUNDS % 2 ≡ 0 }
         ensures made { let old = R.remaining source.old in
@@ -136,7 +143,7 @@ impl<const ROUNDS: u8> ChaCha<ROUNDS> {
         Ok(ChaCha::new_key(key, nonce))
     }
 
-    /// The key, as 32 bytes. With the nonce and the counter it makes up the state.
+    /// Returns the key, as 32 bytes. The key, the nonce and the counter make up the state.
     pub fn key(&self) -> [u8; 32]
         ensures value { result ≡ key_of self.now }
         ensures parts { state_at (key_of self.now) (nonce_of self.now) (counter self.now)
@@ -148,7 +155,7 @@ impl<const ROUNDS: u8> ChaCha<ROUNDS> {
         key
     }
 
-    /// The nonce, as 8 bytes.
+    /// Returns the nonce, as 8 bytes.
     pub fn nonce(&self) -> [u8; 8]
         ensures { result ≡ nonce_of self.now }
     {
@@ -158,8 +165,8 @@ impl<const ROUNDS: u8> ChaCha<ROUNDS> {
         nonce
     }
 
-    /// The counter: the index of the next block under this key and nonce. The modelled state is
-    /// always sixteen 32-bit words.
+    /// Returns the counter: the index of the next block of this key and nonce. In the model, the
+    /// state is always sixteen 32-bit words (`matrix`).
     #[inline]
     pub fn counter(&self) -> u64
         ensures value { result ≡ counter self.now }
@@ -176,7 +183,7 @@ impl<const ROUNDS: u8> ChaCha<ROUNDS> {
         self.state
     }
 
-    /// Advances by n draws, with one addition. The period of the states is exactly 2^64.
+    /// Jumps ahead by n draws (blocks), by one addition. The period of the states is exactly 2^64.
     #[inline]
     pub fn jump(&mut self, n: u64)
         ensures state { self.new ≡ chacha_after n self.old }
@@ -186,7 +193,7 @@ impl<const ROUNDS: u8> ChaCha<ROUNDS> {
         set_counter(&mut self.state, counter);
     }
 
-    // The next four blocks, as one request of 256 bytes.
+    // Writes the next four blocks, as one request of 256 bytes.
     fn fill_four(&mut self, out: &mut [u8])
         requires { length out.old ≡ 256 }
         ensures bytes { out.new ≡ (chacha_requests ROUNDS).bytes self.old 256 }
@@ -197,8 +204,9 @@ impl<const ROUNDS: u8> ChaCha<ROUNDS> {
         write_four(out, blocks);
     }
 
-    // Fills as many bytes as whole groups of eight blocks have, where eight lanes are faster, and
-    // returns their count. What is left is a request of its own.
+    // Fills as many whole groups of eight blocks as fit, if eight lanes are faster than four, and
+    // returns the number of bytes filled. Otherwise it fills nothing. The rest of the slice is
+    // filled as by a request of its own.
     #[inline]
     fn fill_wide(&mut self, buffer: &mut [u8]) -> usize
         ensures within { result ≤ length buffer.new }
@@ -219,7 +227,7 @@ impl<const ROUNDS: u8> ChaCha<ROUNDS> {
         filled
     }
 
-    // The next eight blocks, by eight lanes where these are faster.
+    // Returns the next eight blocks, computed on eight lanes if these are faster than four.
     #[inline]
     pub(crate) fn next_group(&mut self) -> [u8; 512]
         ensures bytes { result ≡ (chacha_requests ROUNDS).bytes self.old 512 }
@@ -236,7 +244,7 @@ impl<const ROUNDS: u8> ChaCha<ROUNDS> {
 }
 
 impl<const ROUNDS: u8> Wide for ChaCha<ROUNDS> {
-    // The next eight blocks, as one request of 512 bytes.
+    // Writes the next eight blocks, as one request of 512 bytes.
     #[inline(always)]
     fn fill_eight(&mut self, lanes: EightLanes, out: &mut [u8])
         requires { length out.old ≡ 512 }
@@ -260,7 +268,7 @@ impl<const ROUNDS: u8> Wide for ChaCha<ROUNDS> {
     }
 }
 
-/// An equal generator. Nothing is allocated, so it never fails.
+/// The clone equals the original. Nothing is allocated, so cloning never fails.
 impl<const ROUNDS: u8> Clone for ChaCha<ROUNDS> {
     ghost is_clone = { λ g c. c ≡ g };
 
@@ -272,7 +280,7 @@ impl<const ROUNDS: u8> Clone for ChaCha<ROUNDS> {
     }
 }
 
-/// Equal exactly if the states are: the key, the nonce and the counter.
+/// Two generators are equal if and only if their states are: the key, the nonce and the counter.
 impl<const ROUNDS: u8> PartialEq for ChaCha<ROUNDS> {
     ghost eq = { pointwise ◌==◌ };
 
@@ -315,7 +323,8 @@ impl<const ROUNDS: u8> Blocks<64> for ChaCha<ROUNDS> {
 
     #[inline]
     fn rand(&mut self) -> [u8; 64] {
-        // The counter is stored first. The next block's load of its row waits for that store.
+        // The counter is stored before the block is computed, since loading its row for the next
+        // block waits for this store.
         let input = self.state;
         if !chacha_increment_counter(&mut self.state) {
             set_counter(&mut self.state, 0);
@@ -333,8 +342,9 @@ impl<const ROUNDS: u8> Blocks<64> for ChaCha<ROUNDS> {
 impl<const ROUNDS: u8> Rng<64> for ChaCha<ROUNDS> {
     ghost requests = { chacha_requests ROUNDS };
 
-    /// Computes whole groups of 256 bytes four blocks side by side, and those of 512 bytes eight
-    /// where that is faster.
+    /// Fills the slice with the same bytes as `rand`, block by block. Whole groups of 256 bytes are
+    /// computed as four blocks at once, and whole groups of 512 bytes as eight blocks at once if
+    /// that is faster.
     fn fill_bytes(&mut self, buffer: &mut [u8]) {
         let mut filled = self.fill_wide(buffer);
         'groups: while 256 <= buffer.len() - filled {
@@ -351,7 +361,7 @@ impl<const ROUNDS: u8> Rng<64> for ChaCha<ROUNDS> {
     ghost after_block = { λ _. refl };
 }
 
-/// The period is 2^64 draws, which are blocks.
+/// A draw is a block of 64 bytes. The period is 2^64 draws.
 impl<const ROUNDS: u8> Parts<64> for ChaCha<ROUNDS> {
     ghost period = { 2 ^ 64 };
 
@@ -377,7 +387,8 @@ impl<const ROUNDS: u8> Parts<64> for ChaCha<ROUNDS> {
 impl<const ROUNDS: u8> SeedableRng<40, 64> for ChaCha<ROUNDS> {
     ghost seeded = { λ _ seed. seeded_state seed };
 
-    /// The first 32 bytes of the seed become the key and the last 8 the nonce. The counter is 0.
+    /// Uses the first 32 bytes of the seed as the key and the last 8 as the nonce. The counter is
+    /// 0.
     fn reseed(&mut self, seed: [u8; 40])
         ensures { self.new ≡ seeded_state seed }
     {
@@ -386,7 +397,7 @@ impl<const ROUNDS: u8> SeedableRng<40, 64> for ChaCha<ROUNDS> {
     }
 }
 
-// The key and the nonce of a seed.
+// Splits a seed into the key and the nonce.
 #[inline]
 pub(crate) fn split_seed(seed: &[u8; 40]) -> ([u8; 32], [u8; 8])
     ensures key { result.0 ≡ take 32 seed.now }
@@ -411,7 +422,7 @@ fn write_four(out: &mut [u8], blocks: FourBlocks)
     out[192..].copy_from_slice(&bytes_of(&fourth));
 }
 
-// The words as bytes, each least byte first.
+// Returns the words as bytes, each in little-endian order.
 #[inline(always)]
 fn bytes_of(words: &[u32; 16]) -> [u8; 64]
     ensures { result ≡ bytes words.now }

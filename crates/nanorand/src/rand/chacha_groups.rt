@@ -1,4 +1,4 @@
-//! ChaCha by groups of eight blocks, for streams: a block of 512 bytes per draw.
+//! ChaCha in groups of eight blocks, for streams: each draw is a block of 512 bytes.
 ghost use Rattle.std.specs.Prelude.{◌≡◌, ◌==◌, ◌↔◌, ℕ, ◌%◌, ◌++◌, List, ⊤, refl, Some, IsTrue, codes};
 ghost use Rattle.std.specs.Cmp.Lexicographic.{pointwise};
 ghost use Rattle.std.specs.Cmp.Rules.{comparing};
@@ -18,20 +18,20 @@ use std::marker::Model;
 
 /// A `ChaCha` that draws its next eight blocks at once.
 ///
-/// A draw returns 512 bytes, and adds 8 to the counter. It is a plain generator: each request
-/// starts a new group and drops the rest of its last one. With a buffer, as `ChaCha20Stream`, it
-/// drops nothing: from a state with nothing buffered, it delivers what a buffered `ChaCha`
-/// delivers. Without one, every number costs eight blocks.
+/// A draw returns 512 bytes, and adds 8 to the counter. The generator does not buffer: each request
+/// starts with a new group and drops the rest of its last group, so every number takes eight
+/// blocks. With a buffer, as in `ChaCha20Stream`, no bytes are dropped: starting with an empty
+/// buffer, it delivers the same bytes as a buffered `ChaCha`.
 ///
 /// Like `ChaCha`, it is not a vetted cryptographic generator.
 ///
-/// `ROUNDS` is even, as an invariant of the type.
+/// `ROUNDS` is even; this is an invariant of the type.
 #[derive(Drop)]
 pub struct ChaChaGroups<const ROUNDS: u8> {
     chacha: ChaCha<ROUNDS>,
 }
 
-// The view is the state of `ChaCha`, sixteen 32-bit words.
+// The model of the generator is the state of `ChaCha`: sixteen 32-bit words.
 impl<const ROUNDS: u8> Model for ChaChaGroups<ROUNDS> {
     ghost Value = { List ℕ };
 
@@ -41,7 +41,8 @@ impl<const ROUNDS: u8> Model for ChaChaGroups<ROUNDS> {
 }
 
 impl<const ROUNDS: u8> ChaChaGroups<ROUNDS> {
-    /// A generator with this key and nonce and the counter 0. Precondition: `ROUNDS` is even.
+    /// Creates a generator with this key and nonce and the counter 0. Precondition: `ROUNDS` is
+    /// even.
     pub fn new_key(key: [u8; 32], nonce: [u8; 8]) -> Self
         requires { ROUNDS % 2 ≡ 0 }
         ensures state { result ≡ initial_state key nonce }
@@ -52,11 +53,11 @@ impl<const ROUNDS: u8> ChaChaGroups<ROUNDS> {
         }
     }
 
-    /// A generator with this key and nonce, whose next group begins with the block at this index:
-    /// the counter is `index`. Precondition: `ROUNDS` is even.
+    /// Creates a generator with this key and nonce whose next group begins with the block at this
+    /// index: the counter is `index`. Precondition: `ROUNDS` is even.
     ///
-    /// `key`, `nonce` and `counter` are what has to be stored of a generator: `at` of the three
-    /// makes an equal one.
+    /// To store a generator, store its `key`, `nonce` and `counter`. `at` restores an equal one
+    /// from the three.
     pub fn at(key: [u8; 32], nonce: [u8; 8], index: u64) -> Self
         requires { ROUNDS % 2 ≡ 0 }
         ensures state { result ≡ state_at key nonce index }
@@ -70,8 +71,8 @@ impl<const ROUNDS: u8> ChaChaGroups<ROUNDS> {
         }
     }
 
-    /// The generator with the same key and nonce, whose next group begins with the block at this
-    /// index.
+    /// Creates a generator with the same key and nonce whose next group begins with the block at
+    /// this index.
     pub fn at_index(&self, index: u64) -> Self
         ensures state { result ≡ with_counter self.now index }
         ensures matrix { IsMatrix result }
@@ -81,7 +82,7 @@ impl<const ROUNDS: u8> ChaChaGroups<ROUNDS> {
         }
     }
 
-    /// The key, as 32 bytes. With the nonce and the counter it makes up the state.
+    /// Returns the key, as 32 bytes. The key, the nonce and the counter make up the state.
     pub fn key(&self) -> [u8; 32]
         ensures value { result ≡ key_of self.now }
         ensures parts { state_at (key_of self.now) (nonce_of self.now) (counter self.now)
@@ -90,14 +91,14 @@ impl<const ROUNDS: u8> ChaChaGroups<ROUNDS> {
         self.chacha.key()
     }
 
-    /// The nonce, as 8 bytes.
+    /// Returns the nonce, as 8 bytes.
     pub fn nonce(&self) -> [u8; 8]
         ensures { result ≡ nonce_of self.now }
     {
         self.chacha.nonce()
     }
 
-    /// The counter: the index of the next group's first block under this key and nonce.
+    /// Returns the counter: the index of the next group's first block for this key and nonce.
     #[inline]
     pub fn counter(&self) -> u64
         ensures value { result ≡ counter self.now }
@@ -106,7 +107,7 @@ impl<const ROUNDS: u8> ChaChaGroups<ROUNDS> {
         self.chacha.counter()
     }
 
-    /// Advances by n blocks of 64 bytes, with one addition. A draw advances by 8 of them.
+    /// Jumps ahead by n blocks of 64 bytes, by one addition. A draw advances by 8 of them.
     #[inline]
     pub fn jump_blocks(&mut self, n: u64)
         ensures state { self.new ≡ chacha_after n self.old }
@@ -116,7 +117,7 @@ impl<const ROUNDS: u8> ChaChaGroups<ROUNDS> {
     }
 }
 
-/// An equal generator. Nothing is allocated, so it never fails.
+/// The clone equals the original. Nothing is allocated, so cloning never fails.
 impl<const ROUNDS: u8> Clone for ChaChaGroups<ROUNDS> {
     ghost is_clone = { λ g c. c ≡ g };
 
@@ -130,7 +131,7 @@ impl<const ROUNDS: u8> Clone for ChaChaGroups<ROUNDS> {
     }
 }
 
-/// Equal exactly if the states are: the key, the nonce and the counter.
+/// Two generators are equal if and only if their states are: the key, the nonce and the counter.
 impl<const ROUNDS: u8> PartialEq for ChaChaGroups<ROUNDS> {
     ghost eq = { pointwise ◌==◌ };
 
@@ -200,7 +201,8 @@ impl<const ROUNDS: u8> Rng<512> for ChaChaGroups<ROUNDS> {
 impl<const ROUNDS: u8> SeedableRng<40, 512> for ChaChaGroups<ROUNDS> {
     ghost seeded = { λ _ seed. seeded_state seed };
 
-    /// The first 32 bytes of the seed become the key and the last 8 the nonce. The counter is 0.
+    /// Uses the first 32 bytes of the seed as the key and the last 8 as the nonce. The counter is
+    /// 0.
     fn reseed(&mut self, seed: [u8; 40])
         ensures { self.new ≡ seeded_state seed }
     {

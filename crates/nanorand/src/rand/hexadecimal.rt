@@ -4,8 +4,8 @@ ghost use Rattle.nanorand.specs.generators.DebugTexts.{hexadecimal};
 
 use std::fmt;
 
-// A number whose text is its lower-case hexadecimal digits. It is written in two halves because
-// std's contract does not say what `{:x}` writes for a 128-bit integer.
+// A number that is displayed as lower-case hexadecimal digits. It is written as two halves, because
+// the contract of std does not say what `{:x}` writes for a 128-bit integer.
 #[derive(Drop)]
 pub(crate) struct Hexadecimal(pub(crate) u128);
 

@@ -16,33 +16,36 @@ use crate::rand::split_mix::seed_from;
 use nanorand_core::rand::Rng;
 use nanorand_replay::buffer::BufferedRng;
 
-/// The keystream of a ChaCha, as one unbroken stream of bytes that computes eight blocks at once.
+/// The keystream of ChaCha as one unbroken stream of bytes, of which eight blocks are computed at
+/// once.
 ///
-/// Like `ChaCha`, it is not a vetted cryptographic generator: nothing here erases keys from memory
-/// or reseeds on its own, and nothing was audited. For keys, tokens and passwords, or where an
-/// adversary matters, take one that is vetted.
+/// Like `ChaCha`, it is not a vetted cryptographic generator: it does not erase keys from memory,
+/// does not reseed itself, and has not been audited. For keys, tokens and passwords, or if there is
+/// an adversary, use a vetted generator.
 pub type ChaChaStream<const ROUNDS: u8> = BufferedRng<ChaChaGroups<ROUNDS>, 512>;
 
-/// The stream of ChaCha with 8 rounds, fewer than the standard's 20. Not a vetted cryptographic
+/// A stream of ChaCha with 8 rounds, fewer than the standard's 20. Not a vetted cryptographic
 /// generator: see `ChaChaStream`.
 pub type ChaCha8Stream = ChaChaStream<8>;
 
-/// The stream of ChaCha with 12 rounds, fewer than the standard's 20. Not a vetted cryptographic
+/// A stream of ChaCha with 12 rounds, fewer than the standard's 20. Not a vetted cryptographic
 /// generator: see `ChaChaStream`.
 pub type ChaCha12Stream = ChaChaStream<12>;
 
-/// The stream of ChaCha with the standard's 20 rounds. Not a vetted cryptographic generator: see
+/// A stream of ChaCha with the standard's 20 rounds. Not a vetted cryptographic generator: see
 /// `ChaChaStream`.
 pub type ChaCha20Stream = ChaChaStream<20>;
 
 /// The keystream of a key and a nonce: 2^70 bytes, in blocks of 64 bytes. The bytes are numbered
-/// from 0, and after the last one the first one comes again.
+/// from 0, and after the last byte the stream continues with byte 0.
 ///
-/// Every implementation proves that requests join without a break: two in a row take the bytes that
-/// one of their total size takes. The trait fixes how a stream continues, not which bytes a key and
-/// a nonce give it (for ChaCha, `chacha_stream: state` and `laws::streams_deliver_chacha`).
+/// Requests join without a break: two requests in a row return the bytes that one request of their
+/// total size returns. Every implementation proves that. The trait fixes how a stream continues,
+/// not which bytes it has for a key and a nonce (for ChaCha see the clause `state` of
+/// `chacha_stream`, and `laws::streams_deliver_chacha`). `OUTPUT` is the block size of `Rng`, not
+/// the 64 bytes of a keystream block.
 pub trait Keystream<const OUTPUT: usize>: Rng<OUTPUT> {
-    // What a new stream needs: for ChaCha an even number of rounds.
+    // The precondition of a new stream: for ChaCha an even number of rounds.
     ghost can_start: { Type 0 };
 
     // The stream of a key and a nonce, at the first byte of a block.
@@ -51,17 +54,18 @@ pub trait Keystream<const OUTPUT: usize>: Rng<OUTPUT> {
     // The stream of a state, at its byte 0.
     ghost restarted: { Self → Self };
 
-    // The number of a state's next byte, if the buffered bytes are of its stream.
+    // The number of a state's next byte, if the buffered bytes belong to its stream.
     ghost position: { Self → ℕ };
 
-    /// The stream of this key and nonce, at its byte 0. For ChaCha the number of rounds is even.
+    /// Creates the stream of this key and nonce, at byte 0. Precondition: for ChaCha, the number of
+    /// rounds is even.
     fn new_key(key: [u8; 32], nonce: [u8; 8]) -> Self
         requires { can_start }
         ensures state { result ≡ at key nonce 0 }
         ensures position { position result ≡ 0 };
 
-    /// The stream of this key and nonce, at the first byte of the block at this index, which is
-    /// byte `index * 64`. For ChaCha the number of rounds is even.
+    /// Creates the stream of this key and nonce, at the first byte of the block at this index,
+    /// which is byte `index * 64`. Precondition: for ChaCha, the number of rounds is even.
     fn at_block(key: [u8; 32], nonce: [u8; 8], index: u64) -> Self
         requires { can_start }
         ensures state { result ≡ at key nonce index }
@@ -69,9 +73,10 @@ pub trait Keystream<const OUTPUT: usize>: Rng<OUTPUT> {
         ensures bytes { (n : ℕ) → let sought = Self.requests.after (at key nonce 0) (index * 64) in
             Self.requests.bytes result n ≡ Self.requests.bytes sought n };
 
-    /// The stream whose key and nonce are made from a number, which may be small, at its byte 0:
-    /// they are 40 bytes that SplitMix64 draws, as `ChaCha::seed_from_u64` says. There are only
-    /// 2^64 such keys: they keep no secret. For ChaCha the number of rounds is even.
+    /// Creates a stream whose key and nonce are made from a number, which may be small, at byte 0.
+    /// They are 40 bytes that SplitMix64 produces, as `ChaCha::seed_from_u64` describes. There are
+    /// only 2^64 such keys, so they keep no secret. Precondition: for ChaCha, the number of rounds
+    /// is even.
     fn seed_from_u64(number: u64) -> Self
         requires { can_start }
         ensures state { let seed = seed_from 40 number in
@@ -82,33 +87,37 @@ pub trait Keystream<const OUTPUT: usize>: Rng<OUTPUT> {
         Self::new_key(key, nonce)
     }
 
-    /// Goes to this byte, forward or back. Byte 2^70 is byte 0 again. Buffered bytes are dropped.
+    /// Moves to this byte of the stream, forward or back. Byte 2^70 is byte 0 again. Buffered bytes
+    /// are dropped.
     ///
-    /// The state is the one that a request for the bytes before this byte leaves, from byte 0 on.
+    /// The state is then the one that a request for all bytes before this one leaves, made at byte
+    /// 0.
     fn seek(&mut self, byte: u128)
         ensures state { self.new ≡ Self.requests.after (restarted self.old) byte }
         ensures position { position self.new ≡ byte % 2 ^ 70 }
         ensures wraps { (n : ℕ) → let sought = Self.requests.after (restarted self.old) in
             sought (n + 2 ^ 70) ≡ sought n };
 
-    /// The number of the next byte of a stream that `new_key`, `at_block` or `seek` made. A request
-    /// for n bytes adds n to it, modulo 2^70.
+    /// Returns the number of the next byte, for a stream that was created by `new_key` or
+    /// `at_block` or moved by `seek`. A request for n bytes adds n to it, modulo 2^70.
     ///
-    /// A buffer that `BufferedRng::with_rest` made, or that was reseeded, may hold bytes of no
-    /// stream, or of another one. They come next and are counted all the same, until a `seek`.
+    /// A buffered generator that was created by `BufferedRng::with_rest`, or that was reseeded, may
+    /// hold buffered bytes of another stream, or of none. They are delivered next and counted all
+    /// the same, until a `seek`.
     fn position(&self) -> u128
         ensures value { result ≡ position self.now }
         ensures moves { (n : ℕ) →
             position (Self.requests.after self.now n) ≡ (position self.now + n) % 2 ^ 70 };
 
-    // Two requests leave, and take, what one of their total size does.
+    // Two requests in a row leave the same state, and take the same bytes, as one request of their
+    // total size.
     ghost states_join: { (g : Self) (m n : ℕ) → let after = Self.requests.after in
         after (after g m) n ≡ after g (m + n) };
 
     ghost bytes_join: { (g : Self) (m n : ℕ) → let bytes = Self.requests.bytes in
         bytes g m ++ bytes (Self.requests.after g m) n ≡ bytes g (m + n) };
 
-    // A request, a return to byte 0 and a start at any block stay in one stream.
+    // A request, a return to byte 0 and a start at any block stay in the same stream.
     ghost stays: { (g : Self) (n : ℕ) → restarted (Self.requests.after g n) ≡ restarted g };
 
     ghost restarts: { (g : Self) → restarted (restarted g) ≡ restarted g };
@@ -117,8 +126,8 @@ pub trait Keystream<const OUTPUT: usize>: Rng<OUTPUT> {
         → restarted (at key nonce index) ≡ at key nonce 0 };
 }
 
-/// The stream of this key and nonce, at its byte 0, as `Keystream::new_key` makes it. A call needs
-/// no import of that trait. Precondition: `ROUNDS` is even.
+/// Creates the stream of this key and nonce, at byte 0, as `Keystream::new_key` does, without the
+/// need to import that trait. Precondition: `ROUNDS` is even.
 pub fn chacha_stream<const ROUNDS: u8>(key: [u8; 32], nonce: [u8; 8]) -> ChaChaStream<ROUNDS>
     requires { ROUNDS % 2 ≡ 0 }
     ensures state { result ≡ buffer_of [] (initial_state key nonce) }
@@ -127,8 +136,8 @@ pub fn chacha_stream<const ROUNDS: u8>(key: [u8; 32], nonce: [u8; 8]) -> ChaChaS
     Keystream::new_key(key, nonce)
 }
 
-/// The stream of this key and nonce, at the first byte of the block at this index, as
-/// `Keystream::at_block` makes it. A call needs no import of that trait. Precondition: `ROUNDS` is
+/// Creates the stream of this key and nonce, at the first byte of the block at this index, as
+/// `Keystream::at_block` does, without the need to import that trait. Precondition: `ROUNDS` is
 /// even.
 pub fn chacha_stream_at<const ROUNDS: u8>(
     key: [u8; 32],
@@ -142,8 +151,8 @@ pub fn chacha_stream_at<const ROUNDS: u8>(
     Keystream::at_block(key, nonce, index)
 }
 
-/// The stream of a number, which may be small, at its byte 0, as `Keystream::seed_from_u64` makes
-/// it. A call needs no import of that trait. Precondition: `ROUNDS` is even.
+/// Creates the stream of a number, which may be small, at byte 0, as `Keystream::seed_from_u64`
+/// does, without the need to import that trait. Precondition: `ROUNDS` is even.
 pub fn chacha_stream_from_u64<const ROUNDS: u8>(number: u64) -> ChaChaStream<ROUNDS>
     requires { ROUNDS % 2 ≡ 0 }
     ensures state { result ≡ buffer_of [] (seeded_state (seed_from 40 number)) }
@@ -212,7 +221,7 @@ impl<const ROUNDS: u8> Keystream<512> for BufferedRng<ChaChaGroups<ROUNDS>, 512>
     ghost starts = { stream_starts };
 }
 
-/// The period is 2^67 draws, which have eight bytes each.
+/// A draw is eight bytes. The period is 2^67 draws.
 impl<const ROUNDS: u8> Parts<512> for BufferedRng<ChaChaGroups<ROUNDS>, 512> {
     ghost period = { 2 ^ 67 };
 
@@ -238,7 +247,7 @@ impl<const ROUNDS: u8> Parts<512> for BufferedRng<ChaChaGroups<ROUNDS>, 512> {
     ghost onward = { onward_stream ROUNDS };
 }
 
-// The stream of these groups, with these bytes buffered.
+// Returns a stream that continues with these buffered bytes and then these groups.
 fn stream_with<const ROUNDS: u8>(
     groups: &ChaChaGroups<ROUNDS>,
     rest: &[u8],
@@ -251,7 +260,7 @@ fn stream_with<const ROUNDS: u8>(
     BufferedRng::with_rest(groups, rest).unwrap()
 }
 
-// The stream of these groups, after so many bytes.
+// Returns the stream that begins this many bytes after the start of these groups.
 fn stream_from<const ROUNDS: u8>(
     groups: &ChaChaGroups<ROUNDS>,
     bytes: u128,

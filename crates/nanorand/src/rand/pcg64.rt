@@ -1,4 +1,4 @@
-//! Pcg64: a 128-bit seed, and a 64-bit word per draw.
+//! Pcg64: a generator with a 128-bit seed that draws a 64-bit word at a time.
 ghost use Rattle.std.specs.Prelude.{◌≡◌, length, ◌⊎◌, ⊤, refl, Some, IfOk, IfErr, OnErr, IsOk, codes, ℕ, ◌+◌, ◌*◌, ◌<◌, ◌≤◌, ◌^◌, ◌↔◌, IsTrue, IsSome, IfSome};
 ghost use Rattle.std.specs.Cmp.Rules.{comparing};
 ghost use Rattle.std.proofs.Common.{rules};
@@ -25,7 +25,7 @@ const MULTIPLIER: u128 = 47026247687942121848144207491837523525;
 
 const SQUARE: u128 = u128::wrapping_mul(MULTIPLIER, MULTIPLIER);
 
-// A draw takes the seed s to FACTOR * s + TERM, modulo 2^128.
+// A draw changes the seed s to FACTOR * s + TERM, modulo 2^128.
 const FACTOR: u128 = u128::wrapping_add(
     u128::wrapping_mul(3, SQUARE),
     u128::wrapping_add(u128::wrapping_mul(2, MULTIPLIER), 2),
@@ -37,16 +37,18 @@ const TERM: u128 = u128::wrapping_add(u128::wrapping_add(SQUARE, MULTIPLIER), 1)
 /// of Simple Fast Space-Efficient Statistically Good Algorithms for Random Number Generation"
 /// (2014).
 ///
-/// Not cryptographically secure: its state can be recovered from its outputs. Never draw a key, a
-/// token or a password from it.
+/// Not cryptographically secure: its state can be recovered from its outputs. Never use it to
+/// generate a key, a token or a password.
 ///
-/// A draw multiplies the seed by a constant and adds another, modulo 2^128. The word is the high
-/// half of the new seed xor its low half. The block is the word's eight bytes, least byte first. It
-/// is a plain generator: each request starts a new block.
+/// A draw multiplies the seed by a constant and adds another constant, modulo 2^128. The 64-bit
+/// word is the high half of the new seed xor its low half. The block is the eight bytes of the
+/// word, in little-endian order. The generator does not buffer: each request starts with a new
+/// block.
 ///
 /// `state` and `inc` describe the last draw: after it, `state` is the new seed, and `inc` is twice
 /// the old seed plus 1, modulo 2^128. No draw reads them. As in the Rust crate, each draw starts
-/// over from the seed and rotates nothing, so other programs of the PCG family give other streams.
+/// over from the seed and rotates nothing, so the streams differ from those of other PCG
+/// implementations.
 #[derive(Drop)]
 pub struct Pcg64 {
     seed: u128,
@@ -54,7 +56,7 @@ pub struct Pcg64 {
     inc: u128,
 }
 
-// The view is the three numbers.
+// The model of the generator is the three numbers.
 impl Model for Pcg64 {
     ghost use Rattle.nanorand.specs.generators.Pcg64.{Generator};
 
@@ -64,12 +66,12 @@ impl Model for Pcg64 {
 }
 
 impl Pcg64 {
-    /// A generator whose seed is made from a number, which may be small: 0, 1, 2, .., a port, a
-    /// year. Different numbers give different seeds (`laws::seeds_differ`).
+    /// Creates a generator whose seed is made from a number, which may be small: 0, 1, 2, .., a
+    /// port, a year. Different numbers produce different seeds (`laws::seeds_differ`).
     ///
-    /// The seed's 16 bytes are the first two words that SplitMix64 draws from the number (Guy
-    /// Steele, Doug Lea and Christine Flood, 2014, in Sebastiano Vigna's constants), little-endian.
-    /// `state` and `inc` are 0.
+    /// The 16 bytes of the seed are the first two 64-bit words that SplitMix64 produces from the
+    /// number, in little-endian order (Guy Steele, Doug Lea and Christine Flood, 2014, with the
+    /// constants of Sebastiano Vigna). `state` and `inc` are 0.
     #[inline]
     pub fn seed_from_u64(number: u64) -> Self
         ensures { result ≡ seeded_generator (seed_from 16 number) }
@@ -77,14 +79,14 @@ impl Pcg64 {
         Pcg64::new_seed(u128::from_le_bytes(seed_from(number)))
     }
 
-    /// A generator with this seed, which is the state itself, and is not mixed. Before the first
-    /// draw `state` and `inc` are 0.
+    /// Creates a generator with this seed. The seed is the state itself, and is not mixed. `state`
+    /// and `inc` are 0 until the first draw.
     ///
     /// Generators with neighbouring seeds, such as 0, 1, 2, .., draw correlated numbers: for such
-    /// numbers take `seed_from_u64`. Seeds that differ by a multiple of 2^k, for k above 64, give
-    /// streams whose words all agree in their low k - 64 bits. For many generators take parts of
-    /// one stream (`part`), or mixed seeds: numbers that another generator drew, or the first 16
-    /// bytes of a SHA-256 of a name.
+    /// numbers, use `seed_from_u64`. If two seeds differ by a multiple of 2^k, for k above 64, all
+    /// words of their streams agree in the low k - 64 bits. If you need many generators, use parts
+    /// of one stream (`part`), or mixed seeds: numbers that another generator drew, or the first 16
+    /// bytes of the SHA-256 of a name.
     #[inline]
     pub fn new_seed(seed: u128) -> Self
         ensures { result ≡ initial_generator seed }
@@ -96,12 +98,12 @@ impl Pcg64 {
         }
     }
 
-    /// A generator whose seed is the reader's next 16 bytes, least byte first. `state` and `inc`
-    /// are 0. Rust's `Pcg64::new()` takes its seed from the system; here the caller passes a
-    /// reader.
+    /// Creates a generator whose seed is the next 16 bytes of a reader, in little-endian order.
+    /// `state` and `inc` are 0. Rust's `Pcg64::new()` takes its seed from the system; here the
+    /// caller passes a reader.
     ///
-    /// It returns `Short` or `Fault` as `entropy::system` does. A reader such as a slice of bytes has
-    /// given fewer than 16 bytes then.
+    /// Returns `Short` or `Fault`, as `entropy::system` does. A reader such as a slice of bytes has
+    /// then returned fewer than 16 bytes.
     pub fn new<R: Read>(source: &mut R) -> Result<Self, EntropyError>
         ensures made { let old = R.remaining source.old in
             IfOk result (IsMadeOf 16 seeded_generator old (R.remaining source.new)) }
@@ -115,7 +117,7 @@ impl Pcg64 {
         Ok(Pcg64::new_seed(u128::from_le_bytes(seed)))
     }
 
-    /// The seed, which alone determines the coming blocks.
+    /// Returns the seed, which alone determines the blocks to come.
     #[inline]
     pub fn seed(&self) -> u128
         ensures { result ≡ self.now.seed }
@@ -123,9 +125,11 @@ impl Pcg64 {
         self.seed
     }
 
-    /// Advances by n draws, `state` and `inc` included, in at most 128 steps and one draw, after
-    /// Forrest Brown, "Random Number Generation with Arbitrary Strides" (1994). `jump(0)` changes
-    /// nothing. The period of the seeds is exactly 2^126.
+    /// Jumps ahead by n draws. `state` and `inc` are also those of n draws later.
+    ///
+    /// It takes at most 128 steps and one draw, after Forrest Brown, "Random Number Generation with
+    /// Arbitrary Strides" (1994). `jump(0)` changes nothing. The period of the seeds is exactly
+    /// 2^126.
     pub fn jump(&mut self, n: u128)
         ensures { self.new ≡ pcg64_after n self.old }
     {
@@ -135,11 +139,11 @@ impl Pcg64 {
         }
     }
 
-    /// The number of draws below 2^126 that leads from this seed to the other's, or `None` exactly
-    /// if no number of draws does. Two seeds are in the same cycle exactly if they are equal modulo
-    /// 8 or their sum is 7 modulo 8.
+    /// Returns the number of draws, below 2^126, that lead from this seed to the other's, or `None`
+    /// if and only if no number of draws does. Two seeds are in the same cycle if and only if they
+    /// are equal modulo 8 or their sum is 7 modulo 8.
     ///
-    /// It allocates nothing and takes at most 126 steps. `state` and `inc` do not matter.
+    /// It allocates nothing and takes at most 126 steps. `state` and `inc` are ignored.
     pub fn distance(&self, other: &Pcg64) -> Option<u128>
         ensures reached { IsSome result ↔ SameCycle self.now.seed other.now.seed }
         ensures below { IfSome result (λ n. n < 2 ^ 126) }
@@ -167,7 +171,7 @@ impl Pcg64 {
     }
 }
 
-/// An equal generator. Nothing is allocated, so it never fails.
+/// The clone equals the original. Nothing is allocated, so cloning never fails.
 impl Clone for Pcg64 {
     ghost is_clone = { λ g c. c ≡ g };
 
@@ -179,8 +183,8 @@ impl Clone for Pcg64 {
     }
 }
 
-/// Equal exactly if the states are: the seed, `state` and `inc`. Two generators with equal seeds
-/// give equal numbers, also where the other two differ.
+/// Two generators are equal if and only if their states are: the seed, `state` and `inc`. Two
+/// generators with equal seeds draw equal numbers even if `state` and `inc` differ.
 impl PartialEq for Pcg64 {
     ghost eq = { same_generator };
 
@@ -216,7 +220,7 @@ impl fmt::Debug for Pcg64 {
 impl fmt::Display for Pcg64 {
     ghost output = { λ _. Some (codes "Pcg64") };
 
-    // Width, fill and other format options change nothing.
+    // Width, fill and other format options have no effect.
     ghost styled_output = { λ _ _. Some (codes "Pcg64") };
 
     fn fmt<W: fmt::Write>(&self, f: &mut fmt::Formatter<W>) -> fmt::Result {
@@ -259,7 +263,7 @@ impl Rng<8> for Pcg64 {
     ghost after_block = { λ _. refl };
 }
 
-/// The period is 2^126 draws.
+/// A draw is a block of eight bytes. The period is 2^126 draws.
 impl Parts<8> for Pcg64 {
     ghost period = { 2 ^ 126 };
 
@@ -284,8 +288,8 @@ impl Parts<8> for Pcg64 {
 impl SeedableRng<16, 8> for Pcg64 {
     ghost seeded = { reseeded };
 
-    /// The bytes are the new seed, least byte first. `state` and `inc` keep their values until the
-    /// next draw.
+    /// Uses these bytes as the new seed, in little-endian order. `state` and `inc` keep their
+    /// values until the next draw.
     #[inline]
     fn reseed(&mut self, seed: [u8; 16])
         ensures { self.new ≡ reseeded self.old seed }
@@ -294,8 +298,8 @@ impl SeedableRng<16, 8> for Pcg64 {
     }
 }
 
-// The seed after `draws` draws. `factor` and `term` make 1, 2, 4, .. draws at once, and each step
-// takes the lowest bit of the draws that are left.
+// Returns the seed after `draws` draws. `factor` and `term` describe 1, 2, 4, .. draws at once, and
+// each step takes the lowest bit of the number of draws left.
 fn seed_after(start: u128, draws: u128) -> u128
     ensures { result ≡ seed_after draws start }
 {
@@ -321,10 +325,10 @@ fn in_one_cycle(start: u128, end: u128) -> bool
     start % 8 == end % 8 || start % 8 + end % 8 == 7
 }
 
-// How many draws lead from `start` to `end`, found bit by bit from the lowest. Invariant, once the
-// bits below `bit` are decided: `end - seed` is a multiple of 2^(bit + 2), and this bit is set
-// exactly if it is an odd multiple. For bit 0, `end - seed` is 0 or odd modulo 8, and the bit is
-// set exactly if it is odd.
+// Returns the number of draws from `start` to `end`, found bit by bit from the lowest. Invariant:
+// once the bits below `bit` are decided, `end - seed` is a multiple of 2^(bit + 2), and this bit is
+// set if and only if it is an odd multiple. For bit 0, `end - seed` is 0 or odd modulo 8, and the
+// bit is set if and only if it is odd.
 fn draws_between(start: u128, end: u128) -> u128
     requires { SameCycle start end }
     ensures below { result < 2 ^ 126 }

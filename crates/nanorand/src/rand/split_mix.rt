@@ -16,7 +16,7 @@ struct SplitMix64 {
     state: u64,
 }
 
-// The view is the state.
+// The model of the generator is its state.
 impl Model for SplitMix64 {
     ghost use Rattle.std.specs.Prelude.{ℕ};
 
@@ -43,7 +43,7 @@ impl Blocks<8> for SplitMix64 {
     ghost block_length = { λ _. refl };
 }
 
-// The first bytes that SplitMix64 draws from a number.
+// Returns the first `SIZE` bytes that SplitMix64 produces from a number.
 pub(crate) fn seed_from<const SIZE: usize>(number: u64) -> [u8; SIZE]
     ensures { result ≡ seed_from SIZE number }
 {
@@ -52,7 +52,7 @@ pub(crate) fn seed_from<const SIZE: usize>(number: u64) -> [u8; SIZE]
     seed
 }
 
-// The word of a new state.
+// Returns the word that belongs to a new state.
 fn mixed(state: u64) -> u64
     ensures { result ≡ mixed state }
 {

@@ -1,4 +1,4 @@
-//! WyRand: a 64-bit seed, and a 64-bit word per draw.
+//! WyRand: a generator with a 64-bit seed that draws a 64-bit word at a time.
 ghost use Rattle.std.specs.Prelude.{◌≡◌, ◌==◌, ◌↔◌, ◌-◌, ◌%◌, length, IsPermutation, OnOk, IfSome, ◌⊎◌, ⊤, refl, Some, IfOk, IfErr, OnErr, IsOk, IsTrue, codes, ℕ, ◌+◌, ◌*◌, ◌<◌, ◌≤◌, ◌^◌};
 ghost use Rattle.std.specs.Cmp.Rules.{comparing};
 ghost use Rattle.std.proofs.Common.{rules};
@@ -36,19 +36,20 @@ const MASK: u64 = 0xe703_7ed1_a0b4_28db;
 
 /// The generator wyrand of Wang Yi's wyhash (2019).
 ///
-/// Not cryptographically secure: its state can be recovered from its outputs. Never draw a key, a
-/// token or a password from it.
+/// Not cryptographically secure: its state can be recovered from its outputs. Never use it to
+/// generate a key, a token or a password.
 ///
 /// A draw adds a constant to the seed, modulo 2^64, and multiplies the new seed s by (s xor another
-/// constant). The word is the high half of this 128-bit product xor its low half. The block is the
-/// word's eight bytes, least byte first. It is a plain generator: each request starts a new block.
+/// constant). The 64-bit word is the high half of this 128-bit product xor its low half. The block
+/// is the eight bytes of the word, in little-endian order. The generator does not buffer: each
+/// request starts with a new block.
 #[derive(Drop)]
 #[repr(C)]
 pub struct WyRand {
     seed: u64,
 }
 
-// The view is the seed.
+// The model of the generator is its seed.
 impl Model for WyRand {
     ghost use Rattle.std.specs.Prelude.{ℕ};
 
@@ -60,11 +61,11 @@ impl Model for WyRand {
 }
 
 impl WyRand {
-    /// A generator whose seed is made from a number, which may be small: 0, 1, 2, .., a port, a
-    /// year. Different numbers give different seeds (`laws::seeds_differ`).
+    /// Creates a generator whose seed is made from a number, which may be small: 0, 1, 2, .., a
+    /// port, a year. Different numbers produce different seeds (`laws::seeds_differ`).
     ///
-    /// The seed is the first word that SplitMix64 draws from the number (Guy Steele, Doug Lea and
-    /// Christine Flood, 2014, in Sebastiano Vigna's constants).
+    /// The seed is the first 64-bit word that SplitMix64 produces from the number (Guy Steele, Doug
+    /// Lea and Christine Flood, 2014, with the constants of Sebastiano Vigna).
     #[inline]
     pub fn seed_from_u64(number: u64) -> Self
         ensures { result ≡ number_of (seed_from 8 number) }
@@ -72,12 +73,12 @@ impl WyRand {
         WyRand::new_seed(u64::from_le_bytes(seed_from(number)))
     }
 
-    /// A generator with this seed, which is the state itself, and is not mixed.
+    /// Creates a generator with this seed. The seed is the state itself, and is not mixed.
     ///
     /// Generators with neighbouring seeds, such as 0, 1, 2, .., draw correlated numbers: for such
-    /// numbers take `seed_from_u64`. For many generators take parts of one stream (`part`), or
-    /// mixed seeds: numbers that another generator drew, or the first 8 bytes of a SHA-256 of a
-    /// name.
+    /// numbers, use `seed_from_u64`. If you need many generators, use parts of one stream (`part`),
+    /// or mixed seeds: numbers that another generator drew, or the first 8 bytes of the SHA-256 of
+    /// a name.
     #[inline]
     pub fn new_seed(seed: u64) -> Self
         ensures { result ≡ seed }
@@ -85,12 +86,12 @@ impl WyRand {
         WyRand { seed }
     }
 
-    /// A generator whose seed is the reader's next 8 bytes, least byte first. Rust's
-    /// `WyRand::new()` takes its seed from the system; here the caller passes a reader, or a number
-    /// to `new_seed`.
+    /// Creates a generator whose seed is the next 8 bytes of a reader, in little-endian order.
+    /// Rust's `WyRand::new()` takes its seed from the system; here the caller passes a reader, or
+    /// passes a number to `new_seed`.
     ///
-    /// It returns `Short` or `Fault` as `entropy::system` does. A reader such as a slice of bytes has
-    /// given fewer than 8 bytes then.
+    /// Returns `Short` or `Fault`, as `entropy::system` does. A reader such as a slice of bytes has
+    /// then returned fewer than 8 bytes.
     pub fn new<R: Read>(source: &mut R) -> Result<Self, EntropyError>
         ensures made { let old = R.remaining source.old in
             IfOk result (IsMadeOf 8 number_of old (R.remaining source.new)) }
@@ -104,7 +105,7 @@ impl WyRand {
         Ok(WyRand::new_seed(u64::from_le_bytes(seed)))
     }
 
-    /// The seed.
+    /// Returns the seed.
     #[inline]
     pub fn seed(&self) -> u64
         ensures { result ≡ self.now }
@@ -112,7 +113,7 @@ impl WyRand {
         self.seed
     }
 
-    /// Advances by n draws, with one multiplication. The period of the seeds is exactly 2^64.
+    /// Jumps ahead by n draws, by one multiplication. The period of the seeds is exactly 2^64.
     #[inline]
     pub fn jump(&mut self, n: u64)
         ensures state { self.new ≡ wyrand_after n self.old }
@@ -121,8 +122,8 @@ impl WyRand {
         self.seed = self.seed.wrapping_add(n.wrapping_mul(INCREMENT));
     }
 
-    /// The number of draws below 2^64 that leads from this seed to the other's. There is exactly
-    /// one.
+    /// Returns the number of draws, below 2^64, that lead from this seed to the other's. There is
+    /// exactly one such number.
     #[inline]
     pub fn distance(&self, other: &WyRand) -> u64
         ensures leads { seed_after result self.now ≡ other.now }
@@ -132,7 +133,7 @@ impl WyRand {
     }
 }
 
-/// An equal generator. Nothing is allocated, so it never fails.
+/// The clone equals the original. Nothing is allocated, so cloning never fails.
 impl Clone for WyRand {
     ghost is_clone = { λ g c. c ≡ g };
 
@@ -144,7 +145,7 @@ impl Clone for WyRand {
     }
 }
 
-/// Equal exactly if the seeds are.
+/// Two generators are equal if and only if their seeds are.
 impl PartialEq for WyRand {
     ghost eq = { ◌==◌ };
 
@@ -174,7 +175,7 @@ impl fmt::Debug for WyRand {
 impl fmt::Display for WyRand {
     ghost output = { λ _. Some (codes "WyRand") };
 
-    // Width, fill and other format options change nothing.
+    // Width, fill and other format options have no effect.
     ghost styled_output = { λ _ _. Some (codes "WyRand") };
 
     fn fmt<W: fmt::Write>(&self, f: &mut fmt::Formatter<W>) -> fmt::Result {
@@ -208,7 +209,7 @@ impl Rng<8> for WyRand {
         fill_by_blocks(self, buffer)
     }
 
-    // On a copy of the seed, which stays in a register, and is stored once at the end.
+    // Shuffles with a copy of the seed, which stays in a register and is stored once at the end.
     #[inline]
     fn shuffle<T>(&mut self, target: &mut [T]) -> Result<(), RangeError> {
         let (answer, seed) = shuffle_from(self.seed, target);
@@ -223,7 +224,7 @@ impl Rng<8> for WyRand {
     ghost after_block = { λ _. refl };
 }
 
-/// The period is 2^64 draws.
+/// A draw is a block of eight bytes. The period is 2^64 draws.
 impl Parts<8> for WyRand {
     ghost period = { 2 ^ 64 };
 
@@ -249,7 +250,7 @@ impl Parts<8> for WyRand {
 impl SeedableRng<8, 8> for WyRand {
     ghost seeded = { λ _ bytes. number_of bytes };
 
-    /// The bytes are the new seed, least byte first.
+    /// Uses these bytes as the new seed, in little-endian order.
     #[inline]
     fn reseed(&mut self, seed: [u8; 8])
         ensures { self.new ≡ number_of seed }
@@ -258,9 +259,10 @@ impl SeedableRng<8, 8> for WyRand {
     }
 }
 
-// The word of the seed that a draw leaves: the product's high half xor its low half. The low half is a
-// product of its own, and the borrow is always 0: with them LLVM draws one word after another. Without
-// them it draws two in a vector and multiplies each by itself, which takes twice as long.
+// Returns the word of the seed after a draw: the high half of the product xor its low half. The low
+// half is computed by a multiplication of its own, and the borrow is always 0. Written like this,
+// LLVM computes one word after another. Otherwise it computes two words in a vector by scalar
+// multiplications, which takes twice as long.
 #[inline(always)]
 fn word(seed: u64) -> u64
     ensures { result ≡ word seed }
@@ -272,7 +274,7 @@ fn word(seed: u64) -> u64
     ((product >> 64) as u64).wrapping_sub(borrow) ^ low
 }
 
-// The shuffle from a seed, and the seed that it leaves.
+// Shuffles with the given seed, and returns the result and the seed after it.
 #[inline]
 fn shuffle_from<T>(seed: u64, target: &mut [T]) -> (Result<(), RangeError>, u64)
     ensures answer { result.0 ≡ (shuffled wyrand_requests from_itself seed target.old).answer }
@@ -300,7 +302,7 @@ fn shuffle_from<T>(seed: u64, target: &mut [T]) -> (Result<(), RangeError>, u64)
     (Ok(()), now)
 }
 
-// A number below `left`, drawn from a seed, and the seed that the draw leaves.
+// Draws a number below `left` with the given seed, and returns it and the seed after the draw.
 #[inline]
 fn below(seed: u64, left: u64) -> (Option<u64>, u64)
     requires { 1 ≤ left }
@@ -310,7 +312,7 @@ fn below(seed: u64, left: u64) -> (Option<u64>, u64)
 {
     let after = seed.wrapping_add(INCREMENT);
     let product = u128::from(word(after)) * u128::from(left);
-    // Fewer than `left` words are rejected, so a low half of at least `left` is accepted as it is.
+    // Fewer than `left` words are rejected, so a low half of `left` or more is accepted at once.
     let low = (product % (1 << 64)) as u64;
     if low >= left {
         (Some((product >> 64) as u64), after)
@@ -319,8 +321,8 @@ fn below(seed: u64, left: u64) -> (Option<u64>, u64)
     }
 }
 
-// The same, by each word in turn, from the seed after the first draw: the caller's loop then keeps one
-// seed alone.
+// Draws the same number by testing each word in turn. It takes the seed after the first draw, so
+// that the loop of the caller keeps only one seed.
 #[cold]
 #[inline(never)]
 fn searched(after: u64, left: u64) -> (Option<u64>, u64)

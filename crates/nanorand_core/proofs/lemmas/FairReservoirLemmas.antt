@@ -1,4 +1,5 @@
--- In how many sequences of draws an item, or a set of items, is the sample of a reservoir.
+-- The number of sequences of draws for which an item is in the sample of a reservoir, or a set of
+-- items is the sample.
 use Rattle.std.proofs.Common.{◌≡◌, ℕ, zero, suc, ◌+◌, ◌-◌, ◌*◌, ◌<◌, ◌≤◌, ◌&&◌, Bool, true, false, cond, not, List, []}
 use Rattle.std.proofs.Common.{◌∷◌, length, get_or, set, take, nat_eq, nat_lt, add-zero, add-one, zero-add, refl, sym, ◌∙◌, ap, inl, inr, arith}
 use Rattle.std.specs.List.{list_all, count_by, range_with_len}
@@ -16,7 +17,7 @@ use Rattle.nanorand_core.proofs.lemmas.shuffles.CopyLemmas.{copies-inside, copie
 
 -- how many numbers of a sample pass a test, when a draw replaces one of them
 module _ (test : ℕ → Bool) (chosen : List ℕ) where
-  -- the slot is there, and its number passes
+  -- there is such a slot, and its number passes
   abbrev hits : ℕ → Bool
   hits slot = nat_lt slot (length chosen) && test (get_or chosen slot 0)
 
@@ -68,7 +69,7 @@ module _ (test : ℕ → Bool) (chosen : List ℕ) where
   count-hit : (slot i : ℕ) (c : Bool) → hits slot ≡ true → test i ≡ c → count_by test (set chosen slot i) + 1 ≡ count_by test chosen + cond c 1 0
   count-hit slot i c hit new = let here = hit-inside slot hit in count-set slot i true c here.0 here.1 new
 
-  -- none that passes is replaced, by one that fails
+  -- a number that fails replaces another that fails, or none
   count-miss : (slot i : ℕ) → hits slot ≡ false → test i ≡ false → count_by test (set chosen slot i) ≡ count_by test chosen
   count-miss slot i miss new =
       elim (cases_lt slot (length chosen)) [
@@ -90,7 +91,7 @@ module _ (test : ℕ → Bool) where
   count-cons : (x : ℕ) (chosen : List ℕ) (b : Bool) → test x ≡ b → count_by test (x ∷ chosen) ≡ cond b 1 0 + count_by test chosen
   count-cons x chosen b is = sum_by-cons (λ y. cond (test y) 1 0) x chosen ∙ ap (λ (a : Bool). cond a 1 0 + count_by test chosen) is
 
-  -- all pass exactly if as many pass as there are
+  -- all numbers pass if and only if the count of those that pass is the length
   all-count : (chosen : List ℕ) → list_all test chosen ≡ true → count_by test chosen ≡ length chosen
   all-count [] all = refl
   all-count (x ∷ chosen) all =
@@ -111,7 +112,7 @@ module _ (test : ℕ → Bool) where
             absurd (omega (arith, none, whole, room))
       ]
 
--- those that pass and those that fail are all
+-- those that pass and those that fail are all numbers
 count-parts : (test : ℕ → Bool) (chosen : List ℕ) → count_by test chosen + count_by (λ x. not (test x)) chosen ≡ length chosen
 count-parts test [] = refl
 count-parts test (x ∷ chosen) =
@@ -152,7 +153,7 @@ module _ (test : ℕ → Bool) where
       let rest = within-le n m in
       omega (arith, place, more, rest)
 
-  -- an item of the set went by and is not in the sample: the sample cannot become the set
+  -- if an item of the set has passed and is not in the sample, the sample cannot become the set
   missing : (left i : ℕ) (chosen : List ℕ) → within (i + left) ≡ length chosen → count_by test chosen < within i
       → passes_that i left chosen (list_all test) ≡ 0
   missing zero i chosen whole fewer =
@@ -172,7 +173,7 @@ module _ (test : ℕ → Bool) where
       omega (arith, each)) in
       omega (arith, rows)
 
-  -- all items of the set that went by are in the sample, beside `others` more items
+  -- all items of the set that have passed are in the sample, and `others` further items
   pub set_rows : (left i others : ℕ) (chosen : List ℕ) → length chosen ≤ i → within (i + left) ≡ length chosen → count_by test chosen ≡ within i
       → count_by test chosen + others ≡ length chosen
       → passes_that i left chosen (list_all test) * factorial (i - length chosen + others) ≡ factorial others * factorial (i + left - length chosen)
@@ -274,7 +275,7 @@ past_length slot chosen is =
       | inr past ↦ past
     ]
 
--- how many sequences of draws there are
+-- the number of sequences of draws
 all-passes : (left i : ℕ) (chosen : List ℕ) → passes_that i left chosen (λ _. true) ≡ total i left
 all-passes zero i chosen = refl
 all-passes (suc left) i chosen =
@@ -287,7 +288,7 @@ module _ (p : ℕ) where
   abbrev is_p : ℕ → Bool
   is_p x = nat_eq x p
 
-  -- it is in the sample exactly if it is counted there
+  -- an item is in the sample if and only if it is counted there
   none-held : (chosen : List ℕ) → count_by is_p chosen ≡ 0 → holds p chosen ≡ false
   none-held [] none = refl
   none-held (x ∷ chosen) none =
@@ -317,7 +318,7 @@ module _ (p : ℕ) where
         | inr there ↦ there
       ]
 
-  -- an item that went by and is not in the sample never comes back
+  -- an item that has passed and is not in the sample never returns
   lost : (left i : ℕ) (chosen : List ℕ) → p < i → count_by is_p chosen ≡ 0 → passes_that i left chosen (holds p) ≡ 0
   lost zero i chosen past none = rw (none-held chosen none) refl
   lost (suc left) i chosen past none =
@@ -346,7 +347,7 @@ module _ (p : ℕ) where
       let counted = hit-count is_p chosen (i + 1) (omega arith) ∙ once in
       omega (arith, rows, ap (λ (k : ℕ). k * B) counted)
 
-  -- an item still to come is kept in as many of them as the sample has slots
+  -- an item still to come is kept in as many of the sequences as the sample has slots
   coming : (left i : ℕ) (chosen : List ℕ) → length chosen ≤ i → i ≤ p → p < i + left → count_by is_p chosen ≡ 0
       → passes_that i left chosen (holds p) * (i + left) ≡ length chosen * total i left
   coming zero i chosen long from to none = absurd (omega arith)

@@ -1,4 +1,4 @@
--- In how many sequences of draws a number is in the sample.
+-- The number of sequences of draws for which a number is in the sample.
 use Rattle.std.proofs.Common.{◌≡◌, ℕ, zero, suc, ◌+◌, ◌-◌, ◌*◌, ◌<◌, ◌≤◌, ◌||◌, Bool, true, false, cond, List, [], ◌∷◌}
 use Rattle.std.proofs.Common.{◌++◌, nat_eq, add-one, zero-add, refl, sym, ◌∙◌, ap, inl, inr, arith}
 use Rattle.std.specs.List.{sum_by, count_by, range_with_len}
@@ -9,7 +9,7 @@ use Rattle.nanorand_core.specs.samples.Samples.{NumbersAreFair, holds, joining, 
 use Rattle.nanorand_core.proofs.lemmas.ranges.CountLemmas.{count_by-add, count_by-last, count_by-none}
 use Rattle.nanorand_core.proofs.lemmas.shuffles.CopyLemmas.{copies-inside}
 
--- sums over the draws of terms times K: A where a test passes, B where it does not
+-- sums over the draws of terms times K, which are A where a test passes, and B where it does not
 module _ (f : ℕ → ℕ) (test : ℕ → Bool) (K A B : ℕ) where
   pub sum_split : (first n : ℕ)
       → ((d : ℕ) → first ≤ d → d < first + n → test d ≡ true → f d * K ≡ A)
@@ -32,7 +32,7 @@ module _ (f : ℕ → ℕ) (test : ℕ → Bool) (K A B : ℕ) where
             omega (arith, whole, here, rest, ap (λ (c : ℕ). c * A) none, ap (λ (c : ℕ). c * B) none)
       ]
 
--- the same sum where each term is as large
+-- the same sum if all terms are equal
 pub sum_same : (f : ℕ → ℕ) (K w first n : ℕ) → ((d : ℕ) → first ≤ d → d < first + n → f d * K ≡ w) → sum_by f (range_with_len first n) * K ≡ n * w
 sum_same f K w first n each =
     let none = count_by-none (λ (d : ℕ). false) (λ d. refl) (range_with_len first n) in
@@ -49,7 +49,7 @@ or_nothing : (b : Bool) → (b || false) ≡ b
 or_nothing true = refl
 or_nothing false = refl
 
--- what a sample with one number more at its end holds
+-- what a sample holds after one more number is appended
 module _ (x : ℕ) (sample : List ℕ) where
   holds-push : (y : ℕ) → holds y (sample ++ x ∷ []) ≡ (holds y sample || nat_eq x y)
   holds-push y =
@@ -87,7 +87,7 @@ pub record Sampling (last size : ℕ) (sample : List ℕ) : Type 0 where
   pub counted : count_by (λ y. holds y sample) (range_with_len 0 last) ≡ size
 
 module _ (last size : ℕ) (sample : List ℕ) (s : Sampling last size sample) where
-  -- those of its numbers up to `last` are all of them
+  -- the numbers up to `last` that it holds are all of its numbers
   pub count-held : count_by (λ y. holds y sample) (range_with_len 0 (last + 1)) ≡ size
   count-held =
       count_by-more (λ y. holds y sample) last
@@ -113,7 +113,7 @@ sampling_none last = record {
   counted = count_by-none (λ y. holds y []) (λ y. refl) (range_with_len 0 last);
 }
 
--- how many sequences of draws there are
+-- the number of sequences of draws
 abbrev pub total : ℕ → ℕ → ℕ
 total last zero = 1
 total last (suc left) = (last + 1) * total (last + 1) left
@@ -135,7 +135,7 @@ kept last (suc left) p sample held =
     omega (arith, each)) in
     omega (arith, rows)
 
--- a number that went by joins only when it is drawn
+-- a number below `last` that is not in the sample joins only when it is drawn
 absent : (last left p : ℕ) (sample : List ℕ) → p < last → holds p sample ≡ false
     → rows_that last left sample (holds p) * (last + left) ≡ left * total last left
 absent last zero p sample below none = rw none (omega arith)
@@ -158,7 +158,8 @@ absent last (suc left) p sample below none =
     ])) in
     omega (arith, rows, ap (λ (c : ℕ). c * (K * T)) once, ap (λ (c : ℕ). c * (left * T)) once)
 
--- a number still to come joins when it is the greatest: if it is drawn, or a number held by then
+-- a number still to come joins when it is the greatest, if it is drawn, or if a number is drawn
+-- that the sample holds by then
 coming : (last left p size : ℕ) (sample : List ℕ) → Sampling last size sample → last ≤ p → p < last + left
     → rows_that last left sample (holds p) * (last + left) ≡ (size + left) * total last left
 coming last zero p size sample s from to = absurd (omega arith)

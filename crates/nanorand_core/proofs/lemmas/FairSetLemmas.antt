@@ -1,4 +1,4 @@
--- In how many sequences of draws a set of numbers, given by a test, is the sample.
+-- The number of sequences of draws for which a set of numbers, given by a test, is the sample.
 use Rattle.std.proofs.Common.{◌≡◌, ℕ, zero, suc, ◌+◌, ◌-◌, ◌*◌, ◌<◌, ◌≤◌, ◌&&◌, Bool, true, false, cond, not, List, []}
 use Rattle.std.proofs.Common.{◌∷◌, ◌++◌, nat_eq, add-zero, add-one, refl, sym, ◌∙◌, ap, inl, inr, arith}
 use Rattle.std.specs.List.{list_all, count_by, range_with_len}
@@ -17,7 +17,7 @@ some_factorial (suc n) =
     let more : 1 * 1 ≤ suc n * factorial n = mul-le 1 1 (suc n) (factorial n) (omega arith) rest in
     omega (arith, more)
 
--- a count grows by one number at most with each number
+-- with each further number a count grows by at most one
 count-within : (p : ℕ → Bool) (m n : ℕ) → count_by p (range_with_len 0 (m + n)) ≤ count_by p (range_with_len 0 m) + n
 count-within p m zero = let e = ap (λ (k : ℕ). count_by p (range_with_len 0 k)) (add-zero m) in omega (arith, e)
 count-within p m (suc n) =
@@ -47,7 +47,7 @@ module _ (test : ℕ → Bool) where
         | inr other ↦ held-passes d sample parts.1 (rw other at held)
       ]
 
-  -- a sample with a number outside the set stays outside
+  -- a sample that holds a number outside the set never becomes the set
   none : (last left : ℕ) (sample : List ℕ) → list_all test sample ≡ false → rows_that last left sample (list_all test) ≡ 0
   none last zero sample miss = rw miss refl
   none last (suc left) sample miss =
@@ -63,8 +63,8 @@ module _ (test : ℕ → Bool) where
   abbrev within : ℕ → ℕ
   within n = count_by test (range_with_len 0 n)
 
-  -- the draws that keep the sample in the set, where `last` is in it: all numbers of the set
-  -- where it is not: the numbers of the set that the sample does not hold
+  -- The draws that keep the sample in the set. If `last` is in the set, these are all numbers of
+  -- the set. Otherwise they are the numbers of the set that the sample does not hold.
   abbrev keeps : List ℕ → ℕ → Bool
   keeps sample d = test d && not (holds d sample)
 

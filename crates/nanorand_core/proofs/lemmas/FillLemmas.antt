@@ -1,4 +1,4 @@
--- What calls of a closure, one for each item, return.
+-- What the calls of a closure, one for each item, return.
 use Rattle.std.proofs.Common.{◌≡◌, ℕ, ◌+◌, ◌*◌, ◌≤◌, Bool, true, List, [], ◌∷◌, length, refl, sym, ◌∙◌, ap, arith}
 use Rattle.std.proofs.Math.Nat.{mul-suc}
 use Rattle.std.specs.Fn.{iterate}

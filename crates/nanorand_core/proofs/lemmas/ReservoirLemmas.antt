@@ -1,4 +1,4 @@
--- A reservoir under way: what it holds after each item, and at a refused draw.
+-- A reservoir while it runs: what it holds after each item, and when a draw returns an error.
 use Rattle.std.proofs.Common.{◌≡◌, ◌≢◌, ℕ, zero, suc, ◌+◌, ◌-◌, ◌*◌, ◌<◌, ◌≤◌, min, List, [], ◌∷◌, ◌++◌, length, get_or, set}
 use Rattle.std.proofs.Common.{drop, take, slice_get, Result, Ok, Err, Some, inl, inr, refl, sym, ◌∙◌, ap, subst, arith, length-append, append_assoc, append-nil, add-zero, add-one, zero-add}
 use Rattle.std.specs.Result.{result_unwrap_or}
@@ -16,7 +16,7 @@ use Rattle.nanorand_core.specs.values.Draws.{word_limit, after_word, after_words
 use Rattle.nanorand_core.proofs.lemmas.SampleLemmas.{words_more}
 use Rattle.nanorand_core.specs.declared.values.range.RangeError.{RangeError}
 
--- the numbers from a on, and one more
+-- the numbers from a on, extended by one
 range-more : (a n : ℕ) → range_with_len a (suc n) ≡ range_with_len a n ++ (a + n) ∷ []
 range-more a zero = rw add-zero refl
 range-more a (suc n) =
@@ -27,7 +27,7 @@ range-push : (n : ℕ) → range_with_len 0 (n + 1) ≡ range_with_len 0 n ++ n 
 range-push n = rw add-one (range-more 0 n ∙ rw zero-add refl)
 
 module _ {A : Type 0} (items : List A) (x : A) where
-  -- an item more changes none of the items of earlier numbers
+  -- another item changes none of the items with earlier numbers
   items-more : (numbers : List ℕ) → All (λ i. i < length items) numbers → items_at (items ++ x ∷ []) numbers ≡ items_at items numbers
   items-more [] below = refl
   items-more (i ∷ numbers) below =
@@ -72,7 +72,7 @@ length-items (x ∷ items) (i ∷ numbers) below =
     let rest = length-items (x ∷ items) numbers (λ k d inside. below (suc k) d (omega arith)) in
     rw (slice_get-get_or (x ∷ items) i x within) (ap suc rest)
 
--- the slots that hold items hold items that were given
+-- the filled slots hold items that were given
 items-contained : {A : Type 0} (items : List A) (numbers : List ℕ) → All (λ i. i < length items) numbers → All (Contains items) (items_at items numbers)
 items-contained items [] below = λ k d inside. absurd (omega arith)
 items-contained [] (i ∷ numbers) below = absurd (let within = below 0 i (omega arith) in omega arith)
@@ -241,7 +241,7 @@ module _ {G : Type 0} (requests : Requests G) where
               words = rw more (words_more (after_word requests 64) word_limit (n - length old) start g k h.words few);
             })
 
-        -- or its draw is refused
+        -- or its draw returns an error
         pub pass-refused : (refusal : RangeError) → Err refusal ≡ (number_up_to requests (length items) g).0
             → (k : G) → k ≡ (number_up_to requests (length items) g).1
             → reservoir requests (length old) (length (items ++ x ∷ [])) start

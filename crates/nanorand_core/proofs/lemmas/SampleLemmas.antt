@@ -1,4 +1,5 @@
--- A sample under way: its numbers stay different and below the count, and each draw goes on or ends it.
+-- A sample while it is drawn: its numbers stay different and below the count, and each draw
+-- continues or ends it.
 use Rattle.std.proofs.Common.{◌≡◌, ◌≢◌, ◌==◌, ℕ, suc, ◌+◌, ◌-◌, ◌*◌, ◌<◌, ◌≤◌, List, ◌++◌, length, get_or, take, drop}
 use Rattle.std.proofs.Common.{set, Ok, Err, inl, inr, refl, sym, ◌∙◌, ap, arith}
 use Rattle.std.specs.Fn.{iterate}
@@ -36,7 +37,7 @@ module _ (last drawn : ℕ) (sample : List ℕ) (below : All (λ x. x < last) sa
             (list_any_at (λ other. other == drawn) sample k d within (eq-eqb (get_or sample k d) drawn same))))
       ]
 
--- a sampling continues after a number, and ends at a refusal
+-- a sampling continues after a number, and ends with an error
 module _ {G : Type 0} (requests : Requests G) (first slot size : ℕ) (g h : G) (sample : List ℕ) (whole : Sample G)
     (more : slot < size) (so_far : sampled_from requests (first + slot) (size - slot) g sample ≡ whole)
     (left : h ≡ (number_up_to requests (first + slot) g).1) where
@@ -53,7 +54,7 @@ module _ {G : Type 0} (requests : Requests G) (first slot size : ℕ) (g h : G) 
       let next : size - slot ≡ suc (size - (slot + 1)) = omega arith in
       rw left (rw (next, ← is) at so_far)
 
--- the slots written so far, and those that are as before
+-- the slots written so far, and those that are unchanged
 pub slots_filled : (slot : ℕ) (places old numbers : List ℕ) → slot ≤ length places → numbers ≡ take slot places
     → drop slot places ≡ drop slot old → places ≡ numbers ++ drop (length numbers) old
 slots_filled slot places old numbers within is rest =
@@ -61,14 +62,14 @@ slots_filled slot places old numbers within is rest =
     sym (take-append-drop slot places) ∙ ap (λ behind. take slot places ++ behind) rest
     ∙ rw (long, is) refl
 
--- one slot more is written
+-- one more slot is written
 pub slots_left : (slot number : ℕ) (places old : List ℕ) → drop slot places ≡ drop slot old
     → drop (slot + 1) (set places slot number) ≡ drop (slot + 1) old
 slots_left slot number places old rest =
     drop-set-lt (slot + 1) places slot number (omega arith)
     ∙ sym (drop-drop 1 slot places) ∙ ap (drop 1) rest ∙ drop-drop 1 slot old
 
--- how many words several draws take
+-- the number of words that several draws take
 pub words_more : {A : Type 0} (h : A → A) (limit i : ℕ) (x y z : A)
     → (n : ℕ) × (n ≤ limit * i) × (y ≡ iterate h n x) → (n : ℕ) × (n ≤ limit) × (z ≡ iterate h n y)
     → (n : ℕ) × (n ≤ limit * (i + 1)) × (z ≡ iterate h n x)

@@ -1,4 +1,4 @@
--- An item's numbers are exactly those in its share.
+-- The numbers of an item are exactly those in its share.
 use Rattle.std.proofs.Common.{◌≡◌, ℕ, zero, suc, ◌+◌, ◌-◌, ◌*◌, ◌<◌, ◌&&◌, Bool, cond, List, [], ◌∷◌, length, take}
 use Rattle.std.proofs.Common.{slice_index, min, max, Option, Some, None, option_map, nat_eq, nat_le, nat_lt, refl, ◌∙◌}
 use Rattle.std.proofs.Common.{ap, inl, inr, arith}
@@ -10,7 +10,7 @@ use Rattle.nanorand_core.specs.values.Runs.{named, quota, words_that}
 use Rattle.nanorand_core.specs.values.Fairness.{EventsAreFair, passes}
 use Rattle.nanorand_core.specs.choices.Weighted.{item_at, ChoicesAreFair}
 
--- how many of the n numbers from c on are at least a and below b
+-- the count of those of the n numbers from c on that are at least a and below b
 count_between : (a b n c : ℕ) → count_by (λ k. nat_le a k && nat_lt k b) (range_with_len c n) ≡ min b (c + n) - max a c
 count_between a b zero c = omega arith
 count_between a b (suc n) c =
@@ -19,7 +19,7 @@ count_between a b (suc n) c =
     let rest = count_between a b n (c + 1) in
     omega (arith, first, here, rest)
 
--- an item is chosen by a number exactly if the number is in its share
+-- an item is chosen by a number if and only if the number is in its share
 item_in_share : (weights : List ℕ) (i k : ℕ) → i < length weights
     → nat_eq (item_at weights k) i ≡ (nat_le (sum (take i weights)) k && nat_lt k (sum (take i weights) + slice_index weights i))
 item_in_share [] i k within = absurd (omega arith)

@@ -9,18 +9,18 @@ use Rattle.nanorand_core.specs.values.Fairness.{passes}
 use Rattle.nanorand_core.specs.declared.choices.weighted.WeightError.{WeightError}
 use Rattle.nanorand_core.specs.declared.choices.weighted.WeightError.TheVariants.{NoWeight, TooHeavy, Exhausted}
 
--- Number k is in the share of item i: at least the sum of the weights before i, and below that sum
--- with the weight of i.
+-- The number k is in the share of item i: it is at least the sum of the weights before i, and below
+-- that sum plus the weight of i.
 pub record IsInShare (weights : List ℕ) (k i : ℕ) : Type 0 where
   pub from : sum (take i weights) ≤ k
   pub before_end : k < sum (take i weights) + slice_index weights i
 
--- The index of the item whose share contains number k.
+-- The index of the item whose share contains the number k.
 abbrev pub item_at : List ℕ → ℕ → ℕ
 item_at [] k = 0
 item_at (weight ∷ weights) k = if nat_lt k weight then 0 else suc (item_at weights (k - weight))
 
--- The sum of the weights, or why nothing can be drawn: the sum is 0, or 2^64 or more.
+-- The sum of the weights, or the error if nothing can be drawn: the sum is 0, or 2^64 or more.
 abbrev pub total_of : List ℕ → Result ℕ WeightError
 total_of weights =
     if sum weights == 0 then Err NoWeight
@@ -28,19 +28,19 @@ total_of weights =
     else Ok (sum weights)
 
 module _ {G : Type 0} (requests : Requests G) where
-  -- The number below the sum of the weights that the next 128 words decide, if they decide one.
+  -- The number below the sum of the weights that the next 128 words give, if they give one.
   abbrev pub number_for : List ℕ → G → Option ℕ
   number_for weights g = (drawn_below requests 64 (sum weights) g).number
 
-  -- The result of a choice: the item whose share contains that number, or the refusal.
+  -- The result of a choice: the item whose share contains that number, or the error.
   abbrev pub choice_answer : List ℕ → G → Result ℕ WeightError
   choice_answer weights g =
       if sum weights == 0 then Err NoWeight
       else if nat_le (2 ^ 64) (sum weights) then Err TooHeavy
       else ok_or (option_map (item_at weights) (number_for weights g)) Exhausted
 
-  -- The state that a choice leaves: after the deciding word, or after all 128. If the sum of the
-  -- weights is refused, nothing is drawn.
+  -- The state that a choice leaves: the state after the deciding word, or after all 128 words. If
+  -- the sum of the weights is 0, or 2^64 or more, nothing is drawn.
   abbrev pub choice_state : List ℕ → G → G
   choice_state weights g =
       if is_ok (total_of weights) then (drawn_below requests 64 (sum weights) g).state else g
@@ -49,8 +49,8 @@ module _ {G : Type 0} (requests : Requests G) where
 abbrev pub item_named : ℕ → List ℕ → ℕ → Option ℕ
 item_named bits weights word = option_map (item_at weights) (named bits (sum weights) word)
 
--- For every word width and all weights whose sum is from 1 to 2^bits: an item is named by as many
--- words as its weight times the words of one number.
+-- For every word width and all weights whose sum is from 1 to 2^bits: the number of words that name
+-- an item is its weight times the number of words that name one number.
 abbrev pub ChoicesAreFair : Type 0
 ChoicesAreFair =
     (bits : ℕ) (weights : List ℕ) (i : ℕ) → IsWordWidth bits → 1 ≤ sum weights

@@ -1,4 +1,5 @@
--- A generator as a stream of blocks of bytes, and the bytes that a request takes from it.
+-- A generator as a stream of blocks of bytes, and the bytes that a request takes from it. A request
+-- is one read of n bytes.
 use Rattle.std.specs.Prelude.{ℕ, zero, suc, List, [], ◌++◌, take}
 use Rattle.std.specs.Fn.{iterate}
 use Rattle.std.specs.Int.{div_ceil}
@@ -14,8 +15,9 @@ blocks block step g (suc n) = block g ++ blocks block step (step g) n
 unfoldable pub taken : {G : Type 0} → (G → List ℕ) → (G → G) → G → ℕ → List ℕ
 taken block step g n = take n (blocks block step g n)
 
--- The state that a request of n bytes leaves in a plain generator, whose blocks have `output`
--- bytes. Each request starts on a new block and drops the unused bytes of its last one.
+-- The state after a request of n bytes to a generator without a buffer (a plain generator), whose
+-- blocks have `output` bytes. Each request starts with a new block and drops the unused bytes of
+-- its last one.
 abbrev pub plain_after : {G : Type 0} → (G → G) → ℕ → G → ℕ → G
 plain_after step output g n = iterate step (div_ceil n output) g
 

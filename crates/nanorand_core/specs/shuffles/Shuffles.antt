@@ -1,5 +1,5 @@
--- Shuffles by swaps in place, after Fisher and Yates (in Durstenfeld's form): first the choices,
--- one for each index, and then the permutation that they make.
+-- The Fisher-Yates shuffle in Durstenfeld's form, by swaps in place: first the choices, one for
+-- each index, and then the permutation that they make.
 use Rattle.std.specs.Prelude.{ℕ, zero, suc, ◌+◌, ◌==◌, List, [], ◌∷◌, length, min, fold, swap, Result, Ok, Err, if◌then◌else◌}
 use Rattle.std.specs.List.{enumerate_from}
 use Rattle.std.specs.declared.ops.Bound.TheVariants.{Included, Excluded}
@@ -8,37 +8,38 @@ use Rattle.nanorand_core.specs.values.Draws.{unsigned_outcome}
 use Rattle.nanorand_core.specs.declared.values.range.RangeError.{RangeError}
 use Rattle.nanorand_core.specs.declared.values.range.RangeError.TheVariants.{Exhausted}
 
--- The items after choices for the indices from i on: for each in turn, the items there and at its
--- choice are swapped.
+-- The items after the choices for the indices from i on: for each index in turn, the item there and
+-- the item at its choice are swapped.
 abbrev pub arranged_from : {T : Type 0} → ℕ → List ℕ → List T → List T
 arranged_from i choices items =
     fold (λ xs move. swap xs move.0 move.1) items (enumerate_from i choices)
 
--- The items after choices for the indices from 0 on.
+-- The items after the choices for the indices from 0 on.
 abbrev pub arranged : {T : Type 0} → List ℕ → List T → List T
 arranged choices items = arranged_from 0 choices items
 
--- The lowest partner of index i if every index is allowed: 0.
+-- The lowest allowed partner of index i if all indices are allowed: 0.
 abbrev pub from_all : ℕ → ℕ
 from_all i = 0
 
--- The lowest partner of index i if only i and later ones are allowed: i itself. An index once
--- passed then keeps its item.
+-- The lowest allowed partner of index i if only i and later indices are allowed: i itself. Then an
+-- item stays in place once its index was passed.
 abbrev pub from_itself : ℕ → ℕ
 from_itself i = i
 
--- A choice and the choices that follow it. A refused draw ends the list.
+-- A choice, followed by the other choices. If the draw of the choice returned an error, the list
+-- ends there.
 abbrev pub choice_before : Result ℕ RangeError → List ℕ → List ℕ
 choice_before (Ok choice) choices = choice ∷ choices
 choice_before (Err refusal) choices = []
 
 -- A shuffle of n items. The partner of index i is drawn from the indices `first i` to n - 1.
 module _ {G : Type 0} (requests : Requests G) (first : ℕ → ℕ) (n : ℕ) where
-  -- The partner drawn for index i, or the refusal, and the state after the draw.
+  -- The result of drawing the partner of index i, and the state after the draw.
   unfoldable pub partner_drawn : ℕ → G → Result ℕ RangeError × G
   partner_drawn i g = unsigned_outcome requests 64 g (Included (first i)) (Excluded n)
 
-  -- The choices for `left` indices from i on, up to the first refused draw.
+  -- The choices for `left` indices from i on, up to the first draw that returns an error.
   unfoldable pub choices_from : ℕ → ℕ → G → List ℕ
   choices_from i zero g = []
   choices_from i (suc left) g =
@@ -49,17 +50,17 @@ module _ {G : Type 0} (requests : Requests G) (first : ℕ → ℕ) (n : ℕ) wh
   state_after_places i zero g = g
   state_after_places i (suc count) g = state_after_places (i + 1) count (partner_drawn i g).1
 
-  -- The choices of the first `steps` indices: all of them, or those before the refused draw.
+  -- The choices of the first `steps` indices: all of them, or those before the first error.
   abbrev pub partial_choices : ℕ → G → List ℕ
   partial_choices steps g = choices_from 0 steps g
 
   -- The result of these steps: `Ok` if there is a choice for each, otherwise `Exhausted`. It is
-  -- never `Empty`: the range of a partner holds at least i.
+  -- never `Empty`, since the range of a partner contains at least i.
   abbrev pub partial_answer : ℕ → G → Result (Unit {0}) RangeError
   partial_answer steps g =
       if length (partial_choices steps g) == steps then Ok tt else Err Exhausted
 
-  -- The state after their draws, the refused one included.
+  -- The state after the draws of these steps, including the draw that returned an error.
   abbrev pub partial_state : ℕ → G → G
   partial_state steps g = state_after_places 0 (min steps (length (partial_choices steps g) + 1)) g
 
@@ -75,14 +76,16 @@ module _ {G : Type 0} (requests : Requests G) (first : ℕ → ℕ) (n : ℕ) wh
   abbrev pub shuffle_state : G → G
   shuffle_state g = partial_state n g
 
--- The result of a shuffle, the choices that it makes, and the items and the state that it leaves.
+-- The outcome of a shuffle: its result, the choices that it makes, and the items and the state that
+-- it leaves.
 pub record Shuffle (G T : Type 0) : Type 0 where
   pub answer : Result (Unit {0}) RangeError
   pub choices : List ℕ
   pub items : List T
   pub state : G
 
--- A shuffle of the items from state g, in which the partner of index i has index `first i` or more.
+-- A shuffle of the items from state g. The partner of index i is drawn from `first i` and the
+-- indices after it.
 abbrev pub shuffled : {G T : Type 0} → Requests G → (ℕ → ℕ) → G → List T → Shuffle G T
 shuffled requests first g items =
     let count = length items in
@@ -94,8 +97,8 @@ shuffled requests first g items =
       state = shuffle_state requests first count g;
     }
 
--- The same, ended after `steps` indices, or after all of them if there are fewer. A partner is still
--- drawn from all the items.
+-- The same, ended after `steps` indices, or after all of them if there are fewer. Partners are
+-- still drawn from all the items.
 abbrev pub partly_shuffled : {G T : Type 0} → Requests G → (ℕ → ℕ) → ℕ → G → List T
     → Shuffle G T
 partly_shuffled requests first steps g items =

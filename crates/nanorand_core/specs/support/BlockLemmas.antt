@@ -1,5 +1,5 @@
--- Lemmas about requests, block by block. Nobody has to believe this file: it is in specs/ only
--- because laws of impls cite its lemmas.
+-- Lemmas about requests, block by block. Not needed to understand the contracts: this file is in
+-- specs/ only because laws of impls cite its lemmas.
 use Rattle.std.proofs.Common.{◌≡◌, ℕ, zero, suc, ◌+◌, ◌-◌, ◌*◌, min, ◌<◌, ◌≤◌, List, [], ◌∷◌, ◌++◌, length, take, drop}
 use Rattle.std.proofs.Common.{refl, sym, ◌∙◌, ap, arith, length-append, append_assoc, ⊎_elim, zero-add}
 use Rattle.std.proofs.lemmas.List.{length-take-le, take_min}
@@ -75,7 +75,7 @@ module _ {G : Type 0} (block : G → List ℕ) (step : G → G) (output : ℕ) (
       take-append (suc n) (block g) (blocks block step (step g) n)
       ∙ rw (size g) (ap (λ rest. take (suc n) (block g) ++ rest) (take_blocks (step g) (suc n - output) n less))
 
-  -- a plain generator goes one block on
+  -- in a generator without a buffer, a request takes one block and then the rest
   pub plain_after_more : (g : G) (n : ℕ) → 0 < n → plain_after step output g n ≡ plain_after step output (step g) (n - output)
   plain_after_more g n some = rw (div_ceil_more n output some positive) refl
 

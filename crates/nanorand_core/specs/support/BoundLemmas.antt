@@ -1,5 +1,5 @@
--- Bounds that admit a number admit one of the type's ranks. Nobody has to believe this file: it is
--- in specs/ only because laws of impls cite its lemmas.
+-- Two bounds that admit a number admit a number that has a rank. Not needed to understand the
+-- contracts: this file is in specs/ only because laws of impls cite its lemmas.
 use Rattle.std.specs.Prelude.{◌≡◌, ℕ, ℤ, ◌+◌, ◌-◌, ◌*◌, ◌^◌, ◌<◌, ◌≤◌, ◌<ℤ◌, ◌≤ℤ◌, ◌-ℤ◌, true, nat_le, nat_lt, int_le, int_lt, pos, negsuc, refl}
 use Rattle.std.specs.Int.{int_gap}
 use Rattle.std.specs.declared.ops.Bound.{Bound}
@@ -11,8 +11,8 @@ use Rattle.nanorand_core.specs.values.Range.{is_above, is_below, unsigned_number
 use Rattle.nanorand_core.specs.values.Range.{IsNumber, HasUnsigned, HasSigned, unsigned_first, unsigned_end}
 use Rattle.nanorand_core.specs.values.Range.{signed_first, signed_end}
 
--- the least number that a low bound admits lies within it, and what is before a high bound's end
--- lies within that
+-- the least number that a low bound admits lies within it, and every number before the end of a
+-- high bound lies within that bound
 above_first : (low : Bound ℕ) → is_above nat_le nat_lt low (unsigned_first low) ≡ true
 above_first (Included b) = le-leb b b (omega arith)
 above_first (Excluded b) = lt-ltb b (b + 1) (omega arith)
@@ -34,7 +34,8 @@ unsigned_has_place bits low high low_number high_number has =
     let fits = end_fits bits high high_number in
     (unsigned_first low, omega arith, (above_first low, below_end bits (unsigned_first low) high has))
 
--- and a number that both bounds admit is one
+-- conversely, a number within a low bound is not below the least number that the bound admits, and
+-- a number within a high bound is before its end
 first_below : (low : Bound ℕ) (k : ℕ) → is_above nat_le nat_lt low k ≡ true → unsigned_first low ≤ k
 first_below (Included b) k above = leb-true b k above
 first_below (Excluded b) k above = omega (arith, ltb-true b k above)
@@ -104,7 +105,7 @@ signed_has_number bits half low high k fits admits =
     let end : x <ℤ signed_end bits high = signed_before_end bits high x (omega (arith, ints, fits, half)) admits.1 in
     omega (arith, ints, first, end)
 
--- the gap is the difference, and the rank of the number of rank k is k
+-- the gap is the difference of the numbers, and the rank of the number of rank k is k
 gap-is : (x y : ℤ) → x ≤ℤ y → pos (int_gap x y) ≡ y -ℤ x
 gap-is (pos a) (pos b) rises = grind (arith, ints)
 gap-is (pos a) (negsuc b) rises = grind (arith, ints)

@@ -1,6 +1,7 @@
--- A table in which a number is sought among the places. Its first `chains` items are the heads of as
--- many chains, and each place has one item more: the place before it in its chain. Each item is a place
--- plus one, or 0 for none. Nobody has to believe this file: only clauses of private functions use it.
+-- The table by which a sample finds out whether it holds a number. The first `chains` items are the
+-- heads of the chains. Each place of the sample has one more item: the place before it in its
+-- chain. Each item is a place plus 1, or 0 for none. Not needed to understand the contracts: only
+-- clauses of private functions use this file.
 use Rattle.std.specs.Prelude.{◌≡◌, ◌≢◌, ℕ, ◌+◌, ◌-◌, ◌<◌, ◌≤◌, List, slice_index, bit_and}
 
 -- The chain of a number.
@@ -14,7 +15,8 @@ IsLast chains places chain count item =
     × ((place : ℕ) → item ≡ place + 1 → chain_of chains (slice_index places place) ≡ chain)
     × ((place : ℕ) → item ≤ place → place < count → chain_of chains (slice_index places place) ≢ chain)
 
--- The table of the first `count` places. Without chains it says nothing.
+-- The table holds the chains of the first `count` places. If there are no chains, this says
+-- nothing.
 abbrev pub Chained : ℕ → List ℕ → ℕ → List ℕ → Type 0
 Chained chains places count table =
     ((chain : ℕ) → chain < chains → IsLast chains places chain count (slice_index table chain))

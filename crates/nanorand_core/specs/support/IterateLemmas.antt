@@ -1,4 +1,5 @@
--- Lemmas of repeated draws. Nobody has to believe this file: the laws of impls cite it.
+-- Lemmas about repeated draws. Not needed to understand the contracts: this file is in specs/ only
+-- because laws of impls cite its lemmas.
 use Rattle.std.proofs.Common.{◌≡◌, ℕ, zero, suc, ◌+◌, refl, sym, ap, ◌∙◌, add-one}
 use Rattle.std.proofs.Math.Nat.{zero-add, suc-add}
 use Rattle.std.specs.Fn.{iterate}

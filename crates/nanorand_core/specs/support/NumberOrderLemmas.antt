@@ -1,5 +1,5 @@
--- Lemmas about word widths and the order of numbers. Nobody has to believe this file: it is in
--- specs/ only because laws of impls cite its lemmas.
+-- Lemmas about word widths and the order of numbers. Not needed to understand the contracts: this
+-- file is in specs/ only because laws of impls cite its lemmas.
 use Rattle.std.specs.Prelude.{◌≡◌, ℕ, ◌-◌, ◌^◌, ◌<◌, ◌≤◌, true, false, nat_le, nat_lt, int_le, int_lt, pos, ◌-ℤ◌, refl}
 use Rattle.std.proofs.Common.{inl, inr, arith, sym, ◌∙◌}
 use Rattle.std.proofs.lemmas.Bool.{cases_lt, le-leb, lt-leb, lt-ltb, le-ltb}

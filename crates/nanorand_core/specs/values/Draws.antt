@@ -1,4 +1,5 @@
--- Bounded draws: words are drawn one after another until one names a number, at most 128 of them.
+-- Draws of a number below a size: words, which are random integers of N bits, are drawn one after
+-- another until one names a number, at most 128 of them.
 use Rattle.std.specs.Prelude.{ℕ, ℤ, ◌+◌, ◌/◌, ◌==◌, List, length, map, position, slice_index, slice_get, Option}
 use Rattle.std.specs.Prelude.{is_some, option_and_then, ok_or, Result, Err, if◌then◌else◌}
 use Rattle.std.specs.Fn.{iterate}
@@ -21,11 +22,11 @@ abbrev pub decided : ℕ → ℕ → List ℕ → Option ℕ
 decided bits size words =
     option_and_then (λ i. named bits size (slice_index words i)) (deciding_place bits size words)
 
--- The most words that are drawn for one number.
+-- The greatest number of words that are drawn for one number.
 abbrev pub word_limit : ℕ
 word_limit = 128
 
--- Draws from a source of words: `word` is the next word of a state, and `after` the state after it.
+-- Draws from a source of words. `word` is the next word of a state, and `after` the state after it.
 module _ {G : Type 0} (word : G → ℕ) (after : G → G) where
   -- The next n words from a state.
   unfoldable pub words_from : ℕ → G → List ℕ
@@ -42,9 +43,9 @@ module _ {G : Type 0} (word : G → ℕ) (after : G → G) where
       let place = deciding_place bits size (words_from limit g) in
       iterate after (option_map_or (λ i. i + 1) place limit) g
 
-  -- The result of a draw from a range with these numbers: the number whose index in the range,
-  -- counted from 0, was drawn. An empty range is refused as `Empty`, and a draw whose 128 words are
-  -- all rejected as `Exhausted`.
+  -- The result of a draw from a range that consists of these numbers: the number at the drawn
+  -- index, counted from 0. The result is the error `Empty` if the range is empty, and `Exhausted`
+  -- if 128 words were rejected.
   unfoldable pub value_drawn : {T : Type 0} → ℕ → List T → G → Result T RangeError
   value_drawn bits numbers g =
       if length numbers == 0 then Err Empty
@@ -57,8 +58,8 @@ module _ {G : Type 0} (word : G → ℕ) (after : G → G) where
   left_by bits numbers g =
       if length numbers == 0 then g else left_after word_limit bits (length numbers) g
 
--- The next word of `bits` bits: the unsigned number of the bytes of one request of bits / 8 bytes,
--- least significant byte first. Signed types use it too.
+-- The next word of `bits` bits: the unsigned number of the bytes of one request (one read) of
+-- bits / 8 bytes, in little-endian order. Signed types use it too.
 abbrev pub next_word : {G : Type 0} → Requests G → ℕ → G → ℕ
 next_word requests bits g = number_of (requests.bytes g (bits / 8))
 
@@ -66,7 +67,8 @@ next_word requests bits g = number_of (requests.bytes g (bits / 8))
 abbrev pub after_word : {G : Type 0} → Requests G → ℕ → G → G
 after_word requests bits g = requests.after g (bits / 8)
 
--- The result of a bounded draw (no number after 128 rejected words), and the state that it leaves.
+-- The outcome of a draw of a number: the number, or none after 128 rejected words, and the state
+-- that the draw leaves.
 pub record Draw (G : Type 0) : Type 0 where
   pub number : Option ℕ
   pub state : G
@@ -76,7 +78,7 @@ module _ {G : Type 0} (requests : Requests G) where
   abbrev pub after_words : ℕ → ℕ → G → G
   after_words bits n g = iterate (after_word requests bits) n g
 
-  -- A bounded draw below `size`, from words of `bits` bits.
+  -- A draw of a number below `size`, from words of `bits` bits.
   abbrev pub drawn_below : ℕ → ℕ → G → Draw G
   drawn_below bits size g =
       let word = next_word requests bits in
@@ -86,8 +88,8 @@ module _ {G : Type 0} (requests : Requests G) where
         state = left_after word after word_limit bits size g;
       }
 
-  -- The result of a draw from a range with these numbers, of a type of `bits` bits, and the state
-  -- that it leaves.
+  -- The result of a draw from a range that consists of these numbers, of a type of `bits` bits, and
+  -- the state that the draw leaves.
   abbrev pub range_outcome : {T : Type 0} → ℕ → List T → G → Result T RangeError × G
   range_outcome bits numbers g =
       let word = next_word requests bits in

@@ -1,4 +1,5 @@
--- Exact fairness: every number has equally many words, and no list of words prefers a number.
+-- Fairness: every number is named by the same number of words, which are random integers of N bits,
+-- and no list of words prefers a number.
 use Rattle.std.specs.Prelude.{◌≡◌, ℕ, ℤ, ◌+◌, ◌-◌, ◌*◌, ◌^◌, ◌<◌, ◌≤◌, ◌==◌, Bool, false, List, Option, Some, None}
 use Rattle.std.specs.Prelude.{is_some, true, ◌↔◌, length, map, count_by, slice_get, option_map, option_and_then}
 use Rattle.std.specs.Prelude.{if◌then◌else◌, nat_le, nat_lt, int_le, int_lt}
@@ -10,9 +11,9 @@ use Rattle.nanorand_core.specs.values.Runs.{IsWordWidth, Names, named, is_in_run
 use Rattle.nanorand_core.specs.values.Range.{Admits, IsNumber, signed_number, unsigned_range, signed_range}
 use Rattle.nanorand_core.specs.values.Draws.{deciding_place, decided}
 
--- The runs of the numbers below the size lie within the 2^bits words, do not overlap, and have
--- `quota` words each, at least one. All other words are rejected, fewer than half of all. `named`
--- computes exactly what `Names` states.
+-- The words are shared equally. The runs of the numbers below the size lie within the 2^bits words,
+-- do not overlap, and have `quota` words each, at least one. All other words are rejected; they are
+-- fewer than half of all words. `named` computes exactly what `Names` states.
 pub record SharesWords (bits size : ℕ) : Type 0 where
   pub within : (k : ℕ) → k < size → first_word bits size k + quota bits size ≤ 2 ^ bits
   pub apart : (word j k : ℕ) → Names bits size word j → Names bits size word k → j ≡ k
@@ -65,7 +66,7 @@ NoNumberIsPreferred =
     (bits size j k : ℕ) → IsWordWidth bits → 1 ≤ size → size ≤ 2 ^ bits → j < size → k < size
     → (words : List ℕ) → SwapsRuns bits size j k words
 
--- Part three: an event, a set of numbers given by a test, has `quota` words for each of its
+-- Part three: an event, a set of numbers given by a test, is named by `quota` words for each of its
 -- numbers.
 abbrev pub EventsAreFair : Type 0
 EventsAreFair =
@@ -79,19 +80,19 @@ DivisorsRejectNothing =
     (bits size word : ℕ) → IsWordWidth bits → 1 ≤ size → rejected bits size ≡ 0 → word < 2 ^ bits
     → is_some (named bits size word) ≡ true
 
--- The number of the list that a word of `bits` bits gives: the word names an index below the length
--- of the list, counted from 0, and the number stands there. A rejected word gives none.
+-- The number of the list that a word of `bits` bits gives: the word names an index of the list,
+-- counted from 0, and gives the number at that index. A rejected word gives none.
 abbrev pub number_given : {T : Type 0} → ℕ → List T → ℕ → Option T
 number_given bits numbers word =
     option_and_then (slice_get numbers) (named bits (length numbers) word)
 
--- How many of the 2^bits words give a number that passes the test.
+-- The number of the 2^bits words that give a number that passes the test.
 abbrev pub words_giving : {T : Type 0} → ℕ → List T → (T → Bool) → ℕ
 words_giving bits numbers test =
     words_that bits (λ word. option_map_or test (number_given bits numbers word) false)
 
 -- Ranges are fair, part one of three, for every word width and every two bounds of the unsigned
--- type of so many bits: each number that both bounds admit is given by `quota` words. The length of
+-- type of that width: each number that both bounds admit is given by `quota` words. The length of
 -- the range is the count of its numbers.
 abbrev pub UnsignedRangesAreFair : Type 0
 UnsignedRangesAreFair =
@@ -108,8 +109,9 @@ SignedRangesAreFair =
     let numbers = signed_range bits low high in
     words_giving bits numbers (λ y. int_eq y x) ≡ quota bits (length numbers)
 
--- Part three: in every list of 1 to 2^bits items, numbers or others, an event, given by a test, has
--- `quota` words for each place of the list whose item passes.
+-- Part three: in every list of 1 to 2^bits items, which may be numbers or other values, an event is
+-- given by a test. The number of words that give it is `quota` times the number of indices whose
+-- items pass the test.
 abbrev pub EventsOfListsAreFair : Type 0 → Type 0
 EventsOfListsAreFair T =
     (bits : ℕ) (numbers : List T) (test : T → Bool) → IsWordWidth bits

@@ -1,25 +1,25 @@
--- What calls of a closure, one for each item, write to a slice. `Call f g x f' g'` says that a call
--- of the closure f in state g may return x, and leave the closure f' and the state g'.
+-- What the calls of a closure, one for each item, write to a slice. `Call f g x f' g'` means that a
+-- call of the closure f in state g may return x, and leave the closure f' and the state g'.
 use Rattle.std.specs.Prelude.{◌≡◌, ℕ, ◌≤◌, Bool, true, List, [], ◌∷◌}
 use Rattle.std.specs.Fn.{iterate}
 
 module _ {F G T : Type 0} (Call : F → G → T → F → G → Type 0) where
-  -- Calls one after another, from f and g on, that return these values and leave the state `end`.
+  -- Calls in a row, starting with f and g, that return these values and leave the state `end`.
   abbrev pub CallsReturn : F → G → List T → G → Type 0
   CallsReturn f g [] end = end ≡ g
   CallsReturn f g (x ∷ xs) end = (f' : F) × (g' : G) × Call f g x f' g' × CallsReturn f' g' xs end
 
-  -- Every call returns `value` of the state before it, and leaves the state `after` that one.
+  -- Every call returns `value` of the state before it, and leaves `after` of that state.
   abbrev pub EachCallDraws : (G → T) → (G → G) → Type 0
   EachCallDraws value after =
       (f : F) (g : G) (x : T) (f' : F) (g' : G) → Call f g x f' g' → (x ≡ value g) × (g' ≡ after g)
 
-  -- Every call leaves the state `after` the one before it.
+  -- Every call leaves `after` of the state before it.
   abbrev pub EachCallLeaves : (G → G) → Type 0
   EachCallLeaves after =
       (f : F) (g : G) (x : T) (f' : F) (g' : G) → Call f g x f' g' → g' ≡ after g
 
-  -- Every call makes at most `most` steps: it leaves the state after so many.
+  -- Every call makes at most `most` steps: it leaves the state after that many steps.
   abbrev pub EachCallTakes : (G → G) → ℕ → Type 0
   EachCallTakes step most =
       (f : F) (g : G) (x : T) (f' : F) (g' : G) → Call f g x f' g'

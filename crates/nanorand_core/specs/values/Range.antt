@@ -1,4 +1,5 @@
--- A range: the numbers of a type that lie within both bounds, in increasing order.
+-- A range: the numbers of a type that lie within both bounds, in the order of their ranks. For the
+-- integer types this is increasing order.
 use Rattle.std.specs.Prelude.{◌≡◌, ℕ, ◌+◌, ◌-◌, ◌^◌, ◌<◌, ◌&&◌, Bool, true, List, map, filter, ℤ, pos, ◌+ℤ◌, ◌-ℤ◌, ◌<ℤ◌, nat_le, nat_lt, int_le, int_lt}
 use Rattle.std.specs.Int.{int_gap}
 use Rattle.std.specs.List.{range_with_len}
@@ -22,8 +23,8 @@ module _ {T : Type 0} (le lt : T → T → Bool) where
   abbrev pub Admits : Bound T → Bound T → T → Type 0
   Admits low high x = (is_above low x ≡ true) × (is_below high x ≡ true)
 
-  -- The range of a type of `bits` bits, in increasing order. `number k` is the type's number of
-  -- rank k, counted from 0.
+  -- The range of a type of `bits` bits, in the order of the ranks. `number k` is the type's number
+  -- of rank k, counted from 0.
   unfoldable pub range_within : ℕ → (ℕ → T) → Bound T → Bound T → List T
   range_within bits number low high =
       filter (λ x. is_above low x && is_below high x) (map number (range_with_len 0 (2 ^ bits)))
@@ -40,7 +41,7 @@ signed_number bits k = pos k -ℤ pos (2 ^ (bits - 1))
 abbrev pub unsigned_rank : ℕ → ℕ
 unsigned_rank number = number
 
--- The rank of a number of a signed type of `bits` bits: how far it is above the least.
+-- The rank of a number of a signed type of `bits` bits: its distance from the least number.
 abbrev pub signed_rank : ℕ → ℤ → ℕ
 signed_rank bits number = int_gap (pos 0 -ℤ pos (2 ^ (bits - 1))) number
 
@@ -51,13 +52,13 @@ module _ {T : Type 0} (rank : T → ℕ) where
   first_rank (Excluded b) = rank b + 1
   first_rank Unbounded = 0
 
-  -- The rank after that of the greatest number that a high bound admits, of a type of `bits` bits.
+  -- The rank of the greatest number that a high bound admits, plus 1, in a type of `bits` bits.
   abbrev pub end_rank : ℕ → Bound T → ℕ
   end_rank bits (Included b) = rank b + 1
   end_rank bits (Excluded b) = rank b
   end_rank bits Unbounded = 2 ^ bits
 
-  -- How many numbers two bounds admit.
+  -- The number of numbers that two bounds admit.
   abbrev pub range_size : ℕ → Bound T → Bound T → ℕ
   range_size bits low high = end_rank bits high - first_rank low
 
@@ -75,13 +76,13 @@ unsigned_first (Included b) = b
 unsigned_first (Excluded b) = b + 1
 unsigned_first Unbounded = 0
 
--- The number after the greatest that a high bound admits, of the unsigned type of `bits` bits.
+-- The greatest number that a high bound admits, plus 1, in the unsigned type of `bits` bits.
 abbrev pub unsigned_end : ℕ → Bound ℕ → ℕ
 unsigned_end bits (Included b) = b + 1
 unsigned_end bits (Excluded b) = b
 unsigned_end bits Unbounded = 2 ^ bits
 
--- Two bounds of the unsigned type of `bits` bits admit a number of it.
+-- Two bounds of the unsigned type of `bits` bits admit at least one number.
 abbrev pub HasUnsigned : ℕ → Bound ℕ → Bound ℕ → Type 0
 HasUnsigned bits low high = unsigned_first low < unsigned_end bits high
 
@@ -99,7 +100,7 @@ signed_end bits Unbounded = pos (2 ^ (bits - 1))
 abbrev pub HasSigned : ℕ → Bound ℤ → Bound ℤ → Type 0
 HasSigned bits low high = signed_first bits low <ℤ signed_end bits high
 
--- The number of a bound has the property, if the bound has a number.
+-- The number of a bound has the property P, if the bound has a number.
 abbrev pub IfBound : {T : Type 0} → Bound T → (T → Type 0) → Type 0
 IfBound (Included b) P = P b
 IfBound (Excluded b) P = P b

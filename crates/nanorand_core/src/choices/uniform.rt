@@ -1,4 +1,5 @@
-//! Choices of which each has equally many words.
+//! Unbiased choices: every outcome is produced by the same number of words, where a word is a
+//! random integer of N bits.
 ghost use Rattle.std.specs.Prelude.{◌≡◌, ℕ, ◌+◌, ◌-◌, ◌/◌, ◌^◌, ◌<◌, ◌≤◌, [], true, false, length, slice_get, nat_lt, Some, Ok, Err, IsOk, IsOkAnd, IfOk, IfErr, MatchResult};
 ghost use Rattle.std.specs.declared.ops.Bound.TheVariants.{Excluded, Included, Unbounded};
 ghost use Rattle.nanorand_core.specs.values.Range.{range_within};
@@ -14,12 +15,14 @@ use crate::values::word::draw_word;
 use crate::values::{RandomRange, RangeError};
 use std::ops::Bound;
 
-/// Draws a number below `n`: of an unsigned type one of 0, 1, .., `n` - 1, and of a signed type one
-/// from the type's least number on.
+/// Draws a number below `n`: for an unsigned type one of 0, 1, .., `n` - 1, and for a signed type a
+/// number from the type's least number up to `n` - 1.
 ///
-/// Precondition: the type has a number below `n`. The only error is `Exhausted`, after 128 rejected
-/// words; they stay consumed. If 2^k numbers are below `n` (of an unsigned type: `n` is a power of
-/// two), there is none: no word is rejected then.
+/// Returns `Exhausted`, the only error, if 128 words in a row were rejected; they stay consumed. If
+/// the count of the numbers below `n` is a power of two (for an unsigned type: if `n` is one), no
+/// word is rejected, and no error is returned.
+///
+/// Precondition: the type has a number below `n`.
 #[inline]
 pub fn below<T: Number, G: Rng<OUTPUT>, const OUTPUT: usize>(
     rng: &mut G,
@@ -42,11 +45,13 @@ pub fn below<T: Number, G: Rng<OUTPUT>, const OUTPUT: usize>(
     draw_number(rng, Bound::Unbounded, Bound::Excluded(n))
 }
 
-/// Draws a number from `low..=high`, as a die's from `1..=6`; each is produced by equally many
-/// words.
+/// Draws a number from `low..=high`, such as `1..=6` for a die. Each number is produced by the same
+/// number of words.
 ///
-/// Precondition: `low` is at most `high`. The only error is `Exhausted`, after 128 rejected words;
-/// they stay consumed. If 2^k numbers are between the two, there is none.
+/// Returns `Exhausted`, the only error, if 128 words in a row were rejected; they stay consumed. If
+/// the count of the numbers is a power of two, no word is rejected, and no error is returned.
+///
+/// Precondition: `low` is at most `high`.
 #[inline]
 pub fn between<T: Number, G: Rng<OUTPUT>, const OUTPUT: usize>(
     rng: &mut G,
@@ -72,13 +77,13 @@ pub fn between<T: Number, G: Rng<OUTPUT>, const OUTPUT: usize>(
     draw_number(rng, Bound::Included(low), Bound::Included(high))
 }
 
-/// Draws a number below 2^`count`: of an unsigned type one of 0, 1, .., 2^`count` - 1, and of a
-/// signed type one of so many from the type's least number on.
+/// Draws one of 2^`count` numbers: for an unsigned type one of 0, 1, .., 2^`count` - 1, and for a
+/// signed type one of the 2^`count` numbers that begin with the type's least number.
 ///
-/// It is never refused: it draws one word of the type's width, and takes its top `count` bits.
-/// `values::word::draw_below` of 2^`count` draws the same.
+/// This function has no error to return: it draws exactly one word of the type's width, and uses
+/// its top `count` bits. `values::word::draw_below` with the size 2^`count` draws the same number.
 ///
-/// Precondition: `count` is at most the type's width.
+/// Precondition: `count` is at most the width of the type.
 #[inline]
 pub fn bits<T: Number, G: Rng<OUTPUT>, const OUTPUT: usize>(rng: &mut G, count: u32) -> T
     requires { count ≤ T.BITS }
@@ -91,14 +96,14 @@ pub fn bits<T: Number, G: Rng<OUTPUT>, const OUTPUT: usize>(rng: &mut G, count: 
     ensures left { rng.new ≡ (drawn_below G.requests T.BITS (2 ^ count) rng.old).state }
 {
     let word = draw_word(rng, T::BITS);
-    // Of 0 bits the shift is the whole width, which a `u64` does not take.
+    // For `count` 0 the shift is by the whole width, which a `u64` does not allow.
     T::at_place((u128::from(word) >> (T::BITS - count)) as u64)
 }
 
-/// Chooses an item of the slice; each is chosen by equally many words.
+/// Chooses an item of the slice. Each item is chosen by the same number of words.
 ///
-/// It returns `Empty` for an empty slice, and draws nothing then. It returns `Exhausted` if 128
-/// words in a row were rejected; they stay consumed.
+/// Returns `Empty` if the slice is empty; nothing is drawn then. Returns `Exhausted` if 128 words
+/// in a row were rejected; they stay consumed.
 #[inline]
 pub fn choose<'a, T, G: Rng<OUTPUT>, const OUTPUT: usize>(
     rng: &mut G,
@@ -117,13 +122,14 @@ pub fn choose<'a, T, G: Rng<OUTPUT>, const OUTPUT: usize>(
     Ok(&items[index])
 }
 
-/// Chooses an item of the slice as `choose` does, and lends it for writing.
+/// Chooses an item of the slice as `choose` does, and returns a mutable reference to it.
 ///
-/// It returns `Empty` for an empty slice, and draws nothing then. It returns `Exhausted` if 128
-/// words in a row were rejected; they stay consumed.
+/// Returns `Empty` if the slice is empty; nothing is drawn then. Returns `Exhausted` if 128 words
+/// in a row were rejected; they stay consumed.
 ///
-/// No contract can say yet what a slice is after an item was lent inside a `Result`. If a caller's
-/// proof needs that, draw the index: `let i = below(rng, items.len())?`, and write to `items[i]`.
+/// The contract does not say what the slice holds after a write through the reference: a contract
+/// cannot express that for a reference inside a `Result`. If your proof needs it, draw the index
+/// instead, by `let i = below(rng, items.len())?`, and write to `items[i]`.
 #[inline]
 pub fn choose_mut<'a, T, G: Rng<OUTPUT>, const OUTPUT: usize>(
     rng: &mut G,
@@ -142,12 +148,15 @@ pub fn choose_mut<'a, T, G: Rng<OUTPUT>, const OUTPUT: usize>(
     Ok(&mut items[index])
 }
 
-/// Returns true in `numerator` of `denominator` cases: for a `numerator` up to `denominator`, for
-/// exactly `numerator` times as many words as one number below `denominator` has.
+/// Returns true with probability `numerator` / `denominator`: a number below `denominator` is
+/// drawn, and the result is whether it is below `numerator`.
 ///
-/// If `numerator` is `denominator` or more, it never returns false. It returns `Empty` if
-/// `denominator` is 0, and draws nothing then. It returns `Exhausted` if 128 words in a row were
-/// rejected; they stay consumed.
+/// So, for `numerator` up to `denominator`, the number of words that give true is exactly
+/// `numerator` times the number of words that each number below `denominator` has. If `numerator`
+/// is `denominator` or more, the function never returns false.
+///
+/// Returns `Empty` if `denominator` is 0; nothing is drawn then. Returns `Exhausted` if 128 words
+/// in a row were rejected; they stay consumed.
 #[inline]
 pub fn ratio<G: Rng<OUTPUT>, const OUTPUT: usize>(
     rng: &mut G,

@@ -1,4 +1,5 @@
-//! Choices by weight, in whole numbers and exactly: no floating point takes part.
+//! Weighted choices. The weights are integers, and the choice is exact: no floating-point
+//! arithmetic is used.
 ghost use Rattle.std.specs.Prelude.{◌≡◌, ℕ, ◌^◌, ◌<◌, ◌≤◌, ◌↔◌, ◌⊎◌, length, slice_index, sum, Err, IfOk, IfSome};
 ghost use Rattle.nanorand_core.specs.values.Draws.{after_words};
 ghost use Rattle.nanorand_core.specs.declared.choices.weighted.WeightError.TheVariants.{NoWeight, TooHeavy, Exhausted};
@@ -8,14 +9,14 @@ use crate::rand::Rng;
 use crate::values::word::draw_below;
 use thiserror::Error;
 
-/// Why nothing was chosen.
+/// The reasons why no item was chosen.
 #[derive(Clone, Copy, Debug, PartialEq, Eq, Error)]
 pub enum WeightError {
     /// There are no weights, or all of them are 0. Nothing was drawn.
     #[error("no item has a weight")]
     NoWeight,
 
-    /// The weights add up to 2^64 or more. Nothing was drawn.
+    /// The sum of the weights is 2^64 or more. Nothing was drawn.
     #[error("the weights add up to 2^64 or more")]
     TooHeavy,
 
@@ -24,17 +25,17 @@ pub enum WeightError {
     Exhausted,
 }
 
-/// Chooses an item by its weight, and returns its index: `weights[i]` is the weight of item i.
+/// Chooses an item by weight, and returns its index: `weights[i]` is the weight of item i.
 ///
-/// It draws a number below the sum of the weights, from words of 64 bits, at most 128 of them. Item
-/// i has `weights[i]` of these numbers, so an item of weight 0 is never chosen.
+/// A number below the sum of the weights is drawn, from at most 128 words (random integers of 64
+/// bits). Item i has `weights[i]` of these numbers, so an item of weight 0 is never chosen.
 ///
-/// The time is O(n) a draw for n weights: each call adds them all up, and looks for the item from
-/// the first one on.
+/// Each call takes time O(n) for n weights: it adds up all weights, and then searches for the item
+/// from the first one on.
 ///
-/// It returns `NoWeight` if there are no weights or all of them are 0, `TooHeavy` if they add up to
-/// 2^64 or more, and `Exhausted` if 128 words in a row were rejected. After `Exhausted` exactly 128
-/// words were drawn, and they stay consumed; after any other error, none was drawn.
+/// Returns `NoWeight` if there are no weights or all of them are 0, `TooHeavy` if their sum is 2^64
+/// or more, and `Exhausted` if 128 words in a row were rejected. After `Exhausted` exactly 128
+/// words were drawn, and they stay consumed. After any other error nothing was drawn.
 ///
 /// The law `weighted_choices_are_fair` counts the words that choose an item.
 pub fn choose_weighted<G: Rng<OUTPUT>, const OUTPUT: usize>(
@@ -50,7 +51,7 @@ pub fn choose_weighted<G: Rng<OUTPUT>, const OUTPUT: usize>(
     ensures within { IfOk result (λ i. i < length weights.now) }
     ensures weight { IfOk result (λ i. 0 < slice_index weights.now i) }
 
-    // The refusals, and how many words are drawn.
+    // The errors, and the number of words that are drawn.
     ensures no_weight { (result ≡ Err NoWeight) ↔ (sum weights.now ≡ 0) }
     ensures too_heavy { (result ≡ Err TooHeavy) ↔ (2 ^ 64 ≤ sum weights.now) }
     ensures undrawn { (result ≡ Err NoWeight) ⊎ (result ≡ Err TooHeavy) → rng.new ≡ rng.old }
@@ -64,7 +65,7 @@ pub fn choose_weighted<G: Rng<OUTPUT>, const OUTPUT: usize>(
     }
 }
 
-// The sum of the weights, unless it is 0, or 2^64 or more.
+// Returns the sum of the weights, or an error if the sum is 0, or 2^64 or more.
 fn total_weight(weights: &[u64]) -> Result<u64, WeightError>
     ensures { result ≡ total_of weights.now }
 {
@@ -78,7 +79,7 @@ fn total_weight(weights: &[u64]) -> Result<u64, WeightError>
     Ok(total)
 }
 
-// The item whose share contains the number.
+// Returns the index of the item whose share contains the number.
 fn item_at(weights: &[u64], number: u64) -> usize
     requires { number < sum weights.now }
     ensures item { result ≡ item_at weights.now number }

@@ -9,8 +9,8 @@ mod unsigned;
 
 /// An integer type of `BITS` bits: 8, 16, 32 or 64.
 ///
-/// Each number has a rank, from 0 for the least to 2^BITS - 1 for the greatest. For a type of your
-/// own, the order of the ranks is your choice: nothing compares it with the type's `<`.
+/// Each number has a rank, from 0 for the least number to 2^BITS - 1 for the greatest. For a type
+/// of your own you choose the order of the ranks: it is not compared with the type's `<`.
 pub trait Number: Copy + Drop {
     /// The width of the type, in bits.
     const BITS: u32;
@@ -27,15 +27,15 @@ pub trait Number: Copy + Drop {
 
     ghost lt: { Self → Self → Bool };
 
-    // Two bounds admit a number.
+    // The two bounds admit a number.
     ghost has_number: { Bound Self → Bound Self → Type 0 };
 
-    /// The rank of a number.
+    /// Returns the rank of a number.
     fn place(self) -> u64
         ensures number { number result ≡ self }
         ensures fits { result < 2 ^ BITS };
 
-    /// The number of a rank. Precondition: the rank is below 2^BITS.
+    /// Returns the number of a rank. Precondition: the rank is below 2^BITS.
     fn at_place(place: u64) -> Self
         requires { place < 2 ^ BITS }
         ensures { result ≡ number place };
@@ -44,13 +44,13 @@ pub trait Number: Copy + Drop {
 
     ghost ranked: { (k : ℕ) → k < 2 ^ BITS → rank (number k) ≡ k };
 
-    // The numbers are ordered as their ranks are.
+    // The order of the numbers is the order of their ranks.
     ghost le_rises: { (j k : ℕ) → le (number j) (number k) ≡ nat_le j k };
 
     ghost lt_rises: { (j k : ℕ) → lt (number j) (number k) ≡ nat_lt j k };
 
-    // If two bounds that are numbers of the type admit a number, one of rank below 2^BITS lies
-    // within both, and the other way round.
+    // Let the two bounds be numbers of the type. If they admit a number, then a number of rank
+    // below 2^BITS lies within both (`has_place`). The converse holds too (`knows_place`).
     ghost has_place: { (low high : Bound Self)
         → IfBound low (IsNumber BITS number) → IfBound high (IsNumber BITS number)
         → has_number low high → (k : ℕ) × (k < 2 ^ BITS) × Admits le lt low high (number k) };

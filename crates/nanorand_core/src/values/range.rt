@@ -1,4 +1,4 @@
-//! Numbers between two bounds.
+//! Numbers within two bounds.
 ghost use Rattle.std.specs.Prelude.{◌≡◌, ℕ, ◌^◌, ◌<◌, ◌≤◌, true, Result, Err, IfOk, IfErr, IsOk, length, nat_le, nat_lt};
 ghost use Rattle.std.specs.declared.ops.Bound.{Bound};
 ghost use Rattle.nanorand_core.specs.values.Range.{end_rank, first_rank, is_above, is_below, range_size, range_within, Admits, IfBound, IsNumber};
@@ -17,51 +17,54 @@ use crate::values::word::draw_below;
 use std::ops::Bound;
 use thiserror::Error;
 
-/// Why a ranged draw returned no number. The meanings are those of the integer types; a type of
-/// your own defines when it returns each error.
+/// The reasons why a draw from a range returned no number. The meanings given here are those of the
+/// integer types; a type of your own defines when it returns each error.
 #[derive(Clone, Copy, Debug, PartialEq, Eq, Error)]
 pub enum RangeError {
-    /// The range has no number. Nothing was drawn.
+    /// The range is empty. Nothing was drawn.
     #[error("the range contains no number")]
     Empty,
-    /// 128 words were drawn, and none named a number of the range. They stay consumed.
+    /// 128 words (random integers of the type's width) were drawn, and all were rejected. They stay
+    /// consumed.
     #[error("128 words in a row were rejected")]
     Exhausted,
 }
 
 /// A type whose values can be drawn within two bounds: the integer types of 8 to 64 bits, `usize`
-/// and `isize`, but not `u128` and `i128`, since a word has at most 64 bits.
+/// and `isize`. `u128` and `i128` have no ranges, since a word has at most 64 bits.
 ///
-/// A range of an integer type holds the numbers that both bounds admit. Words of the type's width
-/// are drawn, each by one request, until one names a number, at most 128; each number of the range
-/// is produced by equally many words. A user's type defines what its bounds mean and when a draw
-/// fails.
+/// A word is a random integer of the type's width (64 bits for `usize` and `isize`), read by one
+/// request. At most 128 words are drawn, and the first that is not rejected decides. Each number
+/// within both bounds is produced by the same number of words. A type of your own defines what its
+/// bounds mean and when a draw fails.
 pub trait RandomRange<G: Rng<OUTPUT>, const OUTPUT: usize>: RandomGen<G, OUTPUT> {
     // The result of a draw between two bounds, and the state after it.
     ghost outcome: { G → Bound Self → Bound Self → Result Self RangeError × G };
 
-    // What the outcome of every call keeps to. A user's own type promises nothing here, unless it
-    // defines it.
+    // What the outcome of every call is guaranteed to satisfy. A type of your own guarantees
+    // nothing here unless it defines this.
     ghost limits: { G → Bound Self → Bound Self
         → Result Self RangeError × G → Type 0 } = { λ _ _ _ _. Unit {0} };
 
-    /// Draws a value between the bounds.
+    /// Draws a value within the bounds.
     ///
-    /// It returns an error as the type defines. The integer types return `Empty` if the range has
-    /// no number, and draw nothing then. They return `Exhausted` if 128 words in a row were
-    /// rejected; they stay consumed.
+    /// Returns an error as the type defines. The integer types return `Empty` if the range is
+    /// empty; nothing is drawn then. They return `Exhausted` if 128 words in a row were rejected;
+    /// they stay consumed.
     fn random_range(rng: &mut G, low: Bound<Self>, high: Bound<Self>) -> Result<Self, RangeError>
         ensures value { result ≡ (outcome rng.old low high).0 }
         ensures state { rng.new ≡ (outcome rng.old low high).1 }
         ensures limits { limits rng.old low high (result, rng.new) };
 }
 
-/// Draws a number that both bounds admit; each is produced by equally many words, after Daniel Lemire
-/// ("Fast Random Integer Generation in an Interval", 2019).
+/// Draws a number within both bounds. Each number is produced by the same number of words, by the
+/// method of Daniel Lemire ("Fast Random Integer Generation in an Interval", 2019).
 ///
-/// It draws at most 128 words of the type's width, each by one request, and the first word that
-/// names a number decides. It returns `Empty` if no number is admitted, and draws nothing then. It
-/// returns `Exhausted` if 128 words in a row were rejected; they stay consumed.
+/// At most 128 words of the type's width are drawn, each by one request, and the first that is not
+/// rejected decides.
+///
+/// Returns `Empty` if there is no number within the bounds; nothing is drawn then. Returns
+/// `Exhausted` if 128 words in a row were rejected; they stay consumed.
 pub fn draw_number<T: Number, G: Rng<OUTPUT>, const OUTPUT: usize>(
     rng: &mut G,
     low: Bound<T>,
@@ -97,7 +100,7 @@ pub fn draw_number<T: Number, G: Rng<OUTPUT>, const OUTPUT: usize>(
     }
 }
 
-// The least rank whose number the low bound admits, or 2^BITS if there is none.
+// Returns the least rank whose number the low bound admits, or 2^BITS if there is none.
 fn first_place<T: Number>(low: Bound<T>) -> u128
     ensures admits { (k : ℕ) → is_above T.le T.lt low (T.number k) ≡ nat_le result k }
     ensures within { result ≤ 2 ^ T.BITS }
@@ -111,7 +114,7 @@ fn first_place<T: Number>(low: Bound<T>) -> u128
     }
 }
 
-// The rank after the greatest whose number the high bound admits, or 0 if there is none.
+// Returns the greatest rank whose number the high bound admits, plus 1, or 0 if there is none.
 fn end_place<T: Number>(high: Bound<T>) -> u128
     ensures admits { (k : ℕ) → k < 2 ^ T.BITS
         → is_below T.le T.lt high (T.number k) ≡ nat_lt k result }

@@ -1,4 +1,4 @@
-//! The signed types: one request of their bytes, read least byte first, in two's complement.
+//! The signed types: one request for their bytes, in little-endian order and two's complement.
 ghost use Rattle.std.specs.Int.{w8, w16, w32, w64, w128};
 ghost use Rattle.nanorand_core.specs.values.Values.{signed_number_of};
 

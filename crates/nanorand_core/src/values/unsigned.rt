@@ -1,4 +1,4 @@
-//! The unsigned types: one request of their bytes, read least byte first.
+//! The unsigned types: one request for their bytes, in little-endian order.
 ghost use Rattle.nanorand_core.specs.values.Values.{number_of};
 
 use super::{RandomGen, next_bytes};

@@ -1,4 +1,5 @@
-//! Random words of 8, 16, 32 or 64 bits, and the numbers that they name.
+//! Words, which are random integers of 8, 16, 32 or 64 bits, and the unbiased mapping of words to
+//! numbers below a size.
 ghost use Rattle.std.specs.Prelude.{◌≡◌, ℕ, ◌*◌, ◌/◌, ◌%◌, ◌^◌, ◌<◌, ◌≤◌, nat_lt, MatchOption, IsSome, IfSome, IfNone};
 ghost use Rattle.nanorand_core.specs.values.Runs.{IsWordWidth, Names, named, rejected};
 ghost use Rattle.nanorand_core.specs.values.Draws.{word_limit, next_word, after_word, after_words, drawn_below};
@@ -6,15 +7,19 @@ ghost use Rattle.nanorand_core.specs.values.Draws.{word_limit, next_word, after_
 use crate::rand::Rng;
 use crate::values::RandomGen;
 
-// The most words that are drawn for one number.
+// The greatest number of words that are drawn for one number.
 pub(crate) const MAX_WORDS: usize = 128;
 
-/// The number below `size` that a word of `bits` bits names, or `None` if the word is rejected.
+/// Returns the number below `size` that a word of `bits` bits is mapped to, or `None` if the word
+/// is rejected.
+///
+/// The method is that of Daniel Lemire, "Fast Random Integer Generation in an Interval" (2019).
+/// Each number has a run of floor(2^bits / size) consecutive words, in the order of the numbers,
+/// and the 2^bits % size words outside all runs are rejected. A word in the run of a number is said
+/// to name that number.
 ///
 /// Preconditions: `bits` is 8, 16, 32 or 64, `size` is from 1 to 2^bits, and `word` is below
-/// 2^bits. The method is that of Daniel Lemire, "Fast Random Integer Generation in an Interval"
-/// (2019): each number has a run of floor(2^bits / size) consecutive words, in the order of the
-/// numbers, and the 2^bits % size words outside all runs are rejected.
+/// 2^bits.
 pub fn pick_word(size: u128, bits: u32, word: u64) -> Option<u64>
     requires width { IsWordWidth bits }
     requires some { 1 ≤ size }
@@ -30,8 +35,8 @@ pub fn pick_word(size: u128, bits: u32, word: u64) -> Option<u64>
     pick_below(size as u64, bits, word)
 }
 
-// As `pick_word`, for a size that fits in 64 bits. Fewer than `size` words are rejected, so a low
-// part of at least `size` is accepted without computing how many.
+// Does the same as `pick_word`, for a size that fits in 64 bits. Fewer than `size` words are
+// rejected, so a low half of `size` or more is accepted without computing how many.
 pub(crate) fn pick_below(size: u64, bits: u32, word: u64) -> Option<u64>
     requires width { IsWordWidth bits }
     requires some { 1 ≤ size }
@@ -47,7 +52,7 @@ pub(crate) fn pick_below(size: u64, bits: u32, word: u64) -> Option<u64>
     }
 }
 
-// As `pick_below`, where the number of rejected words is already computed.
+// Does the same as `pick_below`, with the number of rejected words already computed.
 pub(crate) fn pick_counted(size: u64, bits: u32, rejects: u64, word: u64) -> Option<u64>
     requires width { IsWordWidth bits }
     requires some { 1 ≤ size }
@@ -60,7 +65,8 @@ pub(crate) fn pick_counted(size: u64, bits: u32, rejects: u64, word: u64) -> Opt
     (low >= rejects).then_some(number)
 }
 
-// The halves of `word * size`: the high one is the number, and the low one accepts or rejects.
+// Returns the halves of `word * size`: the high half is the number, and the low half decides
+// whether the word is accepted.
 fn halves_of(size: u64, bits: u32, word: u64) -> (u64, u64)
     requires width { IsWordWidth bits }
     requires within { size ≤ 2 ^ bits }
@@ -72,7 +78,8 @@ fn halves_of(size: u64, bits: u32, word: u64) -> (u64, u64)
     (high_of(product, bits), low_of(product, bits))
 }
 
-// The product of a word and the size. Words of fewer than 64 bits are multiplied in 64.
+// Returns the product of a word and the size. Words of fewer than 64 bits are multiplied in 64
+// bits.
 fn product_of(size: u64, bits: u32, word: u64) -> u128
     requires width { IsWordWidth bits }
     requires within { size ≤ 2 ^ bits }
@@ -87,7 +94,7 @@ fn product_of(size: u64, bits: u32, word: u64) -> u128
     }
 }
 
-// The high half of a product.
+// Returns the high half of a product.
 fn high_of(product: u128, bits: u32) -> u64
     requires width { IsWordWidth bits }
     requires bound { product / 2 ^ bits < 2 ^ 64 }
@@ -96,7 +103,7 @@ fn high_of(product: u128, bits: u32) -> u64
     (product >> bits) as u64
 }
 
-// The low half of a product.
+// Returns the low half of a product.
 fn low_of(product: u128, bits: u32) -> u64
     requires width { IsWordWidth bits }
     ensures { result ≡ product % 2 ^ bits }
@@ -104,7 +111,8 @@ fn low_of(product: u128, bits: u32) -> u64
     (product % (1 << bits)) as u64
 }
 
-// Whether the low half of a product is below a number, compared in the type of the word.
+// Returns whether the low half of a product is below a number. The comparison is made in the type
+// of the word.
 fn low_is_below(product: u128, number: u64, bits: u32) -> bool
     requires width { IsWordWidth bits }
     requires within { number < 2 ^ bits }
@@ -119,7 +127,8 @@ fn low_is_below(product: u128, number: u64, bits: u32) -> bool
     }
 }
 
-// How many words are rejected. If `size` is more than half of all words, this needs no division.
+// Returns how many words are rejected. This needs no division if `size` is more than half of
+// 2^bits.
 pub(crate) fn rejected(size: u64, bits: u32) -> u64
     requires width { IsWordWidth bits }
     requires some { 1 ≤ size }
@@ -134,9 +143,10 @@ pub(crate) fn rejected(size: u64, bits: u32) -> u64
     }
 }
 
-// No fewer than the words that are rejected, without a division: a low half of at least that many is
-// accepted as it is. Sizes above half are common among small words: there it is the number of rejected
-// words itself, so that a draw has one test that no processor foresees.
+// Returns an upper bound of the number of rejected words, without a division: a low half of at
+// least this bound is accepted at once. Sizes above half of 2^bits are common for words of 8 and 16
+// bits. The bound is then the exact number of rejected words, so that a draw makes only one
+// unpredictable test.
 fn most_rejected(size: u64, bits: u32) -> u64
     requires width { IsWordWidth bits }
     requires some { 1 ≤ size }
@@ -151,8 +161,9 @@ fn most_rejected(size: u64, bits: u32) -> u64
     others.min(size)
 }
 
-// Few words need the division, so it is kept apart from the path that draws. It is no call: LLVM must
-// take one of another crate to unwind, and would then store the state of a generator before each.
+// Few words need this division, so it is kept apart from the usual path. It is inlined all the
+// same: LLVM must assume that a call into another crate unwinds, and would store the state of the
+// generator before each call.
 #[cold]
 #[inline]
 fn remainder(others: u64, size: u64) -> u64
@@ -162,12 +173,13 @@ fn remainder(others: u64, size: u64) -> u64
     others % size
 }
 
-/// Draws a number below `size`; each is named by equally many words of `bits` bits.
+/// Draws a number below `size`. Each number is produced by the same number of words of `bits` bits.
 ///
-/// Preconditions: `bits` is 8, 16, 32 or 64, and `size` is from 1 to 2^bits. Each word is one
-/// request, and the first word that names a number, as `pick_word` says, decides. It returns `None`
-/// if 128 words in a row were rejected; they stay consumed. A size that divides 2^bits, such as a
-/// power of two, rejects no word.
+/// Each word is one request, and the first word that `pick_word` does not reject decides. Returns
+/// `None` if 128 words in a row were rejected; they stay consumed. If `size` divides 2^bits, as a
+/// power of two does, no word is rejected (`divisor`).
+///
+/// Preconditions: `bits` is 8, 16, 32 or 64, and `size` is from 1 to 2^bits.
 #[inline]
 pub fn draw_below<G: Rng<OUTPUT>, const OUTPUT: usize>(
     rng: &mut G,
@@ -196,7 +208,8 @@ pub fn draw_below<G: Rng<OUTPUT>, const OUTPUT: usize>(
     }
     let rejects = rejected(size, bits);
     let mut drawn = 1;
-    // `&` makes one exit: with two, LLVM vectorizes the search, which takes four times as long.
+    // `&` gives the loop a single exit: with two, LLVM vectorizes it, which makes it four times
+    // slower.
     'others: while low_is_below(product, rejects, bits) & (drawn < MAX_WORDS) {
         let word = draw_word(rng, bits);
         product = product_of(size, bits, word);
@@ -208,7 +221,7 @@ pub fn draw_below<G: Rng<OUTPUT>, const OUTPUT: usize>(
     Some(high_of(product, bits))
 }
 
-// The next word of `bits` bits, by one request.
+// Draws the next word of `bits` bits, by one request.
 pub(crate) fn draw_word<G: Rng<OUTPUT>, const OUTPUT: usize>(rng: &mut G, bits: u32) -> u64
     requires width { IsWordWidth bits }
     ensures value { result ≡ next_word G.requests bits rng.old }

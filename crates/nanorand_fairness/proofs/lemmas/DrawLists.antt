@@ -56,7 +56,7 @@ module _ {X : Type 0} (p : X → Bool) (x : X) (xs : List X) where
             rw (fails, high, le-ltb (position_or_len p xs) (length xs) past) refl
       ]
 
--- how many words a draw with no limit takes
+-- the number of words that a draw without a limit takes
 abbrev pub taken_of : ℕ → ℕ → List ℕ → ℕ
 taken_of bits size words = option_map_or (λ i. i + 1) (deciding_place bits size words) (length words)
 

@@ -1,4 +1,5 @@
--- Tests that equally many lists of numbers pass are passed by equally many lists of words.
+-- If the same number of lists of numbers pass two tests, then the same number of lists of words
+-- pass them.
 use Rattle.std.proofs.Common.{◌≡◌, ℕ, suc, ◌*◌, ◌≤◌, Bool, true, List, [], ◌∷◌, ap, arith}
 use Rattle.std.proofs.Math.Nat.{eq_of_mul-eq-mul_right, mul-le-mul_left}
 use Rattle.nanorand_core.specs.values.Runs.{IsWordWidth}
@@ -15,7 +16,8 @@ some-list bits (size ∷ sizes) fits =
     let more = mul-le-mul_left size rest in
     omega (arith, whole, more, here)
 
--- a times the lists of one test are b times those of the other: of numbers, and so of words
+-- if a times the number of lists of numbers that pass one test is b times the number that pass the
+-- other, the same holds for lists of words
 pub share-lists : RejectionsPreferNothing → (bits n a b : ℕ) (sizes : List ℕ) (test other : List ℕ → Bool) → IsWordWidth bits → AreSizes bits sizes
     → a * number_lists_that sizes test ≡ b * number_lists_that sizes other
     → a * word_lists_that bits n sizes test ≡ b * word_lists_that bits n sizes other

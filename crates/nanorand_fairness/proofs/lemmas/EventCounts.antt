@@ -1,4 +1,4 @@
--- How many numbers an event has, from how many words name it.
+-- The number of numbers of an event, from the number of words that name it.
 use Rattle.std.proofs.Common.{◌≡◌, ℕ, ◌*◌, ◌≤◌, ◌^◌, Bool, cond, nat_eq, List, Option, Some, None, option_map, refl, sym, ◌∙◌, ap}
 use Rattle.std.specs.List.{sum, count_by, range_with_len}
 use Rattle.std.proofs.Math.Nat.{eq_of_mul-eq-mul_right}
@@ -9,20 +9,20 @@ use Rattle.nanorand_fairness.specs.Lists.{lists_that, number_by_words}
 use Rattle.nanorand_fairness.proofs.lemmas.Sums.{sum-terms}
 use Rattle.nanorand_fairness.proofs.lemmas.DrawLists.{lists-same}
 
--- an event that m times as many words name as one number has m numbers
+-- if m times as many words name an event as one number, the event has m numbers
 pub event-count : RunsAreFair → EventsAreFair → (bits size m : ℕ) (test : ℕ → Bool) → IsWordWidth bits → 1 ≤ size → size ≤ 2 ^ bits
     → words_that bits (λ word. passes test (named bits size word)) ≡ m * quota bits size
     → count_by test (range_with_len 0 size) ≡ m
 event-count runs events bits size m test width some fits words =
     eq_of_mul-eq-mul_right (quota bits size) (runs bits size width some fits).some _ m (sym (events bits size test width some fits) ∙ words)
 
--- a test of what numbers stand for
+-- a test of the values that numbers represent
 pub passes-map : (f : ℕ → ℕ) (i : ℕ) (o : Option ℕ)
     → passes (λ j. nat_eq j i) (option_map f o) ≡ passes (λ k. nat_eq (f k) i) o
 passes-map f i None = refl
 passes-map f i (Some k) = refl
 
--- the words that name an item are those whose number is of its share
+-- the words that name an item are those whose number is in its share
 item-words : (bits : ℕ) (weights : List ℕ) (i : ℕ)
     → words_that bits (λ word. passes (λ j. nat_eq j i) (item_named bits weights word))
     ≡ words_that bits (λ word. passes (λ k. nat_eq (item_at weights k) i) (named bits (sum weights) word))
@@ -32,7 +32,7 @@ item-words bits weights i =
     (λ word. cond (passes (λ k. nat_eq (item_at weights k) i) (named bits (sum weights) word)) 1 0)
     (λ word. ap (λ (b : Bool). cond b 1 0) (passes-map (item_at weights) i (named bits (sum weights) word))) 0 (2 ^ bits)
 
--- as many numbers stand for an item as its weight is
+-- the number of numbers that represent an item is its weight
 pub share-count : RunsAreFair → EventsAreFair → (bits m : ℕ) (weights : List ℕ) (i : ℕ) → IsWordWidth bits → 1 ≤ sum weights → sum weights ≤ 2 ^ bits
     → words_that bits (λ word. passes (λ j. nat_eq j i) (item_named bits weights word)) ≡ m * quota bits (sum weights)
     → count_by (λ k. nat_eq (item_at weights k) i) (range_with_len 0 (sum weights)) ≡ m

@@ -1,4 +1,5 @@
--- Sums and counts over lists of words of which only the first m words matter: of a draw that ends after m words.
+-- Sums and counts over lists of words of which only the first m words matter, since a draw ends
+-- after m words.
 use Rattle.std.proofs.Common.{◌≡◌, ℕ, zero, suc, ◌+◌, ◌-◌, ◌*◌, ◌<◌, ◌≤◌, ◌^◌, Bool, cond, List, [], ◌∷◌, min, take, is_none, refl, ◌∙◌, ap, arith}
 use Rattle.std.specs.List.{count_by, range_with_len}
 use Rattle.std.proofs.Math.Nat.{pow-zero, one-le-pow, mul-le-mul_right, mul_comm}
@@ -11,7 +12,7 @@ use Rattle.nanorand_fairness.proofs.lemmas.Sums.{sum-terms, sum-times}
 use Rattle.nanorand_fairness.proofs.lemmas.DrawLists.{taken_of, lists-constant}
 use Rattle.nanorand_fairness.proofs.lemmas.WordCounts.{undecided, taken_few, event_lists}
 
--- the other k words are any words
+-- the other k words are arbitrary
 first_words : (bits n m t k : ℕ) (f : List ℕ → ℕ) → t ≡ min n m → n ≡ t + k
     → sum_over_lists bits n (λ words. f (take m words)) ≡ sum_over_lists bits t f * (2 ^ bits) ^ k
 unfolding sum_over_lists
@@ -28,7 +29,7 @@ first_words bits (suc n) (suc m) (suc t) k f first all =
     ∙ sum-times (λ word. sum_over_lists bits t (λ words. f (word ∷ words))) ((2 ^ bits) ^ k) 0 (2 ^ bits)
 
 module _ (bits n m : ℕ) where
-  -- how many lists of the other words there are
+  -- the number of lists of the other words
   abbrev others : ℕ
   others = (2 ^ bits) ^ (n - min n m)
 

@@ -14,7 +14,7 @@ term true v c = omega arith
 term false v c = omega arith
 
 module _ (g : ℕ → Option ℕ) (size : ℕ) (F : Option ℕ → ℕ) where
-  -- how many elements have the value
+  -- the number of elements with this value
   abbrev pub counted : List ℕ → ℕ → ℕ
   counted xs k = count_by (λ x. passes (λ j. nat_eq j k) (g x)) xs
 
@@ -38,7 +38,7 @@ module _ (g : ℕ → Option ℕ) (size : ℕ) (F : Option ℕ → ℕ) where
       let one = sum-only (λ k. F (Some k)) j 0 size (omega arith) (omega (arith, low j refl)) in
       omega (arith, terms, parts, one)
 
-  -- a sum by values is the sum over the values, each as often as it comes
+  -- a sum by values is the sum over the values, each as often as it occurs
   pub sum-by_value : ((x k : ℕ) → g x ≡ Some k → k < size) → (xs : List ℕ)
       → sum_by (λ x. F (g x)) xs ≡ F None * count_by (λ x. is_none (g x)) xs + sum_by (λ k. F (Some k) * counted xs k) (range_with_len 0 size)
   sum-by_value low [] =
@@ -58,7 +58,7 @@ same_number j k =
       | inr other ↦ rw (ne_eqb j k other, ne_eqb k j (λ same. other (sym same))) refl
     ]
 
--- one number below the size is k
+-- exactly one number below the size is k
 pub one_number : (k size : ℕ) → k < size → count_by (λ j. nat_eq j k) (range_with_len 0 size) ≡ 1
 one_number k size low =
     sum-terms (λ j. cond (nat_eq j k) 1 0) (λ j. cond (nat_eq k j) 1 0) (λ j. ap (λ (b : Bool). cond b 1 0) (same_number j k)) 0 size

@@ -1,4 +1,4 @@
--- Sums over lists of numbers below sizes, and two such sums in either order.
+-- Sums over lists of numbers below sizes, and the exchange of two such sums.
 use Rattle.std.proofs.Common.{◌≡◌, ℕ, zero, suc, ◌+◌, ◌*◌, Bool, true, cond, List, [], ◌∷◌, refl, ◌∙◌, arith}
 use Rattle.std.specs.List.{sum_by, range_with_len}
 use Rattle.std.proofs.lemmas.List.Sums.{sum_by-cons}
@@ -11,7 +11,7 @@ abbrev pub sum_over_numbers : List ℕ → (List ℕ → ℕ) → ℕ
 sum_over_numbers [] f = f []
 sum_over_numbers (size ∷ sizes) f = sum_by (λ number. sum_over_numbers sizes (λ numbers. f (number ∷ numbers))) (range_with_len 0 size)
 
--- terms that are equal on numbers below the sizes
+-- terms that are equal for numbers below the sizes
 pub numbers-equal : (sizes : List ℕ) (f h : List ℕ → ℕ) → ((numbers : List ℕ) → AreBelow numbers sizes → f numbers ≡ h numbers)
     → sum_over_numbers sizes f ≡ sum_over_numbers sizes h
 numbers-equal [] f h same = same [] tt
@@ -35,7 +35,7 @@ numbers-constant (size ∷ sizes) c =
     (λ number. number_lists_that sizes (λ numbers. true) * c) (λ number. numbers-constant sizes c) 0 size
     ∙ sum-times (λ number. number_lists_that sizes (λ numbers. true)) c 0 size
 
--- two sums in either order: of numbers, of numbers and a list, of two lists
+-- the exchange of two sums: over two numbers, over a number and a list, over two lists
 two-sums : (g : ℕ → ℕ → ℕ) (n m : ℕ) → sum_by (λ j. sum_by (g j) (range_with_len 0 m)) (range_with_len 0 n)
     ≡ sum_by (λ k. sum_by (λ j. g j k) (range_with_len 0 n)) (range_with_len 0 m)
 two-sums g n m = from 0 n

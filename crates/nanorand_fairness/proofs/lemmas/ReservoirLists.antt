@@ -7,7 +7,7 @@ use Rattle.nanorand_fairness.specs.InTurn.{AreSizes, number_lists_that}
 use Rattle.nanorand_fairness.specs.Reservoirs.{later_sizes, replaced_by}
 use Rattle.nanorand_fairness.proofs.lemmas.Sums.{sum-terms}
 
--- a list of draws makes a sample as a sequence of draws does
+-- a list of draws makes the same sample as a sequence of draws
 pub reservoir-rows : (test : List ℕ → Bool) (left i : ℕ) (chosen : List ℕ)
     → number_lists_that (range_with_len (i + 1) left) (λ slots. test (replaced_by i slots chosen)) ≡ passes_that i left chosen test
 reservoir-rows test zero i chosen = refl

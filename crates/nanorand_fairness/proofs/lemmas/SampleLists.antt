@@ -7,7 +7,7 @@ use Rattle.nanorand_fairness.specs.InTurn.{AreSizes, number_lists_that}
 use Rattle.nanorand_fairness.specs.Samples.{sample_by, sample_sizes}
 use Rattle.nanorand_fairness.proofs.lemmas.Sums.{sum-terms}
 
--- a list of draws makes a sample as a sequence of draws does
+-- a list of draws makes the same sample as a sequence of draws
 pub sample-rows : (test : List ℕ → Bool) (left last : ℕ) (sample : List ℕ)
     → number_lists_that (range_with_len (last + 1) left) (λ draws. test (sample_by last draws sample)) ≡ rows_that last left sample test
 sample-rows test zero last sample = refl

@@ -20,7 +20,7 @@ pub sum-terms : (f g : ℕ → ℕ) → ((k : ℕ) → f k ≡ g k) → (first n
     → sum_by f (range_with_len first n) ≡ sum_by g (range_with_len first n)
 sum-terms f g same first n = sum-same f g first n (λ k from to. same k)
 
--- one factor of all terms
+-- a common factor of all terms
 pub sum-times : (f : ℕ → ℕ) (c first n : ℕ)
     → sum_by (λ k. f k * c) (range_with_len first n) ≡ sum_by f (range_with_len first n) * c
 sum-times f c first zero = omega arith
@@ -40,7 +40,7 @@ sum-plus f g first (suc n) =
     let rest = sum-plus f g (first + 1) n in
     omega (arith, both, one, other, rest)
 
--- all terms are one number
+-- all terms are the same number
 pub sum-constant : (c first n : ℕ) → sum_by (λ k. c) (range_with_len first n) ≡ n * c
 sum-constant c first zero = omega arith
 sum-constant c first (suc n) =
@@ -67,7 +67,7 @@ sum-only v j first (suc n) from to =
           omega (arith, one, head, rest)
     ]
 
--- all terms but the one at j are equal
+-- all terms except the one at j are equal
 pub sum-apart : (f : ℕ → ℕ) (v c j first n : ℕ) → first ≤ j → j < first + n → f j ≡ v
     → ((k : ℕ) → first ≤ k → k < first + n → (k ≢ j) → f k ≡ c)
     → sum_by f (range_with_len first n) + c ≡ v + n * c

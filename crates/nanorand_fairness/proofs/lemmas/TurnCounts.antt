@@ -1,4 +1,5 @@
--- How many lists of words draw each list of numbers: equally many, by what the first word names.
+-- The number of lists of words that draw a list of numbers. It is the same for each list of
+-- numbers, which is proved by cases of what the first word names.
 use Rattle.std.proofs.Common.{◌≡◌, ℕ, zero, suc, ◌+◌, ◌*◌, ◌<◌, ◌≤◌, ◌^◌, Bool, cond, nat_eq, List, [], ◌∷◌, length, Option, Some, None, refl, ◌∙◌, ap, arith}
 use Rattle.std.specs.Prelude.{◌&&◌}
 use Rattle.std.specs.List.{sum_by, range_with_len}
@@ -14,7 +15,7 @@ use Rattle.nanorand_fairness.proofs.lemmas.Sums.{sum-terms, sum-times}
 use Rattle.nanorand_fairness.proofs.lemmas.NamedSums.{sum-named}
 use Rattle.nanorand_fairness.proofs.lemmas.DrawLists.{lists-same, lists-constant}
 
--- how many lists of n words draw one list of numbers
+-- the number of lists of n words that draw one given list of numbers
 abbrev pub lists_of_each : (bits n : ℕ) → List ℕ → ℕ → ℕ
 lists_of_each bits n [] left = (2 ^ bits) ^ n
 lists_of_each bits n (size ∷ sizes) zero = 0
@@ -22,7 +23,7 @@ lists_of_each bits zero (size ∷ sizes) (suc left) = 0
 lists_of_each bits (suc n) (size ∷ sizes) (suc left) =
     rejected bits size * lists_of_each bits n (size ∷ sizes) left + quota bits size * lists_of_each bits n sizes word_limit
 
--- fewer words than sizes draw no number for each size
+-- with fewer words than sizes, there is no number for each size
 none_of_each : (bits n : ℕ) (sizes : List ℕ) (left : ℕ) → n < length sizes → lists_of_each bits n sizes left ≡ 0
 none_of_each bits n [] left few = absurd (omega arith)
 none_of_each bits n (size ∷ sizes) zero few = refl
@@ -32,7 +33,7 @@ none_of_each bits (suc n) (size ∷ sizes) (suc left) few =
     let next = none_of_each bits n sizes word_limit (omega arith) in
     rw (again, next) (omega arith)
 
--- as many words as sizes: none is rejected (later draws may take 128 words, so 127 more)
+-- with as many words as sizes, none is rejected (later draws may take 128 words, so 127 more)
 pub quotas_of_each : (bits : ℕ) (sizes : List ℕ) (left : ℕ) → lists_of_each bits (length sizes) sizes (suc left) ≡ quotas bits sizes
 quotas_of_each bits [] left = pow-zero (2 ^ bits)
 quotas_of_each bits (size ∷ sizes) left =
@@ -45,12 +46,12 @@ abbrev all_drawn : List ℕ → (List ℕ → Bool) → List ℕ → Bool
 all_drawn sizes test numbers = nat_eq (length numbers) (length sizes) && test numbers
 
 module _ (runs : RunsAreFair) (events : EventsAreFair) (bits : ℕ) (width : IsWordWidth bits) where
-  -- how many lists of n words draw numbers that pass the test
+  -- the number of lists of n words that draw numbers that pass the test
   abbrev drawn_lists : ℕ → List ℕ → ℕ → (List ℕ → Bool) → ℕ
   drawn_lists n sizes left test = lists_that bits n (λ words. all_drawn sizes test (numbers_from bits sizes left words))
 
   module _ (n size : ℕ) (sizes : List ℕ) (left : ℕ) (test : List ℕ → Bool) where
-    -- what is drawn after the first word, by what it names
+    -- what is drawn after the first word, for each case of what it names
     abbrev after : Option ℕ → ℕ
     after None = drawn_lists n (size ∷ sizes) left test
     after (Some number) = drawn_lists n sizes word_limit (λ numbers. test (number ∷ numbers))
@@ -77,7 +78,8 @@ module _ (runs : RunsAreFair) (events : EventsAreFair) (bits : ℕ) (width : IsW
         (λ word. after (named bits size word)) (λ word. after_word word (named bits size word) refl) 0 (2 ^ bits)
         ∙ sum-named runs events bits size width some fits after
 
-  -- a test is passed by as many lists of words as lists of numbers pass it, times those of each
+  -- the number of lists of words that pass a test is the number of lists of numbers that pass it,
+  -- times the number of lists of words for each of these
   pub equally_many : (n : ℕ) (sizes : List ℕ) (left : ℕ) (test : List ℕ → Bool) → AreSizes bits sizes
       → drawn_lists n sizes left test ≡ number_lists_that sizes test * lists_of_each bits n sizes left
   unfolding sum_over_lists

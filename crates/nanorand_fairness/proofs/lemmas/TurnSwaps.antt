@@ -21,7 +21,7 @@ IsWord bits word = word < 2 ^ bits
 abbrev sizes_of : List Exchange → List ℕ
 sizes_of exchanges = map (λ e. e.size) exchanges
 
--- the law, where the first draw may still take `left` words
+-- the law, if the first draw may take `left` more words
 record Swaps (bits : ℕ) (exchanges : List Exchange) (left : ℕ) (words : List ℕ) : Type 0 where
   pub fits : All (IsWord bits) words → All (IsWord bits) (swapped_from bits exchanges left words)
   pub keeps_length : length (swapped_from bits exchanges left words) ≡ length words
@@ -50,7 +50,7 @@ module _ (preferred : NoNumberIsPreferred) (bits : ℕ) (width : IsWordWidth bit
         sym (decided_one bits e.size swapped (named bits e.size swapped) refl) ∙ (alone word).result
         ∙ ap (option_map (swapped_number e.one e.other)) (decided_one bits e.size word o is ∙ is)
 
-    -- the words still fit, if the rest does
+    -- the words still have `bits` bits, if the rest of them does
     fits_both : (exchanges : List Exchange) (left : ℕ) (words rest : List ℕ) → swapped_from bits (e ∷ exchanges) (suc left) (word ∷ words) ≡ swapped ∷ rest
         → All (IsWord bits) (word ∷ words) → (All (IsWord bits) words → All (IsWord bits) rest)
         → All (IsWord bits) (swapped_from bits (e ∷ exchanges) (suc left) (word ∷ words))
@@ -59,7 +59,8 @@ module _ (preferred : NoNumberIsPreferred) (bits : ℕ) (width : IsWordWidth bit
         (All-cons (IsWord bits) swapped rest (word-fits (All-head (IsWord bits) word words all))
         (later (All-tail (IsWord bits) word words all)))
 
-    -- a rejected word leaves the draw, a naming word the next one
+    -- after a rejected word the same draw continues; after a word that names a number the next draw
+    -- begins
     with_word : (exchanges : List Exchange) (left : ℕ) (words : List ℕ) (o : Option ℕ) → named bits e.size word ≡ o
         → Swaps bits (e ∷ exchanges) left words → Swaps bits exchanges word_limit words → Swaps bits (e ∷ exchanges) (suc left) (word ∷ words)
     with_word exchanges left words None is again next =

@@ -1,4 +1,5 @@
--- How many lists leave a draw undecided, how many words draws take, and how many lists decide an event.
+-- The number of lists that leave a draw undecided, the number of words that draws take, and the
+-- number of lists that decide an event.
 use Rattle.std.proofs.Common.{◌≡◌, ℕ, zero, suc, ◌+◌, ◌*◌, ◌<◌, ◌≤◌, ◌^◌, Bool, cond, List, ◌∷◌, Option, Some, None, is_none, refl, sym, ◌∙◌, ap, arith}
 use Rattle.std.specs.List.{sum_by, count_by, range_with_len}
 use Rattle.std.proofs.Math.Nat.{pow-zero, pow-suc, one-le-pow, mul-le-mul_left, mul-le-mul_right}
@@ -12,7 +13,7 @@ use Rattle.nanorand_fairness.proofs.lemmas.NamedSums.{sum-named}
 use Rattle.nanorand_fairness.proofs.lemmas.DrawLists.{lists-same, lists-constant, lists-plus, taken_of, decided-first, decided-later, taken-first, taken-later}
 
 module _ (runs : RunsAreFair) (events : EventsAreFair) (bits size : ℕ) (width : IsWordWidth bits) (some : 1 ≤ size) (fits : size ≤ 2 ^ bits) where
-  -- what the first word names decides what the rest is worth
+  -- what the first word names determines the value for the rest
   by_first : (n : ℕ) (f : List ℕ → ℕ) (F : Option ℕ → ℕ)
       → ((word : ℕ) (o : Option ℕ) → named bits size word ≡ o → sum_over_lists bits n (λ words. f (word ∷ words)) ≡ F o)
       → sum_over_lists bits (suc n) f ≡ rejected bits size * F None + quota bits size * sum_by (λ k. F (Some k)) (range_with_len 0 size)
@@ -107,7 +108,7 @@ module _ (runs : RunsAreFair) (events : EventsAreFair) (bits size : ℕ) (width 
         let each = ap (λ (u : ℕ). quota bits size * u) (sum-times (λ k. cond (test k) 1 0) ((2 ^ bits) ^ n) 0 size) in
         omega (arith, whole, each)
 
-  -- an event of m numbers is decided by m times as many lists as an event of one
+  -- an event of m numbers is decided by m times as many lists as an event of one number
   pub event_lists : (test one : ℕ → Bool) → count_by one (range_with_len 0 size) ≡ 1 → (n : ℕ)
       → lists_that bits n (λ words. passes test (decided bits size words))
       ≡ count_by test (range_with_len 0 size) * lists_that bits n (λ words. passes one (decided bits size words))

@@ -1,4 +1,4 @@
--- Unbroken delivery: what holds of two requests holds of any number of them, and of calls.
+-- Unbroken delivery: what holds for two requests holds for any number of requests, and for calls.
 use Rattle.std.proofs.Common.{◌≡◌, ℕ, zero, suc, ◌+◌, ◌*◌, ◌/◌, List, [], ◌∷◌, ◌++◌, length, nat_eq, min, sum, refl, sym, ◌∙◌, ap, arith, inl, inr}
 use Rattle.std.specs.Fn.{iterate}
 use Rattle.std.specs.declared.ops.Bound.TheVariants.{Included, Excluded}
@@ -16,7 +16,7 @@ use Rattle.nanorand_replay.specs.replay.Unbroken.{IsUnbroken, after_all, taken_a
 use Rattle.nanorand_replay.specs.declared.replay.Call.{Call}
 use Rattle.nanorand_replay.specs.declared.replay.Call.TheVariants.{Gen, Range, Shuffle}
 
--- a range leaves the state after as many words as it draws
+-- a draw from a range leaves the state after as many words as it draws
 left-words : {G T : Type 0} (word : G → ℕ) (after : G → G) (bits : ℕ) (numbers : List T) (g : G)
     → left_by word after bits numbers g ≡ iterate after (words_drawn word after bits numbers g) g
 unfolding left_by left_after words_drawn
@@ -40,7 +40,7 @@ module _ {G : Type 0} (requests : Requests G)
   all_takes g (n ∷ sizes) = ap (λ rest. requests.bytes g n ++ rest) (all_takes (requests.after g n) sizes)
       ∙ two_takes g n (sum sizes) ∙ ap (requests.bytes g) (sym (sum_by-cons (λ size. size) n sizes))
 
-  -- `count` requests of one size are one request of their sum
+  -- `count` requests of one size are the same as one request for the sum of their sizes
   repeated_state : (size count : ℕ) (g : G) → iterate (λ state. requests.after state size) count g ≡ requests.after g (count * size)
   repeated_state size zero g = rw zero-mul (sym (nothing_left g))
   repeated_state size (suc count) g = repeated_state size count (requests.after g size)

@@ -1,4 +1,4 @@
--- Words that are requested one after another stand one after another in the bytes of one request.
+-- The bytes of words that are drawn one after another are consecutive in the bytes of one request.
 use Rattle.std.proofs.Common.{◌≡◌, ℕ, zero, suc, ◌+◌, ◌-◌, ◌*◌, ◌/◌, ◌<◌, ◌++◌, length, map, take, drop, sym, ◌∙◌, ap, arith}
 use Rattle.std.specs.Fn.{iterate}
 use Rattle.std.specs.List.{range_with_len}
@@ -15,7 +15,7 @@ module _ {G : Type 0} (requests : Requests G)
     (takes : (g : G) (m n : ℕ) → requests.bytes g m ++ requests.bytes (requests.after g m) n ≡ requests.bytes g (m + n))
     (long : (g : G) (n : ℕ) → length (requests.bytes g n) ≡ n)
   where
-    -- i requests of k bytes leave what one of all their bytes leaves
+    -- i requests of k bytes leave the same state as one request for all their bytes
     after-words : (i k : ℕ) (g : G) → iterate (λ h. requests.after h k) i g ≡ requests.after g (i * k)
     after-words zero k g = rw zero-mul (sym (nothing g))
     after-words (suc i) k g =

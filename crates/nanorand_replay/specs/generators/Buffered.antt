@@ -1,13 +1,13 @@
--- A buffered generator: it delivers its buffered bytes, and then the blocks of the generator inside
--- it, without a gap.
+-- A buffered generator: it delivers its buffered bytes, and then the blocks of the inner generator,
+-- as one unbroken stream. A request is one read of n bytes.
 use Rattle.std.specs.Prelude.{ℕ, ◌-◌, List, ◌++◌, length, take, drop, refl}
 use Rattle.std.specs.Coded.{Coded, code_by, coded×, coded_ℕ, coded_list}
 use Rattle.std.specs.Fn.{iterate}
 use Rattle.std.specs.Int.{div_ceil}
 use Rattle.nanorand_core.specs.generators.Blocks.{Requests, blocks}
 
--- The state of a buffered generator: the buffered bytes, the next one first, and the state of the
--- inner generator.
+-- The state of a buffered generator: the buffered bytes in the order in which they will be
+-- delivered, and the state of the inner generator.
 pub record Buffered (G : Type 0) : Type 0 where
   pub rest : List ℕ
   pub inner : G
@@ -16,7 +16,7 @@ pub record Buffered (G : Type 0) : Type 0 where
 abbrev pub buffer_of : {G : Type 0} → List ℕ → G → Buffered G
 buffer_of rest inner = record { rest = rest; inner = inner }
 
--- A state is encoded as the pair of its fields.
+-- The encoding of a state: that of the pair of its fields.
 abbrev pub buffered_code : {G : Type 0} → Coded G → Coded (Buffered G)
 buffered_code {G} code =
     code_by (List ℕ × G) (coded× (coded_list coded_ℕ) code)
@@ -27,7 +27,8 @@ module _ {G : Type 0} (block : G → List ℕ) (step : G → G) (output : ℕ) w
   abbrev pub stream : Buffered G → ℕ → List ℕ
   stream b m = b.rest ++ blocks block step b.inner m
 
-  -- How many blocks a request of n bytes draws: the fewest that supply the bytes not yet buffered.
+  -- The number of blocks that a request of n bytes draws: the fewest that supply the bytes that are
+  -- not yet buffered.
   abbrev pub blocks_needed : Buffered G → ℕ → ℕ
   blocks_needed b n = div_ceil (n - length b.rest) output
 
@@ -35,8 +36,8 @@ module _ {G : Type 0} (block : G → List ℕ) (step : G → G) (output : ℕ) w
   unfoldable pub buffered_taken : Buffered G → ℕ → List ℕ
   buffered_taken b n = take n (stream b (blocks_needed b n))
 
-  -- The state that it leaves: the bytes not taken stay buffered, and the inner generator has
-  -- advanced by the blocks drawn.
+  -- The state after a request of n bytes: the bytes not taken stay buffered, and the inner
+  -- generator has advanced by the blocks drawn.
   unfoldable pub buffered_after : Buffered G → ℕ → Buffered G
   buffered_after b n = record {
     rest = drop n (stream b (blocks_needed b n));

@@ -1,5 +1,5 @@
 -- Replay: a list of calls, the answers and the items that it gives, and the state after it. All of
--- it is determined by the requests: the bytes that each takes, and the state that it leaves.
+-- this is determined by the requests: the bytes that each takes, and the state that it leaves.
 use Rattle.std.specs.Prelude.{◌≡◌, ℕ, ℤ, List, [], ◌∷◌, ◌++◌, Result, Ok, Err}
 use Rattle.std.specs.declared.ops.Bound.{Bound}
 use Rattle.std.specs.Int.{w8, w16, w32, w64, w128}
@@ -18,7 +18,7 @@ use Rattle.nanorand_replay.specs.declared.replay.Call.TheVariants.{Gen, Range, S
 use Rattle.nanorand_replay.specs.declared.replay.Answer.{Answer}
 use Rattle.nanorand_replay.specs.declared.replay.Answer.TheVariants.{Unsigned, Signed, Truth, Empty, Exhausted, Shuffled}
 
--- How many bytes a value of the type takes.
+-- The number of bytes that a value of the type takes.
 abbrev pub size_of : Kind → ℕ
 size_of kinds.I8 = 1
 size_of kinds.I16 = 2
@@ -34,7 +34,7 @@ size_of kinds.U128 = 16
 size_of kinds.Usize = 8
 size_of kinds.Bool = 1
 
--- The value of the type that these bytes give, least significant byte first.
+-- The value of the type made from these bytes, in little-endian order.
 abbrev pub value_of : Kind → List ℕ → Answer
 value_of kinds.I8 bytes = Signed (signed_number_of w8 bytes)
 value_of kinds.I16 bytes = Signed (signed_number_of w16 bytes)
@@ -67,40 +67,40 @@ bounds_of (spans.U32 low high) = unsigned 32 low high
 bounds_of (spans.U64 low high) = unsigned 64 low high
 bounds_of (spans.Usize low high) = unsigned 64 low high
 
--- The answer to a call that is refused.
+-- The answer to a call that returns an error.
 abbrev pub refusal_answer : RangeError → Answer
 refusal_answer refusals.Empty = Empty
 refusal_answer refusals.Exhausted = Exhausted
 
--- The answer of a range of an unsigned type.
+-- The answer to a draw from a range of an unsigned type.
 abbrev pub unsigned_answer : Result ℕ RangeError → Answer
 unsigned_answer (Ok number) = Unsigned number
 unsigned_answer (Err refusal) = refusal_answer refusal
 
--- The answer of a range of a signed type.
+-- The answer to a draw from a range of a signed type.
 abbrev pub signed_answer : Result ℤ RangeError → Answer
 signed_answer (Ok number) = Signed number
 signed_answer (Err refusal) = refusal_answer refusal
 
--- The answer of a shuffle.
+-- The answer to a shuffle.
 abbrev pub shuffle_call_answer : Result (Unit {0}) RangeError → Answer
 shuffle_call_answer (Ok tt) = Shuffled
 shuffle_call_answer (Err refusal) = refusal_answer refusal
 
--- The answer of one call, and the items and the state that it leaves.
+-- The answer to one call, and the items and the state that the call leaves.
 pub record Outcome (G : Type 0) : Type 0 where
   pub answer : Answer
   pub items : List ℕ
   pub state : G
 
--- The answers of a list of calls, one for each, and the items and the state that it leaves.
+-- The answers to a list of calls, one for each, and the items and the state that the calls leave.
 pub record Replay (G : Type 0) : Type 0 where
   pub answers : List Answer
   pub items : List ℕ
   pub state : G
 
 module _ {G : Type 0} (requests : Requests G) where
-  -- The answer of a range, and the state that it leaves.
+  -- The answer to a draw from a range, and the state that the draw leaves.
   abbrev pub bounds_outcome : G → TypedBounds → Answer × G
   bounds_outcome g (unsigned bits low high) =
       let drawn = unsigned_outcome requests bits g low high in
@@ -131,7 +131,7 @@ module _ {G : Type 0} (requests : Requests G) where
         state = shuffle.state;
       }
 
-  -- Each call starts from the items and the state that the one before it left.
+  -- Each call starts from the items and the state that the call before it left.
   abbrev pub replayed : G → List ℕ → List Call → Replay G
   replayed g items [] = record { answers = []; items = items; state = g }
   replayed g items (call ∷ calls) =
@@ -139,8 +139,8 @@ module _ {G : Type 0} (requests : Requests G) where
       let rest = replayed first.state first.items calls in
       record { answers = first.answer ∷ rest.answers; items = rest.items; state = rest.state }
 
-  -- A replay of two lists, one after the other, is a replay of the first and then of the second,
-  -- from the state and the items that the first left.
+  -- Replaying two lists as one is the same as replaying the first and then the second, from the
+  -- state and the items that the first left.
   abbrev pub ReplaysJoin : Type 0
   ReplaysJoin = (g : G) (items : List ℕ) (calls others : List Call) →
       let first = replayed g items calls in

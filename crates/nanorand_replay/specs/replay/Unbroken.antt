@@ -1,5 +1,5 @@
--- Requests that are delivered without a break: several take and leave what one of their total size
--- does.
+-- Requests that are delivered without a break: several requests take the same bytes and leave the
+-- same state as one request of their total size.
 use Rattle.std.specs.Prelude.{◌≡◌, ℕ, ◌+◌, ◌*◌, ◌/◌, List, [], ◌∷◌, ◌++◌, map, take, drop, sum}
 use Rattle.std.specs.List.{range_with_len}
 use Rattle.nanorand_core.specs.generators.Blocks.{Requests}
@@ -15,13 +15,14 @@ module _ {G : Type 0} (requests : Requests G) where
   after_all g [] = g
   after_all g (n ∷ sizes) = after_all (requests.after g n) sizes
 
-  -- The bytes that they take, one after another.
+  -- The bytes that requests of these sizes take, one after another.
   abbrev pub taken_all : G → List ℕ → List ℕ
   taken_all g [] = []
   taken_all g (n ∷ sizes) = requests.bytes g n ++ taken_all (requests.after g n) sizes
 
-  -- Two requests, and any list of them, take and leave what one request of their total size does. A
-  -- list of calls leaves what one request of all its bytes leaves.
+  -- Two requests, and any list of requests, take the same bytes and leave the same state as one
+  -- request of their total size. A list of calls leaves the state that one request for all its
+  -- bytes leaves.
   pub record IsUnbroken : Type 0 where
     pub two_states : (g : G) (m n : ℕ)
         → requests.after (requests.after g m) n ≡ requests.after g (m + n)
@@ -32,8 +33,8 @@ module _ {G : Type 0} (requests : Requests G) where
     pub call_states : (g : G) (items : List ℕ) (calls : List Call)
         → (replayed requests g items calls).state ≡ requests.after g (asked requests g items calls)
 
-  -- n words of `bits` bits drawn one after another: word i is the number of the i-th bits / 8 bytes
-  -- of one request for all of them.
+  -- n words of `bits` bits are drawn one after another. Word i is the number of the i-th group of
+  -- bits / 8 bytes in one request for all of them.
   abbrev pub WordsFollow : ℕ → ℕ → G → Type 0
   WordsFollow bits n g =
       let size = bits / 8 in

@@ -1,5 +1,5 @@
--- A buffer delivers one unbroken stream of bytes. Nobody has to believe this file: it has lemmas that
--- the laws of impls cite.
+-- A buffered generator delivers one unbroken stream of bytes. Not needed to understand the
+-- contracts: this file is in specs/ only because laws of impls cite its lemmas.
 use Rattle.std.proofs.Common.{◌≡◌, ℕ, zero, suc, ◌+◌, ◌-◌, ◌*◌, ◌/◌, ◌%◌, ◌<◌, ◌≤◌, List, [], ◌++◌, length, take, drop}
 use Rattle.std.proofs.Common.{refl, sym, ◌∙◌, ap, arith, length-append, length-drop, append_assoc, add-zero, ⊎_elim}
 use Rattle.std.specs.Fn.{iterate}
@@ -27,11 +27,12 @@ div_ceil_unique x k q positive covers least =
 div_ceil_zero : (k : ℕ) → div_ceil 0 k ≡ 0
 div_ceil_zero k = rw (zero-div, zero-mod) refl
 
--- no bytes take no block
+-- no bytes need no block
 ceil_none : (x k : ℕ) → x ≡ 0 → div_ceil x k * k ≡ 0
 ceil_none x k none = rw (none, div_ceil_zero, zero-mul) refl
 
--- One request of m + n bytes takes the blocks of a request of m and one of n. r bytes are buffered.
+-- With r bytes buffered, one request of m + n bytes takes as many blocks as a request of m bytes
+-- and one of n bytes.
 ceil_add : (r m n k : ℕ) → 0 < k → div_ceil (m + n - r) k ≡ div_ceil (m - r) k + div_ceil (n - (r + div_ceil (m - r) k * k - m)) k
 ceil_add r m n k positive =
     let first : ℕ = div_ceil (m - r) k in
@@ -48,7 +49,8 @@ ceil_add r m n k positive =
     rw (none, div_ceil_zero, add-zero) (div_ceil_unique (m + n - r) k first positive (omega (arith, one, start)) (omega (arith, one, start))))
     (cases_lt left n)
 
--- after a request of n, less than a block is left of r buffered bytes and the blocks drawn
+-- with r bytes buffered, a request of n bytes leaves less than a block of these and of the blocks
+-- drawn
 left_below : (r n k : ℕ) → 0 < k → r < k → r + div_ceil (n - r) k * k - n < k
 left_below r n k positive below =
     let bounds = div_ceil_times (n - r) k positive in
@@ -83,7 +85,7 @@ module _ {G : Type 0} (block : G → List ℕ) (step : G → G) (output : ℕ) (
         length-stream b (blocks_needed block step output b n),
       ) (left_below (length b.rest) n output positive below)
 
-  -- further blocks come at the end of the stream
+  -- further blocks extend the stream at its end
   stream_add : (b : Buffered G) (m k : ℕ) → stream block step output b (m + k) ≡ stream block step output b m ++ blocks block step (iterate step m b.inner) k
   stream_add b m k = ap (λ bytes. b.rest ++ bytes) (blocks_add block step b.inner m k) ∙ sym (append_assoc b.rest _ _)
 
@@ -100,7 +102,7 @@ module _ {G : Type 0} (block : G → List ℕ) (step : G → G) (output : ℕ) (
       let needed : ℕ = blocks_needed block step output b m in
       rw (length-drop m (stream block step output b needed), length-stream b needed) (ceil_add (length b.rest) m n output positive)
 
-  -- Two requests take what one of their total size takes,
+  -- Two requests take the bytes that one of their total size takes,
   pub taken_add : (b : Buffered G) (m n : ℕ) → buffered_taken block step output b (m + n)
       ≡ buffered_taken block step output b m
       ++ buffered_taken block step output (buffered_after block step output b m) n
@@ -116,7 +118,7 @@ module _ {G : Type 0} (block : G → List ℕ) (step : G → G) (output : ℕ) (
       ∙ ap (λ bytes. bytes ++ take n (drop m (stream block step output b (first + second)))) front
       ∙ ap (λ bytes. take m (stream block step output b first) ++ take n bytes) (sym (stream_after b m second))
 
-  -- and leave the same.
+  -- and leave the same state.
   pub after_add : (b : Buffered G) (m n : ℕ)
       → buffered_after block step output (buffered_after block step output b m) n
       ≡ buffered_after block step output b (m + n)
@@ -145,7 +147,7 @@ module _ {G : Type 0} (block : G → List ℕ) (step : G → G) (output : ℕ) (
       ap (λ bytes. buffered_block block step output b ++ bytes) (blocks_of (buffered_step block step output b) n)
       ∙ sym (taken_add b output (n * output)) ∙ ap (λ k. buffered_taken block step output b k) (sym (suc-mul n output ∙ add_comm (n * output) output))
 
-  -- The bytes by the blocks of the buffer are those of the unbroken stream.
+  -- The bytes of the buffer's blocks are those of the unbroken stream.
   pub taken_unbroken : (b : Buffered G) (n : ℕ)
       → taken (buffered_block block step output) (buffered_step block step output) b n
       ≡ buffered_taken block step output b n
@@ -198,7 +200,7 @@ module _ {G : Type 0} (block : G → List ℕ) (step : G → G) (output : ℕ) (
         ap (λ k. buffered_after block step output b k) past_split ∙ sym (after_add b (length b.rest) (n - length b.rest))
         ∙ ap (λ c. buffered_after block step output c (n - length b.rest)) past_kept
 
-  -- From an empty buffer a request takes what it takes from the generator.
+  -- With an empty buffer, a request takes the bytes that it takes from the generator.
   ceil_fewer : (n : ℕ) → div_ceil n output ≤ n
   ceil_fewer n =
       ⊎_elim (λ (more : n < div_ceil n output).

@@ -8,7 +8,8 @@ use borrow.Rule.Slice.PartMut.{put_mid, post_of}
 use lib.Seq.{take-add, take-append-le}
 use Rattle.nanorand.proofs.entropy.system.Goals as goal
 
--- after n bytes are put at index a, the first a + n are the first a from before and those n
+-- after n bytes are written at index a, the first a + n are the first a from before, followed by
+-- those n
 take-put_mid_within : (a n k : ℕ) (xs ys : List ℕ) → a ≤ length xs → n ≤ length ys → take (a + n) (put_mid a k xs ys) ≡ take a xs ++ take n ys
 take-put_mid_within a n k xs ys within fits =
     let after = post_of a k xs in

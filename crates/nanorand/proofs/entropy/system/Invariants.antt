@@ -2,8 +2,7 @@ use Rattle.std.proofs.Common.{length, take, ◌≡◌, ◌-◌, ◌≤◌}
 use Rattle.std.specs.Io.KnownBytes.{Consumes}
 use Rattle.nanorand.proofs.entropy.system.Given as goal
 
--- the reader has consumed exactly the bytes that are filled, and while none are filled it is
--- unchanged
+-- The reader has given exactly the bytes that are filled. While none are filled, it is unchanged.
 abbrev pub invariant-loop-filled : goal.invariant-loop-filled
 invariant-loop-filled g l = record {
   in_slice : l.filled ≤ length l.out;

@@ -7,7 +7,7 @@ use Rattle.nanorand.specs.support.ChaChaGroupLemmas.{length-chacha_group, taken_
 use Rattle.nanorand.proofs.lemmas.generators.StreamLemmas.{deliver_alike, all_alike, key-kept, nonce-kept, position_moves}
 use Rattle.nanorand.proofs.laws.streams_deliver_chacha.Goals as goal
 
--- a stream's request takes as many bytes as it asks for
+-- a request of n bytes to a stream takes n bytes
 length-stream : (R : ℕ) (x : List ℕ) (n : ℕ) → length ((stream_requests R).bytes (buffer_of [] x) n) ≡ n
 length-stream R x n = length-buffered_taken (chacha_group R) next_group 512 (omega arith) (length-chacha_group R) (buffer_of [] x) n
 

@@ -1,4 +1,4 @@
--- ChaCha's initial state, word by word, and its counter.
+-- The initial state of ChaCha, word by word, and its counter.
 use Rattle.std.proofs.Common.{◌≡◌, ℕ, ◌+◌, ◌/◌, ◌%◌, ◌^◌, ◌≤◌, slice_index, List, [], ◌∷◌, length, drop, arith, refl, ap, sym, ◌∙◌}
 use Rattle.std.specs.Int.{w32, from_le_bytes}
 use Rattle.std.proofs.lemmas.List.{length-drop, drop-drop, drop_all}
@@ -12,7 +12,7 @@ words-cons (a ∷ []) h = absurd (omega arith)
 words-cons (a ∷ b ∷ []) h = absurd (omega arith)
 words-cons (a ∷ b ∷ c ∷ []) h = absurd (omega arith)
 
--- one 32-bit word more, from the byte at index `at` on
+-- one more 32-bit word, from the byte at index `at` on
 words_from : (bs : List ℕ) (at : ℕ) (rest : List ℕ) → at + 4 ≤ length bs → words (drop (at + 4) bs) ≡ rest
     → words (drop at bs) ≡ from_le_bytes w32 (drop at bs) ∷ rest
 words_from bs at rest h later =
@@ -59,7 +59,7 @@ with_counter-spelled x n =
     ∷ slice_index x 10 ∷ slice_index x 11 ∷ n % 2 ^ 32 ∷ n / 2 ^ 32 ∷ slice_index x 14 ∷ slice_index x 15 ∷ [])
     (λ a b c d e f g h i j k l m o p q. refl) x
 
--- a matrix with these two words of counter
+-- a matrix whose counter has these two words
 pub with_counter-halves : (x : List ℕ) (n low high : ℕ) → length x ≡ 16 → low ≡ n % 2 ^ 32 → high ≡ n / 2 ^ 32
     → slice_index x 0 ∷ slice_index x 1 ∷ slice_index x 2 ∷ slice_index x 3 ∷ slice_index x 4 ∷ slice_index x 5
     ∷ slice_index x 6 ∷ slice_index x 7 ∷ slice_index x 8 ∷ slice_index x 9 ∷ slice_index x 10 ∷ slice_index x 11

@@ -1,4 +1,4 @@
--- Requests by groups of blocks of 64 bytes each.
+-- Requests of groups of blocks, each of 64 bytes.
 use Rattle.std.proofs.Common.{◌≡◌, ℕ, zero, suc, ◌+◌, ◌-◌, ◌*◌, ◌<◌, ◌≤◌, List, ◌++◌, length, take, drop, arith, ap}
 use Rattle.std.proofs.Common.{ap₂, sym, ◌∙◌, append_assoc, length-append, refl}
 use Rattle.std.proofs.lemmas.List.{take_at, take_all, drop_at, drop_all, append-nil}

@@ -3,7 +3,7 @@ use Rattle.std.proofs.Common.{◌≡◌, ℕ, ◌+◌, List, [], ◌∷◌, leng
 use Rattle.nanorand.specs.generators.ChaChaRounds.{Words, on_columns, on_diagonals}
 use Rattle.nanorand.specs.support.ChaChaLines.{with_line}
 
--- a property of four elements before each list of n holds of each list of n + 4
+-- if a property holds for four elements followed by any list of n, it holds for each list of n + 4
 pub four_more : (n : ℕ) (P : List ℕ → Type 0) → ((a b c d : ℕ) (x : List ℕ) → length x ≡ n → P (a ∷ b ∷ c ∷ d ∷ x))
     → (x : List ℕ) → length x ≡ n + 4 → P x
 four_more n P p (a ∷ b ∷ c ∷ d ∷ x) h = p a b c d x (omega arith)
@@ -16,7 +16,7 @@ pub no_more : (P : List ℕ → Type 0) → P [] → (x : List ℕ) → length x
 no_more P p [] h = p
 no_more P p (a ∷ x) h = absurd (omega arith)
 
--- a property of all lists of sixteen variables holds of each list of sixteen
+-- if a property holds for all lists of sixteen variables, it holds for each list of sixteen
 pub sixteen : (P : List ℕ → Type 0)
     → ((a b c d e f g h i j k l m n o p : ℕ)
     → P (a ∷ b ∷ c ∷ d ∷ e ∷ f ∷ g ∷ h ∷ i ∷ j ∷ k ∷ l ∷ m ∷ n ∷ o ∷ p ∷ []))

@@ -8,7 +8,7 @@ use Rattle.std.proofs.Math.Nat.{mul-mod_left}
 use Rattle.nanorand.specs.generators.ChaChaRounds.{add, xor_rotate, quarter_round}
 use Rattle.nanorand.specs.support.ChaChaInverse.{subtract, rotate_xor}
 
--- a rotation of k + j bits by k to the left: the low j bits move above the others
+-- a rotation of a number of k + j bits by k bits to the left: the low j bits move above the others
 abbrev turned : ℕ → ℕ → ℕ → ℕ
 turned k j n = n % 2 ^ j * 2 ^ k + n / 2 ^ j
 
@@ -30,7 +30,8 @@ turned_fits k j n fits =
     let low : n % 2 ^ j < 2 ^ j = mod_below n (2 ^ j) (pow_pos j) in
     rw (add_comm j k, pow-add 2 k j) (mul-add-lt (n % 2 ^ j) (2 ^ k) (n / 2 ^ j) (2 ^ j) low (shr_below n k j fits))
 
--- the rotation by k to the left of k + j bits, by shifts, and the one by k to the right
+-- in k + j bits, the rotation by k bits to the left, made from shifts, and the one by k bits to the
+-- right
 abbrev left : ℕ → ℕ → ℕ → ℕ
 left k j n = bit_or (n * 2 ^ k % 2 ^ (j + k)) (n / 2 ^ j)
 

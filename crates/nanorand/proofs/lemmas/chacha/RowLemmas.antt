@@ -10,7 +10,7 @@ use Rattle.nanorand.specs.support.ChaChaDrawLemmas.{chacha_steps}
 use Rattle.nanorand.specs.generators.ChaChaRounds.{Words, add, xor_rotate, on_columns, on_diagonals, rounds, block}
 use Rattle.nanorand.specs.support.ChaChaRows.{Four, matrix, row_of, matrix_of}
 
--- a property of each of the four lanes holds of every lane
+-- a property that holds for each of the four lanes holds for every lane
 pub below_four : (P : ℕ → Type 0) → P 0 → P 1 → P 2 → P 3 → (j : ℕ) → j < 4 → P j
 below_four P p0 p1 p2 p3 zero h = p0
 below_four P p0 p1 p2 p3 (suc zero) h = p1
@@ -18,7 +18,7 @@ below_four P p0 p1 p2 p3 (suc (suc zero)) h = p2
 below_four P p0 p1 p2 p3 (suc (suc (suc zero))) h = p3
 below_four P p0 p1 p2 p3 (suc (suc (suc (suc n)))) h = absurd (omega arith)
 
--- a property of each of the eight lanes holds of every lane
+-- a property that holds for each of the eight lanes holds for every lane
 pub below_eight : (P : ℕ → Type 0) → P 0 → P 1 → P 2 → P 3 → P 4 → P 5 → P 6 → P 7 → (j : ℕ) → j < 8 → P j
 below_eight P p0 p1 p2 p3 p4 p5 p6 p7 (suc (suc (suc (suc j)))) h =
     below_four (λ k. P (suc (suc (suc (suc k))))) p4 p5 p6 p7 j (omega (arith, h))
@@ -27,11 +27,11 @@ below_eight P p0 p1 p2 p3 p4 p5 p6 p7 (suc zero) h = p1
 below_eight P p0 p1 p2 p3 p4 p5 p6 p7 (suc (suc zero)) h = p2
 below_eight P p0 p1 p2 p3 p4 p5 p6 p7 (suc (suc (suc zero))) h = p3
 
--- four rows that are the same as four others, one after another
+-- if four rows equal four others, so do the rows one after another
 pub same_rows : {a b c d p q r s : List ℕ} → a ≡ p → b ≡ q → c ≡ r → d ≡ s → a ++ b ++ c ++ d ≡ p ++ q ++ r ++ s
 same_rows first second third fourth = cc
 
--- sixteen words that are the same as sixteen others
+-- if sixteen words equal sixteen others, so do the lists of them
 pub same_words : {a0 a1 a2 a3 a4 a5 a6 a7 a8 a9 a10 a11 a12 a13 a14 a15 b0 b1 b2 b3 b4 b5 b6 b7 b8 b9 b10 b11 b12 b13
     b14 b15 : ℕ} → a0 ≡ b0 → a1 ≡ b1 → a2 ≡ b2 → a3 ≡ b3 → a4 ≡ b4 → a5 ≡ b5 → a6 ≡ b6 → a7 ≡ b7 → a8 ≡ b8 → a9 ≡ b9
     → a10 ≡ b10 → a11 ≡ b11 → a12 ≡ b12 → a13 ≡ b13 → a14 ≡ b14 → a15 ≡ b15
@@ -39,7 +39,7 @@ pub same_words : {a0 a1 a2 a3 a4 a5 a6 a7 a8 a9 a10 a11 a12 a13 a14 a15 b0 b1 b2
     ∷ b4 ∷ b5 ∷ b6 ∷ b7 ∷ b8 ∷ b9 ∷ b10 ∷ b11 ∷ b12 ∷ b13 ∷ b14 ∷ b15 ∷ []
 same_words e0 e1 e2 e3 e4 e5 e6 e7 e8 e9 e10 e11 e12 e13 e14 e15 = cc
 
--- two shifts and an or of each lane rotate each lane, of k lanes
+-- two shifts and an or of each lane, of k lanes, rotate each lane
 pub shifts_rotate : (n : ℕ) → 0 < n → n < 32 → (k : ℕ) (d a : List ℕ) → length d ≡ k → length a ≡ k → (j : ℕ) → j < k
     → slice_index (zip2 bit_or
     (zip2 (λ x m. x * 2 ^ m % 2 ^ 32) (zip2 bit_xor d a) (replicate k n))
@@ -100,7 +100,7 @@ upright x =
     ∷ slice_index x 10 ∷ slice_index x 11 ∷ slice_index x 8 ∷ slice_index x 9
     ∷ slice_index x 13 ∷ slice_index x 14 ∷ slice_index x 15 ∷ slice_index x 12 ∷ []
 
--- each lane of one row is the lane n further on in another, the first after the last
+-- each lane of one row is the lane n further on in another; the first lane follows the last
 abbrev Rotated : ℕ → List ℕ → List ℕ → Type 0
 Rotated n t row = (j : ℕ) → j < 4 → slice_index t j ≡ slice_index row ((n + j) % 4)
 

@@ -1,4 +1,4 @@
--- ChaCha's state, and its key, nonce and counter.
+-- The state of ChaCha, and its key, nonce and counter.
 use Rattle.std.proofs.Common.{◌≡◌, ℕ, zero, suc, ◌+◌, ◌%◌, ◌^◌, ◌<◌, List, [], ◌∷◌, ◌++◌, length, take, drop}
 use Rattle.std.proofs.Common.{slice_index, slice_range, refl, sym, ap, ap₂, ◌∙◌, arith, lit<}
 use Rattle.std.specs.Fn.{iterate}
@@ -42,7 +42,7 @@ four_bytes a b c d rest fits (suc (suc zero)) = fits 2
 four_bytes a b c d rest fits (suc (suc (suc zero))) = fits 3
 four_bytes a b c d rest fits (suc (suc (suc (suc k)))) = lit< tt
 
--- the bytes of the words of bytes, where the bytes make whole words
+-- the bytes of the words of bytes, if the bytes make whole words
 bytes-words : (bs : List ℕ) → length bs % 4 ≡ 0 → ((k : ℕ) → slice_index bs k < 256) → bytes (words bs) ≡ bs
 bytes-words [] whole fits = refl
 bytes-words (a ∷ []) whole fits = absurd (omega (arith, whole))
@@ -78,7 +78,7 @@ module _ (key nonce : List ℕ) (n : ℕ) (key_long : length key ≡ 32) (nonce_
       rw (words_of_32 key key_long, words_of_8 nonce nonce_long) refl in
       read ∙ bytes-words nonce (omega (arith, nonce_long)) fits
 
--- n blocks after block 0 comes block n
+-- block n is n blocks after block 0
 pub blocks-state_at : (key nonce : List ℕ) → length key ≡ 32 → length nonce ≡ 8 → (n : ℕ) → n < 2 ^ 64
     → iterate next_state n (state_at key nonce 0) ≡ state_at key nonce n
 unfolding state_at
@@ -90,7 +90,7 @@ blocks-state_at key nonce key_long nonce_long (suc n) fits =
     ∙ ap (λ (c : ℕ). with_counter start ((c + suc n) % 2 ^ 64)) (counter-state_at key nonce 0 key_long nonce_long)
     ∙ ap (with_counter start) total ∙ with_counter-twice (initial_state key nonce) 0 (suc n)
 
--- a part of a list of words has words
+-- a part of a list of words is a list of words
 drop-fits : (n : ℕ) (x : List ℕ) → ((k : ℕ) → slice_index x k < 2 ^ 32) → (k : ℕ) → slice_index (drop n x) k < 2 ^ 32
 drop-fits n x fits k = omega (arith, get_or-drop n x k 0, fits (n + k))
 
@@ -100,7 +100,7 @@ take-fits (suc n) [] fits k = lit< tt
 take-fits (suc n) (a ∷ x) fits zero = fits 0
 take-fits (suc n) (a ∷ x) fits (suc k) = take-fits n x (λ j. fits (suc j)) k
 
--- a state of these parts
+-- a state made of these parts
 abbrev made_of : List ℕ → List ℕ → List ℕ → ℕ → List ℕ
 made_of front key nonce n = with_counter (front ++ key ++ (0 ∷ 0 ∷ []) ++ nonce) n
 

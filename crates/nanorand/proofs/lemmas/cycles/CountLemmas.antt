@@ -1,11 +1,11 @@
--- How many of the numbers below n pass a test.
+-- The number of numbers below n that pass a test.
 use Rattle.std.proofs.Common.{◌≡◌, ◌≢◌, ℕ, zero, suc, ◌+◌, ◌-◌, ◌*◌, ◌<◌, ◌≤◌, Bool, true, false, cond, nat_eq, refl, sym, ◌∙◌, ap, inl, inr, arith}
 use Rattle.std.specs.List.{sum_by, count_by, range_with_len}
 use Rattle.std.proofs.lemmas.Bool.{cases_eq, eq-eqb, ne_eqb, eqb-true, false≢true}
 use Rattle.std.proofs.lemmas.List.Sums.{sum_by-cons, sum_by-le-sum_by}
 use Rattle.nanorand_fairness.proofs.lemmas.Sums.{sum-same, sum-plus, sum-times, sum-constant, sum-only}
 
--- of n terms with a sum below n, one is zero
+-- if n terms have a sum below n, one of them is zero
 sum-missing : (c : ℕ → ℕ) (first n : ℕ) → sum_by c (range_with_len first n) < n → (k : ℕ) × (k < first + n) × (c k ≡ 0)
 sum-missing c first zero few = absurd (omega arith)
 sum-missing c first (suc n) few =
@@ -17,7 +17,7 @@ sum-missing c first (suc n) few =
           (later.0, omega (arith, later.1), later.2)
     ]
 
--- a count of zero: no number passes
+-- if a count is zero, no number passes
 count-zero : (p : ℕ → Bool) (first n : ℕ) → count_by p (range_with_len first n) ≡ 0 → (i : ℕ) → first ≤ i → i < first + n → p i ≡ false
 count-zero p first zero none i from to = absurd (omega arith)
 count-zero p first (suc n) none i from to =
@@ -68,8 +68,8 @@ count-none p n none =
     sum-same (λ i. cond (p i) 1 0) (λ i. 0) 0 n (λ i _ to. ap (λ (b : Bool). cond b 1 0) (none i (omega arith)))
     ∙ sum-constant 0 0 n ∙ omega arith
 
--- If each of the m numbers has one value, and the values of the indices that pass are these numbers, each once, then m
--- indices pass.
+-- If each of the m numbers has one value, and the values of the indices that pass are these
+-- numbers, each once, then m indices pass.
 module _ (p : ℕ → Bool) (n m : ℕ) (value number : ℕ → ℕ)
     (found : (j : ℕ) → j < m → (i : ℕ) × (i < n) × (value i ≡ number j))
     (once : (i k : ℕ) → i < n → k < n → value i ≡ value k → i ≡ k)
@@ -104,7 +104,8 @@ module _ (p : ℕ → Bool) (n m : ℕ) (value number : ℕ → ℕ)
       ∙ sum-same (λ j. count_by (λ i. hits i j) (range_with_len 0 n)) (λ j. 1) 0 m (λ j _ to. by_number j (omega arith))
       ∙ sum-constant 1 0 m ∙ omega arith
 
--- If each number below m is the value of `times` indices, then for each number that passes a test so many values do.
+-- If each number below m is the value of `times` indices, then for each number that passes a test,
+-- the values of `times` indices pass it.
 module _ (q : ℕ → Bool) (n m times : ℕ) (value : ℕ → ℕ)
     (fits : (i : ℕ) → i < n → value i < m)
     (each : (s : ℕ) → s < m → count_by (λ i. nat_eq (value i) s) (range_with_len 0 n) ≡ times) where
@@ -127,13 +128,14 @@ module _ (q : ℕ → Bool) (n m times : ℕ) (value : ℕ → ℕ)
       (λ s _ to. column s (omega arith) (q s))
       ∙ sum-times (λ s. cond (q s) 1 0) times 0 m
 
--- the same, where each number is one value
+-- the same if each number is the value of one index
 pub count-moved : (q : ℕ → Bool) (n m : ℕ) (value : ℕ → ℕ) → ((i : ℕ) → i < n → value i < m)
     → ((s : ℕ) → s < m → count_by (λ i. nat_eq (value i) s) (range_with_len 0 n) ≡ 1)
     → count_by (λ i. q (value i)) (range_with_len 0 n) ≡ count_by q (range_with_len 0 m)
 count-moved q n m value fits each = count-values q n m 1 value fits each ∙ omega arith
 
--- If two of the numbers below n have the same value, and all values are below n, then some number below n is no value.
+-- If two of the numbers below n have the same value, and all values are below n, then some number
+-- below n is not a value.
 module _ (f : ℕ → ℕ) (n : ℕ) (fits : (s : ℕ) → s < n → f s < n) (j k : ℕ) (j_below : j < n) (k_below : k < n)
     (apart : j ≢ k) (same : f j ≡ f k) where
   abbrev times : ℕ → ℕ
@@ -164,7 +166,7 @@ module _ (f : ℕ → ℕ) (n : ℕ) (fits : (s : ℕ) → s < n → f s < n) (j
       let other = sum-only (λ s. 1) k 0 n (omega arith) (omega arith) in
       omega (arith, less, parts, one, other)
 
-  -- the numbers of times, less one at the value of both
+  -- how often each number is a value, minus one at the value that both numbers have
   abbrev rest : ℕ → ℕ
   rest w = times w - cond (nat_eq (f j) w) 1 0
 

@@ -35,8 +35,8 @@ walk-same u v i m n s same = to_remainder m ∙ ap (λ (k : ℕ). walk u v k s %
         let parts : t + e * (8 * 2 ^ i) + 8 * 2 ^ i * 2 * strides.0 ≡ t + 8 * 2 ^ i * (e + 2 * strides.0) = omega arith in
         ap (λ (k : ℕ). k % (8 * 2 ^ i)) (strides.1 ∙ parts) ∙ add-mul-mod_self_left t (8 * 2 ^ i) (e + 2 * strides.0)
 
--- numbers of strides that lead from one number to the same number, modulo two strides, have the
--- same parity
+-- if two numbers of strides lead from one number to the same number, modulo two strides, they have
+-- the same parity
 same_parity : (q t e f z w : ℕ) → 0 < q
     → (t + e * q + q * 2 * z) % (q * 2) ≡ (t + f * q + q * 2 * w) % (q * 2) → e % 2 ≡ f % 2
 same_parity q t e f z w pos same =
@@ -54,20 +54,20 @@ same_parity q t e f z w pos same =
 pub twice_wide : (i : ℕ) → 8 * 2 ^ suc i ≡ 8 * 2 ^ i * 2
 twice_wide i = omega (arith, two-pow-succ i)
 
--- numbers equal modulo 2 * q are equal modulo q
+-- numbers that are equal modulo 2 * q are equal modulo q
 pub coarser : (q a b : ℕ) → a % (q * 2) ≡ b % (q * 2) → a % q ≡ b % q
 coarser q a b same =
     let divides = dvd-mul_right q 2 in
     sym (mod-mod_of_dvd q a divides) ∙ ap (λ (n : ℕ). n % q) same ∙ mod-mod_of_dvd q b divides
 
--- a remainder by twice q, split at its top bit
+-- a remainder modulo twice q, split at its top bit
 split_two : (q n : ℕ) → 0 < q → n % (q * 2) ≡ n / q % 2 * q + n % q
 split_two q n pos = ap (λ (m : ℕ). n % m) (mul_comm q 2) ∙ mod-mul n (lit< tt) pos
 
 longer : (i n : ℕ) → n % 2 ^ suc (suc i) ≡ n / 2 ^ suc i % 2 * 2 ^ suc i + n % 2 ^ suc i
 longer i n = ap (λ (m : ℕ). n % m) (pow-suc 2 (suc i)) ∙ split_two (2 ^ suc i) n (pow_pos (suc i))
 
--- steps to the same number modulo 8 * 2 ^ i agree modulo 2 ^ suc i
+-- if steps lead to the same number modulo 8 * 2 ^ i, their numbers agree modulo 2 ^ suc i
 pub same-walk : (u v i m n s : ℕ) → walk u v m s % (8 * 2 ^ i) ≡ walk u v n s % (8 * 2 ^ i) → m % 2 ^ suc i ≡ n % 2 ^ suc i
 same-walk u v zero m n s same =
     elim (walk_mod_8 u v m s) [

@@ -12,13 +12,13 @@ use Rattle.nanorand.proofs.lemmas.cycles.Pcg64Lemmas.{u, v, seed_after-agree}
 use Rattle.nanorand.proofs.lemmas.cycles.ReachLemmas.{reached}
 use Rattle.nanorand.proofs.lemmas.cycles.JumpLemmas.{Makes, Makes-one, Makes-twice, Makes-wrapping}
 
--- the difference modulo m of a number and one d before it is d
+-- the difference, modulo m, between a number and the one d before it is d
 difference : (m s d : ℕ) → s < m → ((s + d) % m + (m - s)) % m ≡ d % m
 difference m s d fits =
     let gone : s + d + (m - s) ≡ d + m = omega arith in
     mod-add-mod (s + d) m (m - s) ∙ ap (λ (n : ℕ). n % m) gone ∙ add-mod_right d m
 
--- the bit that decides, where p * w is 2 ^ 124 and d strides were made
+-- the deciding bit, if p * w is 2 ^ 124 and d strides were made
 deciding_bit : (p w d : ℕ) → 0 < p → 0 < w → (8 * p * d) % (8 * p * (2 * w)) / (2 * p) % 8 ≡ 4 * (d % 2)
 deciding_bit p w d p_pos w_pos =
     let rest = d % (2 * w) in
@@ -30,8 +30,8 @@ deciding_bit p w d p_pos w_pos =
     ∙ ap (λ (n : ℕ). n % 8) (mul-div_cancel_left (4 * rest) two_pos)
     ∙ mul-mod-mul 4 rest 2 (lit< tt) (lit< tt) ∙ ap (λ (b : ℕ). 4 * b) low
 
--- the test of a bit: with k strides of 2 ^ bit draws left to the end, the tested value is 0 exactly
--- if k is even
+-- the test of a bit: if k strides of 2 ^ bit draws are left to the end, the tested value is 0 if
+-- and only if k is even
 pub deciding : (bit k seed end : ℕ) → bit < 126 → seed < 2 ^ 128 → seed_after (k * 2 ^ bit) seed ≡ end
     → ((end + (2 ^ 128 - seed)) % 2 ^ 128 / 2 ^ bit % 8 ≡ 0) ↔ (k % 2 ≡ 0)
 deciding zero k seed end in_range fits leads =

@@ -21,14 +21,14 @@ pub record IsDoubled (u v i : ℕ) : Type 0 where
   pub moves : (s : ℕ) → walk u v (2 ^ suc i) s
       ≡ s + 8 * 2 ^ i * (2 * y + 1) + 16 * 2 ^ i * x * s
 
--- what such a map does twice
+-- such a map, applied twice
 twice : (p x y s : ℕ) →
     let moved = s + 8 * p * (2 * y + 1) + 16 * p * x * s in
     moved + 8 * p * (2 * y + 1) + 16 * p * x * moved
     ≡ s + 8 * (p + p) * (2 * (y + 4 * p * x * (2 * y + 1)) + 1) + 16 * (p + p) * (x + 8 * p * x * x) * s
 twice p x y s = omega arith
 
--- n steps that make such a map, twice
+-- n steps that make such a map, applied twice
 twice_moves : (a c n p x y s : ℕ) → ((s : ℕ) → affine_after a c n s ≡ s + 8 * p * (2 * y + 1) + 16 * p * x * s)
     → affine_after a c (n + n) s
     ≡ s + 8 * (p + p) * (2 * (y + 4 * p * x * (2 * y + 1)) + 1) + 16 * (p + p) * (x + 8 * p * x * x) * s

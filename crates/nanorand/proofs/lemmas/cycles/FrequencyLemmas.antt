@@ -1,4 +1,5 @@
--- How often each word of Pcg64 comes on a cycle: the seeds of a cycle whose word is w are counted, and each comes once.
+-- How often each word of Pcg64 occurs on a cycle: the seeds of a cycle whose word is w are counted,
+-- and each occurs once.
 use Rattle.std.proofs.Common.{◌≡◌, ℕ, ◌+◌, ◌-◌, ◌*◌, ◌/◌, ◌%◌, ◌^◌, ◌<◌, ◌⊎◌, inl, inr, Bool, true, cond, nat_eq, refl, sym, ap, ◌∙◌, arith, bit_xor}
 use Rattle.std.specs.List.{count_by, range_with_len}
 use Rattle.std.specs.Int.Bits.{xor_assoc, xor_zero_r, xor_self}
@@ -13,7 +14,8 @@ use Rattle.nanorand.proofs.lemmas.cycles.HalvesLemmas.{folded-lt}
 use Rattle.nanorand.proofs.lemmas.cycles.Pcg64Lemmas.{seed_after-agree}
 use Rattle.nanorand.proofs.lemmas.cycles.ReachLemmas.{reached, seed_after-class}
 
--- the low halves of the seeds on the cycle of a seed that is r modulo 8: r and 7 - r by turns, modulo 8
+-- the low halves of the seeds on the cycle of a seed that is r modulo 8: r and 7 - r in turn,
+-- modulo 8
 abbrev low : ℕ → ℕ → ℕ
 low r j = j / 2 * 8 + cond (nat_eq (j % 2) 0) r (7 - r)
 
@@ -138,7 +140,7 @@ module _ (s w : ℕ) (w_fits : w < 2 ^ 64) where
   comes-one : count_by comes (range_with_len 0 (2 ^ 126)) ≡ 2 ^ 62
   comes-one = count-matched comes (2 ^ 126) (2 ^ 62) value number found once number-apart passing pass
 
--- the definitions, unfolded where n is a variable: at a numeral they would list all numbers below it
+-- the definitions, unfolded for a variable n: for a numeral they would list all numbers below it
 word_count-is : (n s w : ℕ) → pcg64_word_count n s w ≡ count_by (λ i. nat_eq (folded (seed_after (i + 1) s)) w) (range_with_len 0 n)
 unfolding pcg64_word_count
 word_count-is n s w = refl
@@ -154,7 +156,7 @@ all_words-are bits test = refl
 pub pcg64_words_of_a_cycle : (s w : ℕ) → w < 2 ^ 64 → pcg64_word_count (2 ^ 126) s w ≡ 2 ^ 62
 pcg64_words_of_a_cycle s w w_fits = word_count-is (2 ^ 126) s w ∙ comes-one s w w_fits
 
--- of the words of a cycle, a test passes 2 ^ 62 for each of the 2 ^ 64 numbers that it passes
+-- of the words of a cycle, 2 ^ 62 pass a test for each of the 2 ^ 64 numbers that passes it
 pub pcg64_events_of_a_cycle : (s : ℕ) (test : ℕ → Bool) → pcg64_words_that (2 ^ 126) s test ≡ words_that 64 test * 2 ^ 62
 pcg64_events_of_a_cycle s test =
     words_that-is (2 ^ 126) s test

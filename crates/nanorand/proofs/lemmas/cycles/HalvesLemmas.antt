@@ -36,7 +36,7 @@ folded-top n fits =
 pub folded-lt : (n : ℕ) → n < 2 ^ 128 → folded n < 2 ^ 64
 folded-lt n fits = xor_lt 64 (n / 2 ^ 64) (n % 2 ^ 64) (omega arith) (omega arith)
 
--- a number with its top bit flipped is another number
+-- flipping the top bit changes a number
 pub xor_apart : (n : ℕ) → bit_xor n (2 ^ 63) ≡ n → ⊥
 xor_apart n same =
     let cleared : 2 ^ 63 ≡ 0 = sym (xor_zero_l (2 ^ 63)) ∙ ap (λ (z : ℕ). bit_xor z (2 ^ 63)) (sym (xor_self n)) ∙ xor_assoc n n (2 ^ 63)

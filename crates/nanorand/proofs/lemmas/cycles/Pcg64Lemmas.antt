@@ -1,4 +1,4 @@
--- The four cycles of Pcg64's seeds.
+-- The four cycles of the seeds of Pcg64.
 use Rattle.std.proofs.Common.{◌≡◌, ℕ, suc, ◌+◌, ◌-◌, ◌*◌, ◌/◌, ◌%◌, ◌^◌, ◌<◌, sym, ap, ◌∙◌, arith, bit_xor}
 use Rattle.std.proofs.Math.Nat.{mod-add-mod, mod-eq-zero_of_dvd}
 use Rattle.std.proofs.lemmas.Nat.{from_le_bytes-to_le_bytes_8}
@@ -21,7 +21,7 @@ u = factor / 16
 abbrev pub v : ℕ
 v = term / 8
 
--- i draws and j draws lead from a seed to the same seed exactly if i and j agree modulo 2 ^ 126
+-- i draws and j draws lead from a seed to the same seed if and only if i and j agree modulo 2 ^ 126
 pub seed_after-agree : (s : ℕ) → AgreeModulo (2 ^ 126) seed_after s
 seed_after-agree s i j = (same-walk u v 125 i j s, walk-same u v 125 i j s)
 
@@ -36,13 +36,13 @@ seed_after-fits n s = omega arith
 pub word-half : (n s : ℕ) → folded (seed_after (n + 2 ^ 125) s) ≡ bit_xor (folded (seed_after n s)) (2 ^ 63)
 word-half n s = ap folded (seed_after-half n s) ∙ folded-top (seed_after n s) (seed_after-fits n s)
 
--- equal blocks come from equal words
+-- if blocks are equal, their words are equal
 word-block : (s t : ℕ) → s < 2 ^ 128 → t < 2 ^ 128 → to_le_bytes w64 (folded s) ≡ to_le_bytes w64 (folded t) → folded s ≡ folded t
 word-block s t s_fits t_fits same =
     sym (from_le_bytes-to_le_bytes_8 (folded s) (folded-lt s s_fits)) ∙ ap (from_le_bytes w64) same
     ∙ from_le_bytes-to_le_bytes_8 (folded t) (folded-lt t t_fits)
 
--- a number of draws that is 2 ^ 125 modulo 2 ^ 126 is no period
+-- a number of draws that is 2 ^ 125 modulo 2 ^ 126 is not a period
 half_no_period : (g : Generator) (d : ℕ) → d % 2 ^ 126 ≡ 2 ^ 125 → ¬ (IsPeriod next pcg64_block g d)
 half_no_period g d half period =
     let s = g.seed in

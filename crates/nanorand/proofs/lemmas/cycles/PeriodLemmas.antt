@@ -19,8 +19,8 @@ module _ {G B : Type 0} (step : G → G) (block : G → B) (g : G) where
       ∙ ap block (iterate-add step d (k * d + n) g) ∙ period (k * d + n)
       ∙ ap block (iterate-add step (k * d) n g) ∙ IsPeriod-multiple d k period n
 
-  -- If the multiples of 2^(w + 1) are periods, and the odd multiples of 2^w are none, then no other number is one: it
-  -- has a multiple that is 2^w modulo 2^(w + 1).
+  -- Assume that the multiples of 2^(w + 1) are periods, and that the odd multiples of 2^w are not.
+  -- Then no other number is a period: it has a multiple that is 2^w modulo 2^(w + 1).
   pub periods_are_multiples : (w : ℕ) → ((d : ℕ) → 2 ^ suc w ∣ d → IsPeriod step block g d)
       → ((d : ℕ) → d % 2 ^ suc w ≡ 2 ^ w → ¬ (IsPeriod step block g d)) → PeriodsAreMultiplesOf (2 ^ suc w) step block g
   periods_are_multiples w whole half d = (only, whole d)

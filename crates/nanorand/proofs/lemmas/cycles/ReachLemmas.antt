@@ -1,4 +1,4 @@
--- Which seeds of Pcg64 lead to which.
+-- Which seeds of Pcg64 can be reached from which.
 use Rattle.std.proofs.Common.{◌≡◌, ℕ, ◌%◌, ◌^◌, ◌<◌, ◌↔◌, inl, inr, sym, ◌∙◌, arith, subst}
 use Rattle.std.proofs.Math.Nat.{mod-eq_of_lt, mod-mod}
 use Rattle.nanorand_core.specs.generators.Cycles.{Reaches, ReachesOnceBelow}

@@ -1,4 +1,4 @@
--- How often each word of WyRand comes on its cycle, and that some word never does.
+-- How often each word of WyRand occurs on its cycle, and the proof that some word never occurs.
 use Rattle.std.proofs.Common.{◌≡◌, ◌≢◌, ℕ, ◌+◌, ◌-◌, ◌*◌, ◌%◌, ◌^◌, ◌<◌, ◌≤◌, nat_eq, refl, sym, ◌∙◌, arith, lit<, bit_xor}
 use Rattle.std.specs.List.{count_by, range_with_len}
 use Rattle.std.proofs.lemmas.Bool.{eq-eqb, eqb-true}
@@ -9,7 +9,7 @@ use Rattle.nanorand.proofs.lemmas.cycles.CountLemmas.{count-moved, count-one, co
 use Rattle.nanorand.proofs.lemmas.cycles.HalvesLemmas.{folded-lt}
 use Rattle.nanorand.proofs.lemmas.cycles.WyRandLemmas.{draws_between, seed_after-draws_between, seed_after-agree}
 
--- the definitions, unfolded where n is a variable: at a numeral they would list all numbers below it
+-- the definitions, unfolded for a variable n: for a numeral they would list all numbers below it
 word_count-is : (n s w : ℕ) → wyrand_word_count n s w ≡ count_by (λ i. nat_eq (word (seed_after (i + 1) s)) w) (range_with_len 0 n)
 unfolding wyrand_word_count
 word_count-is n s w = refl
@@ -46,7 +46,7 @@ module _ (s : ℕ) (s_fits : s < 2 ^ 64) where
       count-one (λ i. nat_eq (value i) t) i.0 (2 ^ 64) i.1 (eq-eqb (value i.0) t i.2)
       (λ k below same. once k i.0 below i.1 (eqb-true (value k) t same ∙ sym i.2))
 
-  -- in a whole cycle each word comes once for each seed that has it
+  -- in a whole cycle each word occurs once for each seed that has it
   pub wyrand_words_of_the_cycle : (w : ℕ) → wyrand_word_count (2 ^ 64) s w ≡ wyrand_seeds_with (2 ^ 64) w
   wyrand_words_of_the_cycle w =
       word_count-is (2 ^ 64) s w ∙ count-moved (λ t. nat_eq (word t) w) (2 ^ 64) (2 ^ 64) value value-fits each ∙ sym (seeds_with-is (2 ^ 64) w)

@@ -1,4 +1,4 @@
--- The one cycle of WyRand's seeds.
+-- The one cycle of the seeds of WyRand.
 use Rattle.std.proofs.Common.{◌≡◌, ◌≢◌, ℕ, ◌+◌, ◌-◌, ◌*◌, ◌/◌, ◌%◌, ◌^◌, ◌<◌, refl, sym, ap, ◌∙◌, arith, lit<}
 use Rattle.std.proofs.Math.Nat.{mod-add-mod, add-mod-mod, add-mul-mod_self_right, add-mod_right, mod-eq_of_lt, mod-eq-zero_of_dvd}
 use Rattle.std.proofs.lemmas.Nat.{mul-mod_first}
@@ -9,7 +9,7 @@ use Rattle.nanorand.specs.generators.WyRand.{increment, next_seed, seed_after, w
 use Rattle.nanorand.specs.support.WyRandDrawLemmas.{wyrand_steps, wyrand_closed}
 use Rattle.nanorand.proofs.lemmas.cycles.PeriodLemmas.{periods_are_multiples}
 
--- the number of steps of a from s to t, modulo m, where b is the inverse of a
+-- the number of steps of size a from s to t, modulo m, where b is the inverse of a
 abbrev pub steps_between : ℕ → ℕ → ℕ → ℕ → ℕ
 steps_between m b s t = (t + (m - s)) % m * b % m
 
@@ -56,7 +56,7 @@ draws_between-seed_after s n fits = steps_between-steps (2 ^ 64) increment inver
 pub seed_after-draws_between : (s t : ℕ) → s < 2 ^ 64 → t < 2 ^ 64 → seed_after (draws_between s t) s ≡ t
 seed_after-draws_between s t s_fits t_fits = steps-steps_between (2 ^ 64) increment inverse turns s t refl s_fits t_fits
 
--- i draws and j draws lead from a seed to the same seed exactly if i and j agree modulo 2 ^ 64
+-- i draws and j draws lead from a seed to the same seed if and only if i and j agree modulo 2 ^ 64
 pub seed_after-agree : (s : ℕ) → s < 2 ^ 64 → AgreeModulo (2 ^ 64) seed_after s
 seed_after-agree s fits i j = (
   λ same. sym (draws_between-seed_after s i fits) ∙ ap (draws_between s) same ∙ draws_between-seed_after s j fits,
@@ -66,7 +66,7 @@ seed_after-agree s fits i j = (
     reduced : (n : ℕ) → seed_after n s ≡ seed_after (n % 2 ^ 64) s
     reduced n = omega arith
 
--- draws made one by one are the closed form, from a seed below 2 ^ 64
+-- from a seed below 2 ^ 64, draws made one by one lead to the closed form
 steps_closed : (n s : ℕ) → s < 2 ^ 64 → iterate next_seed n s ≡ seed_after n s
 steps_closed n s fits = wyrand_steps n s ∙ wyrand_closed n s fits
 
@@ -80,7 +80,7 @@ before_half = (before_zero + 2 ^ 63) % 2 ^ 64
 blocks_apart : wyrand_block before_half ≢ wyrand_block before_zero
 blocks_apart same = (cc)
 
--- a number of draws that is 2 ^ 63 modulo 2 ^ 64 is no period
+-- a number of draws that is 2 ^ 63 modulo 2 ^ 64 is not a period
 half_no_period : (s : ℕ) → s < 2 ^ 64 → (d : ℕ) → d % 2 ^ 64 ≡ 2 ^ 63 → ¬ (IsPeriod next_seed wyrand_block s d)
 half_no_period s fits d half period =
     let there = draws_between s before_zero in

@@ -1,4 +1,4 @@
--- One loop over a stream does what tasks do on its parts.
+-- A loop over a stream has the same results as tasks on its parts.
 use Rattle.std.proofs.Common.{◌≡◌, ℕ, zero, suc, ◌+◌, ◌*◌, ◌<◌, ◌≤◌, List, ◌∷◌, map, refl, sym, ◌∙◌, ap, arith}
 use Rattle.std.specs.Fn.{iterate}
 use Rattle.std.specs.List.{range_with_len}
@@ -12,7 +12,7 @@ module _ {G T : Type 0} (requests : Requests G) (task : ℕ → G → T × G) (d
   abbrev start : ℕ → G
   start i = part_at requests draws i g
 
-  -- task i leaves part i where the next part begins
+  -- task i, run on part i, leaves the stream where the next part begins
   abbrev Exact : ℕ → Type 0
   Exact i = (task i (start i)).1 ≡ after_draws requests draws (start i)
 

@@ -1,4 +1,4 @@
--- Different numbers give different seeds: what SplitMix64 does to a number can be undone.
+-- Different numbers give different seeds: the mixing of SplitMix64 can be undone.
 use Rattle.std.proofs.Common.{◌≡◌, ℕ, suc, ◌+◌, ◌-◌, ◌*◌, ◌/◌, ◌%◌, ◌^◌, ◌<◌, ◌≤◌, List, ◌++◌, take, length, [], ◌∷◌, refl, sym, ◌∙◌, ap, arith, lit<, bit_xor, w64}
 use Rattle.std.specs.Int.{to_le_bytes}
 use Rattle.std.specs.Int.Bits.{xor_assoc, xor_self, xor_zero_l, xor_zero_r}
@@ -13,7 +13,7 @@ use Rattle.nanorand.specs.generators.ChaCha.{initial_state, seeded_state}
 use Rattle.nanorand.specs.generators.SplitMix.{mixed, seed_from, split_mix_block, split_mix_next, xor_shifted_by}
 use Rattle.nanorand.proofs.lemmas.generators.SeedLemmas.{number_of_8}
 
--- shifted by s twice, a number is shifted by 2 s once
+-- x xor (x shifted by s), applied twice, is x xor (x shifted by 2 s)
 twice : (s x : ℕ) → xor_shifted_by s (xor_shifted_by s x) ≡ xor_shifted_by (s + s) x
 twice s x =
     let half : ℕ = x / 2 ^ s in
@@ -23,7 +23,7 @@ twice s x =
     ∙ xor_assoc x half (bit_xor half (half / 2 ^ s))
     ∙ ap (bit_xor x) (sym (xor_assoc half half (half / 2 ^ s)) ∙ ap (λ (z : ℕ). bit_xor z (half / 2 ^ s)) (xor_self half) ∙ xor_zero_l (half / 2 ^ s) ∙ quarter)
 
--- shifted past its bits, it is itself
+-- if the shift moves out all bits, x is unchanged
 past : (s x : ℕ) → x < 2 ^ s → xor_shifted_by s x ≡ x
 past s x fits = ap (bit_xor x) (div-eq_of_lt fits) ∙ xor_zero_r x
 
@@ -76,7 +76,7 @@ begins size n long =
 word_fits : (n : ℕ) → mixed (split_mix_next n) < 2 ^ 64
 word_fits n = mixed_fits (split_mix_next n) (omega arith)
 
--- the number of a word's bytes and of those that follow
+-- the number of the bytes of a word and of those that follow
 front : (a b c d e f g h : ℕ) (rest : List ℕ) → number_of (a ∷ b ∷ c ∷ d ∷ e ∷ f ∷ g ∷ h ∷ rest)
     ≡ number_of (a ∷ b ∷ c ∷ d ∷ e ∷ f ∷ g ∷ h ∷ []) + 2 ^ 64 * number_of rest
 front a b c d e f g h rest = omega arith
@@ -87,7 +87,7 @@ number-begins size n long =
     ∙ ap (λ (k : ℕ). k + 2 ^ 64 * number_of (seed_from (size - 8) (split_mix_next n)))
     (sym (number_of_8 (split_mix_block n) refl) ∙ from_le_bytes-to_le_bytes_8 (mixed (split_mix_next n)) (word_fits n))
 
--- so seeds with equal numbers are of equal words
+-- so seeds with equal numbers have equal words
 pub numbers-apart : (size m n : ℕ) → 8 ≤ size → m < 2 ^ 64 → n < 2 ^ 64 → number_of (seed_from size m) ≡ number_of (seed_from size n) → m ≡ n
 numbers-apart size m n long m_fits n_fits same =
     words-apart m n m_fits n_fits

@@ -1,4 +1,5 @@
--- Parts of a stream: where they begin, that they do not meet, and what tasks write that run on them.
+-- Parts of a stream: where they begin, that they do not overlap, and what is written by tasks that
+-- run on them.
 use Rattle.std.proofs.Common.{Result, Ok, Err, IsOk, IfOk, ◌≡◌, ℕ, zero, suc, ◌+◌, ◌*◌, ◌<◌, ◌≤◌, ◌/◌, ◌%◌, ◌⊎◌, inl, inr, List, [], ◌∷◌, ◌++◌, map, length, get_or, set, refl, sym, ◌∙◌, ap, arith, ⊎_elim}
 use Rattle.std.proofs.Common.{ext_get_or, get_or-set_other, get_or-set_same, length-set}
 use Rattle.std.proofs.lemmas.Bool.{cases_eq, false≢true}
@@ -19,21 +20,21 @@ place_below : (parts part end i j : ℕ) → parts * part ≤ end → i < parts 
 place_below parts part end i j fits one within =
     omega (arith, mul-le (i + 1) part parts part (omega arith) (omega arith))
 
--- equal indices are the same index of the same part
+-- equal indices of the stream are the same index in the same part
 same_place : (part i j k l : ℕ) → j < part → l < part → i * part + j ≡ k * part + l → (i ≡ k) × (j ≡ l)
 same_place part i j k l first second same = (
   sym (div-mul-add i part j first) ∙ ap (λ (n : ℕ). n / part) same ∙ div-mul-add k part l second,
   sym (mod-mul-add i part j first) ∙ ap (λ (n : ℕ). n % part) same ∙ mod-mul-add k part l second,
 )
 
--- where nothing comes twice, parts are apart
+-- if nothing occurs twice, parts do not overlap
 pub parts-apart : {S : Type 0} (period : ℕ) (seen : ℕ → S) → NothingTwice period seen → PartsAreApart period seen
 parts-apart period seen once parts draws i j k l fits one other first second same =
     let below : i * draws + j < period = place_below parts draws period i j fits one first in
     let over : k * draws + l < period = place_below parts draws period k l fits other second in
     same_place draws i j k l first second (once (i * draws + j) (k * draws + l) below over same)
 
--- a fact of every part there is, where there is one
+-- a fact about every part that exists holds if one exists
 pub of_the_part : {A E P : Type 0} (result : Result A E) → IsOk result → IfOk result (λ _. P) → P
 of_the_part (Ok part) ok fact = fact
 of_the_part (Err refusal) ok fact = absurd (false≢true ok)
@@ -59,7 +60,7 @@ module _ {G : Type 0} (requests : Requests G) where
   unfolding after_draws
   draws-add m n g = sym (iterate-add (after_word requests 64) m n g)
 
-  -- where a part ends the next one begins
+  -- the next part begins where a part ends
   pub next-part : (draws i : ℕ) (g : G) → after_draws requests draws (part_at requests draws i g) ≡ part_at requests draws (i + 1) g
   next-part draws i g =
       draws-add (i * draws) draws g
@@ -94,20 +95,20 @@ module _ {G : Type 0} (requests : Requests G) where
       joined-from draws 0 parts g
       ∙ ap (numbers requests (parts * draws)) (ap (λ (n : ℕ). after_draws requests n g) none ∙ draws-leave requests 0 g)
 
--- What tasks write that run by a schedule.
+-- What is written by tasks that run by a schedule.
 module _ {T : Type 0} (own : ℕ → T) where
   length-results : (schedule : List ℕ) (results : List T) → length (results_after own schedule results) ≡ length results
   length-results [] results = refl
   length-results (i ∷ schedule) results = length-results schedule (set results i (own i)) ∙ length-set results i (own i)
 
-  -- a result that is right, or whose task is to run, is so still after another task has run
+  -- a result that is right, or whose task will still run, remains so after another task has run
   other_runs : (i : ℕ) (schedule : List ℕ) (results : List T) (j : ℕ) (d : T) → (j ≡ i → ⊥)
       → Contains (i ∷ schedule) j ⊎ (get_or results j d ≡ own j) → Contains schedule j ⊎ (get_or (set results i (own i)) j d ≡ own j)
   other_runs i schedule results j d other (inl (zero, within, at)) = absurd (other (sym at))
   other_runs i schedule results j d other (inl (suc k, within, at)) = inl (k, omega arith, at)
   other_runs i schedule results j d other (inr right) = inr (get_or-set_other results i j (own i) d other ∙ right)
 
-  -- a result that was right stays so, and one whose task runs becomes right
+  -- a result that was right remains right, and one whose task runs becomes right
   result_right : (schedule : List ℕ) (results : List T) (j : ℕ) (d : T) → j < length results
       → Contains schedule j ⊎ (get_or results j d ≡ own j) → get_or (results_after own schedule results) j d ≡ own j
   result_right [] results j d below (inl (k, within, at)) = absurd (omega arith)

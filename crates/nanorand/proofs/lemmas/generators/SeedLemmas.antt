@@ -1,4 +1,4 @@
--- The number of a seed's bytes.
+-- The number of the bytes of a seed.
 use Rattle.std.proofs.Common.{◌≡◌, ℕ, suc, ◌+◌, ◌*◌, ◌<◌, List, length, drop, arith, ap, w64}
 use Rattle.std.proofs.Math.Seq.{drop-cons}
 use Rattle.std.proofs.lemmas.List.{drop_all}

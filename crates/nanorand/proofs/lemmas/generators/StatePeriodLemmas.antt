@@ -1,4 +1,4 @@
--- The states that draws leave come again after the generator's period, and not before.
+-- The states that draws leave repeat after the generator's period, and not before.
 use Rattle.std.proofs.Common.{◌≡◌, ℕ, zero, suc, ◌+◌, ◌-◌, ◌*◌, ◌%◌, ◌^◌, ◌<◌, ◌≤◌, List, [], length, ◌∙◌, ap, ap₂, sym, arith}
 use Rattle.std.proofs.Math.Nat.{add-mod_right, mod-eq_of_lt}
 use Rattle.nanorand_replay.specs.generators.Buffered.{Buffered, buffer_of}
@@ -19,17 +19,18 @@ use Rattle.nanorand.proofs.lemmas.cycles.WyRandLemmas as wyrand_lemmas
 use Rattle.nanorand.specs.support.OnwardLemmas.{draws-leave, stream_draws}
 use Rattle.nanorand.proofs.lemmas.generators.StreamLemmas.{bytes_agree, position_moves}
 
--- nothing comes twice if places that look equal agree modulo the period
+-- nothing occurs twice if indices with equal values agree modulo the period
 nothing-twice : {S : Type 0} (period : ℕ) (seen : ℕ → S) → ((m n : ℕ) → seen m ≡ seen n → m % period ≡ n % period) → NothingTwice period seen
 nothing-twice period seen agree m n low high same = sym (mod-eq_of_lt low) ∙ agree m n same ∙ mod-eq_of_lt high
 
--- everything comes again if later places that agree modulo the period look equal
+-- everything occurs again if, at later indices, those that agree modulo the period have equal
+-- values
 comes-again : {S : Type 0} (period start : ℕ) (seen : ℕ → S) → start < period
     → ((m n : ℕ) → start ≤ m → start ≤ n → m % period ≡ n % period → seen m ≡ seen n) → ComesAgain period seen
 comes-again period start seen soon agree =
     (start, soon, λ n from. agree (n + period) n (omega arith) from (add-mod_right n period))
 
--- of WyRand
+-- for WyRand
 module _ (seed : ℕ) (fits : seed < 2 ^ 64) where
   wyrand_seeds : (n : ℕ) → after_draws wyrand.wyrand_requests n seed ≡ wyrand.seed_after n seed
   wyrand_seeds n = draws-leave wyrand.wyrand_requests n seed ∙ wyrand_steps n seed ∙ wyrand_closed n seed fits
@@ -44,7 +45,8 @@ module _ (seed : ℕ) (fits : seed < 2 ^ 64) where
       comes-again (2 ^ 64) 0 (λ n. after_draws wyrand.wyrand_requests n seed) (omega arith)
       (λ m n _ _ agree. wyrand_seeds m ∙ (wyrand_lemmas.seed_after-agree seed fits m n).1 agree ∙ sym (wyrand_seeds n))
 
--- of Pcg64, whose seed decides what is drawn; `state` and `inc` are made from the first draw on
+-- for Pcg64, whose seed determines what is drawn; `state` and `inc` are computed from the first
+-- draw on
 module _ (g : pcg64.Generator) where
   pcg64_states : (n : ℕ) → after_draws pcg64.pcg64_requests n g ≡ pcg64.pcg64_after n g
   pcg64_states n = draws-leave pcg64.pcg64_requests n g ∙ pcg64_steps n g
@@ -72,7 +74,7 @@ module _ (g : pcg64.Generator) where
       comes-again (2 ^ 126) 1 (λ n. after_draws pcg64.pcg64_requests n g) (omega arith)
       (λ m n from also agree. pcg64_states m ∙ later m n from also agree ∙ sym (pcg64_states n))
 
--- of ChaCha
+-- for ChaCha
 module _ (R : ℕ) (x : List ℕ) (matrix : IsMatrix x) where
   chacha_states : (n : ℕ) → after_draws (chacha_requests R) n x ≡ chacha_after n x
   chacha_states n = draws-leave (chacha_requests R) n x ∙ chacha_steps n x
@@ -87,7 +89,7 @@ module _ (R : ℕ) (x : List ℕ) (matrix : IsMatrix x) where
       comes-again (2 ^ 64) 0 (λ n. after_draws (chacha_requests R) n x) (omega arith)
       (λ m n _ _ agree. chacha_states m ∙ (chacha_agree m n x matrix).1 agree ∙ sym (chacha_states n))
 
--- of a stream of ChaCha: what was buffered at first comes but once
+-- for a stream of ChaCha, where the bytes that were buffered at first do not occur again
 module _ (R : ℕ) (b : Buffered (List ℕ)) (matrix : IsMatrix b.inner) where
   pub stream_once : length b.rest < 512 → NothingTwice (2 ^ 67) (λ n. after_draws (stream_requests R) n b)
   stream_once below =

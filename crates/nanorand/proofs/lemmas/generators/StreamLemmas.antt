@@ -1,4 +1,4 @@
--- Streams of ChaCha: where a seek leads, and what two streams of the same bytes deliver.
+-- Streams of ChaCha: where a seek leads, and when two streams deliver the same bytes.
 use Rattle.std.proofs.Common.{◌≡◌, ℕ, ◌+◌, ◌-◌, ◌*◌, ◌/◌, ◌%◌, ◌^◌, ◌<◌, List, [], ◌++◌, length, length-append, drop, sum, sym, ap, ap₂, ◌∙◌, arith}
 use Rattle.std.proofs.lemmas.Grind.{div_ceil_times}
 use Rattle.std.proofs.lemmas.List.{drop_at}
@@ -43,7 +43,7 @@ module _ (x : List ℕ) (matrix : IsMatrix x) where
       ∙ after_add (chacha_group R) next_group 512 positive size start (q * 512) (n % 512)
       ∙ ap (buffered_after (chacha_group R) next_group 512 start) split
 
-  -- n bytes later and m bytes later are the same place if m and n agree modulo 2^70
+  -- n bytes later and m bytes later are the same position if m and n agree modulo 2^70
   pub bytes_agree : (R m n : ℕ) → m % 2 ^ 70 ≡ n % 2 ^ 70
       → buffered_after (chacha_group R) next_group 512 (buffer_of [] x) m ≡ buffered_after (chacha_group R) next_group 512 (buffer_of [] x) n
   bytes_agree R m n agree =
@@ -53,7 +53,7 @@ module _ (x : List ℕ) (matrix : IsMatrix x) where
       ∙ ap₂ (λ (q k : ℕ). buffered_after (chacha_group R) next_group 512 (buffer_of [] (with_counter x ((counter x + q * 8) % 2 ^ 64))) k) group left
       ∙ bytes_after R n
 
--- From an empty buffer, a request after one of m bytes takes what the generator has after m bytes.
+-- With an empty buffer, a request after one of m bytes takes what the generator has after m bytes.
 bytes_later : {G : Type 0} (block : G → List ℕ) (step : G → G) (output : ℕ) → 0 < output → ((g : G) → length (block g) ≡ output)
     → (g : G) (m n : ℕ)
     → buffered_taken block step output (buffered_after block step output (buffer_of [] g) m) n ≡ drop m (taken block step g (m + n))
@@ -63,7 +63,7 @@ bytes_later block step output positive size g m n =
     m (length-buffered_taken block step output positive size b m))
     ∙ ap (drop m) (sym (taken_add block step output positive size b m n) ∙ taken_fresh block step output positive size g (m + n))
 
--- a stream takes from its byte 64 * index on what one takes that begins at this block
+-- from byte 64 * index on, a stream takes the same bytes as a stream that begins at this block
 pub bytes_of_block : (R : ℕ) (x : List ℕ) (index n : ℕ)
     → buffered_taken (chacha_group R) next_group 512 (buffer_of [] (iterate next_state index x)) n
     ≡ buffered_taken (chacha_group R) next_group 512 (buffered_after (chacha_group R) next_group 512 (buffer_of [] x) (index * 64)) n
@@ -84,7 +84,7 @@ bytes_of_block R x index n =
     ∙ ap (drop (index * 64)) (sym (taken_chacha_groups R x (index * 64 + n)))
     ∙ sym (bytes_later (chacha_group R) next_group 512 some (length-chacha_group R) x (index * 64) n)
 
--- a request of n bytes moves the number of the next byte by n
+-- a request of n bytes adds n to the number of the next byte
 pub position_moves : (R : ℕ) (b : Buffered (List ℕ)) (n : ℕ) → IsMatrix b.inner → length b.rest < 512
     → stream_position (buffered_after (chacha_group R) next_group 512 b n) ≡ (stream_position b + n) % 2 ^ 70
 unfolding buffered_after
@@ -113,7 +113,7 @@ module _ (R : ℕ) (b : Buffered (List ℕ)) (n : ℕ) where
   pub nonce-kept : nonce_of (buffered_after (chacha_group R) next_group 512 b n).inner ≡ nonce_of b.inner
   nonce-kept = ap nonce_of inner_moves ∙ chacha_nonce (blocks_needed (chacha_group R) next_group 512 b n * 8) b.inner
 
--- in 2^70 bytes no state comes twice
+-- within 2^70 bytes no state occurs twice
 pub bytes-once : (R : ℕ) (b : Buffered (List ℕ)) → IsMatrix b.inner → length b.rest < 512
     → NothingTwice (2 ^ 70) (λ n. buffered_after (chacha_group R) next_group 512 b n)
 bytes-once R b matrix below m n low high same =
@@ -127,7 +127,8 @@ position_after R x n long matrix =
     position_moves R (buffer_of [] (with_counter x 0)) n matrix (omega arith)
     ∙ ap (λ (c : ℕ). ((c * 64 + 2 ^ 70 - 0) % 2 ^ 70 + n) % 2 ^ 70) zero_there ∙ omega arith
 
--- Two unbroken generators whose single requests take the same bytes deliver alike.
+-- If single requests take the same bytes from two unbroken generators, the two deliver the same
+-- bytes.
 module _ {G H : Type 0} (requests : Requests G) (others : Requests H) (unbroken : IsUnbroken requests) (also : IsUnbroken others)
     (g : G) (h : H) (long : (n : ℕ) → length (requests.bytes g n) ≡ n) (same : (n : ℕ) → requests.bytes g n ≡ others.bytes h n) where
   same_later : (m n : ℕ) → requests.bytes (requests.after g m) n ≡ others.bytes (others.after h m) n

@@ -1,14 +1,14 @@
-//! The rounds and the block.
+//! The rounds of ChaCha and its block function.
 ghost use Rattle.std.specs.Prelude.{◌≡◌, ◌%◌};
 ghost use Rattle.nanorand.specs.generators.ChaChaRounds.{rounds, block};
 
 use super::lanes::{matrix_of, mix, rows_of};
 use super::vectors::Vector;
 
-/// The matrix after the rounds alone, without the final addition of the input.
+/// Returns the matrix after `ROUNDS` rounds, without the final addition of the input.
 ///
-/// Precondition: `ROUNDS` is even. A double round is one round on the columns and then one on the
-/// diagonals.
+/// A double round is one round on the columns and then one on the diagonals. Precondition: `ROUNDS`
+/// is even.
 pub fn chacha_rounds<const ROUNDS: u8>(input: [u32; 16]) -> [u32; 16]
     requires { ROUNDS % 2 ≡ 0 }
     ensures { result ≡ rounds ROUNDS input }
@@ -16,9 +16,10 @@ pub fn chacha_rounds<const ROUNDS: u8>(input: [u32; 16]) -> [u32; 16]
     matrix_of(mix::<ROUNDS>(rows_of(&input)))
 }
 
-/// The block: the matrix after the rounds plus the input, word by word, modulo 2^32.
+/// Returns the block of a state: the matrix after the rounds plus the input, word by word, modulo
+/// 2^32.
 ///
-/// Precondition: `ROUNDS` is even. With 0 rounds the block is the input plus itself.
+/// With 0 rounds the block is the input plus itself. Precondition: `ROUNDS` is even.
 pub fn chacha_block<const ROUNDS: u8>(input: [u32; 16]) -> [u32; 16]
     requires { ROUNDS % 2 ≡ 0 }
     ensures { result ≡ block ROUNDS input }

@@ -1,4 +1,4 @@
-//! Eight blocks side by side.
+//! The blocks of eight consecutive counters, computed at once on vectors of eight lanes.
 ghost use Rattle.std.specs.Prelude.{◌≡◌, ℕ, ◌%◌, ◌<◌, ◌++◌, replicate, slice_index};
 ghost use Rattle.std.specs.Fn.{iterate};
 ghost use Rattle.nanorand.specs.generators.ChaChaRounds.{block};
@@ -11,7 +11,7 @@ use super::state::{counter, high, low};
 use super::wide::{EightLanes, joined, woven, woven_pairs};
 use std::simd::u32x8;
 
-// A row of four words, each in all lanes.
+// Four vectors, each with one word in all of its lanes.
 #[inline(always)]
 fn splat_row(lanes: EightLanes, a: u32, b: u32, c: u32, d: u32) -> Row<u32x8>
     ensures { result ≡ (replicate 8 a, replicate 8 b, replicate 8 c, replicate 8 d) }
@@ -24,7 +24,7 @@ fn splat_row(lanes: EightLanes, a: u32, b: u32, c: u32, d: u32) -> Row<u32x8>
     )
 }
 
-// A state and the seven after it. The counter may wrap within the eight.
+// The given state and the seven that follow it. The counter may wrap around within the eight.
 #[inline(always)]
 fn eight_states(lanes: EightLanes, x: &[u32; 16]) -> Matrices<u32x8>
     ensures { (j : ℕ) → j < 8 → lane j result ≡ chacha_after j x.now }
@@ -53,7 +53,7 @@ fn eight_states(lanes: EightLanes, x: &[u32; 16]) -> Matrices<u32x8>
     )
 }
 
-// Vector k of the result has the lanes k of the four vectors, and then their lanes 4 + k.
+// Vector k of the result holds lane k of each of the four vectors, and then lane 4 + k of each.
 #[inline(always)]
 fn woven_row(row: Row<u32x8>) -> Row<u32x8>
     ensures first { result.0
@@ -73,7 +73,7 @@ fn woven_row(row: Row<u32x8>) -> Row<u32x8>
     (first, second, third, fourth)
 }
 
-// The words of two vectors, one after the other.
+// The words of `a`, and then those of `b`.
 #[inline(always)]
 fn sixteen_of(a: u32x8, b: u32x8) -> [u32; 16]
     ensures { result ≡ lanes a ++ last_lanes a ++ lanes b ++ last_lanes b }
@@ -85,7 +85,8 @@ fn sixteen_of(a: u32x8, b: u32x8) -> [u32; 16]
     ]
 }
 
-// Of four vectors with a row of one matrix and then one of another: the two matrices.
+// Each of the four vectors holds a row of one matrix and then the same row of another. Returns the
+// two matrices.
 #[inline(always)]
 fn two_matrices(p: u32x8, q: u32x8, r: u32x8, s: u32x8) -> ([u32; 16], [u32; 16])
     ensures front { result.0 ≡ lanes p ++ lanes q ++ lanes r ++ lanes s }
@@ -117,7 +118,7 @@ fn eight_matrices(x: Matrices<u32x8>) -> (FourBlocks, FourBlocks)
     )
 }
 
-// The blocks of a state and of the seven after it.
+// Returns the block of the given state and those of the seven states that follow it.
 #[inline(always)]
 pub(crate) fn eight_blocks<const ROUNDS: u8>(
     lanes: EightLanes,

@@ -1,4 +1,4 @@
-//! Four blocks side by side.
+//! The blocks of four consecutive counters, computed at once on vectors of four lanes.
 ghost use Rattle.std.specs.Prelude.{◌≡◌, ℕ, ◌%◌, ◌<◌, [], slice_index, slice_index_or};
 ghost use Rattle.std.specs.Fn.{iterate};
 ghost use Rattle.nanorand.specs.generators.ChaChaRounds.{block};
@@ -12,7 +12,7 @@ use std::simd::u32x4;
 
 pub(crate) type FourBlocks = ([u32; 16], [u32; 16], [u32; 16], [u32; 16]);
 
-// A state and the three after it. The counter may wrap within the four.
+// The given state and the three that follow it. The counter may wrap around within the four.
 #[inline(always)]
 fn four_states(x: &[u32; 16]) -> Matrices<u32x4>
     ensures { (j : ℕ) → j < 4 → lane j result ≡ chacha_after j x.now }
@@ -49,7 +49,7 @@ fn four_states(x: &[u32; 16]) -> Matrices<u32x4>
     )
 }
 
-// Vector j of the result has lane j of each of the four vectors.
+// Vector j of the result holds lane j of each of the four vectors.
 #[inline(always)]
 fn transposed(row: Row<u32x4>) -> Rows
     ensures { (j : ℕ) → j < 4 → lanes (slice_index_or result j [])
@@ -85,7 +85,7 @@ fn matrices(x: Matrices<u32x4>) -> FourBlocks
     )
 }
 
-// The blocks of a state and of the three after it.
+// Returns the block of the given state and those of the three states that follow it.
 #[inline(always)]
 pub(crate) fn four_blocks<const ROUNDS: u8>(x: &[u32; 16]) -> FourBlocks
     requires { ROUNDS % 2 ≡ 0 }

@@ -4,7 +4,8 @@ ghost use Rattle.nanorand.specs.generators.ChaChaRounds.{quarter_round, on_colum
 ghost use Rattle.nanorand.specs.support.ChaChaInverse.{unquarter_round};
 ghost use Rattle.nanorand.specs.support.ChaChaLines.{with_line};
 
-/// The inverse of `chacha_rounds`: the only matrix that the rounds turn into `output`.
+/// Returns the matrix that the rounds turn into `output`. There is exactly one: this function is
+/// the inverse of `chacha_rounds`.
 ///
 /// Precondition: `ROUNDS` is even.
 pub fn chacha_unrounds<const ROUNDS: u8>(output: [u32; 16]) -> [u32; 16]
@@ -62,7 +63,7 @@ fn unmix_line(x: &mut [u32; 16], a: usize, b: usize, c: usize, d: usize)
     x[d] = s;
 }
 
-// The steps of the quarter round undone, the last one first.
+// Undoes the steps of the quarter round, the last one first.
 #[inline(always)]
 fn unquarter_round(a: u32, b: u32, c: u32, d: u32) -> (u32, u32, u32, u32)
     ensures { result ≡ unquarter_round (a, b, c, d) }

@@ -20,7 +20,7 @@ pub(crate) fn mix<const ROUNDS: u8>(rows: Rows) -> Rows
     mixed
 }
 
-// One lane is one column, so this does all four columns at once.
+// A lane is a column, so this mixes all four columns at once.
 #[inline(always)]
 fn mix_columns(rows: Rows) -> Rows
     ensures { matrix result ≡ on_columns quarter_round (matrix rows) }
@@ -30,7 +30,8 @@ fn mix_columns(rows: Rows) -> Rows
     [a, b, c, d]
 }
 
-// Rotates row r by r lanes, so that each diagonal becomes a column, and afterwards rotates it back.
+// Rotates row r by r lanes, which turns each diagonal into a column, and rotates it back after the
+// mixing.
 #[inline(always)]
 fn mix_diagonals(rows: Rows) -> Rows
     ensures { matrix result ≡ on_diagonals quarter_round (matrix rows) }
@@ -43,7 +44,7 @@ fn mix_diagonals(rows: Rows) -> Rows
     [a, b, c, d]
 }
 
-// The row rotated so that lane `n` comes first.
+// Returns the row rotated so that lane `n` comes first.
 #[inline(always)]
 fn from_lane(n: usize, row: u32x4) -> u32x4
     requires { n < 4 }

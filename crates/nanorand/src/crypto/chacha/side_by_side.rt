@@ -1,4 +1,5 @@
-//! Blocks side by side: sixteen vectors, one for each word, with one lane for each block.
+//! The rounds on several matrices at once: sixteen vectors, one for each word, with one lane for
+//! each matrix.
 ghost use Rattle.std.specs.Prelude.{◌≡◌, ℕ, ◌%◌, ◌<◌};
 ghost use Rattle.std.specs.Simd.Lanes.{zip2};
 ghost use Rattle.nanorand.specs.generators.ChaChaRounds.{add, quarter_round, on_columns, on_diagonals, rounds, block};
@@ -8,7 +9,7 @@ use super::vectors::Vector;
 
 pub(crate) type Row<V> = (V, V, V, V);
 
-// The vectors of the words, as four rows. Lane j of all vectors is matrix j.
+// The sixteen vectors, as four rows. Lane j of all vectors together is matrix j.
 pub(crate) type Matrices<V> = (Row<V>, Row<V>, Row<V>, Row<V>);
 
 #[inline(always)]
@@ -85,7 +86,7 @@ fn sum_row<V: Vector>(x: Row<V>, y: Row<V>) -> Row<V>
     (x.0.add(y.0), x.1.add(y.1), x.2.add(y.2), x.3.add(y.3))
 }
 
-// The blocks of the matrices.
+// Returns the block of each matrix.
 #[inline(always)]
 pub(crate) fn blocks_of<V: Vector, const ROUNDS: u8>(x: Matrices<V>) -> Matrices<V>
     requires { ROUNDS % 2 ≡ 0 }

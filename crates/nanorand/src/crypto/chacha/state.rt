@@ -1,13 +1,13 @@
-//! The initial state, and the counter in a state.
+//! The initial state of ChaCha, and the counter in a state.
 ghost use Rattle.std.specs.Prelude.{◌≡◌, ◌+◌, ◌/◌, ◌%◌, ◌^◌, ◌<◌, ◌≤◌, ◌↔◌, length, drop, IsTrue};
 ghost use Rattle.std.specs.Bool.{OnTrue, OnFalse};
 ghost use Rattle.std.specs.Int.{w32, from_le_bytes};
 ghost use Rattle.nanorand.specs.generators.ChaCha.{initial_state, counter, with_counter};
 
-/// The state of a key and a nonce, with the counter 0.
+/// Returns the state of a key and a nonce, with the counter 0.
 ///
-/// Words 0 to 3 are the ASCII text `expand 32-byte k`, words 4 to 11 the key, 12 and 13 the
-/// counter, 14 and 15 the nonce. Four bytes make a word, least byte first.
+/// Words 0 to 3 are the ASCII text `expand 32-byte k`, words 4 to 11 the key, words 12 and 13 the
+/// counter, and words 14 and 15 the nonce. Each word is four bytes, in little-endian order.
 pub fn chacha_init(key: [u8; 32], nonce: [u8; 8]) -> [u32; 16]
     ensures { result ≡ initial_state key nonce }
 {
@@ -39,8 +39,8 @@ fn read_word(bytes: &[u8], at: usize) -> u32
     u32::from_le_bytes([bytes[at], bytes[at + 1], bytes[at + 2], bytes[at + 3]])
 }
 
-/// Adds 1 to the counter, whose low half is word 12 and whose high half is word 13, and returns
-/// true.
+/// Adds 1 to the counter and returns true. Word 12 is the low half of the counter, and word 13 the
+/// high half.
 ///
 /// At the greatest counter, 2^64 - 1, it returns false and changes nothing.
 #[inline]

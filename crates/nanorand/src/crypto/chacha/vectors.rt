@@ -1,21 +1,22 @@
-//! Vectors of 32-bit words, and those of four lanes.
+//! Vectors of 32-bit words: the operations that the rounds need, and their implementation on four
+//! lanes.
 ghost use Rattle.std.specs.Prelude.{◌≡◌, ℕ, ◌<◌, slice_index};
 ghost use Rattle.nanorand.specs.generators.ChaChaRounds.{add, xor_rotate};
 
 use std::simd::u32x4;
 
-// What the rounds ask of a vector, in the same way in each lane.
+// The operations of the rounds on a vector. Each applies to all lanes alike.
 pub(crate) trait Vector: Copy {
     ghost width: { ℕ };
 
     // The word in lane j.
     ghost lane: { ℕ → Self → ℕ };
 
-    // The sum, which wraps in each lane.
+    // Adds lane by lane, modulo 2^32.
     fn add(self, other: Self) -> Self
         ensures { (j : ℕ) → j < width → lane j result ≡ add (lane j self) (lane j other) };
 
-    // Each lane xor that of `other`, rotated left by `n` bits.
+    // Computes the xor of each lane with that of `other`, and rotates it left by `n` bits.
     fn xor_rotate(self, other: Self, n: u32) -> Self
         requires { (0 < n) × (n < 32) }
         ensures { (j : ℕ) → j < width

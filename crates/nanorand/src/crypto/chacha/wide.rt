@@ -5,12 +5,13 @@ ghost use Rattle.nanorand.specs.support.ChaChaRows.{lanes, last_lanes};
 use super::vectors::Vector;
 use std::simd::u32x8;
 
-// Leave to compute on eight lanes: who has it has vectors of eight lanes, made by its functions.
+// A token that allows computing on eight lanes. Its methods make vectors from words.
 #[derive(Clone, Copy, Drop)]
 pub(crate) struct EightLanes;
 
 impl EightLanes {
-    // Whether eight lanes are faster than four. Either answer gives the same blocks.
+    // Returns the token if eight lanes are faster than four. The blocks are the same in either
+    // case. Here it always returns `None`.
     #[inline]
     pub(crate) fn find() -> Option<EightLanes> {
         None
@@ -31,9 +32,9 @@ impl EightLanes {
     }
 }
 
-// What computes eight blocks side by side.
+// A generator that can compute eight blocks at once, on eight lanes.
 pub(crate) trait Wide {
-    // Fills with the next eight blocks.
+    // Writes the next eight blocks to the slice.
     fn fill_eight(&mut self, lanes: EightLanes, out: &mut [u8])
         requires { length out.old ≡ 512 };
 
@@ -58,7 +59,8 @@ impl Vector for u32x8 {
     }
 }
 
-// Words of two vectors by turns: those of the lanes 0, 1, 4 and 5, and those of the others.
+// Interleaves the words of two vectors: first the words of lanes 0, 1, 4 and 5, then the words of
+// the other lanes.
 #[inline(always)]
 pub(crate) fn woven(a: u32x8, b: u32x8) -> (u32x8, u32x8)
     ensures front { result.0
@@ -76,7 +78,7 @@ pub(crate) fn woven(a: u32x8, b: u32x8) -> (u32x8, u32x8)
     )
 }
 
-// The same with pairs of words for words.
+// Does the same with pairs of words in place of words.
 #[inline(always)]
 pub(crate) fn woven_pairs(a: u32x8, b: u32x8) -> (u32x8, u32x8)
     ensures front { result.0
@@ -94,7 +96,7 @@ pub(crate) fn woven_pairs(a: u32x8, b: u32x8) -> (u32x8, u32x8)
     )
 }
 
-// The first halves of two vectors, and their second halves.
+// Returns the first halves of both vectors, and then their second halves.
 #[inline(always)]
 pub(crate) fn joined(a: u32x8, b: u32x8) -> (u32x8, u32x8)
     ensures front { result.0 ≡ lanes a ++ lanes b }

@@ -49,7 +49,7 @@ module _ {G : Type 0} (word : G → ℕ) (after : G → G) (limit bits size : �
     pub state : now ≡ left_after word after limit bits size g
     pub exhausted : IfNone o (now ≡ iterate after limit g)
 
-  -- the invariant of the search: of i words none named a number, or the last one decided
+  -- the invariant of the search: none of i words named a number, or the last one decided
   abbrev pub Drawn : Option ℕ → ℕ → G → Type 0
   Drawn o i now = (i ≤ limit) × MatchOption o (Searching i now) (λ k. Ended (Some k) now)
 
@@ -122,7 +122,7 @@ module _ {G : Type 0} (word : G → ℕ) (after : G → G) (limit bits size : �
   pub first_word : (o : Option ℕ) (w : ℕ) → 0 < limit → w ≡ word g → named bits size w ≡ o → Drawn o 1 (after g)
   first_word o w some drawn is = drawn_next o 0 w g some start drawn is
 
-  -- another word is drawn if there is no number yet and fewer than `limit` words were drawn
+  -- another word is drawn if there is no number so far and fewer than `limit` words were drawn
   pub next_word : (o p : Option ℕ) (i w : ℕ) (now : G) (none : Bool) → Drawn o i now → is_some o ≡ not none → (none && nat_lt i limit) ≡ true
       → w ≡ word now → named bits size w ≡ p → Drawn p (i + 1) (after now)
   next_word None p i w now none d is test drawn named_is = drawn_next p i w now (ltb-true _ _ (and_parts _ _ test).1) d.1 drawn named_is

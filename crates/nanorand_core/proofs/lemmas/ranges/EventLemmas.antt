@@ -1,4 +1,4 @@
--- The words of an event: those that name a number which passes a test.
+-- The words of an event: those that name a number that passes a test.
 use Rattle.std.proofs.Common.{◌≡◌, ℕ, zero, suc, ◌+◌, ◌*◌, ◌^◌, ◌<◌, ◌&&◌, Bool, true, false, cond, List, Option, Some}
 use Rattle.std.proofs.Common.{None, nat_lt, nat_eq, refl, sym, ◌∙◌, ap, inl, inr, arith, zero-add}
 use Rattle.std.specs.List.{range_with_len, count_by}
@@ -53,7 +53,7 @@ module _ (names : ℕ → Option ℕ) (words : List ℕ) (share : ℕ) (p : ℕ 
             ∙ rest ∙ omega (arith, ap (λ (m : ℕ). m * share) grown)
       ]
 
--- what a word names is below the size
+-- a number that a word names is below the size
 passed : (p : ℕ → Bool) (size : ℕ) (answer : Option ℕ) → ((k : ℕ) → answer ≡ Some k → k < size) → passes p answer ≡ is_early p size answer
 passed p size (Some k) below = let low : k < size = below k refl in rw (lt-ltb k size low) refl
 passed p size None below = refl

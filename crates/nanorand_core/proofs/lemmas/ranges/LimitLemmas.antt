@@ -1,4 +1,4 @@
--- The limits of a ranged draw: its bounds and the number of its words.
+-- The limits of a draw from a range: its bounds and the number of its words.
 use Rattle.std.proofs.Common.{◌≡◌, ℕ, zero, suc, ◌+◌, ◌^◌, ◌<◌, ◌≤◌, ◌&&◌, Bool, true, List, Option, Some, None, Result}
 use Rattle.std.proofs.Common.{Ok, Err, length, map, filter, nat_eq, slice_get, slice_index, is_some, ok_or}
 use Rattle.std.proofs.Common.{option_and_then, refl, sym, ◌∙◌, ap, inl, inr, arith, subst}
@@ -19,7 +19,7 @@ use Rattle.nanorand_core.specs.declared.values.range.RangeError.TheVariants.{Emp
 use Rattle.nanorand_core.proofs.lemmas.ranges.DrawLemmas.{counted_words}
 use Rattle.nanorand_core.proofs.lemmas.ranges.RunLemmas.{Some-named}
 
--- an element of the numbers, or a refusal
+-- an element of the numbers, or an error
 module _ {T : Type 0} (numbers : List T) where
   element_within : (P : T → Type 0) → All P numbers → (k : ℕ) (element : Option T) → slice_get numbers k ≡ element → IfOk (ok_or element Exhausted) P
   element_within P all k (Some x) is = subst P (get_or_from_slice_get numbers k x x is) (all k x (slice_get_within numbers k x is))

@@ -1,5 +1,5 @@
--- A number that both bounds of a range admit stands in the range once, and every place of a list is given by
--- equally many words.
+-- A number that both bounds of a range admit occurs in the range once, and every index of a list is
+-- given by the same number of words.
 use Rattle.std.proofs.Common.{◌≡◌, ℕ, zero, suc, ◌+◌, ◌*◌, ◌^◌, ◌<◌, ◌≤◌, ◌&&◌, Bool, true, false, cond, List, [], ◌∷◌, Option}
 use Rattle.std.proofs.Common.{Some, None, length, map, filter, nat_eq, slice_get, option_and_then, refl, sym, ◌∙◌, ap, inl, inr, arith}
 use Rattle.std.specs.List.{count_by, range_with_len}
@@ -25,11 +25,11 @@ count_by-cons test y ys passed is = sum_by-cons (λ x. cond (test x) 1 0) y ys �
 
 -- `is_x` is the test for the number of rank x, and the filter keeps what passes `kept`
 module _ {T : Type 0} (number : ℕ → T) (x : ℕ) (is_x kept : T → Bool) (same : (j : ℕ) → is_x (number j) ≡ nat_eq j x) where
-  -- the number of another rank is not counted
+  -- the number of another rank does not count
   count-other : (a : ℕ) (ys : List T) → ((a ≡ x) → ⊥) → count_by is_x (number a ∷ ys) ≡ count_by is_x ys
   count-other a ys differ = count_by-cons is_x (number a) ys false (same a ∙ ne_eqb a x differ) ∙ omega arith
 
-  -- the numbers of later ranks are not it
+  -- the numbers of later ranks do not count
   count-later : (a n : ℕ) → x < a → count_by is_x (filter kept (map number (range_with_len a n))) ≡ 0
   count-later a zero late = refl
   count-later a (suc n) late =
@@ -39,7 +39,7 @@ module _ {T : Type 0} (number : ℕ → T) (x : ℕ) (is_x kept : T → Bool) (s
         | inr miss ↦ rw miss rest
       ]
 
-  -- it stands once among the kept numbers of the ranks around x
+  -- it occurs once among the kept numbers, if x is one of the ranks
   count-once : kept (number x) ≡ true → (a n : ℕ) → a ≤ x → x < a + n
       → count_by is_x (filter kept (map number (range_with_len a n))) ≡ 1
   count-once hit a zero low high = absurd (omega arith)
@@ -58,7 +58,7 @@ module _ {T : Type 0} (number : ℕ → T) (x : ℕ) (is_x kept : T → Bool) (s
             rw here (count_by-cons is_x (number a) others true (same a ∙ eq-eqb a x at) ∙ omega (arith, count-later (a + 1) n (omega arith)))
       ]
 
--- signed numbers are equal as their ranks are
+-- two signed numbers are equal if and only if their ranks are
 pub int_eq-signed : (bits j k : ℕ) → int_eq (signed_number bits j) (signed_number bits k) ≡ nat_eq j k
 int_eq-signed bits j k =
     elim (cases_eq j k) [
@@ -119,14 +119,14 @@ module _ {T : Type 0} (le lt : T → T → Bool) (bits : ℕ) (number : ℕ → 
 
   module _ (x : ℕ) (fits : x < 2 ^ bits) (admits : Admits le lt low high (number x))
       (is_x : T → Bool) (same : (j : ℕ) → is_x (number j) ≡ nat_eq j x) where
-    -- the number of rank x stands in the range once
+    -- the number of rank x occurs in the range once
     pub held_once : count_by is_x (range_within le lt bits number low high) ≡ 1
     unfolding range_within
     held_once =
         count-once number x is_x (λ y. is_above le lt low y && is_below le lt high y) same
         (and_from _ _ admits.0 admits.1) 0 (2 ^ bits) (omega arith) (omega arith)
 
-    -- so it has the words of one place
+    -- so it has the words of one index
     pub range_words : words_giving bits (range_within le lt bits number low high) is_x ≡ quota bits (length (range_within le lt bits number low high))
     range_words =
         let numbers = range_within le lt bits number low high in

@@ -9,7 +9,8 @@ use Rattle.nanorand_core.specs.values.Runs.{IsWordWidth, Names, named, is_in_run
 use mathlib.Core.Bool.{not}
 use Rattle.nanorand_core.proofs.lemmas.ranges.CeilingLemmas.{ceil_le, le_ceil, lt_ceil_add, ceil_add_lt}
 
--- word names k, in terms of the product word * s: of m words in all, t are rejected
+-- A word names k, stated by the product word * s. There are m words in all, and t of them are
+-- rejected.
 pub record HasPart (m s t word k : ℕ) : Type 0 where
   pub below : k < s
   pub from : k * m + t ≤ word * s
@@ -109,7 +110,7 @@ find-Some p a (suc n) k h =
           (omega (arith, found.0), found.1)
     ]
 
--- `named` gives k exactly if the word names k
+-- `named` gives k if and only if the word names k
 pub named-Some : (bits size word k : ℕ) → 0 < size → Names bits size word k → named bits size word ≡ Some k
 unfolding named
 named-Some bits size word k some h =
@@ -132,8 +133,8 @@ Some-named bits size word k h =
     let found = find-Some (is_in_run bits size word) 0 size k h in
     in_run-Names bits size word k (omega (arith, found.0)) found.1
 
--- the test by multiplication: the high part of the product is the number, and the low part accepts
--- or rejects
+-- the test by multiplication: the high half of the product is the number, and the low half decides
+-- whether the word is accepted
 pub picks : (bits size word : ℕ) → 0 < size → word < 2 ^ bits → rejected bits size ≤ word * size % 2 ^ bits
     → named bits size word ≡ Some (word * size / 2 ^ bits)
 picks bits size word some fits kept =
@@ -158,7 +159,7 @@ names-itself bits word fits =
     (Names-from_parts bits (2 ^ bits) word word (pow_pos bits)
     (record { below = fits; from = rw none (omega arith); to = omega (arith, pow_pos bits) }))
 
--- a size past 64 bits is the number of all words
+-- a size beyond 64 bits is the number of all words
 pub size-is_whole : (bits size : ℕ) → IsWordWidth bits → size ≤ 2 ^ bits → 18446744073709551615 < size → size ≡ 2 ^ bits
 size-is_whole bits size width within past =
     elim width [
@@ -168,7 +169,7 @@ size-is_whole bits size width within past =
       | inr (inr (inr is)) ↦ let low = rw is at within in rw is (omega arith)
     ]
 
--- taking `size` words away leaves the number of rejected words unchanged
+-- subtracting `size` from the number of words leaves the number of rejected words unchanged
 pub rejected-less : (bits size : ℕ) → size ≤ 2 ^ bits → (2 ^ bits - size) % size ≡ rejected bits size
 rejected-less bits size within =
     let split : 2 ^ bits - size + size ≡ 2 ^ bits = omega arith in
@@ -183,7 +184,7 @@ module _ (bits size word : ℕ) (some : 0 < size) where
   pub named-Names : MatchOption (named bits size word) ((k : ℕ) → Names bits size word k → ⊥) (λ k. Names bits size word k)
   named-Names = names_what (named bits size word) refl
 
--- what a product says of its word: rejected, or the number that the word names
+-- what a product says about its word: rejected, or the number that the word names
 abbrev pub judged : ℕ → ℕ → ℕ → Option ℕ
 judged bits size product = if nat_lt (product % 2 ^ bits) (rejected bits size) then None else Some (product / 2 ^ bits)
 
@@ -197,14 +198,16 @@ named-judged bits size word some fits =
 pub judged-low : (bits size product : ℕ) → nat_lt (product % 2 ^ bits) (rejected bits size) ≡ true → judged bits size product ≡ None
 judged-low bits size product low = rw low refl
 
--- a product whose low part is at least the size, of which fewer are rejected, is kept
+-- a word is accepted if the low half of its product is at least the size, since fewer words are
+-- rejected
 pub judged-high : (bits size product : ℕ) → 0 < size → nat_lt (product % 2 ^ bits) size ≡ false → judged bits size product ≡ Some (product / 2 ^ bits)
 judged-high bits size product some high =
     let fewer = mod_below (2 ^ bits) size some in
     let kept = le-ltb (product % 2 ^ bits) (rejected bits size) (omega (arith, fewer, ltb-false _ _ high)) in
     rw kept refl
 
--- so is one whose low part is at least a number that no fewer than all rejected words reach
+-- a word is accepted if the low half of its product is at least an upper bound of the number of
+-- rejected words
 pub judged-past : (bits size limit product : ℕ) → rejected bits size ≤ limit → nat_lt (product % 2 ^ bits) limit ≡ false
     → judged bits size product ≡ Some (product / 2 ^ bits)
 judged-past bits size limit product most high =

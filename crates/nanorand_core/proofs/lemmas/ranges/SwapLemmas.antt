@@ -90,7 +90,7 @@ module _ (bits size j k : ℕ) (some : 1 ≤ size) (fits : size ≤ 2 ^ bits) (j
         ]
       ]
 
-  -- a word of neither run names another number, or nothing
+  -- a word in neither run names another number, or none
   kept : (word : ℕ) → is_in_run bits size word j ≡ false → is_in_run bits size word k ≡ false
       → (o : Option ℕ) → named bits size word ≡ o → named bits size word ≡ option_map (swapped_number j k) (named bits size word)
   kept word not_j not_k None is = rw is refl

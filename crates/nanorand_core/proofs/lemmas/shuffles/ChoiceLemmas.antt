@@ -56,7 +56,7 @@ arranged-permutation i (j ∷ cs) items room h =
     (IsPermutation-swap items (swap items i j) i j (omega arith) head.1 refl)
     (arranged-permutation (i + 1) cs (swap items i j) (omega arith) tail)
 
--- swaps of later items leave the first ones
+-- swaps of later items do not move the first ones
 take-swap : {T : Type 0} (k i j : ℕ) (items : List T) → k ≤ i → k ≤ j → take k (swap items i j) ≡ take k items
 take-swap k i j [] before after = refl
 take-swap k i j (x ∷ xs) before after =

@@ -10,7 +10,7 @@ use Rattle.std.proofs.lemmas.List.Sorted.{IsPermutation-refl, IsPermutation-sym,
 use Rattle.std.proofs.lemmas.List.Sorted.{IsPermutation-cons, IsPermutation-middle, sum_by-IsPermutation}
 use Rattle.nanorand_core.specs.shuffles.Arrangements.{rising, IsArrangement, copies, HoldEquallyOften, HoldsEachOnce}
 
--- a permutation holds each number equally often
+-- a permutation holds each number the same number of times
 pub copies-permutation : (number : ℕ) (xs ys : List ℕ) → IsPermutation xs ys → copies number ys ≡ copies number xs
 copies-permutation number xs ys order = sum_by-IsPermutation (λ other. cond (other == number) 1 0) xs ys order
 
@@ -65,7 +65,7 @@ parted number (x ∷ xs) some =
           record { before = x ∷ rest.before; behind = rest.behind; is = ap (λ ys. x ∷ ys) rest.is }
     ]
 
--- a list that is no longer than another, and holds each number at least as often, is a permutation
+-- a list that is not longer than another, and holds each number at least as often, is a permutation
 -- of it
 covered : (xs ys : List ℕ) → length ys ≤ length xs → ((number : ℕ) → copies number xs ≤ copies number ys) → IsPermutation xs ys
 covered [] [] short more = IsPermutation-refl []

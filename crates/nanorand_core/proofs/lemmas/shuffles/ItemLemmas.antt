@@ -1,5 +1,5 @@
--- The items of a slice in memory, in two parts: the cells that hold their bits, and what the items own. Reading or
--- writing a cell leaves the other part as it is.
+-- The items of a slice in memory, in two parts: the cells that hold their bits, and what the items
+-- own. Reading or writing a cell does not change the other part.
 use Rattle.std.proofs.Common.{◌≡◌, ℕ, zero, suc, ◌+◌, ◌*◌, ◌<◌, List, [], ◌∷◌, length, map, get_or, set}
 use Rattle.std.proofs.Common.{ap, sym, refl, subst, ◌∙◌}
 use Rattle.std.specs.List.{swap}
@@ -149,7 +149,7 @@ module _ (E : El) where
             subst (Cell K (bits_of zs) i) (get_or-map (λ (z : Item). z.bits) zs i d d.bits il)
             (cell_at (bits_of zs) i d.bits (omega arith))
 
-        -- two items whose bits have changed places have changed places
+        -- if the bits of two items have changed places, the items have changed places
         pub swapped : (xs : List (el_x E)) (zs : List Item) (i j : ℕ) (d : Item)
             → values zs ≡ xs → i < length zs → j < length zs
             → ⟦ cells (set (set (bits_of zs) i (get_or zs j d).bits) j (get_or zs i d).bits) b o ⟧ ∗ ⟦ owned zs ⟧

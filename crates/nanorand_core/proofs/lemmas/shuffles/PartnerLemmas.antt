@@ -11,12 +11,12 @@ use Rattle.nanorand_core.specs.declared.values.range.RangeError.TheVariants.{Exh
 use Rattle.std.specs.declared.ops.Bound.TheVariants.{Included, Excluded}
 use Rattle.nanorand_core.proofs.lemmas.ranges.RangeLemmas.{range-places, value-number, value-exhausted, left-drawn}
 
--- The numbers from a to b - 1, without a walk through all numbers of 64 bits.
+-- The numbers from a to b - 1, without going through all numbers of 64 bits.
 pub numbers_between : (a b : ℕ) → a < b → b ≤ 2 ^ 64 → unsigned_range 64 (Included a) (Excluded b) ≡ map unsigned_number (range_with_len a (b - a))
 numbers_between a b some within =
     range-places nat_le nat_lt 64 unsigned_number (Included a) (Excluded b) a b (λ k. refl) (λ k in_type. refl) within some
 
--- the partner of index i, by a number drawn below the items that are left
+-- the partner of index i, from a number drawn below the count of the items left
 module _ {G : Type 0} (requests : Requests G) (n i : ℕ) (g : G) (low : i < n) (within : n ≤ 2 ^ 64) where
   pub partner-number : (k : ℕ) → k < n - i
       → Some k ≡ number_drawn (next_word requests 64) (after_word requests 64) word_limit 64 (n - i) g
@@ -37,7 +37,7 @@ module _ {G : Type 0} (requests : Requests G) (n i : ℕ) (g : G) (low : i < n) 
   partner-state h state =
       left-drawn _ _ _ _ _ _ (omega arith) _ (numbers_between i n low within) _ h state
 
--- what a shuffle makes: its result, its choices and the state that it leaves
+-- the outcome of a shuffle: its result, its choices and the state that it leaves
 pub record Makes {G : Type 0} (requests : Requests G) (first : ℕ → ℕ) (n : ℕ) (g : G)
     (answer : Result (Unit {0}) RangeError) (choices : List ℕ) (left : G) : Type 0 where
   pub answered : shuffle_answer requests first n g ≡ answer
@@ -52,8 +52,8 @@ module _ {G : Type 0} (requests : Requests G) (first : ℕ → ℕ) where
   partner_between n i g some within =
       ap (λ numbers. range_outcome requests 64 numbers g) (numbers_between (first i) n some within)
 
-  -- shuffles of no items, of three items by their partners, and of three whose first or second
-  -- partner is refused
+  -- shuffles of no items, of three items by their partners, and of three items where the draw of
+  -- the first or second partner returns an error
   pub none_to_shuffle : (g : G) → Makes requests first 0 g (Ok tt) [] g
   unfolding choices_from state_after_places
   none_to_shuffle g = record { answered = refl; chosen = refl; leaves = refl }

@@ -41,7 +41,7 @@ completed-size : (n : ℕ) (choices : List ℕ) → length choices ≤ n → len
 completed-size n choices room =
     omega (arith, length-append choices (range_with_len (length choices) (n - length choices)), length-range_with_len (length choices) (n - length choices))
 
--- one choice more replaces the first index after the choices
+-- one more choice replaces the first index after the choices
 pub completed-more : (n i j : ℕ) (choices : List ℕ) → length choices ≡ i → i < n
     → set (completed n choices) i j ≡ completed n (choices ++ j ∷ [])
 completed-more n i j choices is room =
@@ -78,7 +78,7 @@ module _ {G T : Type 0} (requests : Requests G) (items : List T) (g : G) where
       → choices ≡ completed (length items) (take 0 (shuffle_choices requests from_itself (length items) g))
   recorded-start choices is = is ∙ sym (completed-nothing (length items))
 
-  -- the recorded choices and the items, when no more are drawn
+  -- the recorded choices and the items, after the last draw
   pub record Recorded (list : List T) (choices : List ℕ) : Type 0 where
     pub is : choices ≡ completed (length items) (shuffle_choices requests from_itself (length items) g)
     pub valid : IsValid choices

@@ -1,4 +1,5 @@
--- The draws of a shuffle so far, and what they lead to. The partner of index i is drawn from `first i` on.
+-- The draws of a shuffle so far, and their result. The partner of index i is drawn from `first i`
+-- on.
 use Rattle.std.proofs.Common.{◌≡◌, ℕ, zero, suc, ◌+◌, ◌-◌, ◌*◌, ◌^◌, ◌<◌, ◌≤◌, List, Result, ◌∷◌, Ok, Err, length}
 use Rattle.std.proofs.Common.{get_or, take, drop, min, swap, nat_le, nat_lt, true, refl, sym, ◌∙◌, ap, arith, add-zero}
 use Rattle.std.proofs.Common.{add-one, IsPermutation}
@@ -35,14 +36,14 @@ module _ {G : Type 0} (requests : Requests G) (first : ℕ → ℕ) (n i : ℕ) 
   unfolding partner_drawn
   limits = keeps_limits (next_word requests 64) (after_word requests 64) nat_le nat_lt 64 unsigned_number (Included (first i)) (Excluded n) g
 
-  -- a partner is an index from `first i` on
+  -- a partner is `first i` or a later index
   partner-within : (j : ℕ) → (partner_drawn requests first n i g).0 ≡ Ok j → (nat_le (first i) j ≡ true) × (nat_lt j n ≡ true)
   partner-within j is = rw is at limits.within
 
   pub partner-below : (j : ℕ) → Ok j ≡ (partner_drawn requests first n i g).0 → j < n
   partner-below j is = ltb-true j n (partner-within j (sym is)).1
 
-  -- if there is an index to draw, a refusal is `Exhausted`
+  -- if there is an index to draw, the only error is `Exhausted`
   partner-refused : first i < n → n < 2 ^ 64 → (e : RangeError) → (partner_drawn requests first n i g).0 ≡ Err e → e ≡ Exhausted
   partner-refused low fits e is =
       rw is at (limits.some (first i) (omega arith) (le-leb (first i) (first i) (omega arith)) (lt-ltb (first i) n low))
@@ -60,7 +61,7 @@ choice-chosen i n (Err refusal) rest within h = record { each = λ k low. absurd
 choice-chosen i n (Ok j) rest within h =
     let at = within j refl in record { each = chosen-more i n j rest (leb-true i j at.0) (ltb-true j n at.1) h }
 
--- partners drawn from the index itself on are valid choices
+-- partners that are drawn from the index itself and the later ones are valid choices
 module _ {G : Type 0} (requests : Requests G) (n : ℕ) where
   pub choices-chosen : (left i : ℕ) (g : G) → Chosen i n (choices_from requests from_itself n i left g)
   unfolding choices_from
@@ -74,7 +75,7 @@ module _ {G : Type 0} (requests : Requests G) (n : ℕ) where
   pub choices-valid : (g : G) → length (shuffle_choices requests from_itself n g) ≡ n → IsValid (shuffle_choices requests from_itself n g)
   choices-valid g size = valid_from_chosen n (shuffle_choices requests from_itself n g) size (choices-chosen n 0 g)
 
--- one step more, and the words of several steps
+-- one more step, and the words of several steps
 module _ {G : Type 0} (requests : Requests G) (first : ℕ → ℕ) (n : ℕ) where
   state-more : (a count : ℕ) (h : G) → state_after_places requests first n a (suc count) h
       ≡ (partner_drawn requests first n (a + count) (state_after_places requests first n a count h)).1
@@ -170,7 +171,7 @@ module _ {G T : Type 0} {requests : Requests G} {first : ℕ → ℕ} {steps : �
             (IsPermutation-swap list (swap list i j) i j (omega (arith, size, m.room)) (omega (arith, size)) refl);
       }
 
-  -- the choices end at a refusal
+  -- the choices end with an error
   module _ {e : RangeError} (low : i < steps) (drawn : Err e ≡ (partner_drawn requests first (length items) i now).0) where
     pub count-refused : length (partial_choices requests first (length items) steps g) ≡ i
     count-refused =

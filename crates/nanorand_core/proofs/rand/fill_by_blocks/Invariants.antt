@@ -2,7 +2,7 @@ use Rattle.std.proofs.Common.{length, ◌-◌, ◌≡◌, ◌≤◌, ◌++◌, t
 use Rattle.nanorand_core.specs.generators.Blocks.{taken, plain_after}
 use Rattle.nanorand_core.proofs.rand.fill_by_blocks.Given as goal
 
--- the bytes so far and those of a request for the rest are those of the whole request
+-- the bytes so far, followed by those of a request for the rest, are those of the whole request
 abbrev pub invariant-loop-filled : goal.invariant-loop-filled
 invariant-loop-filled g l =
     let block = g.G.Blocks.block in

@@ -3,7 +3,7 @@ use Rattle.std.specs.Int.Count.{count_leading_zeros}
 use Rattle.std.proofs.lemmas.Nat.{leading_top, pow-add, shl-shr}
 use Rattle.nanorand_core.proofs.samples.chains_in.Goals as goal
 
--- the highest bit of a number that is not 0, and nothing but it
+-- the highest bit of a number that is not 0, and no other bit
 highest : (room : ℕ) → 0 < room → room < 2 ^ 64
     → (k : ℕ) × (2 ^ 63 / 2 ^ count_leading_zeros 64 room ≡ 2 ^ k) × (2 ^ k ≤ room) × (room < 2 * 2 ^ k)
 highest room some fits =

@@ -4,7 +4,7 @@ use Rattle.nanorand_core.specs.samples.Samples.{DifferentBelow, extended, sample
 use Rattle.nanorand_core.specs.support.Chains.{Chained}
 use Rattle.nanorand_core.proofs.samples.extend_sample.Given as goal
 
--- the slots so far hold the sample so far, the others are as before
+-- the slots so far hold the sample so far, and the others are unchanged
 abbrev pub invariant-loop-slot : goal.invariant-loop-slot
 invariant-loop-slot g l =
     let requests = g.G.Rng.requests in

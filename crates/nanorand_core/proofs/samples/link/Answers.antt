@@ -3,7 +3,7 @@ use Rattle.std.proofs.lemmas.Bool.Decides.{eqb_tells}
 use Rattle.nanorand_core.specs.support.Chains.{chain_of}
 use Rattle.nanorand_core.proofs.samples.link.Goals as goal
 
--- the place is the last of its own chain, and of no other
+-- the place is the last of its own chain, and belongs to no other chain
 pub returns-then-chains-gt0-clause-chained : goal.returns-then-chains-gt0-clause-chained
 returns-then-chains-gt0-clause-chained c =
     let own = chain_of c.args.chains (get_or c.args.places.now c.args.slot 0) in (

@@ -2,7 +2,7 @@ use Rattle.std.proofs.Common.{◌≡◌, ◌+◌, ◌≤◌, ℕ, List, length}
 use Rattle.nanorand_core.proofs.lemmas.ReservoirLemmas.{Holds}
 use Rattle.nanorand_core.proofs.samples.reservoir.Given as goal
 
--- what the slots hold of the items so far
+-- what the slots hold after the items so far
 abbrev pub invariant-loop-item : goal.invariant-loop-item
 invariant-loop-item g l =
     (goal.iterator-loop-item g).can_next l.item-iterator

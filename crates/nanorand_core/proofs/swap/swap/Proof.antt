@@ -1,5 +1,6 @@
--- `swap` meets its contract, for items of every type: its code is followed step by step. The items' cells are read and
--- written at both indices, which may be equal. After that the items have changed places.
+-- `swap` meets its contract for items of every type: its code is followed step by step. The cells
+-- of the items are read and written at both indices, which may be equal. After that the items have
+-- changed places.
 use Rattle.std.proofs.Common.{◌≡◌, ℕ, ◌*◌, ◌^◌, ◌<◌, ◌≤◌, List, [], ◌∷◌, length, get_or, set}
 use Rattle.std.proofs.Common.{sym, refl, ap, ◌∙◌, subst, arith, w64}
 use Rattle.std.specs.List.{swap}
@@ -48,7 +49,7 @@ swap_spec 𝓤 𝓛 𝓜 𝓡 wired X L =
     let fn : Fn = inst_fn (args E) code.function in
     let 𝓣 = tables 𝓤 𝓛.H 𝓜 𝓡 𝓡.env in
     let ended = agreed.ended X in let clauses = agreed.clauses X 𝓛 𝓜.mem 𝓡.returns in
-    -- the slice is left of the parameters
+    -- the slice is what is left of the parameters
     let index = stay_dropped (plain (λ _. usize)) yes in
     let stayed : Stays ended.signature.params ended.kept =
     (stay_slice (0 ∷ []) tt (plain (λ _. R E)), (index, (index, tt))) in

@@ -47,7 +47,7 @@ deal-sizes k n bits within fits = λ j d low.
     let at = get_or-map-range_with_len (λ i. n - i) 0 k j j d early (omega arith) in
     (omega (arith, at), omega (arith, at))
 
--- the test of a list
+-- the test for equality with a list
 pub same_list : (xs ys : List ℕ) → (pointwise nat_eq xs ys ≡ true → xs ≡ ys) × (xs ≡ ys → pointwise nat_eq xs ys ≡ true)
 same_list xs ys = pointwise_decides (λ x y. (eqb-true x y, eq-eqb x y)) xs ys
 

@@ -1,4 +1,4 @@
--- If all orders of n items were made by equally many lists of choices, n! would divide n^n.
+-- If all orders of n items were made by the same number of lists of choices, n! would divide n^n.
 use Rattle.std.proofs.Common.{◌≡◌, ℕ, zero, suc, ◌+◌, ◌-◌, ◌*◌, ◌^◌, ◌≤◌, Bool, true, cond, nat_eq, List, [], ◌∷◌}
 use Rattle.std.proofs.Common.{length, replicate, swap, refl, sym, ◌∙◌, ap, subst, arith}
 use Rattle.std.specs.Cmp.Lexicographic.{pointwise}
@@ -38,7 +38,7 @@ numbers-choose zero i n (t ∷ ts) below = absurd below
 numbers-choose (suc k) i n [] below = absurd below
 numbers-choose (suc k) i n (t ∷ ts) below = (omega (arith, below.0), numbers-choose k (i + 1) n ts below.1)
 
--- how many lists of choices, and how many orders there are
+-- the number of lists of choices, and the number of orders
 all-choices : (k n : ℕ) → number_lists_that (replicate k n) (λ choices. true) ≡ n ^ k
 all-choices zero n = sym (pow-zero n)
 all-choices (suc k) n =
@@ -60,7 +60,7 @@ same-turned (x ∷ xs) [] = refl
 same-turned (x ∷ xs) (y ∷ ys) = rw (same_number x y, same-turned xs ys) refl
 
 module _ (n : ℕ) where
-  -- lists of n items that choices make are orders
+  -- every list that choices make from n items is an order
   made-order : (choices : List ℕ) → AreBelow choices (replicate n n)
       → (length (arranged choices (rising n)) ≡ n) × IsPermutation (rising n) (arranged choices (rising n))
   made-order choices below =
@@ -70,7 +70,7 @@ module _ (n : ℕ) where
   is-order : (order : List ℕ) → length order ≡ n → IsPermutation (rising n) order → IsArrangement order
   is-order order size moved = rw size moved
 
-  -- one list of a shuffle's numbers makes the order that choices make
+  -- exactly one list of a shuffle's numbers makes the order that choices make
   made-once : (choices : List ℕ) → AreBelow choices (replicate n n)
       → sum_over_numbers (deal_sizes n n) (λ numbers. cond (pointwise nat_eq (dealt n n numbers) (arranged choices (rising n))) 1 0) ≡ 1
   made-once choices below =

@@ -18,12 +18,12 @@ module _ (width : IsWordWidth 64) (swaps : NoListOfNumbersIsPreferred)
   below : (words : List ℕ) → length (numbers_in_turn 64 (deal_sizes k n) words) ≡ k → AreBelow (numbers_in_turn 64 (deal_sizes k n) words) (deal_sizes k n)
   below words many = drawn-below 64 named-below (deal_sizes k n) words (deal-sizes k n 64 within fits) (many ∙ sym (deal-count k n))
 
-  -- what words deal, by the one list of numbers that deals it
+  -- the deal of a list of words, in terms of the one list of numbers that deals it
   module _ (deal : List ℕ) (found : Finds k 0 n (rising n) deal) (words : List ℕ) where
     numbers-dealt : Deals k n deal (numbers_in_turn 64 (deal_sizes k n) words) → numbers_in_turn 64 (deal_sizes k n) words ≡ found.0
     numbers-dealt dealt-by = (found.2 (numbers_in_turn 64 (deal_sizes k n) words) (below words dealt-by.drawn)).0 dealt-by.is
 
-  -- the one list of numbers deals the deal
+  -- that one list of numbers deals the deal
   deals-it : (deal : List ℕ) (found : Finds k 0 n (rising n) deal) (numbers : List ℕ) → numbers ≡ found.0 → Deals k n deal numbers
   deals-it deal found numbers is = record {
     drawn = ap length is ∙ sym (AllZip-long (λ number size. number < size) found.0 (deal_sizes k n) found.1) ∙ deal-count k n;

@@ -7,7 +7,7 @@ use Rattle.std.proofs.lemmas.List.Edits.{length-swap, swapped_from_swap}
 use Rattle.nanorand_fairness.proofs.lemmas.deals.OneList.{head, tail}
 use Rattle.nanorand_fairness.proofs.lemmas.deals.StepLemmas.{AreBelow, sizes_from, after_steps, steps-keep}
 
--- No item comes twice.
+-- No item occurs twice.
 abbrev pub AreDifferent : List ℕ → Type 0
 AreDifferent items =
     (j k : ℕ) → j < length items → k < length items → get_or items j 0 ≡ get_or items k 0 → j ≡ k
@@ -23,7 +23,7 @@ module _ (items : List ℕ) (i p : ℕ) (low : i < length items) (high : p < len
       × ((m : ℕ) → (m ≡ i → ⊥) → (m ≡ p → ⊥) → get_or (swap items i p) m 0 ≡ get_or items m 0)
   swapped = swapped_from_swap items (swap items i p) i p 0 low high refl
 
-  -- where an item was
+  -- where an item was before the swap
   was : (j : ℕ) → (q : ℕ) × (get_or (swap items i p) j 0 ≡ get_or items q 0)
       × (((j ≡ i) × (q ≡ p)) ⊎ ((j ≡ p) × (q ≡ i)) ⊎ ((j ≢ i) × (j ≢ p) × (q ≡ j)))
   was j =

@@ -1,4 +1,4 @@
--- Why n! does not divide n^n, and the sizes of draws from all indices.
+-- The proof that n! does not divide n^n, and the sizes of draws from all indices.
 use Rattle.std.proofs.Common.{◌≡◌, ◌≢◌, ℕ, zero, suc, ◌+◌, ◌*◌, ◌%◌, ◌^◌, ◌<◌, ◌≤◌, replicate, sym, ◌∙◌, ap, arith}
 use Rattle.std.proofs.Math.Nat.{pow-zero, pow-suc, mul-mod_left}
 use Rattle.std.proofs.lemmas.Nat.{mod-mul-add}
@@ -14,7 +14,7 @@ power-of-next p (suc k) =
     let more = ap (λ (u : ℕ). u * suc p) rest.1 in
     (suc p * rest.0 + 1, pow-suc (suc p) k ∙ more ∙ omega arith)
 
--- n - 1 divides n!, and so not n^n
+-- n - 1 divides n!, but not n^n
 pub no-multiple : (n m : ℕ) → 3 ≤ n → n ^ n ≢ m * factorial n
 no-multiple zero m many same = absurd (omega arith)
 no-multiple (suc zero) m many same = absurd (omega arith)

@@ -1,4 +1,4 @@
--- A test that one list of numbers passes.
+-- A test that exactly one list of numbers passes.
 use Rattle.std.proofs.Common.{◌≡◌, ◌≢◌, ℕ, Bool, true, false, cond, nat_eq, List, [], ◌∷◌, refl, sym, ◌∙◌, ap, inl, inr, arith}
 use Rattle.std.proofs.lemmas.Bool.{cases_eq, eq-eqb, ne_eqb}
 use Rattle.nanorand_fairness.specs.InTurn.{number_lists_that}

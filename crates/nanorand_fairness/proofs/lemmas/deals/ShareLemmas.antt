@@ -1,4 +1,4 @@
--- Each index has the same share of the lists of numbers that draw a deal.
+-- Of the lists of numbers that draw a deal, each index is dealt by the same share.
 use Rattle.std.proofs.Common.{◌≡◌, ◌≢◌, ℕ, zero, suc, ◌+◌, ◌-◌, ◌*◌, ◌<◌, ◌≤◌, ◌||◌, Bool, true, nat_eq, List, ◌∷◌}
 use Rattle.std.proofs.Common.{length, get_or, take, drop, swap, refl, sym, ◌∙◌, ap, arith}
 use Rattle.std.specs.List.{list_any}
@@ -14,11 +14,11 @@ use Rattle.nanorand_fairness.proofs.lemmas.deals.FoundLemmas.{AreDifferent, swap
 use Rattle.nanorand_fairness.proofs.lemmas.deals.DealLists.{numbers-same}
 use Rattle.nanorand_fairness.proofs.lemmas.deals.DealLemmas.{rising-different}
 
--- the lists of numbers of k steps from index i on
+-- the number of lists of numbers of k steps from index i on
 abbrev all_from : ℕ → ℕ → ℕ → ℕ
 all_from i k n = number_lists_that (sizes_from i k n) (λ numbers. true)
 
--- they are as many as there are deals of what is left
+-- it is the number of deals of the items left
 all-deals : (i k n : ℕ) → all_from i k n ≡ deals_of k (n - i)
 all-deals i zero n = refl
 all-deals i (suc k) n =
@@ -29,19 +29,19 @@ all-deals i (suc k) n =
 pub whole-deals : (k n : ℕ) → number_lists_that (deal_sizes k n) (λ numbers. true) ≡ deals_of k n
 whole-deals k n = all-deals 0 k n ∙ ap (deals_of k) (omega arith)
 
--- those of them that deal one item
+-- the number of those that deal one item
 abbrev share_from : ℕ → ℕ → ℕ → ℕ
 share_from i zero n = 0
 share_from i (suc k) n = suc k * all_from (i + 1) k n
 
--- the share is k of the n - i items that are left
+-- the share is k of the n - i items left
 share-whole : (i k n : ℕ) → (n - i) * share_from i k n ≡ k * all_from i k n
 share-whole i zero n = omega arith
 share-whole i (suc k) n =
     let all = ap (λ (m : ℕ). suc k * m) (sum-constant (all_from (i + 1) k n) 0 (n - i)) in
     omega (arith, all)
 
--- one number deals the item at once, each of the others leaves it to the later steps
+-- one number deals the item at once; each of the others leaves it to the later steps
 share-step : (i k n : ℕ) → i + suc k ≤ n
     → all_from (i + 1) k n + (n - i) * share_from (i + 1) k n ≡ share_from i (suc k) n + share_from (i + 1) k n
 share-step i k n room =
@@ -64,7 +64,7 @@ module _ (k i n item t : ℕ) (items ts : List ℕ) (size : length items ≡ n) 
   dealt-later : get_or items (i + t) 0 ≢ item → deals_item i (suc k) item items (t ∷ ts) ≡ deals_item (i + 1) k item (swap items i (i + t)) ts
   dealt-later other = by-first ∙ rw (ne_eqb (get_or items (i + t) 0) item other) refl
 
--- the item at any index q from i on
+-- the item at any index q, i or later
 item-share : (k i n item q : ℕ) (items : List ℕ) → length items ≡ n → i + k ≤ n → AreDifferent items → i ≤ q → q < n → get_or items q 0 ≡ item
     → number_lists_that (sizes_from i k n) (deals_item i k item items) ≡ share_from i k n
 item-share zero i n item q items size room differ from to is = refl

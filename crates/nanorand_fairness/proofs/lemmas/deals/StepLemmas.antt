@@ -16,7 +16,7 @@ sizes_from i k n = map (λ j. n - j) (range_with_len i k)
 abbrev pub after_steps : ℕ → List ℕ → List ℕ → List ℕ
 after_steps i numbers items = arranged_from i (choices_by i numbers) items
 
--- later steps keep the earlier items
+-- later steps do not move the earlier items
 pub steps-keep : (k i n : ℕ) (numbers items : List ℕ) → AreBelow numbers (sizes_from i k n) → length items ≡ n → i + k ≤ n
     → (length (after_steps i numbers items) ≡ n) × ((j : ℕ) → j < i → get_or (after_steps i numbers items) j 0 ≡ get_or items j 0)
 steps-keep zero i n [] items below size room = (size, λ j low. refl)

@@ -1,4 +1,4 @@
--- The outcome of a draw from a range: the number at the place that was drawn, or a refusal.
+-- The outcome of a draw from a range: the number at the drawn index, or an error.
 use Rattle.std.proofs.Common.{◌≡◌, ℕ, zero, suc, ◌+◌, ◌<◌, Bool, false, List, Option, Some, None, Ok, Err, nat_eq}
 use Rattle.std.proofs.Common.{length, find, slice_get, slice_index, option_and_then, ok_or, refl, ◌∙◌, ap, inl, inr}
 use Rattle.std.proofs.Common.{arith}
@@ -31,7 +31,7 @@ word-below : (bits size word k : ℕ) → named bits size word ≡ Some k → k 
 unfolding named
 word-below bits size word k is = omega (arith, find-below (is_in_run bits size word) 0 size k is)
 
--- the place of a draw from `size` numbers
+-- the index drawn among `size` numbers
 place-below : (bits size : ℕ) (words : List ℕ) (place : Option ℕ) (k : ℕ)
     → option_and_then (λ i. named bits size (slice_index words i)) place ≡ Some k → k < size
 place-below bits size words None k is = absurd cc
@@ -61,7 +61,7 @@ module _ {G : Type 0} (word : G → ℕ) (after : G → G) (bits first size : �
   unfolding left_by
   state_by = rw (not_empty, length-range_with_len first size) refl
 
--- the outcome over the numbers of a range is that of a draw of a place
+-- the outcome over the numbers of a range is that of a draw of an index
 pub outcome_by : {G : Type 0} (requests : Requests G) (bits first size : ℕ) (numbers : List ℕ) (g : G) → 0 < size → numbers ≡ range_with_len first size
     → let draw = drawn_below requests bits size g in
     range_outcome requests bits numbers g ≡ (by_word draw.number (λ k. Ok (first + k)) (Err Exhausted), draw.state)

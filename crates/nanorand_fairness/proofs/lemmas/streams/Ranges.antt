@@ -1,4 +1,4 @@
--- The numbers of an unsigned range, without a walk through all numbers of its type.
+-- The numbers of an unsigned range, without going through all numbers of its type.
 use Rattle.std.proofs.Common.{◌≡◌, ℕ, zero, suc, ◌+◌, ◌-◌, ◌^◌, ◌<◌, ◌≤◌, ◌&&◌, Bool, List, ◌∷◌, map, filter, max, min}
 use Rattle.std.proofs.Common.{nat_le, nat_lt, refl, ap, ◌∙◌, inl, inr, arith}
 use Rattle.std.specs.List.{range_with_len}

@@ -1,4 +1,4 @@
--- The items of a reservoir, by the numbers that its words draw in turn.
+-- The items of a reservoir, from the numbers that its words draw in turn.
 use Rattle.std.proofs.Common.{◌≡◌, ℕ, zero, suc, ◌+◌, ◌*◌, ◌^◌, ◌<◌, ◌≤◌, List, set, Option, Some, None, refl, arith}
 use Rattle.std.specs.List.{range_with_len}
 use Rattle.nanorand_core.specs.generators.Blocks.{Requests}

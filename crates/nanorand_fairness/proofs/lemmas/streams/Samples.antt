@@ -1,4 +1,4 @@
--- The numbers of a sample, by the numbers that its words draw in turn.
+-- The numbers of a sample, from the numbers that its words draw in turn.
 use Rattle.std.proofs.Common.{◌≡◌, ℕ, zero, suc, ◌+◌, ◌*◌, ◌^◌, ◌<◌, ◌≤◌, List, Option, Some, None, Ok, Err, refl, arith}
 use Rattle.std.specs.List.{range_with_len}
 use Rattle.nanorand_core.specs.generators.Blocks.{Requests}

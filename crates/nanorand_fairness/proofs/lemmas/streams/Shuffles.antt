@@ -1,4 +1,4 @@
--- The choices of a shuffle, by the numbers that its words draw in turn.
+-- The choices of a shuffle, from the numbers that its words draw in turn.
 use Rattle.std.proofs.Common.{◌≡◌, ℕ, zero, suc, ◌+◌, ◌-◌, ◌*◌, ◌^◌, ◌<◌, ◌≤◌, List, ◌∷◌, map, Option, Some, None, Ok, Err, refl, ap, arith}
 use Rattle.std.specs.List.{range_with_len}
 use Rattle.nanorand_core.specs.generators.Blocks.{Requests}

@@ -1,4 +1,4 @@
--- A bounded draw takes its number from the front of the words, and the next draw goes on from there.
+-- A draw takes its number from the front of the words, and the next draw continues after it.
 use Rattle.std.proofs.Common.{◌≡◌, ℕ, zero, suc, ◌+◌, ◌≤◌, List, [], ◌∷◌, Option, Some, None, option_map, refl, arith}
 use Rattle.std.specs.Fn.{iterate}
 use Rattle.std.specs.Option.{option_map_or}
@@ -8,7 +8,7 @@ use Rattle.nanorand_fairness.specs.InTurn.{by_word, numbers_from}
 use Rattle.nanorand_fairness.proofs.lemmas.DrawLists.{place-first, place-later, decided-first, decided-later}
 use Rattle.nanorand_fairness.proofs.lemmas.streams.Words.{words-next}
 
--- one word more: to the place counted from the second word, one is added
+-- one more word: an index counted from the second word is increased by one
 state_later : {G : Type 0} (after : G → G) (left : ℕ) (g : G) (o : Option ℕ)
     → iterate after (option_map_or (λ i. i + 1) (option_map (λ i. i + 1) o) (suc left)) g ≡ iterate after (option_map_or (λ i. i + 1) o left) (after g)
 state_later after left g None = refl
@@ -32,8 +32,8 @@ module _ {G : Type 0} (word : G → ℕ) (after : G → G) (bits size left : ℕ
       (state_later after left g (deciding_place bits size (words_from word after left (after g))))
 
 module _ {G : Type 0} (word : G → ℕ) (after : G → G) (bits size : ℕ) (sizes : List ℕ) (more : ℕ) where
-  -- the numbers drawn in turn from n words, by a first draw of at most `left` words; at least `more`
-  -- words are left to the later draws
+  -- the numbers drawn in turn from n words, by a first draw of at most `left` words; at least
+  -- `more` words are left for the later draws
   abbrev pub DrawsFirst : ℕ → ℕ → G → Type 0
   DrawsFirst left n g = (m : ℕ) × (more ≤ m) × (numbers_from bits (size ∷ sizes) left (words_from word after n g)
       ≡ by_word (number_drawn word after left bits size g)

@@ -2,8 +2,8 @@ use Rattle.std.proofs.Common.{◌≡◌, length, ◌++◌, take, drop}
 use Rattle.nanorand_replay.specs.replay.Replay.{replayed}
 use Rattle.nanorand_replay.proofs.replay.replay.Given as goal
 
--- the answers so far and those to the remaining calls are all answers, and the items and the state
--- at the end are the same
+-- the answers so far, followed by those to the remaining calls, are all answers, and the final
+-- items and state are the same
 abbrev pub invariant-loop-place : goal.invariant-loop-place
 invariant-loop-place g l =
     let left = replayed g.G.Rng.requests l.rng l.items (drop l.place l.calls) in

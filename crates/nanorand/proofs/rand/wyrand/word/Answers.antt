@@ -12,7 +12,7 @@ product_below seed fits = mul-lt seed _ (2 ^ 64) (2 ^ 64) fits (xor_lt 64 _ _ fi
 pub overflow_mul-product : goal.overflow_mul-product
 overflow_mul-product c = record { fits = rw (c.from.ensures, c.from-2.ensures) (product_below c.args.seed c.ranges.seed.fits) }
 
--- less than that, divided by 2 ^ 64, is a word
+-- such a product, divided by 2 ^ 64, is a word
 pub overflow_cast-result : goal.overflow_cast-result
 overflow_cast-result c = record { fits = rw (c.from.ensures, c.from-2.ensures) (omega (arith, product_below c.args.seed c.ranges.seed.fits)) }
 

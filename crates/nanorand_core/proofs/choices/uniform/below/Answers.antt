@@ -12,7 +12,7 @@ use Rattle.nanorand_core.proofs.lemmas.ranges.RangeLemmas.{range-places, range-c
 use Rattle.nanorand_core.proofs.lemmas.ranges.RunLemmas.{power-divides}
 use Rattle.nanorand_core.proofs.choices.uniform.below.Goals as goal
 
--- a draw that is refused by neither name is not refused
+-- a result that is neither the error `Empty` nor the error `Exhausted` is `Ok`
 unrefused : {T : Type 0} (result : Result T RangeError) → IfErr result (λ refusal. refusal ≡ Empty)
     → IfErr result (λ refusal. refusal ≡ Exhausted) → IsOk result
 unrefused (Ok x) empty exhausted = refl
@@ -31,7 +31,7 @@ pub returns-clause-power : goal.returns-clause-power
 returns-clause-power g c k low is =
     returns-clause-divisor g c (2 ^ k) is (pow_pos k) (power-divides g.T.Number.BITS k (omega (arith, low)))
 
--- what both bounds admit is below the upper one
+-- a number that both bounds admit is below the upper one
 admitted-below : {T : Type 0} (le lt : T → T → Bool) (n : T) (result : Result T RangeError)
     → IfOk result (Admits le lt Unbounded (Excluded n)) → IfOk result (λ number. lt number n ≡ true)
 admitted-below le lt n (Ok number) admitted = admitted.1

@@ -3,7 +3,7 @@ use Rattle.std.specs.List.{sum}
 use Rattle.nanorand_core.specs.choices.Weighted.{item_at}
 use Rattle.nanorand_core.proofs.choices.weighted.item_at.Given as goal
 
--- what is left of the number after the weights so far
+-- the number minus the weights so far
 abbrev pub invariant-loop-i : goal.invariant-loop-i
 invariant-loop-i l = record {
   passed : sum (take l.i l.weights) + l.left ≡ l.number;

@@ -3,7 +3,8 @@ use Rattle.std.specs.Fn.{iterate}
 use Rattle.nanorand_core.specs.values.Values.{values_from}
 use Rattle.nanorand_core.proofs.rand.Rng.fill.Given as goal
 
--- the values so far and those still to be drawn are all values, and both leave the same state
+-- the values so far, followed by those still to be drawn, are all values, and the final state is
+-- the same
 abbrev pub invariant-loop-item : goal.invariant-loop-item
 invariant-loop-item g l =
     let after = g.T.RandomGen.state_after in

@@ -13,7 +13,8 @@ use Rattle.nanorand_core.proofs.rand.Rng.shuffle.Given as Given
 use Rattle.nanorand_core.proofs.rand.Rng.shuffle.Goals as goal
 use Rattle.nanorand_core.proofs.rand.Rng.shuffle.Goals.{then-is_none+else-others-test, else-is_none}
 
--- After the draw: the steps so far led to a state from which the draw gave this and left this state.
+-- After the draw: the steps so far led to a state, and from it the draw gave this result and left
+-- this state.
 abbrev Over : (g : Given.Over) → List g.row.T.Denot → g.row.Self.Denot → ℕ → List g.row.T.Denot → Option ℕ → g.row.Self.Denot → Type 0
 Over g all from place target ahead now = record {
   start : g.row.Self.Denot;
@@ -48,7 +49,7 @@ others-preserved g c =
           word (sym c.pick_counted-ahead.ensures));
     }
 
--- The draw after which no number was found.
+-- The draw that found no number.
 none_over : (g : Given.Over) (c : goal.In-None g)
     → Over g c.args.target.now c.args.self.now c.loop-place.place c.loop-place.target c.if-is_none.ahead c.if-is_none.self
 none_over g c =

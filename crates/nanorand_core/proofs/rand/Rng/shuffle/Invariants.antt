@@ -5,7 +5,7 @@ use Rattle.nanorand_core.proofs.lemmas.ranges.DrawLemmas.{Drawn}
 use Rattle.nanorand_core.proofs.lemmas.shuffles.ShuffleLemmas.{Shuffling}
 use Rattle.nanorand_core.proofs.rand.Rng.shuffle.Given as goal
 
--- how many words the loop draws at most for one index
+-- the greatest number of words that the loop draws for one index
 abbrev pub limit : ℕ
 limit = word_limit
 

@@ -9,7 +9,7 @@ use Rattle.nanorand_core.proofs.values.word.draw_below.Invariants.{limit}
 use Rattle.nanorand_core.proofs.values.word.draw_below.Given as Given
 use Rattle.nanorand_core.proofs.values.word.draw_below.Goals as goal
 
--- of as many numbers as words, the first word names itself
+-- if there are as many numbers as words, the first word names itself
 whole : (g : Given.Over) (c : goal.Then-size-bits g) → named c.args.bits c.args.size c.draw_word-first.result ≡ Some c.draw_word-first.result
 whole g c =
     let width : c.args.bits < 128 = omega (arith, c.requires.width) in

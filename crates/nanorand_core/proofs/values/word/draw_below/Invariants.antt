@@ -4,7 +4,7 @@ use Rattle.nanorand_core.proofs.lemmas.ranges.RunLemmas.{judged}
 use Rattle.nanorand_core.proofs.lemmas.ranges.DrawLemmas.{Drawn}
 use Rattle.nanorand_core.proofs.values.word.draw_below.Given as goal
 
--- how many words the loop draws at most
+-- the greatest number of words that the loop draws
 abbrev pub limit : ℕ
 limit = word_limit
 

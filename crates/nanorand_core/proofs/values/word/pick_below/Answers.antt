@@ -6,7 +6,7 @@ use Rattle.nanorand_core.specs.values.Runs.{rejected}
 use Rattle.nanorand_core.proofs.values.word.pick_below.Goals as goal
 use Rattle.nanorand_core.proofs.values.word.pick_below.Goals.{then-low-size, else-low-size}
 
--- fewer than `size` words are rejected, so a low part of at least `size` is accepted
+-- fewer than `size` words are rejected, so a low half of `size` or more is accepted
 pub returns-then-low-rejected : goal.returns-then-low-rejected
 returns-then-low-rejected c =
     let fewer = mod_below (2 ^ c.args.bits) c.args.size c.requires.some in

@@ -12,7 +12,7 @@ rest_length block rest cursor output is told = rw (← is, length-drop, told) re
 some_rest : (block rest : List ℕ) (cursor output : ℕ) → drop cursor block ≡ rest → length block ≡ output → output - cursor ≢ 0 → rest ≢ []
 some_rest block rest cursor output is told some none = some (rest_length block rest cursor output is told ∙ ap length none)
 
--- Where there is room for them, it is not too small for them.
+-- If the vector has room for them, its capacity is not too small for them.
 no_room : (block : List ℕ) (cursor output len capacity : ℕ) → length block ≡ output
     → len + (output - cursor) ≤ capacity → capacity < len + length (take (length block - cursor) (drop cursor block))
     → ⊥

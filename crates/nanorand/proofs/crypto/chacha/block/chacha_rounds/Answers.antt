@@ -2,7 +2,7 @@ use Rattle.std.proofs.lemmas.Grind.{common_steps}
 use Rattle.std.proofs.Common.{arith}
 use Rattle.nanorand.proofs.crypto.chacha.block.chacha_rounds.Goals as goal
 
--- The number of rounds is the caller's, and even.
+-- The number of rounds is given by the caller, and even.
 pub mix-requires : goal.mix-requires
 mix-requires g c = c.requires
 

@@ -3,7 +3,7 @@ use Rattle.nanorand_core.specs.generators.Blocks.{taken, plain_after}
 use Rattle.nanorand.specs.generators.ChaCha.{chacha_block, next_state}
 use Rattle.nanorand.proofs.rand.chacha.ChaCha.fill_wide.Given as goal
 
--- the bytes so far and those of a request for the rest are those of the whole request
+-- the bytes so far, followed by those of a request for the rest, are those of the whole request
 abbrev pub invariant-groups : goal.invariant-groups
 invariant-groups g l =
     let block = chacha_block g.row.ROUNDS in

@@ -5,7 +5,7 @@ use Rattle.std.proofs.KnownBytes.{Consumes-trans}
 use Rattle.nanorand.specs.generators.Entropy.{TakesFewer}
 use Rattle.nanorand.proofs.rand.chacha.ChaCha.new.Goals as goal
 
--- what holds in any case holds on an error
+-- what holds in any case holds after an error
 on_err : {A E P : Type 0} (r : Result A E) → P → OnErr r P
 on_err (Ok a) p = tt
 on_err (Err e) p = p

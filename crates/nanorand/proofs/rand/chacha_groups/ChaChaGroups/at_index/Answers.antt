@@ -3,7 +3,7 @@ use Rattle.nanorand.specs.generators.ChaCha.{initial_state, state_at, key_of, no
 use Rattle.nanorand.specs.support.ChaChaDrawLemmas.{with_counter-twice}
 use Rattle.nanorand.proofs.rand.chacha_groups.ChaChaGroups.at_index.Goals as goal
 
--- a state that is made again from its parts, with another counter
+-- a state made again from its parts, with another counter
 made_again : (x : List ℕ) (index : ℕ) → state_at (key_of x) (nonce_of x) (counter x) ≡ x
     → state_at (key_of x) (nonce_of x) index ≡ with_counter x index
 unfolding state_at

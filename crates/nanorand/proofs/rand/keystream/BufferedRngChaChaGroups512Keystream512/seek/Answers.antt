@@ -6,7 +6,7 @@ use Rattle.nanorand.specs.generators.ChaChaGroups.{chacha_group, next_group, str
 use Rattle.nanorand.proofs.lemmas.generators.StreamLemmas.{bytes_agree, position_after}
 use Rattle.nanorand.proofs.rand.keystream.BufferedRngChaChaGroups512Keystream512.seek.Goals as goal
 
--- a state that is a matrix with another counter has both words of a counter
+-- if a state with its counter set is a matrix, the state has both words of the counter
 counter_there : (x : List ℕ) (n : ℕ) → IsMatrix (with_counter x n) → 13 < length x
 counter_there x n matrix =
     let same : length (with_counter x n) ≡ length x =
