@@ -39,7 +39,7 @@
 #error "nanorand needs a size_t of 64 bits"
 #endif
 
-/* The version of this header, 10000 * major + 100 * minor + patch. That of the library: nanorand_version(). */
+/* The version of this header: 10000 * major + 100 * minor + patch. nanorand_version() returns the library's. */
 #define NANORAND_VERSION 10000
 
 /* The statuses of ranges, shuffles, samples and parts. */
@@ -152,7 +152,7 @@
 #define nanorand_lots_draw nanorand_v1_lots_draw
 #define nanorand_version nanorand_v1_version
 
-/* For compilers: the numbers of the parameters that are never null; and a status must not be ignored. */
+/* For compilers: the numbers of the parameters that must not be null; a status that must not be ignored. */
 #ifdef __GNUC__
 #define NANORAND_NOT_NULL(numbers) __attribute__((nonnull numbers))
 #define NANORAND_USE_STATUS __attribute__((warn_unused_result))

@@ -1,5 +1,5 @@
 //! Property tests: a property is checked on many generated values. The first failing case must be
-//! found, identified by its number, and checked again alone.
+//! found, identified by its number, and checked again on its own.
 //!
 //! Cases are numbered from 0. Case n draws its value from a generator of its own, whose seed is
 //! word n (counted from 0) of the `WyRand` stream of the run's seed. A word is a random number of

@@ -127,7 +127,8 @@ ends_swapped = refl
 whole_record : completed 3 (2 ∷ 1 ∷ []) ≡ 2 ∷ 1 ∷ 2 ∷ []
 whole_record = refl
 
--- Four items, a word of ones and then zeros: the second partner fails after 128 rejected words.
+-- Four items, a word of ones and then zeros: the draw of the second partner fails after 128
+-- rejected words.
 first_of_four : partner_drawn (script (255 ∷ [])) from_itself 4 0 0 ≡ (Ok 3, 1)
 unfolding named words_from value_drawn left_by left_after taken
 first_of_four = partner_between (script (255 ∷ [])) from_itself 4 0 0 (omega arith) (omega arith) ∙ refl

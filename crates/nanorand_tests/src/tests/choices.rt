@@ -1,4 +1,4 @@
-//! `choose_mut`: which items are written, which no clause states. Also runs of the short calls.
+//! Which items `choose_mut` writes, which no clause states; and the short calls, as they run.
 
 use crate::comparing::{equal, equal_at};
 use nanorand::choices::{below, between, bits, choose, choose_mut};
