@@ -18,8 +18,9 @@ fn words_of(seed: &str) -> BufferedRng<ChaCha20, 64>
     BufferedRng::new(ChaCha20::new_key(Sha256::digest(seed), [0; 8]))
 }
 
-/// Draws `count` of the entrants with the seed. The first `count` items are then the entrants
-/// drawn, in the order in which they were drawn, and the others follow. Nothing is allocated.
+/// Draws `count` of the entrants, as the seed determines. The first `count` items are then the
+/// entrants drawn, in the order in which they were drawn, and the others follow. Nothing is
+/// allocated.
 ///
 /// Returns `TooFew` if and only if there are fewer entrants than `count`; nothing is moved then.
 /// Returns `Exhausted` if 128 words in a row were rejected for one place; the items are then a
@@ -55,9 +56,9 @@ fn number(places: &mut [usize])
     }
 }
 
-/// Draws `count` of the places 0, 1, .. with the seed. There are as many places as items. The first
-/// `count` items are then the places drawn, in the order in which they were drawn; the old items
-/// are ignored.
+/// Draws `count` of the places 0, 1, .., as the seed determines. There are as many places as items.
+/// The first `count` items are then the places drawn, in the order in which they were drawn; the
+/// old items are ignored.
 ///
 /// Returns the errors of `draw`. The items are then the places in some order, and not a selection.
 pub fn draw_places(seed: &str, places: &mut [usize], count: usize) -> Result<(), LotsError>

@@ -8,7 +8,7 @@ use nanorand::laws::{
 };
 use nanorand::{BufferedRng, ChaCha20};
 
-/// No list of places is preferred, and no place is.
+/// No list of places is preferred, and neither is any place.
 ///
 /// A draw of `count` of n places takes one word of 64 bits for each place, and one more for each
 /// rejected word. `lists`: each list of `count` different places is drawn by the same number of

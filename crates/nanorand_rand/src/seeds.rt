@@ -18,8 +18,8 @@ use nanorand::{
 use rand_core::{Seed, TryRng};
 use std::marker::Model;
 
-/// The seed of a ChaCha: 32 bytes of key and 8 bytes of nonce. The kit itself has only seeds of 8,
-/// 16, 32 and 64 bytes. There is no `Debug`, which would show the key.
+/// The seed of a ChaCha: 32 bytes of key followed by 8 bytes of nonce. The kit itself has only
+/// seeds of 8, 16, 32 and 64 bytes. There is no `Debug`, which would show the key.
 #[derive(Clone, Copy)]
 pub struct ChaChaSeed(pub [u8; 40]);
 
