@@ -35,13 +35,13 @@ STRUCTS = {"WyRand": "wyrand", "Wide": "pcg64", "ChaChaState": "chacha", "Stream
 
 # What a generator is, above its functions. The states are described at their structs.
 SECTIONS = {
-    "wyrand": "WyRand: 64 bits of state, the fastest. Not cryptographically secure.",
-    "pcg64": "Pcg64: a seed of 128 bits. Not cryptographically secure.",
-    "chacha8": "ChaCha with 8 rounds. Each call begins a new block, also for a number: fill many bytes at once.",
-    "chacha12": "ChaCha with 12 rounds. Each call begins a new block, also for a number: fill many bytes at once.",
-    "chacha20": "ChaCha with 20 rounds. Each call begins a new block, also for a number: for many, take keystream.",
-    "stream": "The keystream of ChaCha with 20 rounds, without a gap between calls.",
-    "keystream": "The same keystream, eight blocks at once: the one to take where speed counts.",
+    "wyrand": "WyRand: 64 bits of state, the fastest generator. Not cryptographically secure.",
+    "pcg64": "Pcg64: a 128-bit seed. Not cryptographically secure.",
+    "chacha8": "ChaCha with 8 rounds. Even a single number takes a new block: fill many bytes at once.",
+    "chacha12": "ChaCha with 12 rounds. Even a single number takes a new block: fill many bytes at once.",
+    "chacha20": "ChaCha with 20 rounds. Even a single number takes a new block: for many, use keystream.",
+    "stream": "The keystream of ChaCha with 20 rounds, without gaps between calls.",
+    "keystream": "The same keystream, computed eight blocks at once: use it if speed matters.",
     "lots": "The public draw by lot.",
     "version": "The version.",
 }
@@ -209,7 +209,7 @@ def shared_text(found: list[Function], shared: dict[str, str]) -> str:
     """One comment for all generators, a paragraph for each call."""
     names = ", ".join(GENERATORS[:-1])
     first = [f"`..` stands for the name of a generator: {names} or {GENERATORS[-1]}."]
-    first += [f"{name} has no {call}." for call in shared for name in lacking(found, call)]
+    first += [f"There is no nanorand_{name}_{call}." for call in shared for name in lacking(found, call)]
     calls = [f"nanorand_.._{call}: {comment}" for call, comment in shared.items()]
     return comment_of("\n".join([" ".join(first), *calls]))
 

@@ -1,5 +1,5 @@
-//! Draws that are never refused, since as many numbers as divide the count of the words are drawn
-//! from: of each width, and without a line of proof.
+//! Draws that never return an error, since the number of possible results divides the number of
+//! words: for words of each width, and without a line of proof.
 ghost use Rattle.std.specs.Prelude.{◌≡◌, ◌≤◌, ◌<◌, ◌^◌, ◌%◌, length, IsOk};
 
 use nanorand::choices::{below, between, choose, choose_mut, ratio};
