@@ -173,7 +173,7 @@ def comment_of(text: str) -> str:
     """A comment of C, filled to 100 columns; an empty line is between its paragraphs."""
     if len(text) <= 93 and "\n" not in text:
         return f"/* {text} */"
-    paragraphs = ["\n".join(f" * {line}" for line in textwrap.wrap(paragraph, 97))
+    paragraphs = ["\n".join(f" * {line}" for line in textwrap.wrap(paragraph, 97, break_on_hyphens=False))
                   for paragraph in text.splitlines()]
     return "/*\n" + "\n *\n".join(paragraphs) + "\n */"
 
@@ -188,7 +188,8 @@ def declaration(function: Function) -> str:
         return f"{start}\n{line}"
     # No line ends within a parameter.
     taken = function.parameters.replace(" ", "\0").replace(",\0", ", ") + ")"
-    lines = textwrap.fill(taken, 100, initial_indent="    ", subsequent_indent="    ").replace("\0", " ")
+    lines = textwrap.fill(taken, 100, initial_indent="    ", subsequent_indent="    ", break_on_hyphens=False)
+    lines = lines.replace("\0", " ")
     return f"{start}\n{lines}\n   {end}"
 
 
