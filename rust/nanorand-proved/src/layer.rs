@@ -6,21 +6,26 @@ mod borrowed;
 mod characters;
 mod debug;
 mod defaults;
+mod durations;
+mod dyn_calls;
 mod floats;
 mod hash;
 mod iterator;
 mod nonzero;
+mod panics;
 mod samples;
 mod seeds;
+mod streams;
 mod tuples;
 mod wide_numbers;
+mod wrappers;
 
 pub use any::{AnyRng, Lent};
 pub use iterator::GenerateIter;
+pub(crate) use panics::{refused, refused_for, refused_range};
 pub(crate) use samples::table;
 
 use crate::values::word::MAX_WORDS;
-use crate::values::RangeError;
 use core::ops::Bound;
 
 /// Makes an odd number of rounds a compile-time error.
@@ -59,12 +64,4 @@ fn first_accepted<G, T>(rng: &mut G, draw: impl Fn(&mut G) -> Option<T>) -> Opti
         drawn += 1;
     }
     accepted
-}
-
-// Panics with the text of the error.
-#[cold]
-#[inline(never)]
-#[track_caller]
-pub(crate) fn refused(error: RangeError) -> ! {
-    panic!("{error}")
 }

@@ -10,7 +10,7 @@ mod split_mix;
 pub mod wyrand;
 
 use crate::choices::WeightError;
-use crate::layer::{refused, GenerateIter, Lent};
+use crate::layer::{refused, refused_for, refused_range, GenerateIter, Lent};
 use crate::swap::swap;
 use crate::values::word::{draw_below, pick_below, pick_counted, rejected, MAX_WORDS};
 use crate::values::{RandomGen, RandomRange, RangeError};
@@ -60,7 +60,14 @@ pub use wyrand::WyRand;
 /// `fn f<R: Rng<OUTPUT>, const OUTPUT: usize>(rng: &mut R)`. `&mut R` is a generator too, so pass a
 /// generator by reference where one is expected. There is no `dyn Rng`, since the methods are
 /// generic; use `dyn` [`AnyRng`](crate::AnyRng) instead, which also does without `OUTPUT`.
-pub trait Rng<const OUTPUT: usize>: Sized {
+#[cfg_attr(
+    diagnostic_hints,
+    diagnostic::on_unimplemented(
+        message = "`{Self}` is not a generator with blocks of {OUTPUT} bytes",
+        note = "`R: Rng` alone is `R: Rng<8>`; `R: AnyRng` takes a generator with blocks of any size"
+    )
+)]
+pub trait Rng<const OUTPUT: usize = 8>: Sized {
     /// Draws the next block.
     fn rand(&mut self) -> [u8; OUTPUT];
 
@@ -161,9 +168,10 @@ pub trait Rng<const OUTPUT: usize>: Sized {
     #[inline(always)]
     #[track_caller]
     fn range<T: RandomRange<Self, OUTPUT> + Clone>(&mut self, range: impl RangeBounds<T>) -> T {
-        match self.generate_range(range) {
+        let (low, high) = (range.start_bound(), range.end_bound());
+        match T::random_range(self, low.cloned(), high.cloned()) {
             Ok(number) => number,
-            Err(error) => refused(error),
+            Err(error) => refused_range::<T, Self, OUTPUT>(error, low.cloned(), high.cloned()),
         }
     }
 

@@ -5,6 +5,7 @@ use super::mapped;
 use crate::rand::Rng;
 use crate::values::word::draw_below;
 use crate::values::{RandomGen, RandomRange, RangeError};
+use core::fmt::{self, Formatter};
 use core::ops::Bound;
 
 // The first surrogate, and the number of surrogates. A surrogate is not a character.
@@ -33,6 +34,10 @@ impl<G: Rng<OUTPUT>, const OUTPUT: usize> RandomRange<G, OUTPUT> for char {
             bound => bound,
         };
         u32::random_range(rng, mapped(low, rank_of), high).map(at_rank)
+    }
+
+    fn write_bound(&self, f: &mut Formatter<'_>) -> fmt::Result {
+        write!(f, "{self:?}")
     }
 }
 

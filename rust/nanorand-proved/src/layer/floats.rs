@@ -3,6 +3,7 @@
 use super::first_accepted;
 use crate::rand::Rng;
 use crate::values::{RandomGen, RandomRange, RangeError};
+use core::fmt::{self, Formatter};
 use core::ops::{Add, Bound, Div, Mul, Sub};
 
 /// Multiplies the top 24 bits of a 32-bit word by 2^-24: a multiple of 2^-24 in [0, 1), each
@@ -35,6 +36,10 @@ impl<G: Rng<OUTPUT>, const OUTPUT: usize> RandomRange<G, OUTPUT> for f32 {
     fn random_range(rng: &mut G, low: Bound<f32>, high: Bound<f32>) -> Result<f32, RangeError> {
         draw_between(rng, low, high)
     }
+
+    fn write_bound(&self, f: &mut Formatter<'_>) -> fmt::Result {
+        write!(f, "{self:?}")
+    }
 }
 
 /// Draws a number within both bounds from the top 53 bits of a 64-bit word, as [`RandomRange`]
@@ -43,6 +48,10 @@ impl<G: Rng<OUTPUT>, const OUTPUT: usize> RandomRange<G, OUTPUT> for f64 {
     #[inline(always)]
     fn random_range(rng: &mut G, low: Bound<f64>, high: Bound<f64>) -> Result<f64, RangeError> {
         draw_between(rng, low, high)
+    }
+
+    fn write_bound(&self, f: &mut Formatter<'_>) -> fmt::Result {
+        write!(f, "{self:?}")
     }
 }
 

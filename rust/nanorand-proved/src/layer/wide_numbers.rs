@@ -4,6 +4,7 @@
 use super::{first_accepted, mapped};
 use crate::rand::Rng;
 use crate::values::{RandomGen, RandomRange, RangeError};
+use core::fmt::{self, Formatter};
 use core::ops::Bound;
 
 /// Each number of the range is produced by the same number of words of 128 bits. The errors are
@@ -12,6 +13,10 @@ impl<G: Rng<OUTPUT>, const OUTPUT: usize> RandomRange<G, OUTPUT> for u128 {
     #[inline]
     fn random_range(rng: &mut G, low: Bound<u128>, high: Bound<u128>) -> Result<u128, RangeError> {
         draw_between(rng, low, high)
+    }
+
+    fn write_bound(&self, f: &mut Formatter<'_>) -> fmt::Result {
+        write!(f, "{self:?}")
     }
 }
 
@@ -22,6 +27,10 @@ impl<G: Rng<OUTPUT>, const OUTPUT: usize> RandomRange<G, OUTPUT> for i128 {
     fn random_range(rng: &mut G, low: Bound<i128>, high: Bound<i128>) -> Result<i128, RangeError> {
         let rank = draw_between(rng, mapped(low, rank_of), mapped(high, rank_of))?;
         Ok((rank ^ SIGN) as i128)
+    }
+
+    fn write_bound(&self, f: &mut Formatter<'_>) -> fmt::Result {
+        write!(f, "{self:?}")
     }
 }
 

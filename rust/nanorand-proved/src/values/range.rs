@@ -69,6 +69,12 @@ pub trait RandomRange<G: Rng<OUTPUT>, const OUTPUT: usize>: RandomGen<G, OUTPUT>
     /// consumed. A range of floats is empty if a bound is infinite or NaN, if the low bound is
     /// above the high one, or if both are equal and one is excluded.
     fn random_range(rng: &mut G, low: Bound<Self>, high: Bound<Self>) -> Result<Self, RangeError>;
+
+    /// Writes a bound of an empty range into the message of a panic.
+    #[doc(hidden)]
+    fn write_bound(&self, f: &mut core::fmt::Formatter<'_>) -> core::fmt::Result {
+        f.write_str("_")
+    }
 }
 
 /// Draws a number within both bounds. Each number is produced by the same number of words, by the
