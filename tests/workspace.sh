@@ -52,7 +52,7 @@ has_a_page() {
 # A value of a type that has none is met by a hint.
 hints_at_mistakes() {
     cargo build --quiet --offline -p nanorand-proved
-    grep -qF 'is no type whose values can be drawn' <<<"$(rustc --edition 2021 --crate-type lib --emit metadata \
+    grep -qF 'cannot be drawn' <<<"$(rustc --edition 2021 --crate-type lib --emit metadata \
         --out-dir target/hints --extern nanorand_proved=target/debug/libnanorand_proved.rlib - 2>&1 \
         <<<'pub fn f(rng: &mut nanorand_proved::WyRand) -> &str { nanorand_proved::Rng::generate(rng) }')"
 }

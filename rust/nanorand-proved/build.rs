@@ -1,6 +1,7 @@
 //! Sets the cfg `diagnostic_hints` if the compiler supports `#[diagnostic::on_unimplemented]`,
-//! which it does from Rust 1.78 on. From 1.80 on, cargo is also told that the cfg exists, so that
-//! it does not warn about it.
+//! which it does from Rust 1.78 on, and the cfg `do_not_recommend` if it supports
+//! `#[diagnostic::do_not_recommend]`, which it does from 1.85 on. From 1.80 on, cargo is also told
+//! that these exist, so that it does not warn about them.
 
 use std::process::Command;
 
@@ -8,10 +9,13 @@ fn main() {
     println!("cargo:rerun-if-changed=build.rs");
     let minor = minor_version();
     if minor.map_or(true, |minor| 80 <= minor) {
-        println!("cargo:rustc-check-cfg=cfg(diagnostic_hints)");
+        println!("cargo:rustc-check-cfg=cfg(diagnostic_hints, do_not_recommend)");
     }
     if minor.map_or(false, |minor| 78 <= minor) {
         println!("cargo:rustc-cfg=diagnostic_hints");
+    }
+    if minor.map_or(false, |minor| 85 <= minor) {
+        println!("cargo:rustc-cfg=do_not_recommend");
     }
 }
 

@@ -1,37 +1,39 @@
-//! Functions and structs over any generator. Of blocks of eight bytes it is an `Rng<8>`; `OUTPUT` stands for
-//! blocks of any size.
+//! Functions and structs over any generator: by a trait object, by a type parameter, and by the size of the blocks.
 
-use nanorand_proved::choices::choose;
-use nanorand_proved::{BufferedRng, ChaCha8, Pcg64, RangeError, Rng, WyRand};
+use nanorand_proved::{
+    AnyRng, BufferedRng, ChaCha20Stream, ChaCha8, Pcg64, RangeError, Rng, WyRand,
+};
 
-/// A date of a year that is no leap year, as the number of the day.
-fn birthday<R: Rng<OUTPUT>, const OUTPUT: usize>(rng: &mut R) -> Result<u16, RangeError> {
-    rng.generate_range(1..=365)
+/// The day of the year of a birthday. A trait object has all calls of a generator.
+fn birthday(rng: &mut dyn AnyRng) -> u16 {
+    rng.range(1..=365)
 }
 
-/// The hours and minutes of an appointment. The generator is lent: what is drawn is gone from its stream.
-fn time(mut rng: impl Rng<8>) -> Result<(u8, u8), RangeError> {
-    Ok((rng.generate_range(8..18)?, rng.generate_range(..60)?))
-}
-
+/// A quiz that owns its generator, whatever the size of its blocks.
 struct Quiz<R> {
     rng: R,
     questions: Vec<&'static str>,
 }
 
-impl<R: Rng<8>> Quiz<R> {
+impl<R: AnyRng> Quiz<R> {
     fn next(&mut self) -> Result<&'static str, RangeError> {
-        choose(&mut self.rng, &self.questions).copied()
+        self.rng.rng().choose(&self.questions).copied()
     }
 }
 
-fn main() -> Result<(), RangeError> {
+/// The hours and minutes of an appointment. With the size of the blocks as a parameter the calls are compiled for the
+/// generator, which is fastest.
+fn time<R: Rng<OUTPUT>, const OUTPUT: usize>(rng: &mut R) -> (u8, u8) {
+    (rng.range(8..18), rng.range(..60))
+}
+
+fn main() {
     let key = [5; 32];
     let days = [
-        birthday(&mut WyRand::seed_from_u64(5))?,
-        birthday(&mut Pcg64::seed_from_u64(5))?,
-        birthday(&mut ChaCha8::new_key(key, [5; 8]))?,
-        birthday(&mut BufferedRng::new(ChaCha8::new_key(key, [5; 8])))?,
+        birthday(&mut WyRand::seed_from_u64(5)),
+        birthday(&mut Pcg64::seed_from_u64(5)),
+        birthday(&mut ChaCha8::new_key(key, [5; 8])),
+        birthday(&mut BufferedRng::new(ChaCha8::new_key(key, [5; 8]))),
     ];
     println!("{days:?}");
     assert_eq!(
@@ -40,16 +42,20 @@ fn main() -> Result<(), RangeError> {
     );
 
     let mut rng = WyRand::seed_from_u64(3);
-    let (hours, minutes) = time(&mut rng)?;
+    let (hours, minutes) = time(&mut rng);
     println!("{hours}:{minutes:02}");
     let mut same = WyRand::seed_from_u64(3);
     same.jump(2);
-    assert_eq!(rng, same);
+    assert_eq!(
+        rng, same,
+        "a range of these sizes seldom draws a second word"
+    );
 
-    let questions = vec!["Why?", "How?", "When?"];
-    let mut quiz = Quiz { rng, questions };
-    println!("{}", quiz.next()?);
+    let mut quiz = Quiz {
+        rng: ChaCha20Stream::new_key(key, [5; 8]),
+        questions: vec!["Why?", "How?", "When?"],
+    };
+    println!("{}", quiz.next().expect("there are questions"));
     quiz.questions.clear();
     assert_eq!(quiz.next(), Err(RangeError::Empty));
-    Ok(())
 }

@@ -112,7 +112,7 @@
 //! A ChaCha stream drops no bytes, computes eight blocks at once, and can seek:
 //!
 //! ```
-//! use nanorand_proved::{ChaCha20Stream, Keystream, Rng};
+//! use nanorand_proved::{ChaCha20Stream, Rng};
 //!
 //! let mut stream = ChaCha20Stream::new_key([0; 32], [0; 8]);
 //! assert_eq!(stream.generate::<u32>(), 0xade0_b876);

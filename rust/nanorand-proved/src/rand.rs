@@ -56,10 +56,26 @@ pub use wyrand::WyRand;
 /// # Ok::<(), RangeError>(())
 /// ```
 ///
-/// Functions that take any generator are generic:
-/// `fn f<R: Rng<OUTPUT>, const OUTPUT: usize>(rng: &mut R)`. `&mut R` is a generator too, so pass a
-/// generator by reference where one is expected. There is no `dyn Rng`, since the methods are
-/// generic; use `dyn` [`AnyRng`](crate::AnyRng) instead, which also does without `OUTPUT`.
+/// # Calls that return an error, and calls that panic
+///
+/// A call that can fail returns a `Result`. Each has a twin that panics instead, with `_or_panic`
+/// at the end of its name: [`choose`](Self::choose) and
+/// [`choose_or_panic`](Self::choose_or_panic). The two most frequent twins have a short name as
+/// well: [`range`](Self::range) and [`permute`](Self::permute).
+///
+/// # Functions that take any generator
+///
+/// A function that takes any generator is written in one of these ways:
+///
+/// - `fn f(rng: &mut dyn AnyRng)`: a trait object, which has all calls of this trait. There is no
+///   `dyn Rng`, since these methods are generic. See [`AnyRng`](crate::AnyRng).
+/// - `struct Game<R> {..}` and `impl<R: AnyRng> Game<R>`: generic without a block size. The calls
+///   are those of `self.rng.rng()`.
+/// - `fn f<R: Rng<OUTPUT>, const OUTPUT: usize>(rng: &mut R)`: generic with the block size, which
+///   is the fastest.
+///
+/// `R: Rng` alone means `R: Rng<8>`: it takes `WyRand` and `Pcg64`, but no ChaCha stream. `&mut R`
+/// is a generator too, so pass a generator by reference where one is expected.
 #[cfg_attr(
     diagnostic_hints,
     diagnostic::on_unimplemented(
@@ -84,12 +100,12 @@ pub trait Rng<const OUTPUT: usize = 8>: Sized {
         T::random(self)
     }
 
-    /// Fills the slice with values, drawn in the order of the items, each by a call of `generate`.
-    /// An empty slice draws nothing.
+    /// Fills the slice with values, one request per item. **For bytes, call
+    /// [`fill_bytes`](Self::fill_bytes),** which makes one request for the whole slice.
     ///
-    /// To fill a slice of bytes, call `fill_bytes`, which makes one request for the whole slice.
-    /// `fill` makes one request for each byte, and a generator without a buffer draws a whole block
-    /// for each request.
+    /// The values are drawn in the order of the items, each by a call of `generate`. An empty slice
+    /// draws nothing. A generator without a buffer draws a whole block for each request, even for a
+    /// single byte: `fill` of 32 bytes takes 32 blocks of `ChaCha20`, and `fill_bytes` takes one.
     fn fill<T: RandomGen<Self, OUTPUT>>(&mut self, target: &mut [T]) {
         for item in target.iter_mut() {
             *item = self.generate();
@@ -156,37 +172,6 @@ pub trait Rng<const OUTPUT: usize = 8>: Sized {
             }
         }
         Ok(())
-    }
-
-    /// Draws a number from a range as `generate_range` does. Use it for ranges that are known not
-    /// to be empty.
-    ///
-    /// # Panics
-    ///
-    /// Panics with the text of the error if `generate_range` would return one. If 128 words in a
-    /// row were rejected, they stay consumed.
-    #[inline(always)]
-    #[track_caller]
-    fn range<T: RandomRange<Self, OUTPUT> + Clone>(&mut self, range: impl RangeBounds<T>) -> T {
-        let (low, high) = (range.start_bound(), range.end_bound());
-        match T::random_range(self, low.cloned(), high.cloned()) {
-            Ok(number) => number,
-            Err(error) => refused_range::<T, Self, OUTPUT>(error, low.cloned(), high.cloned()),
-        }
-    }
-
-    /// Shuffles the slice as `shuffle` does, without returning a `Result`.
-    ///
-    /// # Panics
-    ///
-    /// Panics with the text of the error if `shuffle` would return one, which is after 128 rejected
-    /// words in a row. The swaps before that stay, and the words stay consumed.
-    #[inline]
-    #[track_caller]
-    fn permute<T>(&mut self, items: &mut [T]) {
-        if let Err(error) = self.shuffle(items) {
-            refused(error);
-        }
     }
 
     /// Shuffles the beginning of the slice, as [`partial_shuffle`](shuffles::partial_shuffle) does.
@@ -267,6 +252,183 @@ pub trait Rng<const OUTPUT: usize = 8>: Sized {
     #[inline]
     fn sample(&mut self, count: usize, places: &mut [usize]) -> Result<(), RangeError> {
         samples::sample(self, count, places)
+    }
+
+    /// Draws a number from a range as `generate_range` does: the short name of
+    /// [`generate_range_or_panic`](Self::generate_range_or_panic).
+    ///
+    /// # Panics
+    ///
+    /// Panics if the range is empty, or if 128 words in a row were rejected; they stay consumed.
+    #[inline(always)]
+    #[track_caller]
+    fn range<T: RandomRange<Self, OUTPUT> + Clone>(&mut self, range: impl RangeBounds<T>) -> T {
+        self.generate_range_or_panic(range)
+    }
+
+    /// Shuffles the slice as `shuffle` does: the short name of
+    /// [`shuffle_or_panic`](Self::shuffle_or_panic).
+    ///
+    /// # Panics
+    ///
+    /// Panics if 128 words in a row were rejected for one index. The swaps before that stay, and
+    /// the words stay consumed.
+    #[inline]
+    #[track_caller]
+    fn permute<T>(&mut self, items: &mut [T]) {
+        self.shuffle_or_panic(items);
+    }
+
+    /// Draws a number from a range as [`generate_range`](Self::generate_range) does.
+    ///
+    /// # Panics
+    ///
+    /// Panics if the range is empty, and shows it: "cannot sample empty range 5..5". Panics if 128
+    /// words in a row were rejected; they stay consumed.
+    #[inline(always)]
+    #[track_caller]
+    fn generate_range_or_panic<T: RandomRange<Self, OUTPUT> + Clone>(
+        &mut self,
+        range: impl RangeBounds<T>,
+    ) -> T {
+        let (low, high) = (range.start_bound(), range.end_bound());
+        match T::random_range(self, low.cloned(), high.cloned()) {
+            Ok(number) => number,
+            Err(error) => refused_range::<T, Self, OUTPUT>(error, low.cloned(), high.cloned()),
+        }
+    }
+
+    /// Shuffles the slice as [`shuffle`](Self::shuffle) does.
+    ///
+    /// # Panics
+    ///
+    /// Panics if 128 words in a row were rejected for one index. The swaps before that stay, and
+    /// the words stay consumed.
+    #[inline]
+    #[track_caller]
+    fn shuffle_or_panic<T>(&mut self, target: &mut [T]) {
+        if let Err(error) = self.shuffle(target) {
+            refused(error);
+        }
+    }
+
+    /// Shuffles the beginning of the slice as [`partial_shuffle`](Self::partial_shuffle) does.
+    ///
+    /// # Panics
+    ///
+    /// Panics if 128 words in a row were rejected for one index. The swaps before that stay, and
+    /// the words stay consumed.
+    #[inline]
+    #[track_caller]
+    fn partial_shuffle_or_panic<T>(&mut self, items: &mut [T], count: usize) {
+        if let Err(error) = self.partial_shuffle(items, count) {
+            refused(error);
+        }
+    }
+
+    /// Chooses an item of the slice as [`choose`](Self::choose) does.
+    ///
+    /// # Panics
+    ///
+    /// Panics if the slice is empty, or if 128 words in a row were rejected; they stay consumed.
+    #[inline]
+    #[track_caller]
+    fn choose_or_panic<'a, T>(&mut self, items: &'a [T]) -> &'a T {
+        match self.choose(items) {
+            Ok(item) => item,
+            Err(error) => refused_for(error, "cannot choose from an empty slice"),
+        }
+    }
+
+    /// Chooses an item of the slice as [`choose_mut`](Self::choose_mut) does.
+    ///
+    /// # Panics
+    ///
+    /// Panics if the slice is empty, or if 128 words in a row were rejected; they stay consumed.
+    #[inline]
+    #[track_caller]
+    fn choose_mut_or_panic<'a, T>(&mut self, items: &'a mut [T]) -> &'a mut T {
+        match self.choose_mut(items) {
+            Ok(item) => item,
+            Err(error) => refused_for(error, "cannot choose from an empty slice"),
+        }
+    }
+
+    /// Chooses an item by weight as [`choose_weighted`](Self::choose_weighted) does, and returns its
+    /// index.
+    ///
+    /// # Panics
+    ///
+    /// Panics if there are no weights, if all of them are 0, if their sum is 2^64 or more, or if 128
+    /// words in a row were rejected; they stay consumed.
+    #[inline]
+    #[track_caller]
+    fn choose_weighted_or_panic(&mut self, weights: &[u64]) -> usize {
+        match self.choose_weighted(weights) {
+            Ok(index) => index,
+            Err(error) => refused(error),
+        }
+    }
+
+    /// Returns true with probability `numerator` / `denominator`, as [`ratio`](Self::ratio) does.
+    ///
+    /// # Panics
+    ///
+    /// Panics if `denominator` is 0, or if 128 words in a row were rejected; they stay consumed.
+    #[inline]
+    #[track_caller]
+    fn ratio_or_panic(&mut self, numerator: u64, denominator: u64) -> bool {
+        match self.ratio(numerator, denominator) {
+            Ok(answer) => answer,
+            Err(error) => refused_for(error, "`denominator` must be at least 1"),
+        }
+    }
+
+    /// Draws a sample without replacement as [`sample`](Self::sample) does.
+    ///
+    /// # Panics
+    ///
+    /// Panics if there are more than `count` slots, or if 128 words in a row were rejected for one
+    /// slot; they stay consumed.
+    #[inline]
+    #[track_caller]
+    fn sample_or_panic(&mut self, count: usize, places: &mut [usize]) {
+        if let Err(error) = self.sample(count, places) {
+            refused(error);
+        }
+    }
+
+    /// Returns true with probability `p`, rounded down to a multiple of 2^-64. It draws a `u64` and
+    /// compares it with `p` * 2^64, also if `p` is 0 or 1.
+    ///
+    /// For an exact fraction such as 1/3, call [`ratio`](Self::ratio).
+    ///
+    /// # Panics
+    ///
+    /// Panics if `p` is less than 0, greater than 1, or NaN; nothing is drawn then.
+    #[inline]
+    #[track_caller]
+    fn gen_bool(&mut self, p: f64) -> bool {
+        const WORDS: f64 = 18_446_744_073_709_551_616.0; // 2^64
+        assert!((0.0..=1.0).contains(&p), "`p` must be from 0 to 1, not {p}");
+        u128::from(self.next_u64()) < (p * WORDS) as u128
+    }
+
+    /// Draws one of the 62 characters `A` to `Z`, `a` to `z` and `0` to `9`, each produced by the
+    /// same number of words of 32 bits. The value is `A` if 128 words in a row were rejected.
+    ///
+    /// ```
+    /// use nanorand_proved::{Rng, WyRand};
+    ///
+    /// let mut rng = WyRand::seed_from_u64(42);
+    /// let name: String = (0..8).map(|_| rng.alphanumeric()).collect();
+    /// assert_eq!(name, "rRVDm0Zf");
+    /// ```
+    #[inline]
+    fn alphanumeric(&mut self) -> char {
+        const CHARACTERS: &[u8; 62] =
+            b"ABCDEFGHIJKLMNOPQRSTUVWXYZabcdefghijklmnopqrstuvwxyz0123456789";
+        char::from(CHARACTERS[draw_below(self, 62, 32).unwrap_or(0) as usize])
     }
 
     /// Returns an endless iterator of values, each drawn by `generate` when it is asked for.

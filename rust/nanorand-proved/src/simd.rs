@@ -616,7 +616,7 @@ mod plain {
 #[cfg(test)]
 mod tests {
     use super::{lanes, plain, plain_eight, EightLanes, U32x4, U32x8};
-    use crate::{ChaCha20, ChaCha20Stream, Keystream, Rng};
+    use crate::{ChaCha20, ChaCha20Stream, Rng};
     use core::sync::atomic::{AtomicUsize, Ordering};
 
     const CASES: usize = 250_000;

@@ -25,13 +25,18 @@ pub use word::pick_word;
 /// | `f32`, `f64` | as `u32`, `u64` | the top 24 or 53 bits as a fraction in [0, 1) |
 /// | `char` | as `u32`, at most 128 times | one of 1,112,064; U+0000 after 128 rejections |
 /// | `NonZeroU8`, .. | as the integer, at most 128 times | the first nonzero; 1 after 128 zeros |
+/// | `Duration` | as `u128`, at most 128 times | any duration; zero after 128 rejections |
+/// | `Option<T>` | a `bool`, and then a `T` if it is true | `Some` of the `T`, or `None` |
+/// | `Wrapping<T>` | as `T` | the `T` |
 /// | `[u8; N]` | one request of N bytes | the bytes |
 /// | another array, a tuple | as its items | the items, drawn in order |
 #[cfg_attr(
     diagnostic_hints,
     diagnostic::on_unimplemented(
-        message = "`{Self}` is no type whose values can be drawn",
-        note = "implement `RandomGen` for it, or draw its parts"
+        message = "values of the type `{Self}` cannot be drawn",
+        note = "for a type of your own, implement `RandomGen`",
+        note = "for a collection, draw its items: `rng.generate_iter().take(n).collect()`",
+        note = "for one of several values, call `rng.choose(&values)`"
     )
 )]
 pub trait RandomGen<G: Rng<OUTPUT>, const OUTPUT: usize> {

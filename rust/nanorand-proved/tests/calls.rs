@@ -18,8 +18,8 @@ use nanorand_proved::values::range::draw_number;
 use nanorand_proved::values::word::draw_below;
 use nanorand_proved::values::{fill_with, pick_word};
 use nanorand_proved::{
-    BufferedRng, ChaCha, ChaCha12, ChaCha20, ChaCha8, ChaChaStream, Keystream, Pcg64, RangeError,
-    Rng, SeedableRng, WyRand,
+    BufferedRng, ChaCha, ChaCha12, ChaCha20, ChaCha8, ChaChaStream, Pcg64, RangeError, Rng,
+    SeedableRng, WyRand,
 };
 use std::fmt::Debug;
 use std::io::{self, Read};

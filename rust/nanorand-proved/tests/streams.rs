@@ -2,7 +2,7 @@
 
 use nanorand_proved::{
     chacha_stream, chacha_stream_at, BufferedRng, ChaCha, ChaCha12Stream, ChaCha20, ChaCha20Stream,
-    ChaCha8Stream, ChaChaGroups, ChaChaStream, Keystream, Rng, SeedableRng,
+    ChaCha8Stream, ChaChaGroups, ChaChaStream, Rng, SeedableRng,
 };
 
 const KEY: [u8; 32] = [1; 32];

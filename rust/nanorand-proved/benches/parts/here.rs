@@ -3,7 +3,7 @@
 use nanorand_proved as library;
 
 use library::shuffles::shuffle_full;
-use library::{ChaChaStream, Keystream};
+use library::ChaChaStream;
 use std::fmt::Debug;
 
 // As a program takes a draw's number.

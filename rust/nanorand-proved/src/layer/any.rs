@@ -7,23 +7,31 @@ use crate::rand::{ChaCha, ChaChaGroups, Pcg64, Rng, WyRand};
 /// Any generator, whatever the size of its blocks: take it as `&mut dyn AnyRng` or
 /// `&mut impl AnyRng`.
 ///
-/// [`rng`](Self::rng) borrows it as an [`Rng`], which has ranges, shuffles and all other methods.
-/// They draw the same values as the methods of the generator itself.
+/// `dyn AnyRng` has all calls of [`Rng`] itself. For a type parameter `R: AnyRng`,
+/// [`rng`](Self::rng) borrows the generator as a `dyn AnyRng`. These calls draw the same values as
+/// those of the generator.
 ///
 /// ```
-/// use nanorand_proved::{AnyRng, ChaCha20, RangeError, Rng, WyRand};
+/// use nanorand_proved::{AnyRng, ChaCha20Stream, RangeError, Rng, WyRand};
 ///
-/// fn throw(rng: &mut dyn AnyRng) -> Result<u8, RangeError> {
-///     rng.rng().generate_range(1..=6)
+/// fn throw(rng: &mut dyn AnyRng) -> u8 {
+///     rng.range(1..=6)
 /// }
 ///
-/// fn deal(rng: &mut impl AnyRng, cards: &mut [&str]) -> Result<(), RangeError> {
-///     rng.rng().shuffle(cards)
+/// struct Table<R> {
+///     rng: R,
 /// }
 ///
-/// let pips = throw(&mut WyRand::seed_from_u64(42))?;
-/// assert_eq!(WyRand::seed_from_u64(42).generate_range(1..=6), Ok(pips));
-/// deal(&mut ChaCha20::new_key([1; 32], [2; 8]), &mut ["ace", "king", "queen"])?;
+/// impl<R: AnyRng> Table<R> {
+///     fn deal(&mut self, cards: &mut [&str]) -> Result<(), RangeError> {
+///         self.rng.rng().shuffle(cards)
+///     }
+/// }
+///
+/// let pips = throw(&mut WyRand::seed_from_u64(42));
+/// assert_eq!(WyRand::seed_from_u64(42).range(1..=6), pips);
+/// let mut table = Table { rng: ChaCha20Stream::new_key([1; 32], [2; 8]) };
+/// table.deal(&mut ["ace", "king", "queen"])?;
 /// # Ok::<(), RangeError>(())
 /// ```
 ///

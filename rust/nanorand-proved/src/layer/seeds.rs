@@ -1,7 +1,7 @@
 //! Seeds from bytes, and seeds from the operating system. The latter are not proved, since the
 //! bytes come from the system.
 
-use crate::rand::{chacha_stream_from_u64, ChaCha, ChaChaStream, Keystream, Pcg64, WyRand};
+use crate::rand::{chacha_stream_from_u64, ChaCha, ChaChaStream, Pcg64, WyRand};
 
 #[cfg(feature = "std")]
 use crate::{entropy::EntropyError, system};

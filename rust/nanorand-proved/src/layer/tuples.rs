@@ -6,6 +6,7 @@ use crate::values::RandomGen;
 // Implements `RandomGen` for one tuple, and then for the same tuple without its first members.
 macro_rules! tuples {
     ($first:ident $($other:ident)*) => {
+        #[cfg_attr(do_not_recommend, diagnostic::do_not_recommend)]
         impl<$first, $($other,)* G, const OUTPUT: usize> RandomGen<G, OUTPUT> for ($first, $($other,)*)
         where
             G: Rng<OUTPUT>,

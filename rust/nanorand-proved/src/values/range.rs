@@ -33,8 +33,8 @@ impl core::fmt::Display for RangeError {
 #[cfg(feature = "std")]
 impl std::error::Error for RangeError {}
 
-/// A type whose values can be drawn within two bounds: the integer types, `char`, `f32` and `f64`.
-/// `OUTPUT` is the number of bytes of the generator's blocks.
+/// A type whose values can be drawn within two bounds: the integer types, `char`, `f32`, `f64` and
+/// `Duration`. `OUTPUT` is the number of bytes of the generator's blocks.
 ///
 /// **Integers.** A word is a random integer of the type's width (64 bits for `usize` and `isize`),
 /// read by one request. At most 128 words are drawn, and the first that is not rejected decides.
@@ -42,6 +42,8 @@ impl std::error::Error for RangeError {}
 ///
 /// **Characters.** A range of `char` is drawn in the same way from words of 32 bits; surrogates are
 /// skipped.
+///
+/// **Durations.** A range of `Duration` is drawn as the range of its nanoseconds in `u128`.
 ///
 /// **Floats.** The value is `low + (high - low) * part`, rounded. Let k be the top 53 bits of a
 /// 64-bit word. `part` is k / 2^53 if `high` is excluded, and k / (2^53 - 1) if it is included, so
@@ -56,7 +58,8 @@ impl std::error::Error for RangeError {}
     diagnostic_hints,
     diagnostic::on_unimplemented(
         message = "`{Self}` has no ranges",
-        note = "implement `RandomRange` for it, or draw a number of an integer type and make the value of it"
+        note = "for a type of your own, implement `RandomRange`",
+        note = "for other types, draw a number and convert it; for a time, add a random `Duration`"
     )
 )]
 pub trait RandomRange<G: Rng<OUTPUT>, const OUTPUT: usize>: RandomGen<G, OUTPUT> + Sized {

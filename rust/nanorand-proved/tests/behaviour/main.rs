@@ -8,18 +8,23 @@ mod common;
 #[cfg(feature = "std")]
 mod any;
 #[cfg(feature = "std")]
+mod any_calls;
+#[cfg(feature = "std")]
 mod buffers;
 mod chacha;
 mod characters;
 mod choices;
 mod cycles;
 mod draws;
+mod durations;
 #[cfg(feature = "std")]
 mod entropy;
 mod equality;
 mod floats;
 mod methods;
 mod own_types;
+#[cfg(feature = "std")]
+mod panics;
 mod parts;
 mod ranges;
 mod replays;
@@ -36,3 +41,4 @@ mod sweeps;
 mod texts;
 mod values;
 mod weights;
+mod wrappers;

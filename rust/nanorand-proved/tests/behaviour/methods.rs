@@ -1,14 +1,12 @@
-//! The calls of `Rng` that are also functions, those that panic, and the iterator.
+//! The calls of `Rng` that are also functions, and the iterator.
 
-use crate::common::{rising, zeros, Constant, Steps};
+use crate::common::{rising, Constant, Steps};
 use nanorand_proved::choices::{self, WeightError};
 use nanorand_proved::RangeError::{Empty, Exhausted};
 use nanorand_proved::{
     chacha_stream, samples, shuffles, BufferedRng, ChaCha8, Pcg64, RandomGen, Rng, WyRand,
 };
-use std::cell::RefCell;
 use std::fmt::Debug;
-use std::panic::{catch_unwind, set_hook, take_hook, AssertUnwindSafe};
 
 /// Each method gives what its function gives, and leaves the same state.
 fn check<G: Rng<N> + PartialEq + Debug + Clone, const N: usize>(mut rng: G) {
@@ -121,33 +119,6 @@ fn errors_are_those_of_the_functions() {
     assert_eq!(places, [9; 2]);
     assert_eq!(rng.partial_shuffle(&mut [1, 2, 3], 1), Err(Exhausted));
     assert_eq!(rng.drawn(), 3 * 128);
-}
-
-thread_local! {
-    static SAID: RefCell<String> = const { RefCell::new(String::new()) };
-}
-
-/// A call that panics says the error, and the file of the caller.
-#[test]
-fn texts_of_panics() {
-    let before = take_hook();
-    set_hook(Box::new(move |said| {
-        SAID.with(|text| *text.borrow_mut() = said.to_string());
-        before(said);
-    }));
-    let panics = |text: &str, call: &mut dyn FnMut()| {
-        assert!(catch_unwind(AssertUnwindSafe(call)).is_err(), "{text}");
-        let said = SAID.with(RefCell::take);
-        assert!(said.contains(text) && said.contains("methods.rs"), "{said}");
-    };
-    let exhausted = "128 words in a row were rejected";
-    panics("the range contains no number", &mut || {
-        let _ = zeros().range(5..5_u8);
-    });
-    panics(exhausted, &mut || {
-        let _ = zeros().range(0..3_u8);
-    });
-    panics(exhausted, &mut || zeros().permute(&mut [1, 2, 3]));
 }
 
 #[test]

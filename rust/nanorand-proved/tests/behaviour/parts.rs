@@ -2,8 +2,8 @@
 //! reaches past the period.
 
 use nanorand_proved::{
-    BufferedRng, ChaCha, ChaCha20Stream, ChaChaGroups, ChaChaStream, Keystream, Parts, PastPeriod,
-    Pcg64, Rng, WyRand,
+    BufferedRng, ChaCha, ChaCha20Stream, ChaChaGroups, ChaChaStream, Parts, PastPeriod, Pcg64, Rng,
+    WyRand,
 };
 use std::fmt::Debug;
 

@@ -2,7 +2,7 @@
 
 use crate::common::{rising, Script};
 use nanorand_proved::samples::{extend_sample, sample, sample_with};
-use nanorand_proved::{ChaCha20Stream, Keystream, Pcg64, RangeError, Rng, WyRand};
+use nanorand_proved::{ChaCha20Stream, Pcg64, RangeError, Rng, WyRand};
 
 /// The last of the numbers 0 to j, for the last `length` values of j: the number drawn, or j if that is there.
 fn by_the_rule<G: Rng<N>, const N: usize>(rng: &mut G, count: usize, length: usize) -> Vec<usize> {

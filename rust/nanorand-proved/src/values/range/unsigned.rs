@@ -2,7 +2,6 @@
 
 use super::{draw_number, RandomRange, RangeError};
 use crate::rand::Rng;
-use core::fmt::{self, Formatter};
 use core::ops::Bound;
 
 impl<G: Rng<OUTPUT>, const OUTPUT: usize> RandomRange<G, OUTPUT> for u8 {
@@ -11,7 +10,7 @@ impl<G: Rng<OUTPUT>, const OUTPUT: usize> RandomRange<G, OUTPUT> for u8 {
         draw_number(rng, low, high)
     }
 
-    fn write_bound(&self, f: &mut Formatter<'_>) -> fmt::Result {
+    fn write_bound(&self, f: &mut core::fmt::Formatter<'_>) -> core::fmt::Result {
         write!(f, "{self}")
     }
 }
@@ -22,7 +21,7 @@ impl<G: Rng<OUTPUT>, const OUTPUT: usize> RandomRange<G, OUTPUT> for u16 {
         draw_number(rng, low, high)
     }
 
-    fn write_bound(&self, f: &mut Formatter<'_>) -> fmt::Result {
+    fn write_bound(&self, f: &mut core::fmt::Formatter<'_>) -> core::fmt::Result {
         write!(f, "{self}")
     }
 }
@@ -33,7 +32,7 @@ impl<G: Rng<OUTPUT>, const OUTPUT: usize> RandomRange<G, OUTPUT> for u32 {
         draw_number(rng, low, high)
     }
 
-    fn write_bound(&self, f: &mut Formatter<'_>) -> fmt::Result {
+    fn write_bound(&self, f: &mut core::fmt::Formatter<'_>) -> core::fmt::Result {
         write!(f, "{self}")
     }
 }
@@ -44,7 +43,7 @@ impl<G: Rng<OUTPUT>, const OUTPUT: usize> RandomRange<G, OUTPUT> for u64 {
         draw_number(rng, low, high)
     }
 
-    fn write_bound(&self, f: &mut Formatter<'_>) -> fmt::Result {
+    fn write_bound(&self, f: &mut core::fmt::Formatter<'_>) -> core::fmt::Result {
         write!(f, "{self}")
     }
 }
@@ -59,7 +58,7 @@ impl<G: Rng<OUTPUT>, const OUTPUT: usize> RandomRange<G, OUTPUT> for usize {
         draw_number(rng, low, high)
     }
 
-    fn write_bound(&self, f: &mut Formatter<'_>) -> fmt::Result {
+    fn write_bound(&self, f: &mut core::fmt::Formatter<'_>) -> core::fmt::Result {
         write!(f, "{self}")
     }
 }
