@@ -1,6 +1,6 @@
 //! Types of one's own: a value, which `generate` and `fill` draw, and one that has ranges too.
 
-use nanorand_proved::{ChaCha12, RandomGen, RandomRange, RangeError, Rng, WyRand};
+use nanorand_proved::{ChaCha12Stream, RandomGen, RandomRange, RangeError, Rng, WyRand};
 use std::ops::Bound::{self, Excluded, Included, Unbounded};
 
 #[derive(Clone, Copy, Debug, Default, PartialEq)]
@@ -43,7 +43,7 @@ fn main() -> Result<(), RangeError> {
     let mut rng = WyRand::seed_from_u64(42);
     let color: Color = rng.generate();
     let mut palette = [Color::default(); 16];
-    ChaCha12::new_key([1; 32], [2; 8]).fill(&mut palette);
+    ChaCha12Stream::new_key([1; 32], [2; 8]).fill(&mut palette);
     let workday = rng.generate_range(Day(0)..=Day(4))?;
     println!("{color:?}, {palette:?}, {workday:?}");
     assert!(workday.0 < 5 && rng.generate::<Day>().0 < 7);

@@ -2,7 +2,7 @@
 //! system. An error is never zeros.
 
 use nanorand_proved::entropy::EntropyError;
-use nanorand_proved::{BufferedRng, ChaCha20, ChaCha8, Pcg64, Rng, WyRand};
+use nanorand_proved::{BufferedRng, ChaCha20Stream, ChaCha8, Pcg64, Rng, WyRand};
 
 fn main() -> Result<(), Box<dyn std::error::Error>> {
     let mut source: &[u8] = &[42, 0, 0, 0, 0, 0, 0, 0, 1, 2, 3];
@@ -15,7 +15,7 @@ fn main() -> Result<(), Box<dyn std::error::Error>> {
     let (first, second) = (ChaCha8::new(&mut seeds)?, ChaCha8::new(&mut seeds)?);
     assert_ne!(first.key(), second.key());
 
-    let pips: u8 = ChaCha20::from_entropy()?.generate_range(1..=6)?;
+    let pips: u8 = ChaCha20Stream::from_entropy()?.generate_range(1..=6)?;
     println!("another at each run: {pips}");
     Ok(())
 }

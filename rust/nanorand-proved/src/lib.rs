@@ -48,9 +48,9 @@
 //! Fill a slice with bytes, or with values of any type:
 //!
 //! ```
-//! use nanorand_proved::{ChaCha20, Rng};
+//! use nanorand_proved::{ChaCha20Stream, Rng};
 //!
-//! let mut rng = ChaCha20::new_key([0; 32], [0; 8]);
+//! let mut rng = ChaCha20Stream::new_key([0; 32], [0; 8]);
 //! let mut bytes = [0; 4];
 //! rng.fill_bytes(&mut bytes);
 //! assert_eq!(bytes, [0x76, 0xb8, 0xe0, 0xad]);
@@ -143,13 +143,13 @@
 //! parameter:
 //!
 //! ```
-//! use nanorand_proved::{AnyRng, ChaCha20, Rng};
+//! use nanorand_proved::{AnyRng, ChaCha20Stream};
 //!
 //! fn throw(rng: &mut dyn AnyRng) -> u8 {
-//!     rng.rng().range(1..=6)
+//!     rng.range(1..=6)
 //! }
 //!
-//! assert!(throw(&mut ChaCha20::new_key([0; 32], [0; 8])) <= 6);
+//! assert!(throw(&mut ChaCha20Stream::new_key([0; 32], [0; 8])) <= 6);
 //! ```
 //!
 //! `ChaCha` requires an even number of rounds; an odd number does not compile:

@@ -13,27 +13,30 @@ use core::fmt;
 #[cfg(feature = "std")]
 use std::io::Read;
 
-/// ChaCha with 8 rounds, fewer than the standard's 20. Each number takes a whole block: see
-/// `ChaCha`.
+/// ChaCha with 8 rounds, which computes a whole block for each number: for numbers, use
+/// [`ChaCha8Stream`](crate::ChaCha8Stream). The standard has 20 rounds. See [`ChaCha`].
 pub type ChaCha8 = ChaCha<8>;
 
-/// ChaCha with 12 rounds, fewer than the standard's 20. Each number takes a whole block: see
-/// `ChaCha`.
+/// ChaCha with 12 rounds, which computes a whole block for each number: for numbers, use
+/// [`ChaCha12Stream`](crate::ChaCha12Stream). The standard has 20 rounds. See [`ChaCha`].
 pub type ChaCha12 = ChaCha<12>;
 
-/// ChaCha with the standard's 20 rounds. Each number takes a whole block: see `ChaCha`.
+/// ChaCha with 20 rounds, the standard's number, which computes a whole block for each number: for
+/// numbers, use [`ChaCha20Stream`](crate::ChaCha20Stream). See [`ChaCha`].
 pub type ChaCha20 = ChaCha<20>;
 
-/// The keystream of the stream cipher ChaCha, with a 64-bit counter and a 64-bit nonce, after
-/// Daniel J. Bernstein, "ChaCha, a variant of Salsa20" (2008).
+/// The keystream of the stream cipher ChaCha by whole blocks of 64 bytes: **for numbers, use a
+/// stream such as [`ChaCha20Stream`](crate::ChaCha20Stream), which is some 20 times as fast.**
+///
+/// It has a 64-bit counter and a 64-bit nonce, after Daniel J. Bernstein, "ChaCha, a variant of
+/// Salsa20" (2008).
 ///
 /// A draw returns the block of the current state as 64 bytes, each 32-bit word in little-endian
 /// order, and adds 1 to the counter. After the block of the greatest counter, 2^64 - 1, the counter
 /// is 0 again, with the same key and nonce.
 ///
 /// The generator does not buffer: each request starts with a new block, so that even a single byte
-/// takes a whole block. To draw many numbers, use a stream such as `ChaCha20Stream`: it drops no
-/// bytes, and computes eight blocks at once.
+/// takes a whole block. A stream drops no bytes, and computes eight blocks at once.
 ///
 /// Use it for long reproducible streams whose blocks can be reached by index. The cipher is fast
 /// and well studied, and its keystream is believed to be unpredictable while the key is secret.
@@ -215,6 +218,9 @@ impl<const ROUNDS: u8> PartialEq for ChaCha<ROUNDS> {
 
 impl<const ROUNDS: u8> Eq for ChaCha<ROUNDS> {}
 
+/// Writes the name `ChaCha20` for every number of rounds, as `nanorand` 0.7.0 does, and then the
+/// rounds and the counter: `ChaCha20 { rounds: 8, counter: 0 }`. The key and the nonce are not
+/// written.
 impl<const ROUNDS: u8> fmt::Debug for ChaCha<ROUNDS> {
     fn fmt(&self, f: &mut fmt::Formatter<'_>) -> fmt::Result {
         let counter = counter(&self.state);
