@@ -1,4 +1,4 @@
-//! The calls of `Rng` that are also functions, and the iterator.
+//! The methods of `Rng` that are also functions, and the iterator.
 
 use crate::common::{rising, Constant, Steps};
 use nanorand_proved::choices::{self, WeightError};
@@ -8,7 +8,7 @@ use nanorand_proved::{
 };
 use std::fmt::Debug;
 
-/// Each method gives what its function gives, and leaves the same state.
+/// Asserts that each method returns the same as its function, and leaves the same state.
 fn check<G: Rng<N> + PartialEq + Debug + Clone, const N: usize>(mut rng: G) {
     let mut same = rng.clone();
     let (items, weights) = (rising(50), [3, 0, 4, 5]);
@@ -47,7 +47,7 @@ fn methods_are_the_functions() {
     check(ChaCha8::new_key([1; 32], [2; 8]));
 }
 
-/// Methods draw as many words as the functions, also where only one result is possible.
+/// Methods draw as many words as the functions, even if only one result is possible.
 #[test]
 fn methods_are_the_functions_of_few_items() {
     let mut rng = WyRand::new_seed(42);
@@ -84,7 +84,7 @@ fn methods_are_the_functions_of_few_items() {
     }
 }
 
-/// The method equals the function for slices and counts of many sizes, also counts above the length.
+/// The method equals the function for many sizes and counts, including counts above the length.
 #[test]
 fn partial_shuffles_are_the_function() {
     let mut rng = WyRand::new_seed(42);
@@ -133,7 +133,7 @@ fn iterators_draw_what_is_asked_for() {
     assert_eq!(steps.drawn(), 2);
 }
 
-/// Values that are passed over are drawn, of each size and by plain and buffered generators.
+/// Skipped values are drawn, for each size, with plain and buffered generators.
 #[test]
 fn iterators_draw_what_is_passed_over() {
     fn passes_over<T, R, const OUTPUT: usize>(fresh: &R)
