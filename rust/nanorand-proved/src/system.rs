@@ -41,7 +41,11 @@ fn fill_by(
 }
 
 /// `getrandom`, which returns the number of bytes written, or -1 and sets `errno`.
-#[cfg(any(target_os = "linux", target_os = "android", target_os = "dragonfly"))]
+#[cfg(any(
+    all(target_os = "linux", not(target_env = "gnu")),
+    target_os = "android",
+    target_os = "dragonfly",
+))]
 mod call {
     use std::io;
     use std::os::raw::{c_uint, c_void};
@@ -52,16 +56,89 @@ mod call {
         fn getrandom(bytes: *mut c_void, size: usize, flags: c_uint) -> isize;
     }
 
+    // Without flags, the call blocks until the system has gathered enough entropy, which happens
+    // once after it starts.
     pub(super) fn request(bytes: &mut [u8]) -> io::Result<usize> {
-        request_with(bytes, 0)
+        // SAFETY: the slice may be written over its whole size.
+        let count = unsafe { getrandom(bytes.as_mut_ptr().cast(), bytes.len(), 0) };
+        usize::try_from(count).map_err(|_| io::Error::last_os_error())
     }
+}
+
+/// `getrandom` of glibc, which returns the number of bytes written, or -1 and sets `errno`. glibc
+/// has it from 2.25 on, and Rust supports glibc from 2.17 on. So it is looked up at run time, as
+/// std does, and if it is missing, the system call is made by its number.
+#[cfg(all(target_os = "linux", target_env = "gnu"))]
+mod call {
+    use std::io;
+    use std::mem::transmute;
+    use std::os::raw::{c_char, c_long, c_uint, c_void};
+    use std::ptr::null_mut;
+    use std::sync::atomic::{AtomicPtr, Ordering};
+
+    pub(super) const MOST: usize = usize::MAX;
+
+    pub(super) type GetRandom = unsafe extern "C" fn(*mut c_void, usize, c_uint) -> isize;
+
+    extern "C" {
+        fn dlsym(library: *mut c_void, name: *const c_char) -> *mut c_void;
+        fn syscall(number: c_long, ...) -> c_long;
+    }
+
+    // The number of the system call, where it is known.
+    const NUMBER: Option<c_long> = if cfg!(all(target_arch = "x86_64", target_pointer_width = "64"))
+    {
+        Some(318)
+    } else if cfg!(target_arch = "x86") {
+        Some(355)
+    } else if cfg!(target_arch = "arm") {
+        Some(384)
+    } else if cfg!(any(target_arch = "powerpc", target_arch = "powerpc64")) {
+        Some(359)
+    } else if cfg!(target_arch = "s390x") {
+        Some(349)
+    } else if cfg!(any(target_arch = "aarch64", target_arch = "riscv64")) {
+        Some(278)
+    } else {
+        None
+    };
 
     // Without flags, the call blocks until the system has gathered enough entropy, which happens
     // once after it starts.
-    pub(super) fn request_with(bytes: &mut [u8], flags: c_uint) -> io::Result<usize> {
-        // SAFETY: the slice may be written over its whole size.
-        let count = unsafe { getrandom(bytes.as_mut_ptr().cast(), bytes.len(), flags) };
+    pub(super) fn request(bytes: &mut [u8]) -> io::Result<usize> {
+        request_by(get_random(), bytes, 0)
+    }
+
+    pub(super) fn request_by(
+        function: Option<GetRandom>,
+        bytes: &mut [u8],
+        flags: c_uint,
+    ) -> io::Result<usize> {
+        let (first, size) = (bytes.as_mut_ptr().cast::<c_void>(), bytes.len());
+        let count = match (function, NUMBER) {
+            // SAFETY: the slice may be written over its whole size.
+            (Some(getrandom), _) => unsafe { getrandom(first, size, flags) },
+            // SAFETY: the slice may be written over its whole size, and the call of this number
+            // takes these arguments.
+            (None, Some(number)) => unsafe { syscall(number, first, size, flags) as isize },
+            (None, None) => return Err(io::ErrorKind::Unsupported.into()),
+        };
         usize::try_from(count).map_err(|_| io::Error::last_os_error())
+    }
+
+    // Returns the `getrandom` of the C library, or `None` if it has none. It is looked up once.
+    pub(super) fn get_random() -> Option<GetRandom> {
+        const NOT_LOOKED_UP: *mut c_void = usize::MAX as *mut c_void;
+        static ADDRESS: AtomicPtr<c_void> = AtomicPtr::new(NOT_LOOKED_UP);
+        let mut address = ADDRESS.load(Ordering::Acquire);
+        if address == NOT_LOOKED_UP {
+            // SAFETY: the name ends in 0, and a null pointer stands for all loaded libraries.
+            address = unsafe { dlsym(null_mut(), b"getrandom\0".as_ptr().cast()) };
+            ADDRESS.store(address, Ordering::Release);
+        }
+        // SAFETY: the address is null, which is `None`, or that of the function of this name, which
+        // has this type.
+        unsafe { transmute::<*mut c_void, Option<GetRandom>>(address) }
     }
 }
 
@@ -339,14 +416,28 @@ mod tests {
         }
     }
 
-    // Linux rejects unknown flags, and `getentropy` rejects more than 256 bytes.
+    // Linux rejects unknown flags, by the function of glibc and by the number of the system call.
+    #[cfg(all(target_os = "linux", target_env = "gnu", not(miri)))]
+    #[test]
+    fn getrandom_by_name_and_by_number() {
+        use super::call::{get_random, request_by};
+        const EINVAL: i32 = 22;
+        assert!(get_random().is_some(), "glibc 2.25 or newer");
+        for function in [get_random(), get_random(), None] {
+            let refused = request_by(function, &mut [0; 8], !0).expect_err("unknown flags");
+            assert_eq!(refused.raw_os_error(), Some(EINVAL));
+            let mut bytes = [0; 200];
+            let outcome = request_by(function, &mut bytes[..199], 0);
+            assert_eq!(outcome.ok(), Some(199));
+            assert!(bytes[150..].iter().any(|byte| *byte != 0) && bytes[199] == 0);
+        }
+    }
+
+    // `getentropy` rejects more than 256 bytes.
     #[cfg(all(target_os = "linux", not(miri)))]
     #[test]
     fn the_systems_own_error() {
         const EIO: i32 = 5;
-        const EINVAL: i32 = 22;
-        let refused = super::call::request_with(&mut [0; 8], !0).expect_err("unknown flags");
-        assert_eq!(refused.raw_os_error(), Some(EINVAL));
         let refused = super::getentropy::request(&mut [0; 257]).expect_err("too many bytes");
         assert_eq!(refused.raw_os_error(), Some(EIO));
     }
