@@ -1,4 +1,8 @@
 //! Seeds from a source of random bytes that the caller provides.
+//!
+//! For a seed from the operating system, call `from_entropy` of a generator, or `system::fill` for
+//! its bytes. The functions of this module have the names of those of `nanorand` 0.7.0, and are
+//! kept for compatibility with it.
 
 #[cfg(feature = "std")]
 use std::io::Read;
@@ -28,9 +32,11 @@ impl core::fmt::Display for EntropyError {
 #[cfg(feature = "std")]
 impl std::error::Error for EntropyError {}
 
-/// Fills the slice with the next bytes of the reader, and takes exactly that many. This is proved
-/// for readers such as a slice of bytes. The reader may return the bytes in pieces of any size. For
-/// an empty slice the function returns `Ok` and reads nothing.
+/// Fills the slice with the next bytes of the reader, and takes exactly that many. It does not ask
+/// the operating system: [`system::fill`](crate::system::fill) does.
+///
+/// This is proved for readers such as a slice of bytes. The reader may return the bytes in pieces of
+/// any size. For an empty slice the function returns `Ok` and reads nothing.
 ///
 /// # Errors
 ///
@@ -52,13 +58,15 @@ pub fn system<R: Read>(source: &mut R, out: &mut [u8]) -> Result<(), EntropyErro
 }
 
 /// Stands in for a random-number instruction of the processor, which this library does not use.
-/// Always returns `None` and leaves the slice unchanged.
+/// Always returns `None` and leaves the slice unchanged. It is kept for compatibility with
+/// `nanorand` 0.7.0; call `from_entropy` of a generator instead.
 pub fn rdseed(out: &mut [u8]) -> Option<usize> {
     let _ = out;
     None
 }
 
-/// Stands in for an entropy source of last resort. There is none.
+/// Stands in for an entropy source of last resort. There is none. It is kept for compatibility with
+/// `nanorand` 0.7.0; call `from_entropy` of a generator instead.
 ///
 /// # Errors
 ///
