@@ -134,7 +134,7 @@ class Lots(unittest.TestCase):
             lots.draw("seed", NAMES, 13)
         self.assertEqual((caught.exception.entrants, caught.exception.count), (12, 13))
         self.assertEqual(str(caught.exception), "12 entrants, 13 asked for")
-        with self.assertRaisesRegex(TypeError, "^entrants is a str: pass the bytes of a list, or a sequence of entrants$"):
+        with self.assertRaisesRegex(TypeError, "^entrants is a str: pass the bytes of a list, or a sequence of"):
             lots.draw("seed", "abc")
         for error in (EmptySeed, SeedNotText, EmptyLine, TooFew):
             self.assertTrue(issubclass(error, NanorandError) and issubclass(error, ValueError))
