@@ -62,7 +62,7 @@ impl<R: rand::Rng<OUTPUT>, const OUTPUT: usize> gen::RandomRange<R, OUTPUT> for 
     }
 }
 
-/// A user's own generator, with its own `fill`.
+/// A user's own generator, with its own `fill_bytes`.
 #[derive(Clone)]
 pub struct Counter(pub u8);
 
