@@ -69,8 +69,8 @@ step() {
     fi
 }
 
-# Adds the sum in the last line of the file $1. A file without a sum counts as a failure. So does a status $2, of the
-# command that printed the file, other than 0 if the sum has no failure.
+# Adds the sum in the last line of the file $1. $2 is the status of the command that printed it. A file without a sum
+# counts as a failure, and so does a status other than 0 if the sum has no failure.
 add_sum() {
     if [[ $(tail -n 1 "$1") =~ ^([0-9]+)\ passed,\ ([0-9]+)\ failed$ ]]; then
         passed=$((passed + BASH_REMATCH[1]))
