@@ -177,7 +177,7 @@ runs_on_every_processor() {
     objdump -d --no-show-raw-insn "$1" >"$work/code" && ! grep -m 1 -E "$later" "$work/code"
 }
 
-# Whether the version of the command $2 is $1, or $1 and a patch number.
+# Whether the version of the command $2 is $1 and any patch number, such as 1.63.0 for 1.63.
 is_version() {
     grep -qF " $1." <<<"$("$2" --version 2>/dev/null)"
 }
