@@ -29,7 +29,7 @@ ITEMS = ["an item %d" % place for place in range(9)]
 
 
 class Fails:
-    """A sequence and a number whose methods always fail."""
+    """A sequence and a number. Everything but its length raises an error."""
 
     def __len__(self):
         return 3
