@@ -94,7 +94,7 @@ changed() {
 refused_by_c() {
     changed job cc "$long_parts"
     check 'a part within the period' "$(in_room "$work/changed/job" $((past_period / 2)) 1 2>&1 >"$work/printed")"
-    refuses 'a part past the period' "job: task $past_period was refused with status 3" \
+    refuses 'a part past the period' "job: task $past_period failed with status 3" \
         "$work/changed/job" "$past_period" 1
     changed job cc 's/nanorand_pcg64_shuffle(/NANORAND_EXHAUSTED | &/'
     refuses 'a shuffle that fails' 'job: task 7 was refused with status 2' "$work/changed/job" 7 1
@@ -111,7 +111,7 @@ by_mpi() {
         prints "MPI, $processes processes" "$table" "$examples/run" mpi "$processes"
     done
     changed mpi mpicc "$long_parts; s/(uint64_t)task,/$past_period * &/"
-    refuses 'MPI, past the period' 'mpi: task 1 was refused with status 3' \
+    refuses 'MPI, past the period' 'mpi: task 1 failed with status 3' \
         env ROOM="$work/changed" "$examples/run" mpi 2
     changed mpi mpicc 's/print_table(all)/printf("side of %d\\n", processes)/'
     echo 'side of 3' >"$work/side"

@@ -114,7 +114,7 @@ function withDigests(text) {
 const LIST_WORDS = {
   draw: {
     "list-heading": "1. Close the list",
-    "list-hint": "One entrant a line, no empty line. Publish the list with its SHA-256 before " +
+    "list-hint": "One entrant per line, no empty lines. Publish the list with its SHA-256 before " +
       "anybody knows the seed.",
     "digest-label": "SHA-256 to publish:",
   },
