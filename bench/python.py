@@ -1,10 +1,10 @@
 #!/usr/bin/env python3
-"""Measures the calls of the installed package beside those of Python's `random.Random`: bench/python.py [RUNS].
+"""Compares the speed of the installed package with Python's `random.Random`: bench/python.py [RUNS].
 
-It prints tables in Markdown: of the generators, of the classes of nanorand.randoms, and, where NumPy is, of its
-Generator over those of nanorand.numpy. The first number of a row is Python's own time of the call, or that of NumPy's
-PCG64, in nanoseconds; the others are what of that time the class takes. Each is the median of RUNS runs, 9 if not
-told, which all take one in turn.
+It prints tables in Markdown: for the generators, for the classes of nanorand.randoms and, if NumPy is installed, for
+NumPy's Generator with the classes of nanorand.numpy. The first number of a row is the time of Python's own call, or of
+NumPy's PCG64, in nanoseconds. The others are the ratios of each class's time to it. Each is the median of RUNS runs, by
+default 9, in which the classes take turns.
 """
 
 import random
@@ -15,10 +15,10 @@ import timeit
 from nanorand import ChaCha8, ChaCha12, ChaCha20, Pcg64, Stream, WyRand, randoms
 
 RUNS = 9
-SECONDS = 0.02  # of a run, about
+SECONDS = 0.02  # the approximate length of a run
 GENERATORS = [WyRand, Pcg64, Stream, ChaCha8, ChaCha12, ChaCha20]
 RANDOMS = [getattr(randoms, f"{kind.__name__}Random") for kind in GENERATORS]
-# The call of random.Random, and that of a generator of ours; the classes of nanorand.randoms take the first.
+# The call of random.Random, and that of our generators. The classes of nanorand.randoms have the first.
 CALLS = [
     ("rng.getrandbits(64)", "rng.u64()"),
     ("rng.random()", "rng.random()"),
@@ -36,7 +36,7 @@ CALLS = [
     ("[rng.random() for _ in thousand]", "rng.fill_random(doubles)"),
     ("[rng.randint(1, 100) for _ in thousand]", "rng.fill_range(words, 1, 100)"),
 ]
-# The calls of a Generator of NumPy's, of a million numbers.
+# The calls of NumPy's Generator, for a million numbers.
 NUMPY_CALLS = [
     "rng.integers(0, 1000, 10**6)",
     "rng.integers(0, 2**40, 10**6)",
@@ -56,7 +56,7 @@ def made(kind):
 
 
 def timer(call, rng):
-    """What times a call, and how often one run makes it."""
+    """The timer of a call, and how often one run makes the call."""
     found = timeit.Timer(call, VALUES, globals={"rng": rng})
     count = 1
     while found.timeit(count) < SECONDS / 10:
@@ -65,13 +65,13 @@ def timer(call, rng):
 
 
 def nanoseconds(timers, runs):
-    """The median time of a call of each timer; all take a run in turn."""
+    """The median time of a call for each timer, in nanoseconds. The timers take turns."""
     times = [[found.timeit(count) / count for found, count in timers] for _ in range(runs)]
     return [statistics.median(column) * 1e9 for column in zip(*times)]
 
 
 def row(calls, rngs, runs):
-    """The nanoseconds of a call of the first one, and each other's part of them."""
+    """The nanoseconds of a call of the first generator, and the ratios of the others' times to it."""
     timers = [timer(call, rng) for call, rng in zip([calls[0]] + [calls[1]] * len(rngs), rngs)]
     own, *others = nanoseconds(timers, runs)
     return [f"`{calls[1].removeprefix('rng.')}`", f"{own:,.0f}", *(f"{other / own:.2f}" for other in others)]
@@ -87,19 +87,19 @@ def table(names, calls, rngs, runs):
 
 
 def python_table(kinds, calls, runs):
-    """Classes of this package beside `random.Random`."""
+    """Compares classes of this package with `random.Random`."""
     names = ["random.Random", *(kind.__name__ for kind in kinds)]
     table(names, calls, [random.Random(42), *map(made, kinds)], runs)
 
 
 def numpy_table(runs):
-    """NumPy's Generator over bit generators of this package beside one over its own."""
+    """Compares NumPy's Generator with this package's bit generators and with its own."""
     try:
         from numpy.random import PCG64, Generator
 
         from nanorand.numpy import Pcg64Bits, StreamBits, WyRandBits
     except ImportError as error:
-        print(f"skipped: NumPy, as it is not there: {error}")
+        print(f"skipped: NumPy, as it cannot be imported: {error}")
         return
     kinds = [PCG64, WyRandBits, Pcg64Bits, StreamBits]
     names = [kind.__name__ for kind in kinds]

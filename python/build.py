@@ -1,7 +1,8 @@
 #!/usr/bin/env python3
-"""Builds the wheel of this Python: python/build.py [FOLDER]. It is written to FOLDER, or to python/dist.
+"""Builds the wheel for this Python, and prints its path: python/build.py [FOLDER].
 
-python/backend.py says which static library it takes, and what it needs.
+The wheel is written to FOLDER, by default python/dist. python/backend.py documents which static library it uses, and
+what it needs.
 """
 
 import sys

@@ -1,6 +1,9 @@
 #!/usr/bin/env bash
-# Compares, on calls that seeds choose, the Rust crate with the proved static library, and that with the library by
-# cargo, function by function. Without the kit the crate is compared with the library by cargo alone.
+# Compares the libraries on pseudorandom calls, the same in each run: tests/against_c.sh.
+#
+# The Rust crate is compared with the proved static library, and the latter, function by function, with the static
+# library that cargo builds. Without the kit, the Rust crate is compared with cargo's library only. Prints N passed, M
+# failed.
 # shellcheck source=tests/lib.sh
 source "$(dirname "${BASH_SOURCE[0]}")/lib.sh"
 archives=tests/against_c/target/archives
@@ -14,7 +17,7 @@ PREFIX=$work c/install || exit
 if command -v rt >/dev/null; then
     tests/build.sh library || exit
     cp crates/nanorand_c/out/libnanorand_c.a "$archives/libone.a"
-    # Both have the same names.
+    # Both libraries have the same names, so those of one are changed.
     tools/header.py --symbols | sed 's/nanorand_v1_\(.*\)/& other_\1/' >"$work/renamed"
     objcopy --redefine-syms="$work/renamed" "$work/lib/libnanorand.a" "$archives/libother.a"
     tests=()

@@ -1,13 +1,15 @@
 #!/usr/bin/env bash
-# Tests the archive of tools/archive.py: that a second packing has equal bytes, and that each part can be used
-# from the unpacked archive alone, without the kit. The second packing is that of a copy of the files at
-# another path, with another umask, time zone, locale and time of the files. What rt proves and builds
-# (the static library, the page's module, draw and lots) is the same in both, and not proved twice.
+# Tests the archive of tools/archive.py: tests/archive.sh. The last line is N passed, M failed.
+#
+# A second archive must have the same bytes, and each part must be usable from the unpacked archive alone, without the
+# kit. The second archive is packed from a copy of the files at another path, with another umask, time zone, locale and
+# file times. What rt proves and builds (the static library, the page's module, draw and lots) is copied, not proved
+# twice.
 #
 # shellcheck source=tests/lib.sh
 source "$(dirname "${BASH_SOURCE[0]}")/lib.sh"
 
-# Compares the case $1: that the rest, a command, ends well and prints the text $2.
+# The case $1: the command after $2 ends with status 0 and prints the text $2.
 prints() {
     local case=$1 wanted=$2 status=0
     shift 2
@@ -19,7 +21,7 @@ prints() {
     fi
 }
 
-# The committed files at another path, and what was built here, with the times of this moment.
+# Copies the committed files, uncommitted changes to them, and what was built here to the path $1, with new file times.
 copy_of_tree() {
     local built
     git clone --quiet . "$1" || return
@@ -40,7 +42,7 @@ same_again() {
     check 'a second archive' "$(cmp "$archive" "$copy/$archive" 2>&1)"
 }
 
-# What the archive says of its files: one folder, no owner, one time, the modes, in order, each once.
+# The archive's entries: one folder, no owner, one time, four kinds and modes, names in order and each once.
 entries() {
     TZ=UTC tar --numeric-owner --full-time -tvzf "$archive" >"$work/entries"
     awk '{ print $1, $2, $4, $5 }' "$work/entries" | sort -u >"$work/kinds"
@@ -56,14 +58,14 @@ entries() {
     check 'no path of this machine' "$(LC_ALL=C grep -rlF "$PWD" "$root" | head -n 3)"
 }
 
-# The digests in SHA256SUMS, of every file but itself.
+# SHA256SUMS has the right digest of every file except itself.
 digests() {
     check 'SHA256SUMS' "$(cd "$root" && sha256sum --quiet --strict -c SHA256SUMS 2>&1)"
     check 'every file has a digest' "$(diff <(cut -c67- "$root/SHA256SUMS" | sort) \
         <(cd "$root" && find . -type f ! -name SHA256SUMS | cut -c3- | sort))"
 }
 
-# That each file of the README's table is there, and that the table has each that lies at the top.
+# Each file in the README's table exists, and the table has each file and folder at the top.
 table_of_files() {
     local path
     sed -n 's/^| \(`.*\) | .* |$/\1/p' "$root/README.md" | grep -o '`[^`]*`' | tr -d '`' >"$work/listed"
@@ -74,7 +76,7 @@ table_of_files() {
         <(find "$root" -mindepth 1 -maxdepth 1 ! -name README.md ! -name LICENSE -printf '%P\n' | LC_ALL=C sort))"
 }
 
-# That the files are those of the source.
+# The files are those of the repository.
 sources() {
     local pair
     for pair in c/include/nanorand.h:include/nanorand.h tests/answers/answers.tsv:answers/answers.tsv LICENSE:LICENSE \
@@ -88,7 +90,7 @@ sources() {
     check 'the list of the Rust packages' "$(diff "$work/wanted" "$work/found" | head -n 5)"
 }
 
-# The shared library: its name, and that it has the header's functions and no others.
+# The shared library: its name, its functions (the header's and no others), what it needs, and no executable stack.
 shared_library() {
     local library=$root/lib/libnanorand.so.1
     check 'soname' \
@@ -101,8 +103,7 @@ shared_library() {
     check 'no code on the stack' "$(readelf -lW "$library" | grep GNU_STACK | grep -v 'RW  ')"
 }
 
-# The example of the unpacked archive by the flags of pkg-config, with the shared library and with the
-# static one.
+# The example of the unpacked archive, built with the flags of pkg-config, with the shared and the static library.
 c_programs() {
     local flags wanted compiler=(cc -std=c11 -Wall -Wextra -Werror)
     export PKG_CONFIG_PATH=$root/lib/pkgconfig
@@ -159,7 +160,7 @@ python_program() {
     check 'the files of the Python package' "$(diff "$work/wanted" "$work/found" | head -n 5)"
 }
 
-# The module inside the page is the one beside it, which SHA256SUMS has.
+# The module in the page is the file beside it, whose digest is in SHA256SUMS.
 page() {
     grep -oP '<script type="text/plain" id="module">\K[^<]*' "$root/web/nanorand.html" | base64 -d >"$work/module.wasm"
     check 'the module of the page' "$(cmp "$work/module.wasm" "$root/web/nanorand_c.wasm" 2>&1)"

@@ -1,17 +1,21 @@
 #!/usr/bin/env bash
-# Builds what other parts run: tests/build.sh PIECE.., each library, page, draw or lots.
+# Builds what other parts of the test run. Each PIECE is library, page, draw or lots:
 #
-# A program is left as crates/NAME/out/NAME, as LLVM compiles it, and NAME.by-rattle, by Rattle's own compiler.
-# By itself each piece is proved first, by rt. Where PROVED names a checkout in which rt ci has passed, its
-# programs are taken, and the library and the page's module are compiled over the libraries that it left, since
-# rt would prove all of these again. Where BUILT is set, ./test has built the pieces already.
+#     tests/build.sh PIECE..
+#
+# For example, tests/build.sh library draw. A program is left as crates/NAME/out/NAME, compiled by LLVM, and as
+# NAME.by-rattle, compiled by Rattle's own compiler.
+#
+# By default rt proves each piece first. If PROVED names a checkout in which rt ci has passed, its programs are copied,
+# and the library and the page's module are compiled with the libraries that it left, because rt would prove all of
+# these again. If BUILT is set, ./test has built the pieces already, and the script does nothing.
 set -euo pipefail
 cd "$(dirname "$0")/.."
 unset RT_BACKEND
 crate=nanorand_c
 
-# Compiles the crate of exports for the target $1 into the file $2, over the libraries that rt ci left. What is proved for
-# one target serves the other.
+# Compiles the crate of exports for the target $1 into the file $2, with the libraries that rt ci left. What is proved
+# for one target serves the other.
 compile() {
     local kit words
     kit=$(dirname "$(rt doc)")
@@ -44,7 +48,7 @@ page() {
     fi
 }
 
-# Builds the program $1, which runs well with the arguments that follow.
+# Builds the program $1. `rt run` also runs it, with the arguments that follow, with which it succeeds.
 program() {
     local name=$1 out=crates/$1/out
     shift
@@ -53,7 +57,7 @@ program() {
         cp "$PROVED/$out/$name" "$PROVED/$out/$name.by-rattle" "$out/"
         return
     fi
-    # The last build, by llvm, is the one that stays.
+    # The last build, by LLVM, is the one that stays as $name.
     rm -f "$out/$name"
     (cd "crates/$name" && rt run --backend rattle -- "$@")
     mv "$out/$name" "$out/$name.by-rattle"

@@ -1,9 +1,10 @@
 #!/usr/bin/env bash
-# Tests build.rs of rust/nanorand-proved, which sets the compiler's hints at mistakes by the version that it says.
+# Tests build.rs of rust/nanorand-proved, which switches on the compiler's hints at mistakes if the compiler's version
+# has them: tests/build_script.sh. The last line is N passed, M failed.
 # shellcheck source=tests/lib.sh
 source "$(dirname "${BASH_SOURCE[0]}")/lib.sh"
 
-# build.rs prints $2 if the compiler $1 says $3, or names no compiler if $1 is empty.
+# build.rs prints $2 if RUSTC is the compiler $1, whose version is $3, or if RUSTC is not set and $1 is empty.
 build_prints() {
     local printed
     printed=$(env -u RUSTC ${1:+"RUSTC=$1"} "SAID=$3" target/build_script/program) && [ "$printed" = "$2" ] && return
@@ -11,7 +12,8 @@ build_prints() {
     return 1
 }
 
-# It sets the hints by each version from 1.78 on, and says their name by each from 1.80 on, and by no version.
+# It sets the hints for each version from 1.78 on. It declares their name for each version from 1.80 on, and if it
+# cannot read the version.
 sets_hints_by_the_version() {
     local folder=$PWD/target/build_script first=cargo:rerun-if-changed=build.rs minor rest said wanted
     local name=$'\ncargo:rustc-check-cfg=cfg(diagnostic_hints)' hints=$'\ncargo:rustc-cfg=diagnostic_hints'

@@ -1,20 +1,26 @@
 #!/usr/bin/env bash
-# Tests the C interface of two libraries: that which c/install builds and, where the kit is, the proved one, which is
-# proved and built first. The header is that of the exports and of the archives' symbols. By four compilers, warnings
-# as errors, the header stands alone and warns, structs lie in memory as declared, and the table of known answers, the
-# edges and the example are compiled once and linked with both. Then come two releases in one program, what c/install
-# installs, the crate of the exports, and whether the tests run all its code. `tests/c.sh kit` tests what is linked with the
-# proved library alone, and `tests/c.sh cargo` all else.
+# Tests the C interface of two libraries: the one that c/install builds and, if the kit is there, the proved one, which
+# is proved and built first.
+#
+#     tests/c.sh          tests both
+#     tests/c.sh kit      tests only what is linked with the proved library
+#     tests/c.sh cargo    tests everything else
+#
+# The header must declare the exports and the archives' symbols. With four compilers, and warnings as errors, the header
+# compiles alone and warns of mistakes, and structs have the declared layout in memory. The table of known answers, the
+# edge cases and the example are compiled once and linked with both libraries. Then come two releases in one program,
+# what c/install installs, the crate of the exports, and a check that the tests run all its code. The last line is N
+# passed, M failed.
 # shellcheck source=tests/lib.sh
 source "$(dirname "${BASH_SOURCE[0]}")/lib.sh"
-# The static libraries, by what built them.
+# The static library that each of cargo and kit built.
 declare -A archives=()
 warnings=(-Wall -Wextra -pedantic -Werror)
-# Each compiler, and the standards that it is asked for, the widest test with the first of them.
+# Each compiler and the standards to test. All tests use the first standard, some use the others.
 standards=('gcc c99 c11 c17' 'clang c99 c11 c17' 'g++ c++11 c++17' 'clang++ c++11 c++17')
 sanitizers=(-g '-fsanitize=address,undefined' -fno-sanitize-recover=all)
 
-# Builds and installs the library by rustc and cc.
+# Builds and installs the library with rustc and cc.
 by_cargo() {
     if ! available cc gcc || ! available rustc rustc || ! available cargo cargo; then
         skip 'the C interface of the library by cargo' 'there is no cc, rustc or cargo'
@@ -25,7 +31,7 @@ by_cargo() {
     fi
 }
 
-# Builds the proved library, where the kit is.
+# Builds the proved library, if the kit is there.
 by_the_kit() {
     if ! command -v rt >/dev/null; then
         skip 'the C interface of the proved library' 'there is no kit'
@@ -36,7 +42,7 @@ by_the_kit() {
     fi
 }
 
-# Compiles for the compiler and standard of the words $1; the rest are files and flags.
+# Compiles with the compiler and the standard in $1, such as 'gcc c99'. The rest are files and flags.
 compile() {
     local words=$1 language=c
     shift
@@ -46,7 +52,7 @@ compile() {
         2>"$work/errors"
 }
 
-# Compiles the source $2 for $1, with the flags that follow, and links it with each library. A program has the
+# Compiles the source $2 as $1 says, with the flags that follow, and links it with each library. The program has the
 # name of its library.
 build() {
     local words=$1 source=$2 library
@@ -58,7 +64,7 @@ build() {
     done
 }
 
-# Builds the source $2 for $1 with the flags that follow, and runs its tests.
+# Builds the source $2 as $1 says, with the flags that follow, and runs its tests.
 tests_of() {
     local library name="$1 ${2##*/} ${*:3}"
     if ! build "$@"; then
@@ -70,7 +76,7 @@ tests_of() {
     done
 }
 
-# The program of the source $2, built for $1, prints what the file $3 has.
+# The program of the source $2, built as $1 says, prints the content of the file $3.
 prints() {
     local library
     if ! build "$1" "$2"; then
@@ -83,7 +89,7 @@ prints() {
     done
 }
 
-# All tests by one compiler, which $1 names with its standards.
+# All tests with one compiler; $1 is its name and its standards.
 compiler() {
     local name=${1%% *} package standard first
     package=${name/clang++/clang}
@@ -104,7 +110,7 @@ compiler() {
     sanitized "$name $first"
 }
 
-# The same under the sanitizers, where the compiler has them.
+# The same with sanitizers, if the compiler has them.
 sanitized() {
     printf 'int main(void) { return 0; }\n' >"$work/empty.c"
     if ! compile "$1" "${sanitizers[@]}" -o "$work/empty" "$work/empty.c" || ! "$work/empty"; then
@@ -117,7 +123,7 @@ sanitized() {
     tests_of "$1" "$work/answers.c" "${sanitizers[@]}"
 }
 
-# The compiler of the words $1 meets the statement $2 by the warning $3, or by none.
+# The compiler in $1 warns of the statement $2 with the text $3, or does not warn if $3 is empty.
 warns() {
     cat >"$work/warns.c" <<END
 #include "nanorand.h"
@@ -137,8 +143,8 @@ END
     fi
 }
 
-# Null in place of a state, a number or a block is met by a warning, and so is a status that nobody reads. Null for
-# an array of no items is met by none.
+# The compiler warns of a null pointer to a state, a number or a block, and of a status that is not read. It does not
+# warn of a null pointer to an empty array.
 warnings_of() {
     local call
     for call in 'pcg64_u64(NULL)' 'pcg64_fill_bytes(NULL, text, 1)' 'pcg64_jump(rng, NULL)' \
@@ -162,7 +168,7 @@ warnings_of() {
     warns "$1" 'nanorand_lots_digest(NULL, 0, text);' ''
 }
 
-# Where a size_t has 32 bits the header is refused, in its own words. A compiler that has no attributes finds none.
+# If size_t has 32 bits, the header reports an error of its own. A compiler without attributes finds none in it.
 other_compilers() {
     local clang=(clang -ffreestanding -fsyntax-only -Ic/include c/tests/alone.c)
     if ! command -v clang >/dev/null; then
@@ -177,8 +183,8 @@ other_compilers() {
     check 'no attribute' "$("${clang[@]}" --target=x86_64 -U__GNUC__ -E 2>&1 | grep -m 1 'nonnull\|warn_unused')"
 }
 
-# Both releases whole in one program, in the order of these archives: the exports of each, none at an address of the
-# other's.
+# Links both releases completely into one program, in the order of these archives. The program has the exports of both,
+# and no export of one has the address of an export of the other.
 both_releases() {
     local shared
     if ! cc -o "$work/both" "$work/ours.o" "$work/theirs.o" -Wl,--whole-archive "$@" -Wl,--no-whole-archive \
@@ -193,7 +199,7 @@ both_releases() {
     check 'a body for each release' "$shared"
 }
 
-# Another release has the number 2 in the names of the header and of the archive.
+# The other release has the number 2 in the names in its header and its archive.
 two_releases() {
     local source=c/tests/two_releases.c archive other=$work/libother.a
     mkdir "$work/other"
@@ -211,7 +217,7 @@ two_releases() {
     done
 }
 
-# The tests run all code of the exports: it is compiled here so that LLVM counts what runs.
+# The tests run all code of the exports. The crate is compiled so that LLVM counts what runs.
 all_exports_run() {
     local source command package target=$work/coverage
     read -r command package < <(tools/uncovered.py --tools)
@@ -221,7 +227,7 @@ all_exports_run() {
     fi
     export LLVM_PROFILE_FILE=$target/profiles/%m-%p.profraw
     RUSTFLAGS=-Cinstrument-coverage cargo build --quiet --offline --target-dir "$target" --manifest-path rust/nanorand-c/Cargo.toml
-    # It has no std, so nothing unwinds.
+    # The crate has no std, so nothing unwinds.
     for source in c/tests/edges.c c/tests/guards.c c/tests/layout.c "$work/answers.c"; do
         cc -DFEW -Ic/include -Ic/tests -o "$target/debug/deps/$(basename "$source" .c)" "$source" "$target/debug/libnanorand.a" \
             -Wl,--defsym=rust_eh_personality=0 -Wl,--undefined=__llvm_profile_runtime
@@ -246,7 +252,7 @@ if available cc gcc; then
 fi
 if [ -n "${archives[cargo]-}" ]; then
     part c/tests/install.sh
-    # Debian's rustc is old, and stands beside a newer one.
+    # Debian's rustc, an old version, may be installed beside a newer one.
     available /usr/bin/rustc rustc
     available /usr/bin/cargo cargo
     part tests/c_crate.sh

@@ -1,24 +1,25 @@
 #!/usr/bin/env bash
-# Tests the crate of the C library, rust/nanorand-c, with cargo. Its exports are tested from C, by tests/c.sh.
+# Tests the crate of the C library, rust/nanorand-c, with cargo: tests/c_crate.sh. The last line is N passed, M failed.
+# tests/c.sh tests the exports from C, and runs this script.
 # shellcheck source=tests/lib.sh
 source "$(dirname "${BASH_SOURCE[0]}")/lib.sh"
 cd rust/nanorand-c || exit
 oldest=$(sed -n 's/^rust-version = "\(.*\)"$/\1/p' Cargo.toml)
 
-# Unsafe code is in one file, and each use says why it is safe.
+# Unsafe code is in one file, and a comment at each use says why it is safe.
 unsafe_in_one_file() {
     [ "$(grep -lw 'unsafe {' src/*)" = src/boundary.rs ] &&
         [ "$(grep -cw 'unsafe {' src/boundary.rs)" -eq "$(grep -c '// SAFETY: ' src/boundary.rs)" ] &&
         ! grep -w unsafe src/* | grep -vE 'unsafe \{|^src/boundary.rs://!'
 }
 
-# Each struct lies in memory as C has it.
+# Each public struct has the memory layout of C.
 laid_out_as_in_c() {
     ! awk '/^pub struct/ && before !~ /^#\[repr\((C|transparent)\)\]$/ { print FILENAME ": " $0 } { before = $0 }' \
         src/*.rs | grep .
 }
 
-# What cargo links exports the header's functions alone.
+# The shared library that cargo links exports the header's functions and no others.
 exports_the_header() {
     cargo build --offline --release &&
         diff <(nm -D --defined-only target/release/libnanorand.so | awk '{ print $3 }' | sort) \

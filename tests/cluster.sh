@@ -1,8 +1,9 @@
 #!/usr/bin/env bash
-# Tests examples/cluster, over the library that c/install builds: that a plain loop, Dask, MPI with 1, 2 and 4 processes
-# and a job array give the committed sums; that Dask with 1 and 2 workers and the loop over one generator, which take
-# minutes for all tasks, give those of the first 100; that a worker which is killed changes none, and that a part past
-# the period is refused.
+# Tests examples/cluster with the library that c/install builds: tests/cluster.sh. The last line is N passed, M failed.
+#
+# A plain loop, Dask, MPI with 1, 2 and 4 processes and a job array must print the committed sums. Dask with 1 and 2
+# workers, and the loop over one generator, must print the sums of the first 100 tasks; all tasks would take minutes.
+# Killing a worker must not change the sums, and a part past the end of the period must be an error.
 # shellcheck source=tests/lib.sh
 source "$(dirname "${BASH_SOURCE[0]}")/lib.sh"
 examples=$PWD/examples/cluster
@@ -10,16 +11,17 @@ trap end EXIT
 unset ROOM PYTHONPATH
 mkdir "$work/room" "$work/temporary"
 warnings=(-std=c11 -O2 -Wall -Wextra -pedantic -Werror "-I$work/room/include")
-# The index of a part of the greatest length that is past the period of 2^126 draws, and sed's change to such parts.
+# The index of the first part of the greatest length (2^64 - 1 draws) that ends past the period of 2^126 draws, and the
+# sed command that makes all parts so long.
 past_period=$((1 << 62))
 long_parts='s/index, DRAWS)/index, UINT64_MAX)/'
 
-# The processes that were started in the folder of this test and still run.
+# The running processes that this test started: their environment names its folder.
 running() {
     grep -lsF "$work" /proc/[0-9]*/environ | cut -d / -f 3
 }
 
-# Ends what an interrupted test has left.
+# Ends the processes that an interrupted test left.
 end() {
     local process
     for process in $(running); do
@@ -28,15 +30,14 @@ end() {
     rm -rf "$work"
 }
 
-# Runs a command over what was built, with all its files in the folder of this test. Dask and Matplotlib would write
-# into the user's.
+# Runs a command with what was built, and with all its files in the folder of this test. Otherwise Dask and Matplotlib
+# would write into the user's folder.
 in_room() {
     env ROOM="$work/room" TMPDIR="$work/temporary" DASK_CONFIG="$work/dask" DASK_TEMPORARY_DIRECTORY="$work" \
         MPLCONFIGDIR="$work/matplotlib" PYTHONDONTWRITEBYTECODE=1 timeout 600 "$@" </dev/null
 }
 
-# The case $1: the command ends well, and the last that it prints is the table in the file $2. A progress bar stands
-# before it.
+# The case $1: the command succeeds, and its output ends with the table in the file $2. A progress bar may come before.
 prints() {
     local case=$1 table=$2 status=0
     shift 2
@@ -49,7 +50,7 @@ prints() {
     fi
 }
 
-# The case $1: the command ends with an error, and says so by the text $2.
+# The case $1: the command fails and prints the text $2.
 refuses() {
     local case=$1 text=$2 status=0
     shift 2
@@ -61,12 +62,12 @@ refuses() {
     fi
 }
 
-# The tests of test_percolation.py, which are given options of unittest.
+# Runs test_percolation.py with these options of unittest.
 percolation_tests() {
     (cd "$work/room" && PYTHONPATH=$work/room/python in_room /usr/bin/python3 "$examples/test_percolation.py" "$@")
 }
 
-# The loop in C, which takes a second, and the job array, which leaves no file behind where it has no folder.
+# The loop in C, which takes a second, and the job array, which leaves no file behind if it is given no folder.
 by_c() {
     prints 'a job array' "$table" "$examples/run" array
     prints 'the same jobs again' "$table" "$examples/run" array
@@ -79,7 +80,7 @@ by_c() {
     refuses 'a way that there is not' 'usage: ' "$examples/run" mpi
 }
 
-# Builds the program $1, by the compiler $2, from sources that sed has changed by $3, in the folder $work/changed.
+# Builds the program $1 with the compiler $2, from sources that the sed command $3 changed, in the folder $work/changed.
 changed() {
     mkdir -p "$work/changed"
     ln -sfn "$work/room/lib" "$work/changed/lib"
@@ -89,7 +90,7 @@ changed() {
         "$work/changed/percolation.c" "$work/room/lib/libnanorand.a" -lm 2>&1)"
 }
 
-# Parts of the greatest length, of which the last within the period has the index 2^61; and a shuffle that is refused.
+# Parts of the greatest length: one within the period, with the index 2^61, and one past it. A shuffle that fails.
 refused_by_c() {
     changed job cc "$long_parts"
     check 'a part within the period' "$(in_room "$work/changed/job" $((past_period / 2)) 1 2>&1 >"$work/printed")"
@@ -117,7 +118,7 @@ by_mpi() {
     prints 'how many processes' "$work/side" env ROOM="$work/changed" "$examples/run" mpi 3
 }
 
-# The committed picture, where the version of Matplotlib is that which drew it.
+# The committed picture, if this version of Matplotlib drew it.
 picture() {
     local version
     version=$(grep -o 'Matplotlib v[0-9.]*[0-9]' "$work/percolation.svg")
@@ -146,7 +147,7 @@ by_python() {
     prints 'a loop in Python' "$work/first" "$examples/run" plain --tasks 100
 }
 
-# The processes that do not end by themselves within some seconds.
+# The processes that do not end by themselves within a few seconds.
 left_over() {
     for _ in {1..100}; do
         [ -n "$(running)" ] || return

@@ -1,10 +1,14 @@
 #!/usr/bin/env bash
-# Tests ./copy_library: tests/copy_library.sh. First a small stand-in for the library is copied: what is said, copied,
-# kept and ignored, with and without kept proofs, over an older copy, and with the wrappers for the kit's rand. Then the
-# library: CALLING's first steps in a fresh repository, and those of TASKS with `rand`. Both programs run, unproved. All
-# that takes seconds.
-# `tests/copy_library.sh proved` then copies the library with its proofs, which it makes where they are missing, and
-# proves and runs the program, which must prove nothing of the library again: that takes minutes.
+# Tests ./copy_library.
+#
+#     tests/copy_library.sh           takes seconds
+#     tests/copy_library.sh proved    also proves, which takes minutes
+#
+# First a small stand-in for the library is copied, with and without kept proofs, over an older copy, and with the
+# wrappers for the kit's rand. The test compares what is printed, copied, kept and ignored by git. Then the library is
+# copied, and the test follows CALLING's first steps in a fresh repository and the steps of TASKS with `rand`. Both
+# programs run unproved. `proved` then proves the library if its kept proofs are missing, copies it with them, and
+# proves and runs the program. This must not prove any of the library again. The last line is N passed, M failed.
 # shellcheck source=tests/lib.sh
 source "$(dirname "${BASH_SOURCE[0]}")/lib.sh"
 top=$PWD
@@ -15,12 +19,12 @@ with='with the proofs that rt kept'
 without='without proofs that rt kept: the first check takes some minutes'
 stay='whose earlier proofs stay: the next check proves what has changed'
 
-# What ./copy_library of the folder $1 says of proofs when it copies to $2.
+# What the folder $1's ./copy_library says about proofs when it copies to $2.
 copy() {
     "$1/copy_library" "$2" | sed "s|^copied nanorand_core, nanorand_replay, nanorand_fairness and nanorand to $2, ||"
 }
 
-# Gives the crates below $1 what `rt` would keep, with the text $2.
+# Writes the files that `rt` would keep for the crates below $1, with the text $2.
 keep() {
     local name
     for name in "${crates[@]}"; do
@@ -39,7 +43,7 @@ contents() {
     (cd "$1" && find . -type f | LC_ALL=C sort | xargs -r sha256sum)
 }
 
-# A library of a few lines.
+# Makes a stand-in for the library, of a few lines.
 make_library() {
     local name
     mkdir -p "$1/crates"
@@ -102,7 +106,7 @@ of_a_stand_in() {
     refused_copies "$library" "$own/crates"
 }
 
-# The wrappers for the kit's rand come if they are asked for, or are there.
+# The wrappers for the kit's rand are copied if --rand asks for them, or if an older copy has them.
 with_rand() {
     local said="copied nanorand_core, nanorand_replay, nanorand_fairness, nanorand and nanorand_rand to $2, $without"
     expect 'a copy with rand' "$said" "$("$1/copy_library" --rand "$2")"
@@ -112,15 +116,15 @@ with_rand() {
     expect 'the file after it' nanorand_rand "$(cat "$2/nanorand_rand/src/lib.rt")"
 }
 
-# The last line of what ./copy_library of the folder $1 says when it does not copy to $2.
+# The last line that the folder $1's ./copy_library prints when it fails to copy to $2.
 refusal() {
     local said
     said=$("$1/copy_library" "$2" 2>&1) && echo 'no refusal'
     tail -n 1 <<<"$said"
 }
 
-# A copy that fails leaves the crate that it could not replace as it was. One that would replace the library $1 itself
-# is refused.
+# A copy that fails leaves the crate that it could not replace unchanged. A copy that would replace the library $1
+# itself is an error.
 refused_copies() {
     local before folder said
     before=$(contents "$2/nanorand_fairness" && contents "$2/nanorand")
@@ -143,7 +147,7 @@ refused_copies() {
     expect 'files after that' "$before" "$(contents "$work")"
 }
 
-# CALLING's first steps, over the library that stands in the folder $1.
+# CALLING's first steps in the repository $2, with the library in the folder $1.
 first_steps() {
     mkdir -p "$2/crates/dice/src"
     git -C "$2" init -q
@@ -152,7 +156,7 @@ first_steps() {
     cp "$top/crates/dice/src/main.rt" "$2/crates/dice/src/main.rt"
 }
 
-# The steps of TASKS's "Together with `rand`" after them.
+# After them, the steps of "Together with `rand`" in TASKS.
 steps_with_rand() {
     mkdir -p "$2/crates/rand_dice/src"
     "$1/copy_library" --rand "$2/crates" >/dev/null
@@ -161,7 +165,7 @@ steps_with_rand() {
     cp "$top/crates/rand_dice/src/main.rt" "$2/crates/rand_dice/src/main.rt"
 }
 
-# What the program $1 in the repository $2 prints by the command of rt that follows.
+# What the program $1 in the repository $2 prints when the rt command that follows runs it.
 throws() {
     (cd "$2/crates/$1" && "${@:3}" 2>"$work/log" | paste -sd ' ')
 }

@@ -1,9 +1,10 @@
 #!/usr/bin/env python3
-"""Compares each declaration of an export, in Rust and in C, with the function in the proved crate.
+"""Compares the declarations of the exports, in Rust and in C, with the proved functions: tests/declarations.py.
 
-No compiler sees both: the linker knows names alone. So are the exports of the library by cargo, what the header
-tells compilers of null and of statuses, the structs that the exports take or give, the version that each part says, and
-the functions and statuses of C that documents name. The last line counts the cases.
+No compiler sees a declaration together with the function, and the linker compares only names. The script also compares
+the exports of the library that cargo builds, the attributes for null pointers and statuses in the header, the structs
+that the exports take or return, the version that each part names, and the C functions and statuses that documents name.
+The last line is N passed, M failed.
 """
 
 import re
@@ -31,7 +32,7 @@ C_STRUCTS = {
     "nanorand_keystream": "GroupStream",
 }
 STRUCTS = sorted(C_STRUCTS.values())
-# Where the library's version is written, as a text or as the number that is exported.
+# Where the library's version is written, as text or as the number that is exported.
 VERSIONS = {
     "c/include/nanorand.h": r"^#define NANORAND_VERSION (\d+)$",
     "Cargo.toml": r'^version = "(.*)"$',
@@ -40,7 +41,7 @@ VERSIONS = {
     "rust/nanorand-c/src/lib.rs": r"^    (\d{5,})$",
     "docs/PAGE.md": r"^version: (.*)$",
 }
-# Documents that name functions of C and their statuses: how a name is written, and the row of a status.
+# Documents that name C functions and their statuses: the patterns of a name and of a table row for a status.
 NAMES = {
     "c/README.md": r"\bnanorand_(?!v1_|c\b)(\w+)",
     "docs/LANGUAGES.md": r"`(?:nanorand_(?!c`)|(?=(?:wyrand|pcg64|chacha\d+|keystream|lots)_)|\.\._(?=range_))(\w+)",
@@ -57,13 +58,13 @@ def without_comments(text):
 
 
 def parameters(text):
-    """The names and the types between the parentheses, as written."""
+    """The parameters' names and types, as written between the parentheses."""
     pairs = [part.split(":", 1) for part in text.split(",") if ":" in part]
     return [(name.strip(), " ".join(kind.split())) for name, kind in pairs]
 
 
 def rust_type(text):
-    """A type of Rust or Rattle as the C interface passes it: a number, or a pointer. Parameters of a state go."""
+    """A type of Rust or Rattle as the C interface passes it: a number or a pointer. Type arguments are dropped."""
     if match := re.fullmatch(r"&mut (\w+)(?:<\w+>)?|(?:&mut |\*mut |NonNull<|ArrayMut<)(.+?)>?", text):
         return f"mut {next(filter(None, match.groups()))}"
     if match := re.fullmatch(r"(?:&|\*const |Array<)(.+?)>?", text):
@@ -72,7 +73,7 @@ def rust_type(text):
 
 
 def rust_parameter(name, text):
-    """What a parameter passes: one value, or a slice's pointer and then its length."""
+    """What a parameter passes: one value, or the pointer and then the length of a slice."""
     if match := re.fullmatch(r"&(mut )?\[(\w+)\]", text):
         return [(name, f"{'mut' if match[1] else 'const'} {match[2]}"), ("length", "usize")]
     return [("length" if name.endswith("length") else name, rust_type(text))]
@@ -109,7 +110,7 @@ def rust_declarations(path):
 
 
 def generator_declarations(text, macro):
-    """The functions that a macro declares, or exports, for each generator and its state that it is called with."""
+    """The functions that a macro declares or exports, for each generator and state that it is called with."""
     [body] = re.findall(rf"^macro_rules! {macro} \{{\n(.*?)^\}}", text, re.S | re.M)
     functions = rust_functions(body, r'"_(\w+)"\)\]\s*(?:extern "C" )?fn \w+')
     for generator, state in re.findall(macro + r'!\((?:\$prefix, )?"(\w+)", (\w+)', text):
@@ -119,7 +120,7 @@ def generator_declarations(text, macro):
 
 
 def called_declarations():
-    """The functions that the tests of tests/against_c call: those of each generator, and those of one alone."""
+    """The functions that the tests in tests/against_c call: those of every generator, and those of only one."""
     text = without_comments(read(CALLED))
     alone = rust_functions(text, r'\$prefix, "(\w+)"\)\]\s*fn \w+')
     named = [(f"nanorand_v1_{name}", signature) for name, signature in alone]
@@ -127,7 +128,7 @@ def called_declarations():
 
 
 def exports_by_cargo():
-    """The functions that rust/nanorand-c exports: those of each generator, and those of one alone."""
+    """The functions that rust/nanorand-c exports: those of every generator, and those of only one."""
     files = sorted((ROOT / BY_CARGO).glob("*.rs"))
     text = without_comments("".join(path.read_text(encoding="utf-8") for path in files))
     alone = rust_functions(text, r'#\[no_mangle\]\s*(?:pub )?extern "C" fn (\w+)')
@@ -136,7 +137,7 @@ def exports_by_cargo():
 
 
 def rust_structs(paths):
-    """The structs that lie in memory as in C, and their fields in order."""
+    """The structs with the memory layout of C, and their fields in order."""
     structs = [item for path in paths for item in items_at(path) if is_laid_out_as_in_c(item)]
     return {one.name: [name_and_type(part.tokens) for part in one.parts] for one in structs}
 
@@ -146,7 +147,7 @@ def c_base(text):
 
 
 def c_parameter(text):
-    """The name of a parameter of C, and its type as the interface passes it."""
+    """The name of a C parameter, and its type as the interface passes it."""
     text = " ".join(text.replace("*", " * ").split())
     match = re.fullmatch(r"(const )?(\w+) (\* )?(\w+)(?:\[(\d+)\])?", text)
     if match is None:
@@ -183,7 +184,7 @@ def c_declarations(path):
 
 
 def wanted_attributes(signature):
-    """What a header tells compilers: a pointer that no length follows is not null, and a byte is a status."""
+    """The attributes that a function needs: a pointer without a length is not null, and a returned byte is a status."""
     passed, result = signature
     after = [name for name, _ in passed[1:]] + [""]
     places = [str(place) for place, ((_, kind), name) in enumerate(zip(passed, after), 1)
@@ -200,7 +201,7 @@ def attribute_problems(path, exported):
 
 
 def macro_problems(path):
-    """The macros whose name is not the export's own without the version."""
+    """The macros whose name is not that of their export without the version."""
     return [
         f"{path}: {name} stands for {symbol}"
         for name, symbol in c_macros(without_comments(read(path)))
@@ -232,14 +233,14 @@ def types(signature):
 
 
 def comparable(signature):
-    """A signature without the name of the state, which callers name as they like."""
+    """A signature without the name of the state, which callers may choose."""
     passed, result = signature
     named = [(kind if kind.split()[-1] in STRUCTS else name, kind) for name, kind in passed]
     return named, result
 
 
 def problems(path, declared, exported, seen):
-    """What is wrong with the declarations of a file: a list of texts for each of them."""
+    """What is wrong with the declarations of a file: a list of texts for each declaration."""
     names = [name for name, _ in declared]
     known = dict(exported)
     for name, signature in declared:
@@ -282,7 +283,7 @@ def version_problems():
 
 
 def name_problems(header):
-    """What documents name of C, and the numbers of its statuses, are in the header."""
+    """The C names and the status numbers in documents are in the header."""
     text = without_comments(read(header))
     words = set(re.findall(r"\bnanorand_(\w+)", text))
     words |= {name.split("_", 1)[1] for name in words if "_range_" in name}
@@ -297,7 +298,7 @@ def name_problems(header):
 
 
 def size_problems(header):
-    """The sizes of the two streams, which c/README.md compares. No field is padded."""
+    """c/README.md compares the sizes of the two streams. Their structs have no padding."""
     structs = c_structs(header)
 
     def size(kind):

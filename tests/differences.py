@@ -1,20 +1,20 @@
 #!/usr/bin/env python3
 """Compares docs/DIFFERENCES.md with the public items of the library and of the Rust crate 0.7.0: tests/differences.py.
 
-The items of the library are read from its sources. They are what a user of the crate `nanorand` can name, also where it
-is passed on from another crate: modules, functions, types, constants and traits, the variants, public fields and
-public functions of a type, what a trait has, and implementations of traits. An item has one name, its shortest:
-`choices::below`, `WyRand::jump`, `RangeError::Exhausted`, `impl Eq for WyRand`. An implementation is an item where
-neither its type nor its trait is added; otherwise it comes with that one. Ghost members and `Model` are left out, since
-they are part of contracts, and so is `Drop`, since every type of Rust can be dropped.
+The library's items are read from its sources. They are everything that a user of the crate `nanorand` can name,
+including re-exports of other crates: modules, functions, types, constants and traits, the variants, public fields and
+public functions of a type, the items of a trait, and implementations of traits. An item has one name, its shortest:
+`choices::below`, `WyRand::jump`, `RangeError::Exhausted`, `impl Eq for WyRand`. An implementation is an item only if
+neither its type nor its trait is added; otherwise the added type or trait stands for it. Ghost members and `Model` are
+left out because they are part of contracts, and `Drop` because every Rust type can be dropped.
 
 The names of the Rust crate are in tests/nanorand-0.7.0.txt. The page lists names in backticks, in the tables of three
-parts. A row of `Added` or `Left out` has owners and the items in each of them. An owner is a module, a type or a trait,
-or `nanorand`, the crate itself; an owner that is added or left out itself is listed by its row. A row of `Under another
-name` has names there and names here. What is left out or has another name stands for all that is in it.
+sections. A row of `Added` or `Left out` has owners and the items in each of them. An owner is a module, a type or a
+trait, or `nanorand`, the crate itself. A row also lists its owner if the owner is itself added or left out. A row of
+`Under another name` has names there and names here. What is left out or has another name stands for everything in it.
 
-It fails, with the name, for an item that only one of the two has and that no table lists, and for a row that is not
-true. The last line is N passed, M failed.
+It fails, with the name, for an item that only one of the two has and that no table lists, and for a false row. The last
+line is N passed, M failed.
 """
 
 import re
@@ -29,14 +29,14 @@ CRATE = "nanorand"
 PAGE = "docs/DIFFERENCES.md"
 ORIGINAL = "tests/nanorand-0.7.0.txt"
 KINDS = ("fn", "struct", "enum", "trait", "type", "const", "static")
-# The traits that no user names.
+# The traits that are left out.
 UNNAMED = {"Drop", "Model"}
-# The root modules of the crates that were read, by their names.
+# The root modules of the crates that were read, by name.
 READ = {}
 
 
 class Module:
-    """A module of a crate: its items, what its names mean, and which names are public."""
+    """A module of a crate: its items, what its names refer to, and which names are public."""
 
     def __init__(self, path, folder, parent=None):
         self.parent, self.items = parent, items_at(path)
@@ -64,13 +64,13 @@ class Module:
         return self.parent.root() if self.parent else self
 
     def find(self, name):
-        """What a name means in this module: a module or an item, or None for a name that is not the library's."""
+        """What a name refers to in this module: a module or an item, or None if it is not the library's."""
         if name in self.used and name not in self.defined:
             return self.resolve(self.used[name])
         return self.defined.get(name)
 
     def resolve(self, path):
-        """What a path means in this module."""
+        """What a path refers to in this module."""
         first, *others = path.split("::")
         starts = {"crate": self.root(), "self": self, "super": self.parent}
         place = starts.get(first) or self.find(first) or crate(first)
@@ -79,7 +79,7 @@ class Module:
         return place
 
     def modules(self):
-        """This module and all below it, private ones too."""
+        """This module and all modules below it, including private ones."""
         yield self
         for one in self.defined.values():
             if isinstance(one, Module):
@@ -87,7 +87,7 @@ class Module:
 
 
 def crate(name):
-    """The root module of a crate of the repository, or None. It is read at the first call."""
+    """The root module of a crate in the repository, or None. It is read at the first call."""
     folder = ROOT / "crates" / name / "src"
     if name not in READ and (folder / "lib.rt").exists():
         READ[name] = Module(folder / "lib.rt", folder)
@@ -95,7 +95,7 @@ def crate(name):
 
 
 def paths_below(module, before=""):
-    """The public paths below a module, each with the module or item that it means."""
+    """The public paths below a module, each with the module or item that it refers to."""
     for name in module.public:
         meant = module.find(name)
         yield before + name, meant
@@ -113,7 +113,7 @@ def members_of(item):
 
 
 class Library:
-    """What a user can name: all paths, and the names of modules and items, of their members and implementations."""
+    """What a user can name: all paths, and the names of modules, items, members and implementations."""
 
     def __init__(self):
         self.shortest, self.paths, self.names, self.implementations = {}, set(), set(), set()
@@ -124,20 +124,20 @@ class Library:
             if not isinstance(meant, (Module, str)):
                 self.names |= {f"{name}::{member}" for member in members_of(meant)}
                 self.implementations |= {(trait[-1].text, name) for trait in derives_of(meant.attributes)}
-        # The crates that are read by now are those that the public paths lead to.
+        # The public paths have led to all crates that are needed, so these are read.
         for module in [one for root in READ.values() for one in root.modules()]:
             for item in module.items:
                 if item.word == "impl":
                     self.add_impl(module, item)
 
     def add_path(self, path, meant):
-        """Adds a path; the shortest path of what it means is the name. What is not the library's is its own path."""
+        """Adds a path. An item's name is its shortest path. What is not the library's has each path as a name."""
         key = meant or path
         self.paths.add(path)
         self.shortest[key] = min(path, self.shortest.get(key, path), key=lambda one: (one.count("::"), one))
 
     def add_impl(self, module, item):
-        """Adds the public functions of an impl of a type's own, or the implementation of a trait."""
+        """Adds the public functions of an inherent impl, or the implementation of a trait."""
         trait, owner = bare(item.trait), self.name_in(module, bare(item.type))
         if owner and not trait:
             self.names |= {f"{owner}::{one.name}" for one in item.members() if one.is_public and one.word in KINDS}
@@ -145,7 +145,7 @@ class Library:
             self.implementations.add((self.name_in(module, trait), owner))
 
     def name_in(self, module, path):
-        """The name of a type or trait that a module names. It is None for a private one of the library."""
+        """The name of a type or trait that a module refers to, or None for a private one of the library."""
         meant = module.resolve(path)
         return self.shortest.get(meant) if meant else path.rpartition("::")[2]
 
@@ -159,7 +159,7 @@ class Library:
 
 
 def full_name(owner, item):
-    """The name of an item by its owner, and by itself in the crate."""
+    """The full name of an item of an owner. The crate itself adds nothing to the name."""
     if item.startswith("impl "):
         return f"{item} for {owner}"
     return item if owner == CRATE else f"{owner}::{item}"
@@ -176,7 +176,7 @@ def names_of_original():
 
 
 def lines_under(heading):
-    """The lines of the page under a heading, with their numbers, to the next heading that is not below it."""
+    """The lines of the page under a heading and its subheadings, with their numbers."""
     level = 0
     for number, line in enumerate((ROOT / PAGE).read_text(encoding="utf-8").splitlines(), 1):
         signs = len(line) - len(line.lstrip("#"))
@@ -187,7 +187,7 @@ def lines_under(heading):
 
 
 def rows_under(heading):
-    """The rows of the tables under a heading: the line's number, and the names in backticks of each cell."""
+    """The rows of the tables under a heading: the line number, and the names in backticks in each cell."""
     in_rows = False
     for number, line in lines_under(heading):
         if in_rows and line.startswith("|"):
@@ -197,7 +197,7 @@ def rows_under(heading):
 
 
 def listed_under(heading, places):
-    """The names that tables of owners and items list, with their lines. An owner among the places is none of them."""
+    """The names that tables of owners and items list, with their lines. An owner in `places` is not listed itself."""
     listed = {}
     for number, (owners, items, *_) in rows_under(heading):
         for owner in owners:
@@ -208,7 +208,7 @@ def listed_under(heading, places):
 
 
 def renamed():
-    """The names of the Rust crate that have another name here, and these names, both with their lines."""
+    """The names of the Rust crate that have another name here, and the names here, both with their lines."""
     there, here = {}, {}
     for number, (olds, news, *_) in rows_under("Under another name"):
         there.update(dict.fromkeys(olds, number))
@@ -217,13 +217,13 @@ def renamed():
 
 
 def is_covered(name, listed):
-    """Whether a name is listed, or something that it is in: a module, a type, a trait."""
+    """Whether a name, or a module, type or trait that contains it, is listed."""
     places = name.removeprefix("impl ").split(" for ")
     return name in listed or any(f"{place}::".startswith(f"{one}::") for place in places for one in listed)
 
 
 def cases(library, original):
-    """Of each comparison whether it is right, the line of the page or None, the name, and what is wrong if not."""
+    """For each comparison: whether it passed, the line of the page or None, the name, and what is wrong otherwise."""
     items = library.items(original)
     named = items | library.paths
     added = listed_under("Added", original | {CRATE})

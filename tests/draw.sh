@@ -1,13 +1,19 @@
 #!/usr/bin/env bash
-# Runs the program `draw` as a process, as the kit's two compilers and cargo build it, at each exit status that it has,
-# and compares standard output, standard error and the status. `tests/draw.sh cargo` runs cargo's build alone, and
-# `tests/draw.sh kit` the others.
+# Tests the program `draw` as a process, as built by the kit's two compilers and by cargo.
+#
+#     tests/draw.sh          tests all builds
+#     tests/draw.sh cargo    tests only cargo's build
+#     tests/draw.sh kit      tests only the kit's builds
+#
+# It runs the program to each exit status that it has, and compares standard output, standard error and the status. The
+# last line is N passed, M failed.
 # shellcheck source=tests/lib.sh
 source "$(dirname "${BASH_SOURCE[0]}")/lib.sh"
 # shellcheck source=tests/program.sh
 source tests/program.sh
 
-# Runs the program with these arguments and keeps both streams.
+# Runs the program with the arguments after the first four, and compares the case $1 with the wanted status $2, standard
+# output $3 and standard error $4.
 run() {
     local name=$1 wanted=$2 out=$3 err=$4
     shift 4
@@ -30,7 +36,8 @@ texts() {
     run 'no text' 0 '' '' wyrand "$seed" plain 0
 }
 
-# Files that others have written in part: the program writes where they stand. `1<>` empties a file of nothing.
+# Files that other programs have written in part: the program writes at the current position. `1<>` opens a file without
+# emptying it.
 streams_in_use() {
     begin
     printf '0123456789' >"$work/out"
@@ -50,8 +57,8 @@ streams_in_use() {
     count 'the input is not read' "$(differs_in 'the rest' rest 'some input')"
 }
 
-# The lines of the kit's own tests: arguments, and after `> ` the text, with `|` for the end of a line, or what is
-# written to standard error.
+# The lines of the tests in crates/program_tests: arguments, `> `, and the wanted text, with `|` for the end of a line,
+# or what is written to standard error.
 tested_lines() {
     local line text words
     while IFS= read -r line; do
@@ -65,7 +72,7 @@ tested_lines() {
     done <"$work/lines"
 }
 
-# Each generator, mode, type and kind of bound. The sum is that of the proved program's text.
+# Each generator, mode, type and kind of bound. The expected checksum is that of the proved program's output.
 every_request() {
     local zeros seeded mode type sum requests=(u128 i128 bool shuffle)
     printf -v zeros '%080d' 0
@@ -87,7 +94,8 @@ every_request() {
     )"
 }
 
-# Each generator and mode at many numbers of requests. The sum is of the texts by tests/answers/definitions.py.
+# Each generator and mode, with many counts of requests. The expected checksum is that of the texts that
+# tests/answers/definitions.py computes.
 every_number() {
     local zeros seeded mode count sum words=()
     printf -v zeros '%080d' 0
@@ -109,15 +117,15 @@ every_number() {
     )"
 }
 
-# Runs the program with more requests than 2^17 and then these, in the place of this shell: one that has held so many
-# words is slow to start others.
+# Replaces this shell by the program, with more than 2^17 requests and then these. A shell that has held so many
+# arguments is slow to start other programs.
 run_many() {
     local words
     mapfile -t words < <(seq 131073 | sed 's/.*/u8/')
     exec timeout 60 "$work/$compiler" wyrand "$seed" plain 0 "${words[@]}" "$@"
 }
 
-# The sum is of the text by tests/answers/definitions.py.
+# More than 2^17 requests. The expected checksum is that of the text that tests/answers/definitions.py computes.
 many_requests() {
     local sum
     begin
@@ -151,8 +159,8 @@ bad_arguments() {
     run 'argument 104' 2 '' $'draw: bad word 104\n' wyrand "$seed" plain 0 "${hundred[@]:1}" u9 u9
 }
 
-# In the place of each argument, something strange alone, before it and after it: bytes that are letters or a mark of
-# UTF-8, ends of lines, a space. Bytes that are no text are refused before any argument is read.
+# Something strange in place of each argument, before it and after it: nothing, a space, line ends, a non-ASCII letter
+# and digit, a byte order mark. Bytes that are not UTF-8 are an error before any argument is read.
 strange_arguments() {
     local good=(wyrand "$seed" plain 3 u8 u16:..5 shuffle) words place strange word
     for place in {0..6}; do
@@ -171,7 +179,7 @@ strange_arguments() {
     done
 }
 
-# Standard output takes no byte.
+# Standard output accepts no byte.
 no_output() {
     local arguments=(wyrand "$seed" plain 0 u64)
     begin
@@ -195,8 +203,7 @@ no_output() {
     end 'a pipe that nobody reads' 4 '' $'draw: write failed\n'
 }
 
-# Standard output takes 1024 bytes: exactly the first 1024 of the text that the program writes to an
-# output that takes all.
+# Standard output accepts 1024 bytes. They must be the first 1024 bytes of the program's full text.
 little_output() {
     local arguments=(wyrand "$seed" plain 1000 "${hundred[@]}") text
     text=$("$work/$compiler" "${arguments[@]}" </dev/null) || true
@@ -210,15 +217,15 @@ little_output() {
     end 'standard output full at last' 4 "${text:0:1024}" $'draw: write failed\n'
 }
 
-# Less and less memory, until the program does not start. First it writes its text; then it ends with
-# status 3 and writes nothing. Below that the shell or the loader ends it.
+# Less and less memory, until the program does not start. With enough memory it writes its text. With less it ends with
+# status 3 and writes nothing. With even less, the shell or the loader ends it.
 little_memory() {
     local arguments=(wyrand "$seed" plain 0) kibibytes refused=0 text wrong=
     for _ in {1..9000}; do arguments+=(u8); done
     text=$("$work/$compiler" "${arguments[@]}" </dev/null && printf .) || true
     for ((kibibytes = 16000; kibibytes >= 1000; kibibytes -= 250)); do
         begin
-        # The limit is set by a small program: a shell of 9000 words may itself need more.
+        # prlimit, a small program, sets the limit. A shell with 9000 words may itself need more memory.
         {
             prlimit --as="$((kibibytes * 1024))" "$work/$compiler" "${arguments[@]}" \
                 </dev/null >"$work/out" 2>"$work/err" || status=$?
@@ -241,7 +248,7 @@ little_memory() {
     count 'less and less memory' "$wrong"
 }
 
-# The outcome is the same if standard error takes nothing.
+# The outcome is the same if standard error accepts nothing.
 no_errors() {
     begin
     "$work/$compiler" wyrand "$seed" plain 0 u9 </dev/null >"$work/out" 2>&- || status=$?

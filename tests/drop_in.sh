@@ -1,7 +1,9 @@
 #!/usr/bin/env bash
-# Tests the drop-in, rust/nanorand-drop-in, with cargo. Its own tests come first, then clients of nanorand 0.7.0, over
-# Debian's packages: a program that names all that is public, ten million calls beside 0.7.0, and the tests of 0.7.0
-# and of flume, unedited.
+# Tests the drop-in replacement for nanorand 0.7.0, rust/nanorand-drop-in, with cargo: tests/drop_in.sh.
+#
+# Its own tests come first. Then come clients of nanorand 0.7.0, built with Debian's packages: a program that names all
+# public items, ten million calls compared with 0.7.0, and the unedited tests of 0.7.0 and of flume. The last line is N
+# passed, M failed.
 # shellcheck source=tests/lib.sh
 source "$(dirname "${BASH_SOURCE[0]}")/lib.sh"
 cd rust/nanorand-drop-in || exit
@@ -12,7 +14,7 @@ clients=$work/clients
 debian=(--offline --config 'source.crates-io.replace-with="debian"' --config "source.debian.directory=\"$registry\"")
 export CARGO_TARGET_DIR=$here/target
 
-# Whether Debian's packages of these crates, in these versions, are there.
+# Whether Debian's packages of these crates are installed, in these versions.
 packages() {
     local crate
     for crate; do
@@ -20,7 +22,7 @@ packages() {
     done
 }
 
-# Writes the manifest of a client, whose own lines come from stdin.
+# Writes the manifest of the client $1. Its own lines come from standard input.
 client() {
     mkdir -p "$clients/$1"
     { cat; cat <<END; } >"$clients/$1/Cargo.toml"
@@ -35,7 +37,7 @@ publish = false
 END
 }
 
-# The unit tests of 0.7.0 stand in modules as they did there, and its examples are read as they are.
+# The unit tests of 0.7.0, in modules with the names that they have there, and its examples, unchanged.
 tests_of_the_original() {
     client tests_of_the_original <<END
 [dependencies]
@@ -67,14 +69,14 @@ tests_in() {
     sed -n '/^#\[cfg(test)\]/,$p' "$original/src/$1.rs"
 }
 
-# flume takes the drop-in by the patch alone.
+# The tests of flume. Only the patch in the manifest makes it use the drop-in.
 flume() {
     timeout 900 cargo test "${debian[@]}" --manifest-path "$clients/flume/Cargo.toml" \
         --config "patch.crates-io.nanorand.path=\"$here\"" -- --exact "$@"
 }
 
-# Tests of time fail on a busy machine, as those of flume that ask for an end within 50 ms. They pass if they do in one
-# of so many turns: turns COUNT COMMAND..
+# Runs a command up to COUNT times, until it succeeds: turns COUNT COMMAND.. Tests of time, such as those of flume that
+# must end within 50 ms, fail on a busy machine.
 turns() {
     local turn status
     for ((turn = 0; turn < $1; turn++)); do
@@ -100,7 +102,7 @@ END
     cargo_tests cargo test "${debian[@]}" --release --manifest-path "$clients/agrees/Cargo.toml"
 }
 
-# Compiles the program of all public names with a crate and a set of features.
+# Compiles the program that names all public items, with the crate $1 and the features $2.
 surface() {
     client surface <<END
 [lib]
@@ -124,7 +126,7 @@ END
     cargo check "${debian[@]}" --manifest-path "$clients/surface/Cargo.toml" --features "$2"
 }
 
-# The same program without std: were std linked, it would bring a second panic handler.
+# The same program without std. If std were linked, its panic handler would be a second one, which is an error.
 without_std() {
     local folder=target/without_std feature cfgs=()
     for feature in alloc wyrand pcg64 chacha without_std; do

@@ -1,26 +1,30 @@
 # shellcheck shell=bash
-# What the test scripts share. A script sources this file first: it then stands at the top of the repository, has a
-# temporary folder $work, and counts its cases in $passed and $failed. Its last command is `finish`.
+# Shared functions of the test scripts. A script sources this file first:
+#
+#     source "$(dirname "${BASH_SOURCE[0]}")/lib.sh"
+#
+# It then runs at the top of the repository, $work is a temporary folder, and $passed and $failed count its cases. Its
+# last command is `finish`, which prints the sum and exits.
 set -uo pipefail
 cd "$(dirname "${BASH_SOURCE[0]}")/.." || exit
 work=$(mktemp -d)
 trap 'rm -rf "$work"' EXIT
 passed=0
 failed=0
-# No test reads debug information, which takes a fifth of rustc's time.
+# No test reads debug information, and producing it takes a fifth of rustc's time.
 export CARGO_PROFILE_DEV_DEBUG=0 CARGO_PROFILE_TEST_DEBUG=0
 # The bin folder of the oldest compiler that the packages support.
 # shellcheck disable=SC2034
 oldest_bin=${NANORAND_OLDEST:-/usr}/bin
 
-# Prints the sum, and ends the script: with status 0 if nothing failed.
+# Prints the sum and ends the script, with status 0 if nothing failed, else 1.
 finish() {
     printf '%s passed, %s failed\n' "$passed" "$failed"
     [ "$failed" -eq 0 ]
     exit
 }
 
-# Whether the script is asked to test what $1 built, cargo or kit: by its argument, or without one.
+# Whether the script is to test what $1 built, cargo or kit. Without an argument, a script tests both.
 asked=${1:-}
 asked_for() {
     [ -z "$asked" ] || [ "$asked" = "$1" ]
@@ -31,13 +35,13 @@ skip() {
     printf 'skipped: %s, as %s\n' "$1" "$2"
 }
 
-# The same, and nothing else is left to test.
+# The same, and ends the script: nothing else is left to test.
 skip_all() {
     skip "$@"
     finish
 }
 
-# Counts the case $1. It failed if $2 says what was wrong.
+# Counts the case $1. It passed if $2 is empty; otherwise $2 says what was wrong.
 check() {
     if [ -z "$2" ]; then
         passed=$((passed + 1))
@@ -47,12 +51,12 @@ check() {
     fi
 }
 
-# Counts the case $1, in which $3 was found where $2 was expected.
+# Counts the case $1. It passed if the found text $3 equals the expected text $2.
 expect() {
     check "$1" "$([ "$2" = "$3" ] || printf 'expected %q, found %q' "$2" "$3")"
 }
 
-# Counts a command by its status alone, and shows what it printed if it failed.
+# Runs a command, counts it by its status, and shows its output if it failed.
 step() {
     printf '== %s\n' "$*"
     if "$@" >"$work/log" 2>&1 </dev/null; then
@@ -65,8 +69,8 @@ step() {
     fi
 }
 
-# Adds the sum in the last line of the file $1. A file without a sum counts as a failure, and so does the status $2 of
-# the command that printed it.
+# Adds the sum in the last line of the file $1. A file without a sum counts as a failure. So does a status $2, of the
+# command that printed the file, other than 0 if the sum has no failure.
 add_sum() {
     if [[ $(tail -n 1 "$1") =~ ^([0-9]+)\ passed,\ ([0-9]+)\ failed$ ]]; then
         passed=$((passed + BASH_REMATCH[1]))
@@ -78,15 +82,15 @@ add_sum() {
     fi
 }
 
-# Runs a command whose last line is its own sum, shows what it prints, and adds the sum.
+# Runs a command whose last line is its sum, shows its output and adds the sum.
 part() {
     printf '== %s\n' "$*"
     "$@" 2>&1 </dev/null | tee "$work/log"
     add_sum "$work/log" "${PIPESTATUS[0]}"
 }
 
-# The same for one of many short parts: shows only what it skips or what failed, after the name $1. A part of no tests
-# failed.
+# The same for one of many short parts, with the name $1: shows only what it skipped and what failed. A part without
+# tests failed.
 quiet_part() {
     local name=$1 status=0
     shift
@@ -97,7 +101,7 @@ quiet_part() {
     add_sum "$work/log" "$status"
 }
 
-# Runs tests by cargo, as the words say, and counts each. A run without a test failed.
+# Runs a command of cargo that tests, and counts each test. A run without tests failed.
 cargo_tests() {
     local good bad status=0
     printf '== %s\n' "$*"
@@ -112,8 +116,7 @@ cargo_tests() {
     failed=$((failed + bad))
 }
 
-# Runs tests of Python's unittest after the name $1, counts each, and names those that are skipped. A run without a test
-# failed.
+# Runs tests of Python's unittest, with the name $1, counts each and lists the skipped ones. A run without tests failed.
 unit_tests() {
     local ran bad left status=0
     printf '== %s\n' "$1"
@@ -132,7 +135,7 @@ unit_tests() {
     sed -n "s/^\(\w*\) (.*skipped ['\"]\(.*\)['\"]\$/skipped: \1, as \2/p" "$work/log" | sort -u
 }
 
-# Whether a command is on the PATH. In place of a command $1 may be a pattern of absolute paths.
+# Whether the command $1 is on the PATH. If $1 is a pattern of absolute paths: whether a file matches it.
 is_there() {
     case $1 in
     /*) compgen -G "$1" >/dev/null ;;
@@ -140,8 +143,9 @@ is_there() {
     esac
 }
 
-# Whether the command $1 is there. If it is not, and CI is `true`, root installs the package $2 of Debian, one script at
-# a time, by new lists of packages if the old ones do not have it. Everybody else is told what to install.
+# Whether the command $1 is there (or a file, as in `is_there`). If it is not and CI is `true`, root installs the Debian
+# package $2, one script at a time, and updates the lists of packages if the old ones lack it. If it is still missing,
+# prints what to install.
 available() {
     is_there "$1" && return
     if [ "${CI:-}" = true ] && [ "$(id -u)" -eq 0 ] && command -v apt-get >/dev/null; then
@@ -166,19 +170,19 @@ path_without_kit() {
     (IFS=: && printf '%s\n' "${kept[*]}")
 }
 
-# Whether all instructions of a library are those of every x86-64: none of AVX, nor what x86-64-v2 and v3 add for bytes,
-# counts, products and shifts. Prints the first that is not.
+# Whether a library runs on every x86-64 processor: it has no AVX instructions, and none that x86-64-v2 and v3 add for
+# bytes, counts, products and shifts. Prints the first one that it has.
 runs_on_every_processor() {
     local later='\<(v[a-z0-9]+ .*%[xyz]mm|pshufb|p(ins|ext)r[bdq]|popcnt|mulx|rorx|andn|s[ahl][lr]x)\>'
     objdump -d --no-show-raw-insn "$1" >"$work/code" && ! grep -m 1 -E "$later" "$work/code"
 }
 
-# Whether the version of the command $2 is $1, whatever comes after it.
+# Whether the version of the command $2 is $1, or $1 and a patch number.
 is_version() {
     grep -qF " $1." <<<"$("$2" --version 2>/dev/null)"
 }
 
-# Lints a package and checks its format by cargo. The words are options of clippy.
+# Lints a package with clippy, which gets these options, and checks its format with rustfmt.
 clippy_and_format() {
     if cargo clippy --version >/dev/null 2>&1; then
         step cargo clippy --offline "$@" -- -D warnings -W clippy::pedantic

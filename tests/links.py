@@ -1,9 +1,9 @@
 #!/usr/bin/env python3
-"""Follows the links within the repository of its documents, and compares its map with the tree: tests/links.py.
+"""Checks the documents' links within the repository, and compares the map with the tree: tests/links.py.
 
-A link names a file or a folder, and after `#` a heading of that document. Of a script that a document names between
-backticks the file has to be there. The map of docs/ARCHITECTURE.md has each file at the top, each folder below it that
-holds more than files, and nothing else.
+A link names a file or a folder and, after `#`, a heading of that document. A script that a document names in backticks
+has to exist. The map in docs/ARCHITECTURE.md has to name each file at the top and each folder in a folder at the top,
+and whatever else it names has to exist. The last line is N passed, M failed.
 """
 
 import re
@@ -12,25 +12,25 @@ import sys
 from pathlib import Path
 
 ROOT = Path(__file__).resolve().parent.parent
-# What is built.
+# Folders of files that are built.
 LEFT_OUT = {".git", "out", "target"}
 FENCED = re.compile(r"^```.*?^```$", re.M | re.S)
 LINK = re.compile(r"\]\((?!\w+:)(?P<file>[^()#\s]*)(?:#(?P<heading>[^()\s]+))?\)")
 
 
 def prose_of(document):
-    """A document without its blocks of code."""
+    """The text of a document without its code blocks."""
     return FENCED.sub("", document.read_text(encoding="utf-8"))
 
 
 def anchors_of(document):
-    """What stands after `#` for each heading: its words in small letters, joined by hyphens."""
+    """The anchor of each heading, which a link has after `#`: its words in lower case, joined by hyphens."""
     headings = re.findall(r"^#+ (.*)$", prose_of(document), re.M)
     return {re.sub(r"[^\w\- ]", "", heading).lower().replace(" ", "-") for heading in headings}
 
 
 def wrong_with(document, link):
-    """What is wrong with a link, or nothing."""
+    """What is wrong with a link, or an empty text."""
     target = (document.parent / link["file"]).resolve() if link["file"] else document
     if not target.is_relative_to(ROOT) or not target.exists():
         return "no such file in the repository"
@@ -40,7 +40,7 @@ def wrong_with(document, link):
 
 
 def tree():
-    """What git has at the top, and the folders in its folders: a folder ends in a slash."""
+    """The paths that the map has to name, and the folders at the top. A folder's path ends in a slash."""
     names = subprocess.run(["git", "ls-files", "--cached", "--others", "--exclude-standard"], cwd=ROOT, check=True,
                            stdout=subprocess.PIPE, encoding="utf-8").stdout.splitlines()
     names = [name.split("/") for name in names if (ROOT / name).exists()]
@@ -49,7 +49,7 @@ def tree():
 
 
 def map_problems():
-    """What the map lacks, and what it has that is not there. A folder that its folders stand for need not be named."""
+    """What the map lacks, and what it names that does not exist. A folder at the top need not be named."""
     text = (ROOT / "docs/ARCHITECTURE.md").read_text(encoding="utf-8").partition("## The map\n")[2]
     columns = re.findall(r"^\| ([^|]*) \|", text, re.M)
     mapped = {path for column in columns if " of a crate" not in column for path in re.findall(r"`([^`]+)`", column)}
@@ -62,7 +62,7 @@ def map_problems():
 
 
 def absent_scripts(document):
-    """The scripts that a document names and that are not there, from the top or from the document's folder."""
+    """The scripts that a document names and that do not exist, relative to the top or to the document's folder."""
     for path in re.findall(r"`\.?/?((?:[\w-]+/)+[\w-]+\.(?:sh|py))\b", document.read_text(encoding="utf-8")):
         if not (ROOT / path).exists() and not (document.parent / path).exists():
             yield f"{document.relative_to(ROOT)}: {path}: no such script"

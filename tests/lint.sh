@@ -1,10 +1,11 @@
 #!/usr/bin/env bash
-# Lints the scripts and the Python code by what the files at the top configure: .flake8, .shellcheckrc, pyproject.toml.
-# Rust is linted with its packages (clippy.toml, rustfmt.toml), C by the warnings of its compilers.
+# Lints the scripts and the Python code, as .flake8, .shellcheckrc and pyproject.toml configure it: tests/lint.sh. The
+# last line is N passed, M failed. The tests of the Rust packages lint Rust (clippy.toml, rustfmt.toml), and compiler
+# warnings lint C.
 # shellcheck source=tests/lib.sh
 source "$(dirname "${BASH_SOURCE[0]}")/lib.sh"
 
-# The files that a clone has, whose first line says that bash reads them, or sh.
+# The committed and new files whose first line names bash or sh, or says so to shellcheck.
 shell_scripts() {
     git grep --untracked -lE '^#!.*[/ ](ba)?sh$|^# shellcheck shell=' | while read -r file; do
         ! head -n 1 "$file" 2>/dev/null | grep -qaE '^#!.*[/ ](ba)?sh$|^# shellcheck shell=' || echo "$file"

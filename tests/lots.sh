@@ -1,17 +1,22 @@
 #!/usr/bin/env bash
-# Runs the program `lots` as a process, as the kit's two compilers and cargo build it, at each exit status that a
-# process can reach, and compares standard output, standard error and the status. Then tests/second_opinion.py compares
-# all builds with the Python code of docs/LOTS.md. `tests/lots.sh cargo` runs cargo's build alone, and `tests/lots.sh
-# kit` the others.
+# Tests the program `lots` as a process, as built by the kit's two compilers and by cargo.
 #
-# No seed is known whose words are rejected 128 times in a row: status 8 is not run here.
+#     tests/lots.sh          tests all builds
+#     tests/lots.sh cargo    tests only cargo's build
+#     tests/lots.sh kit      tests only the kit's builds
+#
+# It runs the program to each exit status but 8, and compares standard output, standard error and the status. Then
+# tests/second_opinion.py compares all builds with the Python code of docs/LOTS.md. The last line is N passed, M failed.
+#
+# Status 8 is not tested here. It means that 128 random 64-bit words in a row were rejected, and no seed with such words
+# is known.
 # shellcheck source=tests/lib.sh
 source "$(dirname "${BASH_SOURCE[0]}")/lib.sh"
 # shellcheck source=tests/program.sh
 source tests/program.sh
 
-# Runs the program with the list $2 and the arguments after the first five, and compares the case $1 with
-# the wanted status $3, standard output $4 and standard error $5.
+# Runs the program with the list $2 and the arguments after the first five, and compares the case $1 with the wanted
+# status $3, standard output $4 and standard error $5.
 run() {
     local name=$1 list=$2 wanted=$3 out=$4 err=$5
     shift 5
@@ -24,7 +29,7 @@ run() {
 usage='lots: usage: lots SEED COUNT|all < entrants\n'
 letters='a\nb\nc\nd\ne\nf\ng\nh\ni\nj\n'
 
-# The wanted lines are those of the Python code.
+# The expected lines are those that the Python code draws.
 texts() {
     run 'ten letters' "$letters" 0 'h\na\ne\nj\nb\nf\nd\ni\nc\ng\n' '' 'a seed' all
     run 'three of ten' "$letters" 0 'h\na\ne\n' '' 'a seed' 3
@@ -44,7 +49,7 @@ texts() {
     run 'one of two' 'a\nb\n' 0 'b\n' '' seed 1
 }
 
-# What a line is.
+# What counts as a line.
 lines() {
     run 'no last line feed' 'a\nb' 0 'b\na\n' '' seed all
     run 'one line, no line feed' 'only' 0 'only\n' '' seed all
@@ -98,7 +103,7 @@ empty_lines() {
     run 'an empty line after ten' "$letters\n" 4 '' 'lots: line 11 is empty\n' seed all
 }
 
-# The standard input of the process: what cannot be read, and what need not be.
+# Standard input that cannot be read, and that need not be read.
 input() {
     begin
     "$work/$compiler" seed all <. >"$work/out" 2>"$work/err" || status=$?
@@ -129,8 +134,8 @@ input() {
     end 'a pipe that waits' 0 'bc\nd\na\n' ''
 }
 
-# Files that others have read and written in part: the program goes on where they stand, and leaves them at the end of
-# what it read and wrote. `1<>` opens a file for both and empties it of nothing.
+# Files that other programs have read and written in part: the program continues at the current position, and leaves it
+# at the end of what it read and wrote. `1<>` opens a file for reading and writing, without emptying it.
 streams_in_use() {
     local size skipped
     for size in 0 1 2 5000 100000; do
@@ -155,7 +160,7 @@ streams_in_use() {
     end 'after what is there' 0 'first\nh\na\ne\n' ''
 }
 
-# The same list as a file and through a pipe; a shuffle, and its first lines.
+# The same list as a file and through a pipe. A shuffle of all, and a draw of its first lines.
 long_list() {
     local k sum
     seq 100000 >"$work/list"
@@ -183,7 +188,7 @@ long_list() {
     end 'a list that is written over' 0 'h\na\ne\nj\nb\nf\nd\ni\nc\ng\n' ''
 }
 
-# More entrants than 2^20, in more than 8 MiB. The sum is that of the Python code's text.
+# More than 2^20 entrants, in more than 8 MiB. The expected checksum is that of the Python code's text.
 many_entrants() {
     local sum
     seq 10000001 11048577 >"$work/list"
@@ -202,7 +207,7 @@ many_entrants() {
     end 'an empty line after many' 4 '' 'lots: line 1048578 is empty\n'
 }
 
-# A list of more than 2^30 bytes is read to its end, where there is memory for it.
+# A list of more than 2^30 bytes is read to its end, if there is memory for it.
 great_list() {
     if ! awk '/^MemAvailable:/ { exit $2 < 6000000 }' /proc/meminfo; then
         skip "a list of more than 2^30 bytes, by $compiler" 'less than 6 GB of memory are free'
@@ -214,7 +219,7 @@ great_list() {
     end 'a list of more than 2^30 bytes' 3 '' 'lots: 3 entrants, 99 asked for\n'
 }
 
-# Standard output takes no byte.
+# Standard output accepts no byte.
 no_output() {
     printf '%b' "$letters" >"$work/list"
     begin
@@ -241,8 +246,7 @@ no_output() {
     end 'too many, standard output full' 3 '' 'lots: 10 entrants, 11 asked for\n'
 }
 
-# Standard output takes 1024 bytes: exactly the first 1024 of the text that the program writes to an
-# output that takes all.
+# Standard output accepts 1024 bytes. They must be the first 1024 bytes of the program's full text.
 little_output() {
     seq 1000 >"$work/list"
     "$work/$compiler" seed all <"$work/list" >"$work/all" || true
@@ -261,8 +265,8 @@ little_output() {
     )"
 }
 
-# Less and less memory, until the program does not start. First it writes its text; then it ends with
-# status 5 and writes nothing. Below that the shell or the loader ends it.
+# Less and less memory, until the program does not start. With enough memory it writes its text. With less it ends with
+# status 5 and writes nothing. With even less, the shell or the loader ends it.
 little_memory() {
     local kibibytes refused=0 wrong=
     seq 100000 >"$work/list"
@@ -291,7 +295,7 @@ little_memory() {
     count 'less and less memory' "$wrong"
 }
 
-# The outcome is the same if standard error takes nothing: full, and then closed.
+# The outcome is the same if standard error accepts nothing, because it is full or closed.
 no_errors() {
     run_without_errors 'all of two' 'a\nb\n' 0 'b\na\n' seed all
     run_without_errors 'a bad count' 'a\nb\n' 2 '' seed +1
@@ -312,7 +316,8 @@ no_errors() {
     end 'both closed' 7 '' ''
 }
 
-# As `run`, with a standard error that is full, and then with one that is closed.
+# Like `run`, but with a standard error that is full, and then with one that is closed: run_without_errors NAME LIST
+# STATUS OUTPUT ARGUMENT..
 run_without_errors() {
     local name=$1 wanted=$3 out=$4
     printf '%b' "$2" >"$work/list"

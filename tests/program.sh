@@ -1,10 +1,10 @@
 # shellcheck shell=bash
-# What the tests of the programs `draw` and `lots` share, to be sourced after lib.sh. The builds of a program stand in
-# $work, by what built them, and so do the streams of a case: `out` and `err`.
+# Shared functions of the tests of the programs `draw` and `lots`, to be sourced after lib.sh. $work has the builds of a
+# program, named after what built them, and the streams of a case, `out` and `err`.
 # shellcheck disable=SC2154
 
-# Puts the builds of the program $1 that the script is asked for into $work: `rattle` and `llvm` are those of the kit's
-# two compilers, and `cargo` is what `cargo install` installs from the package in rust/.
+# Puts the builds of the program $1 that the script is to test into $work: `rattle` and `llvm` by the kit's two
+# compilers, and `cargo`, which `cargo install` installs from the package in rust/.
 builds_of() {
     local name=$1
     if ! asked_for kit; then
@@ -34,22 +34,22 @@ builds() {
     done
 }
 
-# Counts the case $1 of the program that is tested.
+# Counts the case $1 of the build that is tested, as `check` does.
 count() {
     check "$1, by $compiler" "$2"
 }
 
-# Says that $1 is $2, if it should be $3 and is not.
+# Says that $1 is $2, unless that equals the expected $3.
 differs() {
     [ "$2" = "$3" ] || printf ' %s is %q and not %q;' "$1" "$2" "$3"
 }
 
-# Says that $1, in the file $2, has not exactly the text $3, whose escapes are those of printf's %b.
+# Says what $1, in the file $2, is, unless it is the text $3, which has the escapes of printf's %b.
 differs_in() {
     printf '%b' "$3" | cmp -s - "$work/$2" || printf ' %s is %q;' "$1" "$(head -c 300 "$work/$2" | tr '\0' '?')"
 }
 
-# Says that $1, in the file $2, is not the file $3.
+# Says what $1, in the file $2, is, unless it equals the file $3.
 differs_from() {
     cmp -s "$work/$2" "$work/$3" || printf ' %s is %q;' "$1" "$(head -c 300 "$work/$2" | tr '\0' '?')"
 }
@@ -70,7 +70,7 @@ end() {
     )"
 }
 
-# The builds of a program are different files, as none is a copy of another.
+# The builds of a program are different files: none is a copy of another.
 all_different() {
     local kinds
     kinds=$(builds | sed "s|^|$work/|" | xargs sha256sum | cut -c -64 | sort -u | wc -l)

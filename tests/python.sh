@@ -1,25 +1,31 @@
 #!/usr/bin/env bash
-# Tests the Python package: builds the wheel twice over each static library that there is, the kit's and cargo's, and
-# installs it into new environments without the kit, of python3 and of the system's Python, where python/tests run.
-# `tests/python.sh kit` tests it over the kit's library alone, and `tests/python.sh cargo` all else.
+# Tests the Python package.
+#
+#     tests/python.sh          tests it with each static library that can be built, the kit's and cargo's
+#     tests/python.sh kit      tests it only with the kit's library
+#     tests/python.sh cargo    tests everything else
+#
+# For each library it builds the wheel twice, installs it into new environments of python3 and of the system's Python,
+# without the kit, and runs python/tests there. The last line is N passed, M failed.
 # shellcheck source=tests/lib.sh
 source "$(dirname "${BASH_SOURCE[0]}")/lib.sh"
 unset NANORAND_LIBRARY PYTHONPATH
 export PYTHONDONTWRITEBYTECODE=1
 
-# What the tests read, apart from this repository.
+# Copies what the tests read, so that they run outside this repository.
 copy_of_tests() {
     mkdir "$work/tests"
     git ls-files -z --cached --others --exclude-standard README.md python/README.md python/tests tests/answers/answers.tsv |
         xargs -0 cp --parents -t "$work/tests"
 }
 
-# A new environment of the Python $1 in the folder $2, with the wheel of the folder $3; what follows is for venv.
+# Makes a new environment of the Python $1 in the folder $2, with the wheel in the folder $3. Further arguments go to
+# venv.
 environment() {
     "$1" -m venv "${@:4}" "$2" && "$2/bin/pip" install --quiet --no-index --disable-pip-version-check "$3"/*.whl
 }
 
-# That the module of the wheel runs on each processor that the wheel's tag names.
+# The wheel's module runs on every processor that the wheel's tag names.
 runs_everywhere() {
     python3 -m zipfile -e "$1"/*.whl "$1/files" && runs_on_every_processor "$1"/files/nanorand/_native*.so
 }
@@ -28,7 +34,7 @@ same_bytes() {
     [ "$(ls "$1")" = "$(ls "$2")" ] && cmp "$1"/*.whl "$2"/*.whl
 }
 
-# The wheel over the library of $1, which the variable NANORAND_LIBRARY names or cargo compiles, and its tests.
+# Builds the wheel with the library of $1, which NANORAND_LIBRARY names or cargo compiles, and runs its tests.
 over() {
     local room=$work/$1
     step python/build.py "$room/one"
@@ -40,17 +46,17 @@ over() {
     unit_tests "python/tests over $1's library" in_tests "$room/env/bin/python"
 }
 
-# unittest by the Python $1 in the copy of the tests.
+# Runs unittest with the Python $1 in the copy of the tests.
 in_tests() {
     (cd "$work/tests/python/tests" && "$1" -m unittest "${@:2}")
 }
 
-# unittest by python3 in this repository, of what the wheel does not have.
+# Runs unittest with python3 in this repository, for what the wheel does not have.
 in_repository() {
     (cd python/tests && PYTHONPATH=.. python3 -m unittest "$@")
 }
 
-# NumPy's own tests, by the system's Python in the environment $1: pytest's last line says how many passed.
+# Runs NumPy's own tests with the system's Python, in the environment $1. pytest's last line says how many passed.
 numpys_own() {
     local status passes
     echo "== NumPy's own tests"
@@ -69,7 +75,7 @@ numpys_own() {
     fi
 }
 
-# CPython's tests of random.Random, for the Python $1: Debian has them apart.
+# Gets CPython's tests of random.Random for the Python $1, if it can. Debian packages them separately.
 with_its_tests() {
     "$1" -c 'import test.test_random' 2>/dev/null && return
     local version
@@ -77,14 +83,14 @@ with_its_tests() {
     available "/usr/lib/python$version/test/test_random.py" "libpython$version-testsuite" || true
 }
 
-# The library of refusing.c.
+# Compiles refusing.c as a library.
 refusing() {
     mkdir -p "$work/refusing"
     cc -std=c11 -Wall -Wextra -pedantic -Werror -O2 -fPIC -Ic/include -c -o "$work/refusing/refusing.o" \
         python/tests/refusing.c && ar rcs "$work/refusing/refusing.a" "$work/refusing/refusing.o"
 }
 
-# What the package makes of its statuses.
+# Tests what the package does with the error statuses of that library.
 refused_statuses() {
     local room=$work/refusing
     step env NANORAND_LIBRARY="$room/refusing.a" python/build.py "$room/one"
@@ -92,10 +98,10 @@ refused_statuses() {
     unit_tests 'python/tests/refusals.py' in_tests "$room/env/bin/python" refusals
 }
 
-# The tests by the system's Python again, over an extension module whose compiler counts what they run, and which lines
-# and branches of the package's Python and C none of them runs: there is none. Where memory is refused, Python's own
-# tracer fails, so those tests run once more without it. For the branches of a null pointer, or of a failed call, a test
-# of the lines between them is enough.
+# Runs the tests with the system's Python again, over an extension module that counts what they run. They must run every
+# line and branch of the package's Python and C code. If an allocation fails, Python's own tracer fails too, so those
+# tests run once more without it. For branches on a null pointer or a failed call it is enough that the lines between
+# them run.
 counted() {
     local room=$work/counted
     if ! { available /usr/lib/python3/dist-packages/coverage python3-coverage &&
@@ -104,7 +110,7 @@ counted() {
         return
     fi
     mkdir -p "$room/own" "$room/refusing"
-    # The last -O is the one that counts.
+    # Of several -O options the last one applies.
     printf '#!/bin/sh\nexec gcc --coverage -dumpdir "$COUNTS/" "$@" -O0\n' >"$room/cc"
     chmod +x "$room/cc"
     step counting own python/build.py "$room/own/wheel"
@@ -121,12 +127,12 @@ counted() {
         --fail-under-line 100 --fail-under-branch 100 --branches
 }
 
-# Builds by the command after the folder $1, into which the compiled module counts.
+# Builds with the command after $1, so that the compiled module writes its counts to the folder $1.
 counting() {
     COUNTS=$work/counted/$1 CC=$work/counted/cc "$system" "${@:2}"
 }
 
-# The Python of the folder $1, in the copy of the tests.
+# Runs the Python of the environment in the folder $1, in the copy of the tests.
 in_python() {
     (cd "$work/tests/python/tests" && COVERAGE_FILE=$work/counted/data "$work/counted/$1/env/bin/python" "${@:2}")
 }
@@ -136,7 +142,7 @@ all_python_counted() {
         in_python own -m coverage report --rcfile "$PWD/pyproject.toml"
 }
 
-# The C files by the compiler $1, which finds nothing to warn of.
+# The compiler $1 has no warnings about the C files.
 without_warnings() {
     local source
     for source in python/native/*.c; do
@@ -145,21 +151,21 @@ without_warnings() {
     done
 }
 
-# The types that the stubs say are those of the extension module, where mypy's own Python can load it.
+# The types in the stubs are those of the extension module. mypy's own Python has to be able to load it.
 stubs_are_right() {
     local site
     site=$("$1/bin/python" -c 'import sysconfig; print(sysconfig.get_path("platlib"))')
     PYTHONPATH=$site stubtest nanorand._native
 }
 
-# pip, by the Python $1, of what there is at the top of $2, in the environment $3.
+# Has pip, with the Python $1, install what is at the top of $2 into the new environment $3.
 pip_installs() {
     "$1" -m venv "$3" &&
         (cd "$2" && "$3/bin/pip" install --quiet --no-index --disable-pip-version-check .) &&
         [ "$("$3/bin/python" -I -c 'import nanorand; print(nanorand.WyRand(42).range(1, 100))')" = 69 ]
 }
 
-# What the unpacked archive has: the package, the header, and the library of $1.
+# Makes a folder like the unpacked archive: the package, the header, and the library $1.
 archive() {
     mkdir -p "$work/archive/lib" "$work/archive/python"
     cp -r pyproject.toml LICENSE c/include "$work/archive/"
@@ -180,7 +186,7 @@ python3 -c 'import ensurepip, venv' 2>/dev/null || skip_all "$package" 'python3 
 available cc gcc || skip_all "$package" 'there is no C compiler'
 available nm binutils || skip_all "$package" 'there is no nm'
 
-# Without it an archive of an earlier source would be packed.
+# Without the kit, an archive built from an earlier source would be packed.
 kit=
 if asked_for kit && command -v rt >/dev/null; then
     kit=$PWD/crates/nanorand_c/out/libnanorand_c.a

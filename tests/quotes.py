@@ -1,22 +1,23 @@
 #!/usr/bin/env python3
-"""Compares what the documents quote with the source: tests/quotes.py [--write].
+"""Compares the code that documents quote with the source: tests/quotes.py [--write].
 
-A quoted block stands under a line that names its file, from the document's folder on, and its items:
+A quoted block follows a line that names its file, relative to the document's folder, and its items:
 
     <!-- src/callers.rt: imports, pick, roll -->
     ```rust
     ..
     ```
 
-An item is the name of a function, type or constant, quoted with its comment and without attributes; `imports` are the
-lines that import, and `the whole file` is a file of Rattle or Rust, or of definitions in a block of `antt`.
+An item is the name of a function, type or constant, quoted with its comment and without attributes. `imports` stands
+for the lines that import. `the whole file` stands for a whole file of Rattle or Rust, or of definitions, in a block of
+`antt`.
 
-A table whose first column links a file of `specs/` names definitions in its second: each has to be
-declared in that file. Of docs/PROMISES.md each clause (`function: clause, clause`) and mutant has to exist;
-each promise has to name a mutant, or to say `none` and why; and each mutant of the crates has to be named there, to
-name what refuses it, and to apply.
+In a table whose first column links a file of `specs/`, the second column names definitions. Each has to be declared in
+that file. In docs/PROMISES.md, each clause (`function: clause, clause`) and mutant has to exist, and each promise has
+to name a mutant, or to say `none` and why. Each mutant of the crates has to be named there, to name what it is refused
+at, and to apply.
 
-The last line is N passed, M failed. With --write the blocks are written from the source first.
+The last line is N passed, M failed. With --write the blocks are first rewritten from the source.
 """
 
 import re
@@ -44,7 +45,7 @@ class Missing(Exception):
 
 
 def quoted(items, name):
-    """The item of this name, with its comment; or the lines that import."""
+    """The item with this name and its comment, or the lines that import."""
     if name == "imports":
         groups = [[one for one in items if one.word == word and not one.visibility] for word in ("ghost use", "use")]
         return "\n\n".join("\n".join(one.code() for one in group) for group in groups if group)
@@ -55,7 +56,7 @@ def quoted(items, name):
 
 
 def quote(path, selected):
-    """The text of a block: the selected items of a file, or the file."""
+    """The text of a block: the selected items of a file, or the whole file."""
     if selected == "the whole file":
         return path.read_text(encoding="utf-8").rstrip("\n")
     items = items_at(path)
@@ -63,7 +64,7 @@ def quote(path, selected):
 
 
 def first_difference(wanted, found):
-    """The first line of the source that the block lacks, or the first of the block that the source lacks."""
+    """The first line of the source that the block lacks, or the first line of the block that the source lacks."""
     squeezed = "".join(found.split())
     for line in wanted.splitlines():
         if "".join(line.split()) not in squeezed:
@@ -76,7 +77,7 @@ def first_difference(wanted, found):
 
 
 def check(document, write):
-    """How many quotes of a document are right, and what is wrong with the others."""
+    """The number of quotes of a document that are right, and what is wrong with the others."""
     lines = document.read_text(encoding="utf-8").split("\n")
     passed, wrong, out, marked, i = 0, [], [], False, 0
     has_marks = any(MARK.match(line) for line in lines)
@@ -125,7 +126,7 @@ def check(document, write):
 
 
 def functions_of(root):
-    """Of each name the functions: the type or trait, whether it is a trait's, and the names of the clauses."""
+    """For each name its functions: the type or trait, whether that is a trait, and the names of the clauses."""
     functions = {}
     for path in sorted(root.glob("crates/*/src/**/*.rt")):
         for item in items_at(path):
@@ -138,7 +139,7 @@ def functions_of(root):
 
 
 def has_clauses(functions, name, wanted):
-    """Whether a function, which may stand behind `Type::`, has the clauses; an impl has those of its trait."""
+    """Whether a function, whose name may begin with `Type::`, has the clauses. An impl has those of its trait."""
     owner, _, name = name.rpartition("::")
     of_name = functions.get(name, [])
     if not any(not owner or one[0] == owner for one in of_name):
@@ -148,7 +149,7 @@ def has_clauses(functions, name, wanted):
 
 
 def check_promises(root):
-    """What the page of promises names, and the source does not have."""
+    """What docs/PROMISES.md names and the source lacks, and mutants that the page does not name."""
     page = root / "docs/PROMISES.md"
     if not page.exists():
         return 0, []
@@ -184,7 +185,7 @@ def check_promises(root):
 
 
 def check_mutants(root):
-    """The mutants whose texts no longer stand once in the file that they name, or that name no clause."""
+    """The mutants whose text is not exactly once in the file that they name, or that name no clause."""
     edits = all_edits(root)
     names = [edit.name for edit in edits]
     wrong = [f"{edit.crate}: {edit.name}: {edit.problem()}" for edit in edits if edit.problem()]

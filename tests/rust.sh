@@ -1,19 +1,21 @@
 #!/usr/bin/env bash
-# Tests the Rust packages: the comparer of their sources with the proved ones; the workspace and the library's build.rs,
-# in a copy that has neither this repository nor the kit; the adapter for rand_core, the drop-in for nanorand 0.7.0, and
-# what is taken from a clone. The workspace's tests have to run all its code, as tools/uncovered.py finds by Debian's
-# tools of LLVM.
+# Tests the Rust packages: tests/rust.sh. The last line is N passed, M failed.
+#
+# It tests the tools that compare their sources with the proved ones; the workspace and the library's build.rs, in a
+# copy without this repository's other files and without the kit; the adapter for rand_core; the drop-in replacement for
+# nanorand 0.7.0; and using and installing the packages from a clone. The workspace's tests have to run all its code:
+# tools/uncovered.py checks that with Debian's LLVM tools.
 # shellcheck source=tests/lib.sh
 source "$(dirname "${BASH_SOURCE[0]}")/lib.sh"
 
-# Copies what the tests of the workspace need: the files that a clone has, and those that are not yet committed.
+# Copies the committed and new files that the tests of the workspace need.
 copy_of_workspace() {
     mkdir "$1"
     git ls-files -z --cached --others --exclude-standard Cargo.{toml,lock} {clippy,rustfmt}.toml rust \
         tests/answers tests/{lib,workspace,build_script,targets}.sh tools/uncovered.{py,txt} | xargs -0 cp --parents -t "$1"
 }
 
-# What compiles, links and runs programs of other targets, as far as it can be had.
+# Gets what compiles, links and runs programs for other targets, as far as it is available.
 other_targets() {
     local command package
     while read -r command package; do
@@ -34,15 +36,14 @@ END
     export NANORAND_STD=$work/std/usr/lib/rustlib
 }
 
-# Unpacks into the folder $1 Debian's std of Rust for other architectures than this machine's, whose packages could not be
-# installed without making these architectures the system's own. Their lists and packages are read apart from the
-# system's.
+# Unpacks Debian's Rust std for other architectures into the folder $1. Installing these packages would require adding
+# the architectures to the system, so lists and packages are kept apart from the system's.
 std_of_other_architectures() {
     local architectures=(i386 armhf arm64 s390x) package
     local apt=(apt-get -qq -o "APT::Architectures=$(IFS=,; echo "${architectures[*]}")"
         -o "Dir::State::Lists=$1/lists" -o "Dir::Cache=$1/cache")
     mkdir -p "$1/lists/partial" "$1/cache/archives/partial"
-    # A list that fails may be one that is not needed.
+    # The status does not matter: a list that fails may not be needed.
     "${apt[@]}" update
     (cd "$1" && "${apt[@]}" download "${architectures[@]/#/libstd-rust-dev:}") || return
     for package in "$1"/*.deb; do
@@ -50,7 +51,7 @@ std_of_other_architectures() {
     done
 }
 
-# The adapter is built over rand_core as Debian has it.
+# Tests the adapter with Debian's rand_core.
 adapter() {
     local registry=/usr/share/cargo/registry
     if ! available "$registry/rand_core-0.6*" librust-rand-core-dev; then
@@ -61,22 +62,22 @@ adapter() {
         --config 'source.crates-io.replace-with="debian"' --config "source.debian.directory=\"$registry\""
 }
 
-# A program takes the crate from a clone, as a user does from the repository's address.
+# A program uses the crate from a clone, as a user does from the repository's address.
 added_from_a_clone() {
     cargo new --quiet --vcs none "$work/program" &&
         (cd "$work/program" && cargo add --quiet --git "file://$work/clone" nanorand-proved &&
             cp "$work/clone/rust/nanorand-proved/examples/die.rs" src/main.rs && cargo run --quiet)
 }
 
-# The programs are installed from a clone, as a user does it.
+# The programs are installed from a clone, as a user does from the repository's address.
 installed_from_a_clone() {
     cargo install --quiet --root "$work/installed" --git "file://$work/clone" lots draw &&
         [ "$(printf 'a\nb\n' | "$work/installed/bin/lots" seed all)" = $'b\na' ] &&
         [ "$("$work/installed/bin/draw" wyrand d29b42879be2895f plain 0 u64)" = 16646288086500911322 ]
 }
 
-# A program that asks for nanorand 0.7 takes the drop-in from a clone, by the two lines of its README. No registry has
-# the crate here.
+# A program that depends on nanorand 0.7 gets the drop-in from a clone, by the two lines in its README. The registry is
+# empty, so that the original crate cannot be used.
 patched_from_a_clone() {
     local program=$work/patched registry=$work/empty
     mkdir "$registry" && cargo new --quiet --vcs none "$program" || return
@@ -91,7 +92,7 @@ if ! available cargo cargo || ! available rustc rustc; then
 fi
 
 unit_tests 'tools/tests' python3 -W error -m unittest discover -s tools/tests
-# Debian's rustc is old, and stands beside a newer one.
+# Debian's rustc, an old version, may be installed beside a newer one.
 available /usr/bin/rustc rustc
 available /usr/bin/cargo cargo
 other_targets

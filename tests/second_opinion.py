@@ -1,13 +1,17 @@
 #!/usr/bin/env python3
-"""Compares the Python code of docs/LOTS.md with builds of the program `lots`: tests/second_opinion.py PROGRAM..
+"""Compares the Python code of docs/LOTS.md with builds of the program `lots`.
 
-- 1,000 draws by the code's function `draw` and by each program. Seeds, lists and counts are pseudorandom,
-  the same in each run.
-- 25 draws by the code as a program, and what both refuse, with what they write to standard error.
-- 25 draws by the shorter code, which leaves the keystream to openssl.
-- Draws by the code from words that it is given, as no seed here has a rejected word. A word has to name
-  the number that docs/REFERENCE.md says, or to be rejected.
-- The commands of the page's example, with the list and the results that stand there, and those of docs/PAGE.md.
+    tests/second_opinion.py PROGRAM..
+
+For example, tests/second_opinion.py target/release/lots. It compares:
+
+- 1,000 draws by the code's function `draw` and by each program. Seeds, lists and counts are pseudorandom, the same in
+  each run.
+- 25 draws by the code as a program, and the errors of both, with their output to standard error.
+- 25 draws by the shorter code, which computes the keystream with openssl.
+- Draws by the code from given words (random 64-bit numbers), since no seed here has a rejected word. A word has to
+  select the number that docs/REFERENCE.md says, or to be rejected.
+- The commands of the page's example, with the list and the results on the page, and those of docs/PAGE.md.
 
 The last line is N passed, M failed.
 """
@@ -29,7 +33,7 @@ ALPHABETS = [(0x30, 0x3A), (0x20, 0x7F), (0x01, 0x80), (0xA0, 0x800), (0x800, 0x
 
 
 def block(text, mark):
-    """The lines of the block that stands under a mark."""
+    """The lines of the block under a mark."""
     return re.search(re.escape(mark) + r"\n```\w*\n(.*?)^```$", text, re.M | re.S)[1].splitlines()
 
 
@@ -40,21 +44,21 @@ def result(arguments, standard_input, **environment):
 
 
 def a_seed(rng):
-    """A text of one or several alphabets; the last argument of a process has no byte 0."""
+    """A text of one or several alphabets. It has no byte 0, because it is an argument of a process."""
     one = rng.choice(ALPHABETS)
     mixed = rng.random() < 0.3
     return "".join(chr(rng.randrange(*(rng.choice(ALPHABETS) if mixed else one))) for _ in range(rng.choice(LENGTHS)))
 
 
 def some_entrants(rng, size):
-    """Bytes without line feeds, never none; some lists have many equal entrants."""
+    """Entrants of one byte or more, without line feeds. Some lists have many equal entrants."""
     longest = rng.choice([1, 2, 8, 40])
     signs = bytes(set(range(256)) - {10}) if rng.random() < 0.7 else b"ab\r\0"
     return [bytes(rng.choices(signs, k=rng.randint(1, longest))) for _ in range(size)]
 
 
 def a_count(rng, size):
-    """The argument, and the number that it means."""
+    """An argument, and the number that it means."""
     if rng.random() < 0.4:
         return "all", size
     number = min(size, rng.choice([0, 1, 2, size] + [rng.randint(0, size) for _ in range(8)]))
@@ -62,7 +66,7 @@ def a_count(rng, size):
 
 
 def other_than(wanted, programs, arguments, text, case):
-    """For each program what is wrong with its result, or None."""
+    """For each program, what is wrong with its result, or None."""
     for program in programs:
         found = result([program, *arguments], text)
         said = f"status {found[0]} and not {wanted[0]}, {len(found[1])} bytes and not {len(wanted[1])}, {found[2]!r}"
@@ -86,8 +90,8 @@ def draws(programs, draw):
 
 
 def draws_by_process(programs, code):
-    """The same for 25 draws by the code as a program, with lists that end in a line feed and that do not, and in a
-    locale of UTF-8 and of ASCII by turns."""
+    """The same for 25 draws by the code as a program: lists that end in a line feed and that do not, and alternately
+    a UTF-8 and an ASCII locale."""
     locales = [{"PYTHONUTF8": "1"}, {"PYTHONUTF8": "0", "PYTHONCOERCECLOCALE": "0", "LC_ALL": "C"}]
     rng = random.Random(30)
     for number in range(25):
@@ -101,7 +105,7 @@ def draws_by_process(programs, code):
 
 
 def draws_by_openssl(programs, source, folder):
-    """The same for 25 draws by the lines that leave the keystream to openssl."""
+    """The same for 25 draws by the code that computes the keystream with openssl."""
     if not shutil.which("openssl"):
         print("skipped: the draw by openssl, as there is none")
         return
@@ -119,9 +123,9 @@ def draws_by_openssl(programs, source, folder):
 
 
 def refusals(programs, code):
-    """The same for what both refuse; the code has status 1 for each reason."""
+    """The same for arguments and lists that are errors. The code has status 1 for each of them."""
     counts = ["", "-1", "+1", " 1", "1 ", "1_0", "1.0", "ALL", "\u0661", "\u00b2", b"\xff", str(2**64), "9" * 5000]
-    # No UTF-8: a byte alone, half of a letter, a surrogate.
+    # Not UTF-8: an invalid byte, half a character, a surrogate.
     seeds = [b"\xff", b"seed\xc3", b"\xed\xa0\x80"]
     cases = [
         *((2, ["seed", count], b"a\n\nb\n") for count in counts), *((2, [seed, "1"], b"a\n") for seed in seeds),
@@ -138,7 +142,7 @@ def refusals(programs, code):
 
 
 def draws_from_words(names):
-    """The same for words around the first and the last of a number's run, which is stated as in docs/REFERENCE.md."""
+    """The same for words around the first and the last word of each number's run, as docs/REFERENCE.md defines it."""
     last = 2**64 - 1
     for size in [*range(1, 41), 300, 4999]:
         quota, rejected = divmod(2**64, size)

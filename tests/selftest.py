@@ -1,9 +1,9 @@
 #!/usr/bin/env python3
-"""Tests the script ./test and what compares files: tests/selftest.py. The last line is N passed, M failed.
+"""Tests the script ./test and the scripts that compare files: tests/selftest.py. The last line is N passed, M failed.
 
-The script runs in a folder where each of its parts is a stand-in that passes, fails, or ends without a
-count; so does tests/workspace.sh, over a stand-in of cargo. Then a copy of the repository gets one change
-at a time, and the script that compares what was changed has to refuse it, and the one that writes it to restore it.
+./test runs in a folder where each of its parts is a stand-in that passes, fails, or ends without a count.
+tests/workspace.sh runs with a stand-in for cargo. Then a copy of the repository gets one change at a time. The script
+that compares what was changed has to fail, and the script that writes it has to restore it.
 """
 
 import os
@@ -15,13 +15,13 @@ import tempfile
 from pathlib import Path
 
 ROOT = Path(__file__).resolve().parent.parent
-# What stands in tests/ and is no part: what the parts call or read.
+# Files and folders in tests/ that are not parts: the parts call or read them.
 NO_PARTS = {
     "lib.sh", "program.sh", "build.sh", "workspace.sh", "build_script.sh", "targets.sh", "drop_in.sh", "c_crate.sh",
     "second_opinion.py", "nanorand-0.7.0.txt", "answers", "against_c",
 }
 
-# What a part may do: its last lines and its status, and what of it the sum has to have.
+# How a part may end: its last lines, its status, and the counts that the sum has to have for it.
 KINDS = {
     "it fails": ("6 passed, 2 failed", 1, (6, 2)),
     "it fails with status 0": ("6 passed, 2 failed", 0, (6, 2)),
@@ -32,8 +32,8 @@ KINDS = {
     "a skip": ("skipped: a compiler\n6 passed, 0 failed", 0, (6, 0)),
 }
 
-# The changes: what has to refuse each, the file, a text that stands in it, what replaces its first place, and what the
-# refusal has to name, where more than the status is wanted.
+# The changes: the command that has to fail, the file, a text in it, the text that replaces its first occurrence, and
+# texts that the command has to print, if more than the status matters.
 CHANGES = [
     ("tests/quotes.py", "README.md", "(pips ≤ 6)", "(pips ≤ 7)"),
     ("tests/quotes.py", "README.md", "let pips: u64", "let pips: u32"),
@@ -137,7 +137,7 @@ CHANGES = [
     ("tools/pictures.py --check", "crates.txt", "\nlots: lots_core", "\nmore: lots_core\nlots: lots_core"),
     ("tools/pictures.py --check", "tools/layers.py", '"rand::halves", ', ""),
 ]
-# What writes files: the command, each file, and a text in it that is taken out.
+# The commands that write files: the command, each file, and a text in it that is removed before.
 WRITERS = {
     "tests/quotes.py --write": {"README.md": "(pips ≤ 6)"},
     "tests/answers/make.py": {"tests/answers/answers.tsv": "12558987674375533620"},
@@ -147,12 +147,12 @@ WRITERS = {
     "tools/header.py": {"c/include/nanorand.h": "const uint8_t *list"},
     "tools/bodies.py --write": {"rust/PROVED.md": "nanorand-proved/src/system.rs"},
 }
-# Modules that the page does not take, and those that it takes: no import, and memory of 64 bits, or of 32.
+# Modules for the web page: a good one has no import, and a 64-bit or a 32-bit memory. The others are errors.
 MODULE = b"\0asm\1\0\0\0"
 IMPORT, WIDE, NARROW = b"\2\7\1\1a\1b\0\0", b"\5\3\1\4\1", b"\5\3\1\0\1"
 BAD_MODULES = [b"", b"<html>", MODULE, MODULE + NARROW, MODULE + IMPORT + WIDE]
 BAD_MODULES32 = [b"", MODULE, MODULE + WIDE, MODULE + IMPORT + NARROW]
-# What no script of the page may have: the end of a script, its other beginning, a name of another file.
+# What no script of the page may have: a tag that ends a script, one that begins a comment, a name of another file.
 BAD_SCRIPTS = ['void "</SCRIPT>";', 'void "<!--";', "function hex() {}"]
 
 
@@ -164,7 +164,7 @@ class Counts:
         self.passed += found == wanted
         self.failed += found != wanted
         if found != wanted:
-            print(f"FAILED {name}: {found!r} and not {wanted!r}")
+            print(f"FAILED {name}: expected {wanted!r}, found {found!r}")
 
 
 def ran(command, folder, **environment):
@@ -173,7 +173,7 @@ def ran(command, folder, **environment):
 
 
 def stand_in(path, first=""):
-    """A program that notes its call and passes; the call of BAD prints TEXT and ends with STATUS."""
+    """Writes a program that records its call and passes. The call BAD prints TEXT and ends with STATUS instead."""
     path.parent.mkdir(parents=True, exist_ok=True)
     path.write_text(f"#!/bin/sh\n{first}\n" + """
 echo "$0 $*" >>"$CALLS"
@@ -186,7 +186,8 @@ echo '7 passed, 0 failed'
 
 
 def calls_of_whole(room):
-    """What ./test calls, where all that it could call is a stand-in. That of rt wants to be in a copy of the room."""
+    """Prepares a folder in which everything that ./test calls is a stand-in. The one for rt fails unless it runs in a
+    copy of the folder that has the committed and new files and no built ones."""
     copy_of_repository(room, "test", "tests/lib.sh")
     programs = re.findall(r"^    (?:timed|begin) (\S+)", (ROOT / "test").read_text(encoding="utf-8"), re.M)
     functions = {"alone", "ended", "proofs", "pieces", "mutants"}
@@ -210,25 +211,25 @@ def whole(room, bad, text, status):
 
 
 def sums(counts, room):
-    """Each part is called, and whatever it does is in the sum."""
+    """Each part is called, and the sum counts how it ends."""
     calls_of_whole(room)
     made, lines, status = whole(room, "none", "", 0)
     names = {f"tests/{path.name}" for path in (ROOT / "tests").iterdir() if path.name not in NO_PARTS}
-    # The parts that test what the kit and what cargo builds are run for each.
+    # The parts that test both what the kit and what cargo builds run once for each.
     by_library = {"tests/c.sh", "tests/draw.sh", "tests/lots.sh", "tests/python.sh"}
     parts = names - by_library | {f"{name} {library}" for name in by_library for library in ("cargo", "kit")}
     others = {"rt ci", "tests/build.sh library page draw lots", "tests/answers/make.py --check",
               "tools/contracts.py --check", "tools/pictures.py --check", "tools/bodies.py", "tools/mutants.py",
               "tools/header.py --check", "tools/record.py --check", "web/build.py --check"}
     counts.same("the parts that are called", sorted(made), sorted(parts | others))
-    # The pieces count as one, whatever the script that builds them prints.
+    # The pieces count as one test, whatever the script that builds them prints.
     all_passed = 7 * (len(made) - 1) + 1
     counts.same("the sum", (lines[-1], status), (f"{all_passed} passed, 0 failed", 0))
     times = [line for line in lines if re.fullmatch(r".+: [\d.]+ minutes, [\d.]+ processor-minutes", line)]
     counts.same("the times, and the ten dearest again", len(times), len(made) + 10)
     counts.same("the ten dearest are the last", lines[-11:-1], times[-10:])
     for call in made:
-        # One part has every kind of end, and each of the others the one that is easily overlooked.
+        # One part is tested with every kind of end, the others with the kind that is easily overlooked.
         for kind in KINDS if call == "tests/quotes.py" else ["its status alone fails"]:
             text, ended, (passed, failed) = KINDS[kind]
             _, lines, status = whole(room, call, text, ended)
@@ -241,7 +242,8 @@ def sums(counts, room):
 
 
 def quick(counts, room):
-    """./test quick takes the crates that differ from the last commit on main, and the crates of tests above them."""
+    """./test quick takes the crates that differ from the last commit on main, and the crates with tests that depend on
+    them."""
     calls = room / "calls"
     copy_of_repository(room, "test", "tests/lib.sh", "tools/crates.py")
     for name in re.findall(r"^    timed ((?:tests|tools|web)/\S+)", (ROOT / "test").read_text(encoding="utf-8"), re.M):
@@ -272,8 +274,8 @@ def quick(counts, room):
         counts.same(f"./test quick {arguments}, after a change of {change}", (made, done.returncode), (wanted, 0))
 
 
-# The same stand-in for cargo and rustc: its call of the number BAD ends as the call of KIND. It has all parts, but no
-# tools of LLVM.
+# The stand-in for cargo and rustc. The call with the number BAD fails, or prints nothing if KIND is `nothing`. The
+# stand-in has all subcommands, but no LLVM tools.
 STAND_IN = """#!/bin/sh
 case "$*" in *--version | *--verbose | --print*) printf 'rustc 1.63.0\nhost: none\nLLVM version: 0\n'; exit 0 ;; esac
 echo "${0##*/} $*" >>"$CALLS"
@@ -289,7 +291,7 @@ echo 'test result: ok. 3 passed; 0 failed'
 
 
 def crate_tested(room, bad, kind):
-    """The calls of tests/workspace.sh, its last line and its status, where one call ends badly."""
+    """The calls of tests/workspace.sh, its last line and its status, if the call with the number `bad` ends badly."""
     calls = room / "calls"
     calls.write_text("")
     done = ran(["tests/workspace.sh"], room, PATH=f"{room / 'bin'}:{os.environ['PATH']}", CALLS=str(calls), BAD=str(bad),
@@ -298,8 +300,8 @@ def crate_tested(room, bad, kind):
 
 
 def crate(counts, room):
-    """The tests of packages count each call that fails, and each run of tests that had none. One example and one
-    target do."""
+    """tests/workspace.sh counts each call that fails, and each test run without tests, as a failure. To save time there
+    is only one example and one target."""
     copy_of_repository(room, "rust", "Cargo.toml", "tests", "tools")
     for example in sorted((room / "rust/nanorand-proved/examples").iterdir())[1:]:
         example.unlink()
@@ -319,13 +321,13 @@ def crate(counts, room):
 
 
 def in_lib(script, room, **environment):
-    """What a script prints that sources tests/lib.sh, and its status. The programs of the room come first."""
+    """The output and the status of a script that sources tests/lib.sh. Programs in the room come first on the PATH."""
     done = ran(["bash", "-c", f"source tests/lib.sh; {script}"], ROOT, PATH=f"{room}:{os.environ['PATH']}", **environment)
     return done.stdout.splitlines(), done.returncode
 
 
 def cargo(counts, room):
-    """cargo_tests adds up what cargo prints. A status alone fails it, and so does a run without a test."""
+    """cargo_tests adds up what cargo prints. A bad status or a run without tests is a failure."""
     good, bad = "test result: ok. 3 passed; 0 failed", "test result: FAILED. 2 passed; 1 failed"
     for text, status, wanted in [(good, 0, "3 passed, 0 failed"), (f"{bad}\n{good}\n{bad}", 101, "7 passed, 2 failed"),
                                  (good, 101, "3 passed, 1 failed"), ("", 0, "0 passed, 1 failed")]:
@@ -336,7 +338,7 @@ def cargo(counts, room):
 
 
 def parts(counts, room):
-    """`part`, `quiet_part` and `step` count what their commands say and how they end."""
+    """`part`, `quiet_part` and `step` count what their commands print and how they end."""
     for text, status, wanted in [("6 passed, 2 failed", 1, "6 passed, 2 failed"), ("6 passed, 0 failed", 3, "6 passed, 1 failed"),
                                  ("6 passed, 0 failed\nlate", 0, "0 passed, 1 failed"), ("", 0, "0 passed, 1 failed")]:
         program(room / "said", f"printf '%s\\n' '{text}'\nexit {status}\n")
@@ -367,8 +369,8 @@ def copy_of_repository(room, *folders):
 
 
 def changes(counts, room):
-    """Each script passes over the copy as it is, and refuses each change, by name where names are wanted. No file is
-    read by the locale's letters."""
+    """Each script passes on the unchanged copy, and fails for each change, with the wanted texts. No file is read in
+    the locale's encoding."""
     letters = {"PYTHONWARNDEFAULTENCODING": "1", "PYTHONWARNINGS": "error::EncodingWarning"}
     for command in sorted({change[0] for change in CHANGES}):
         counts.same(f"{command} of no change", ran(command.split(), room, **letters).returncode, 0)
@@ -388,7 +390,7 @@ def changes(counts, room):
 
 
 def writers(counts, room):
-    """Each writes again what was taken out, to the byte; and nothing where its sources are wrong."""
+    """Each command restores the bytes of the removed text. It writes nothing if its sources are wrong."""
     for command, files in WRITERS.items():
         wanted = {name: (room / name).read_bytes() for name in files}
         for name, text in files.items():
@@ -405,7 +407,7 @@ def writers(counts, room):
 
 
 def page(counts, room):
-    """web/build.py takes no module that is not alone, and no script that ends itself."""
+    """web/build.py fails for a module with imports or another memory, and for a script that would end early."""
     module, module32, script = room / "module.wasm", room / "module32.wasm", room / "web/src/list.js"
     build = ["web/build.py", module.name, module32.name]
     module32.write_bytes(MODULE + NARROW)
@@ -426,7 +428,7 @@ def page(counts, room):
 
 
 def committed_module(counts, room, module):
-    """Where no compiler is to be had, the module for 32-bit memory is that of the committed page."""
+    """Without a compiler, the module for 32-bit memory is the one in the committed page."""
     done = ran(["web/build.py", module], room, NANORAND_OLDEST="/none")
     counts.same("a page without a compiler", (done.returncode, "skipped: " in done.stdout), (0, True))
     pages = [(room / name).read_text(encoding="utf-8") for name in ("web/dist/nanorand.html", "docs/nanorand.html")]
@@ -434,8 +436,8 @@ def committed_module(counts, room, module):
     counts.same("its module for 32-bit memory", held[0] == held[1], True)
 
 
-# A crate of two functions, of which the second calls the first, and a stand-in of its check: a 7 in a body is refused
-# for itself, in the second only where the first is proved; an 8 is refused at another clause.
+# A crate of two functions, the second of which calls the first, and a stand-in for its check. A 7 in the first body is
+# refused; a 7 in the second body is refused only if the first function is proved. An 8 is refused at another clause.
 LOW = """pub fn one() -> u8
     ensures value { result \u2261 1 }
 {
@@ -467,7 +469,7 @@ exit $status
 
 
 def mutants(counts, room):
-    """tools/mutants.py plants both mutants at once, takes each refusal for itself, and fails one that is let through."""
+    """tools/mutants.py plants both mutants at once, counts each refusal separately, and fails a mutant that passes."""
     copy_of_repository(room, "tools")
     texts = {"crates.txt": "low:\n", "crates/low/src/lib.rt": LOW, "bin/rt": RT, "bin/rattle": CHECK}
     for name, text in texts.items():
@@ -491,7 +493,7 @@ def mutants(counts, room):
         counts.same(case, found, (checks, wanted, int(" 0 failed" not in wanted)))
 
 
-# Definitions and lemmas of a crate, and what each rests on.
+# Definitions and lemmas of a crate, and what each depends on.
 FILES = {
     "specs/Sums.antt": "use A.{four}\n\npub one : ℕ\none = 1\n\nabbrev pub two : ℕ\ntwo =\n    1 + 1 -- one\n\n"
                        "module _ (n : one) where\n  pub four : ℕ\n  four = n\n\npub three : ℕ\nthree = two\n",
@@ -503,7 +505,7 @@ BEHIND = {"one": {"one"}, "(three)": {"one", "three", "two"}, "of_six": {"of_six
 
 
 def definitions(counts, room):
-    """What a text rests on: all that its names lead to, and no comment or import."""
+    """What a text depends on: everything that its names lead to. Comments and imports do not count."""
     for name, text in FILES.items():
         (room / name).parent.mkdir(parents=True)
         (room / name).write_text(text, encoding="utf-8")
@@ -514,8 +516,8 @@ def definitions(counts, room):
 
 
 def installs(counts, room):
-    """`available` finds a command that is there. It installs others as root where CI is true, and else says what to
-    install."""
+    """`available` finds a command that is there. For others it prints what to install, and installs it if CI is `true`
+    and the user is root."""
     program(room / "apt-get", "echo called >>$CALLS\n")
     calls = room / "calls"
     for command, environment, wanted in [("bash", {}, ([], 0, 0)), ("none", {"CI": ""}, (["to install: of-none"], 1, 0)),
@@ -527,7 +529,7 @@ def installs(counts, room):
 
 
 def missing(counts, room):
-    """A build that should be there and is not is a failure, not a test less."""
+    """A build that should be there and is not is a failure. Its tests are not just left out."""
     for name in ["draw", "lots"]:
         done = ran([f"tests/{name}.sh", "kit"], room, BUILT="1")
         last = done.stdout.splitlines()[-1]

@@ -1,7 +1,9 @@
 #!/usr/bin/env bash
-# Compiles rust/nanorand-proved for each target whose std the oldest compiler has, without its feature std and with it,
-# and runs its tests/targets/program.rs where that can be. NANORAND_OLDEST names the folder that has bin/rustc, and
-# NANORAND_STD one that has the std of further targets.
+# Compiles rust/nanorand-proved for other targets: tests/targets.sh. The last line is N passed, M failed.
+#
+# For each target whose std the oldest supported compiler has, it compiles the library with and without its feature std,
+# and runs the library's tests/targets/program.rs if a linker and what runs it are there. NANORAND_OLDEST names the
+# folder that has bin/rustc (/usr by default), and NANORAND_STD a folder with the std of further targets.
 # shellcheck source=tests/lib.sh
 source "$(dirname "${BASH_SOURCE[0]}")/lib.sh"
 oldest=${NANORAND_OLDEST:-/usr}
@@ -9,7 +11,7 @@ out=../../target/targets
 cd rust/nanorand-proved || exit
 export PATH=$PATH:/usr/lib/wine WINEPREFIX=$work/wine WINEDEBUG=-all WINEDLLOVERRIDES='mscoree,mshtml='
 
-# The target, what links its programs, and what runs them.
+# Each target, its linker, and the command that runs its programs.
 targets='
 x86_64-unknown-linux-gnu      cc                      env
 i686-unknown-linux-gnu        i686-linux-gnu-gcc      qemu-i386 -L /usr/i686-linux-gnu
@@ -33,8 +35,8 @@ std_of() {
     return 1
 }
 
-# Compiles with the checks of a debug build: compile TARGET ARGUMENT.. Debian's i686 lacks SSE2, which rustc's own has:
-# without it floats are rounded twice.
+# Compiles with the checks of a debug build: compile TARGET ARGUMENT.. Debian's i686 target lacks SSE2, which rustc's
+# own i686 target has. Without SSE2 floats are rounded twice.
 compile() {
     local processor=()
     case $1 in i686-*) processor=(-C target-cpu=pentium4) ;; esac
@@ -48,7 +50,7 @@ compile_crate() {
         step compile "$1" "${crate[@]}" --cfg 'feature="std"'
 }
 
-# Wine 8 lacks Windows' library of random bytes: another stands for it.
+# Wine 8 lacks Windows' library for random bytes (bcryptprimitives.dll). A stand-in replaces it.
 put_library() {
     x86_64-w64-mingw32-gcc -shared -o "$WINEPREFIX/drive_c/windows/system32/bcryptprimitives.dll" \
         tests/targets/process_prng.c

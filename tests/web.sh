@@ -1,7 +1,9 @@
 #!/usr/bin/env bash
-# Compares the record in docs/PAGE.md with the page docs/nanorand.html, proves the module, builds the page anew and
-# compares the bytes, and tests it in Chromium and in Firefox beside the program `lots`: web/tests/run.py says how. A
-# browser that is not there and cannot be installed is skipped.
+# Tests the web page: tests/web.sh. The last line is N passed, M failed.
+#
+# It compares the record in docs/PAGE.md with the page docs/nanorand.html, proves the module, builds the page again,
+# compares the bytes, and tests the page in Chromium and Firefox, compared with the program `lots` (see
+# web/tests/run.py). A browser that is not there and cannot be installed is skipped.
 # shellcheck source=tests/lib.sh
 source "$(dirname "${BASH_SOURCE[0]}")/lib.sh"
 unset RT_BACKEND
@@ -22,11 +24,11 @@ else
     skip 'the page in Firefox' 'there is no firefox-esr'
 fi
 [ ${#browsers[@]} -gt 0 ] || finish
-# What compiles the module for 32-bit memory.
+# These compile the module for 32-bit memory.
 available /usr/bin/rustc rustc
 available "/usr/lib/rustlib/wasm32-unknown-unknown/lib/libstd-*.rlib" libstd-rust-dev-wasm32
 
-# Equal sources make an equal page, which is the one that is committed.
+# The same sources make the same page again, and it equals the committed page.
 reproducible() {
     cp web/dist/nanorand.html "$work/first.html"
     web/build.py web/dist/nanorand_c.wasm >"$work/built" && cmp web/dist/nanorand.html "$work/first.html" &&

@@ -1,14 +1,13 @@
 #!/usr/bin/env bash
-# Tests the packages of the workspace with cargo alone. NANORAND_OLDEST names the folder with the oldest compiler's bin,
-# else it is /usr.
+# Tests the packages of the workspace with cargo only: tests/workspace.sh. NANORAND_OLDEST names the folder whose bin
+# has the oldest supported compiler; the default is /usr. The last line is N passed, M failed.
 # shellcheck source=tests/lib.sh
 source "$(dirname "${BASH_SOURCE[0]}")/lib.sh"
 library=rust/nanorand-proved
 programs=(-p nanorand-program -p lots -p draw)
 oldest=$(sed -n 's/^rust-version = "\(.*\)"$/\1/p' Cargo.toml)
 
-# The version of the library, the oldest compiler and the license are those that its documents say, and it has no
-# dependency.
+# The library's version, oldest compiler and license are those in its documents, and it has no dependency.
 library_says_what_it_is() {
     local version
     version=$(sed -n 's/^version = "\(.*\)"$/\1/p' "$library/Cargo.toml")
@@ -21,12 +20,12 @@ library_says_what_it_is() {
         holds 'Cargo.toml has no dependencies' eval '! grep -q dependencies "$library/Cargo.toml"'
 }
 
-# Runs a command, and says what does not hold if it fails: holds WHAT COMMAND..
+# Runs a command, and if it fails prints which statement is false: holds STATEMENT COMMAND..
 holds() {
     "${@:2}" || { echo "it does not hold that $1"; return 1; }
 }
 
-# The package $1 takes from the workspace what all share, and depends on packages of this repository alone.
+# The package $1 inherits the shared settings from the workspace, and depends only on packages of this repository.
 shares_what_the_workspace_says() {
     local manifest=rust/$1/Cargo.toml word
     for word in edition rust-version license repository; do
@@ -36,7 +35,7 @@ shares_what_the_workspace_says() {
         ! sed '1,/^\[dependencies\]$/d; /^$/,$d' "$manifest" | grep -vF 'path = "../'
 }
 
-# The package $1, which stands outside the workspace, says what the workspace says.
+# The package $1, which is outside the workspace, has the same settings as the workspace.
 agrees_with_the_workspace() {
     local word
     for word in edition rust-version license; do
@@ -44,12 +43,12 @@ agrees_with_the_workspace() {
     done
 }
 
-# The program $1 has a page that says how it is installed, and the license.
+# The program $1 has a README that says how to install it, and the license.
 has_a_page() {
     cmp "$library/LICENSE" "rust/$1/LICENSE" && grep -qF "cargo install --git URL $1" "rust/$1/README.md"
 }
 
-# A value of a type that has none is met by a hint.
+# The compiler gives a hint if a value is asked for of a type that implements no random values.
 hints_at_mistakes() {
     cargo build --quiet --offline -p nanorand-proved
     grep -qF 'is no type whose values can be drawn' <<<"$(rustc --edition 2021 --crate-type lib --emit metadata \
@@ -57,8 +56,8 @@ hints_at_mistakes() {
         <<<'pub fn f(rng: &mut nanorand_proved::WyRand) -> &str { nanorand_proved::Rng::generate(rng) }')"
 }
 
-# Has a program without std take the library without its feature std: were std linked, it would bring a second panic
-# handler. Warnings are failures.
+# Links a program without std with the library without its feature std. If std were linked, its panic handler would be a
+# second one, which is an error. Warnings are failures.
 library_without_std() {
     local folder=target/without_std
     cargo rustc --offline -p nanorand-proved --lib --no-default-features --target-dir "$folder" -- -D warnings &&
@@ -67,7 +66,7 @@ library_without_std() {
             "$library/tests/without_std/program.rs"
 }
 
-# Has a library without std take lots without its feature std.
+# Links a library without std with lots without its feature std.
 lots_without_std() {
     local folder=target/without_std
     cargo rustc --offline -p lots --lib --no-default-features --target-dir "$folder" -- -D warnings &&
@@ -85,12 +84,13 @@ pub extern "C" fn draw(places: &mut [usize; 9]) -> u8 {
 END
 }
 
-# Unsafe code of the library is in two files alone, as its README says, whatever the attributes say.
+# Only two files of the library have unsafe code, as its README says, whatever the attributes say.
 unsafe_in_two_files() {
     [ "$(cd "$library" && grep -rlw unsafe src | sort)" = $'src/simd.rs\nsrc/system.rs' ]
 }
 
-# The processor is asked for what is compiled for it: one that has AVX2 runs whatever is asked for.
+# The run-time check asks for exactly the features that the code is compiled for. Running it cannot show this, because a
+# processor with AVX2 passes any such check.
 asks_for_what_it_uses() {
     local found
     found=$(grep -oE '(enable = |detected!\(|target_feature = )"[a-z0-9.]+"' "$library/src/simd.rs" |
@@ -98,14 +98,14 @@ asks_for_what_it_uses() {
     [ "$found" = '"avx2"' ] && is_compiled_for_avx2
 }
 
-# Each function for AVX2 says so: else it would run all the same, and forty times as long.
+# Each function for AVX2 is compiled for it. Without the attribute it would still work, but take forty times as long.
 is_compiled_for_avx2() {
     [ "$(grep -c 'unsafe fn [a-z_]*with_avx2' "$library/src/simd.rs")" = 2 ] &&
         [ "$(grep -B 1 'unsafe fn [a-z_]*with_avx2' "$library/src/simd.rs" |
             grep -c '#\[target_feature(enable = "avx2")\]')" = 2 ]
 }
 
-# The library's package has what its users need, and not the test that reads the repository's table of answers.
+# The library's package has what its users need, but not the test that reads the repository's table of answers.
 packs_what_it_should() {
     local file outside='^tests/answers\.rs$'
     cargo package --offline --allow-dirty --quiet --list -p nanorand-proved >target/packed || return
@@ -116,8 +116,8 @@ packs_what_it_should() {
     ! grep -E "$outside" target/packed
 }
 
-# Runs tests of cargo, and records in this target folder which code they run. Where the compiler's LLVM has no tools here,
-# it runs the tests alone.
+# Runs cargo's tests, and records in this target folder which code they run. If the tools of the compiler's LLVM are not
+# there, it only runs the tests.
 covered() {
     if tools/uncovered.py --tools >/dev/null; then
         cargo_tests env RUSTFLAGS=-Cinstrument-coverage LLVM_PROFILE_FILE="$1/profiles/%m-%p.profraw" \
@@ -127,7 +127,7 @@ covered() {
     fi
 }
 
-# Counts the code of these folders that the tests have run, and fails for any that none has.
+# Fails for any code in these folders that no test has run.
 all_covered() {
     if tools/uncovered.py --tools >/dev/null; then
         part tools/uncovered.py "$@"
@@ -136,8 +136,8 @@ all_covered() {
     fi
 }
 
-# Tests all packages by the oldest compiler, without the sweeps, and compiles the programs for each target whose std is
-# there.
+# Tests all packages with the oldest compiler, without the sweeps, and compiles the programs for each target whose std
+# is there.
 by_the_oldest() {
     local words=(env "RUSTC=$oldest_bin/rustc" "RUSTDOC=$oldest_bin/rustdoc" "$oldest_bin/cargo") std target
     cargo_tests "${words[@]}" test --offline -p nanorand-proved --target-dir target/oldest -- --skip sweeps::

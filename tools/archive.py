@@ -1,10 +1,10 @@
 #!/usr/bin/env python3
 """Builds dist/nanorand-VERSION-x86_64-linux.tar.gz, which holds the library for every language.
 
-    tools/archive.py             proves and builds each piece, by tests/build.sh, and packs them; minutes the first time
-    tools/archive.py --pack      packs the pieces as they were built last
+    tools/archive.py           proves and builds each piece with tests/build.sh, and packs them; minutes the first time
+    tools/archive.py --pack    packs the pieces as they were last built
 
-Equal sources and pieces give equal bytes, by the same tools. The last line is the SHA-256 of the archive.
+With the same tools, the same sources and pieces produce the same bytes. The last line is the SHA-256 of the archive.
 """
 
 from __future__ import annotations
@@ -31,17 +31,17 @@ OUT = TOP / "dist" / f"{NAME}.tar.gz"
 LIBRARY = TOP / "crates/nanorand_c/out/libnanorand_c.a"
 PAGE = TOP / "web/dist"
 PROGRAMS = ["draw", "lots"]
-# The workspace of Rust, whose tests run in the archive too, the adapter for rand_core and the drop-in.
+# The Rust workspace, whose tests also run in the archive, the adapter for rand_core and the drop-in.
 WORKSPACE = re.compile(r"Cargo\.(toml|lock)$|rust/(nanorand-(proved|program|rand-core)|draw|lots)/"
                        r"|rust/nanorand-drop-in/(src/|Cargo\.toml$|README\.md$)")
-# What pip builds the Python package from, over the archive's library.
+# The files from which pip builds the Python package, with the archive's library.
 PACKAGE = re.compile(r"pyproject\.toml$|python/((native|nanorand)/|backend\.py$|README\.md$)")
 # The time of every file: 2026-01-01, 00:00 UTC.
 TIME = 1767225600
 
 
 def run(*command: str, folder: Path = TOP, **variables: str) -> str:
-    """The standard output of a command. One that fails ends the build."""
+    """The standard output of a command. A command that fails ends the build."""
     environment = {**os.environ, "LC_ALL": "C", "TZ": "UTC", **variables}
     done = subprocess.run(command, cwd=folder, env=environment, stdin=subprocess.DEVNULL,
                           capture_output=True, encoding="utf-8")
@@ -52,13 +52,13 @@ def run(*command: str, folder: Path = TOP, **variables: str) -> str:
 
 def copy(source: Path, target: Path) -> None:
     if not source.exists():
-        sys.exit(f"tools/archive.py: there is no {source.relative_to(TOP)}: build its piece first")
+        sys.exit(f"tools/archive.py: {source.relative_to(TOP)} does not exist: build its piece first")
     target.parent.mkdir(parents=True, exist_ok=True)
     shutil.copyfile(source, target)
 
 
 def fill(source: Path, target: Path) -> None:
-    """Copies a text, with the version for its mark."""
+    """Copies a text, in which the version replaces @VERSION@."""
     copy(source, target)
     target.write_text(target.read_text(encoding="utf-8").replace("@VERSION@", backend.VERSION), encoding="utf-8")
 
@@ -83,7 +83,7 @@ def put_programs(root: Path) -> None:
 
 
 def put_committed(root: Path, names: re.Pattern[str]) -> None:
-    """The files with such names, of those that are committed."""
+    """Copies the committed files whose names match."""
     for name in run("git", "ls-files", "-z").split("\0"):
         if names.match(name):
             copy(TOP / name, root / name)
@@ -94,13 +94,13 @@ def put_rust(root: Path) -> None:
 
 
 def put_python(root: Path) -> None:
-    """The wheel for this Python, and what pip builds it from for another one."""
+    """The wheel for this Python, and the files from which pip builds it for another one."""
     run("python/build.py", str(root / "python"), NANORAND_LIBRARY=str(LIBRARY))
     put_committed(root, PACKAGE)
 
 
 def put_rest(root: Path) -> None:
-    """The page and its module, the answers, and what to read."""
+    """The web page and its module, the known answers and the documents."""
     for name in ["nanorand.html", "nanorand_c.wasm"]:
         copy(PAGE / name, root / "web" / name)
     for name in ["answers.tsv", "README.md"]:
@@ -111,7 +111,7 @@ def put_rest(root: Path) -> None:
 
 
 def put_digests(root: Path) -> None:
-    """SHA256SUMS, as sha256sum -c reads it."""
+    """SHA256SUMS, for sha256sum -c."""
     files = sorted(path for path in root.rglob("*") if path.is_file() and not path.is_symlink())
     lines = [f"{hashlib.sha256(path.read_bytes()).hexdigest()}  {path.relative_to(root)}\n"
              for path in files]
@@ -119,7 +119,7 @@ def put_digests(root: Path) -> None:
 
 
 def entry(root: Path, path: Path) -> tarfile.TarInfo:
-    """The head of a file, folder or link, which says nothing of this machine."""
+    """The header of a file, folder or link, which contains nothing about this machine."""
     info = tarfile.TarInfo(str(Path(NAME) / path.relative_to(root)))
     info.mtime = TIME
     if path.is_symlink():
@@ -133,7 +133,7 @@ def entry(root: Path, path: Path) -> tarfile.TarInfo:
 
 
 def packed(root: Path) -> bytes:
-    """The archive: entries in the order of their names, and no time in the head of gzip."""
+    """The archive: its entries are sorted by name, and the gzip header has no time."""
     content = io.BytesIO()
     with tarfile.open(fileobj=content, mode="w", format=tarfile.USTAR_FORMAT) as archive:
         for path in [root, *sorted(root.rglob("*"))]:

@@ -1,18 +1,21 @@
 #!/usr/bin/env python3
-"""Compares the Rust sources with the proved ones: `python3 tools/bodies.py [--check | --write]`.
+"""Compares the Rust sources with the proved ones.
 
-Each function, constant, type, trait, implementation, module and `use` of the proved crates has its counterpart in the
-Rust package, in the same module, under the same name and with the same tokens, after the rules of
-`tools/translation.py`. What differs otherwise, and what Rust has beside the proved items, is listed in
-`rust/departures.toml` with a reason and with digests of both sides, so that a change of either side is seen.
+    tools/bodies.py            compares, as with --check
+    tools/bodies.py --write    updates rust/departures.toml and the table in rust/PROVED.md
 
-`const fn` in Rust is allowed where Rattle has `fn`. Not compared are white space, comments, docs, trailing commas,
-braces around the lone expression of a match arm, the label of a loop that no break names, the order of items in a
-file, and the attributes that `entries.IGNORED` names.
+Each function, constant, type, trait, implementation, module and `use` of the proved crates has a counterpart in the
+Rust package: in the same module, with the same name and, after the rules of `tools/translation.py`, the same tokens.
+All other differences, and what Rust has besides the proved items, are listed in `rust/departures.toml`, with a reason
+and with digests of both sides, so that a change on either side is noticed.
 
-Each difference is one line, and the last line is `N passed, M failed`. `--check` is the same. `--write` puts the
-digests of now into the list, adds a row for each difference that has none, whose reason a person then has to write,
-removes the rows that nothing needs, says so of each, and writes the table of `rust/PROVED.md`. `./test` runs this.
+`const fn` in Rust is allowed where Rattle has `fn`. The comparison ignores white space, comments, docs, trailing
+commas, braces around the only expression of a match arm, labels of loops that no `break` or `continue` names, the order
+of items in a file, and the attributes that `entries.IGNORED` names.
+
+Each difference is one line, and the last line is `N passed, M failed`. `--write` updates the digests in the list, adds
+a row for each difference without one (a person then has to write its reason), removes the rows that nothing needs,
+prints each of these changes, and writes the table in `rust/PROVED.md`. `./test` runs the comparison.
 """
 
 import functools
@@ -32,22 +35,22 @@ ROOT = Path(__file__).resolve().parent.parent
 LIST = "rust/departures.toml"
 TABLE = "rust/PROVED.md"
 
-# Files of each proved crate that have no counterpart: its root, which Rust writes by hand, and its laws, whose
+# Files of each proved crate that have no counterpart: its root, which is hand-written in Rust, and its laws, whose
 # functions do nothing.
 WITHOUT_COUNTERPART = ("lib.rt", "laws.rt")
 
-# What to do with an item that Rust alone has.
+# What to do with an item that only Rust has.
 CURE = "run tools/bodies.py --write, and write its reason"
 
-# How many tokens a message shows before the first that differs, and in all.
+# How many tokens a message shows before the first one that differs, and in total.
 BEFORE, SHOWN = 2, 7
 
 
 @dataclass(frozen=True)
 class Package:
-    """A package of Rust: the folder of its sources and its proved crates.
+    """A Rust package: the folder of its sources, and its proved crates.
 
-    `with_std` are the modules whose `mod` line has the feature std, or None if the whole package needs it.
+    `with_std` are the modules whose `mod` line requires the feature std, or None if the whole package needs it.
     """
 
     folder: str
@@ -69,9 +72,9 @@ PACKAGES = (
 class Report:
     """What a comparison found.
 
-    `modules` are the files of Rust that have proved ones, with these; `counts` says how many items of a file are equal
-    and how many rows it needs of each kind. `needs` are the rows that the list has to have: kind, file, item and
-    digests. `by_hand` are the files without a digest, and `methods` the names of the proved functions of traits.
+    `modules` are the Rust files that have proved counterparts, with these. `counts` says how many items of a file are
+    equal, and how many rows of each kind it needs. `needs` are the rows that the list has to have: kind, file, item and
+    digests. `by_hand` are the files without a digest, and `methods` the names of the traits' proved functions.
     """
 
     listed: Listed
@@ -88,7 +91,7 @@ class Report:
 
 
 def read_tree(root):
-    """The texts of all files that are compared, by their path."""
+    """The texts of all compared files, by path."""
     folders = [folder for one in PACKAGES for folder in (one.folder, *(f"crates/{crate}/src" for crate in one.proved))]
     paths = [root / LIST, root / TABLE, *(path for folder in folders for path in sorted((root / folder).rglob("*")))]
     return {path.relative_to(root).as_posix(): path.read_text(encoding="utf-8") for path in paths if path.is_file()}
@@ -113,7 +116,7 @@ def compared(tree):
 
 
 def modules_of(tree, package):
-    """For each module of a package the names of its proved files."""
+    """For each module of a package, the names of its proved files."""
     found = {}
     for crate in package.proved:
         folder = f"crates/{crate}/src/"
@@ -124,7 +127,7 @@ def modules_of(tree, package):
 
 
 def compare_module(report, tree, package, module, names):
-    """Compares the entries of a module with the proved ones of its files."""
+    """Compares the entries of a module with those of its proved files."""
     file = f"{package.folder}/{module}.rs"
     if file not in tree:
         report.differs(names[0], 1, f"{file} should have the counterpart of this module")
@@ -157,7 +160,7 @@ def whole(entries):
 
 @functools.lru_cache(maxsize=None)
 def proved_entries(text, name, package, module, checks):
-    """The entries that Rust should have of a proved file."""
+    """The entries that Rust should have for a proved file."""
     texts = {clause: joined(normal_body(tokens_of(rust))) for clause, rust in checks}
     path = "::".join(["crate", *module.split("/")])
     crates = {"nanorand": "nanorand_proved", **dict.fromkeys(package.proved, "crate")}
@@ -167,12 +170,12 @@ def proved_entries(text, name, package, module, checks):
 
 @functools.lru_cache(maxsize=None)
 def rust_entries(text, name):
-    """The entries of a file of Rust."""
+    """The entries of a Rust file."""
     return entries_of(file_of(text, name))
 
 
 def by_name(report, entries):
-    """The entries by their names. Uses, and traits of one name, are one entry; all others of one name are equal."""
+    """The entries by name. Uses become one entry, as do traits with one name. Others with one name are equal."""
     found = {}
     for entry in entries:
         first = found.setdefault(entry.name, entry)
@@ -187,7 +190,7 @@ def by_name(report, entries):
 
 
 def compare_entry(report, proved, rust):
-    """Compares two entries of one name; if they differ, with the row of the list."""
+    """Compares two entries with the same name. If they differ, checks the row of the list."""
     rust = without_const(proved, rust)
     if difference := first_difference(proved, rust):
         digests = {"proved": digest(proved.text()), "rust": digest(rust.text())}
@@ -223,7 +226,7 @@ def first_difference(proved, rust):
 
 
 def check_row(report, key, digests, line, what, other=""):
-    """Checks that the list has a row, with the digests of now. `what` says why it needs one."""
+    """Checks that the list has a row with the current digests. `what` says why it needs one."""
     report.needs.append((key, digests))
     kind, file, item = key
     row, name = report.listed.find(*key), item or "the file"
@@ -244,8 +247,8 @@ def check_row(report, key, digests, line, what, other=""):
 def check_file(report, tree, name):
     """Checks that a file without a proved module is listed as written by hand.
 
-    No method in it may take the place of a proved one of a trait: Rust prefers a method of the type to one of a trait,
-    so that a call in a compared body would mean another one.
+    No inherent method in it may have the name of a proved method of a trait: Rust prefers inherent methods, so a call
+    in a compared body would call another method.
     """
     if any(name in row.get("files") for row in report.listed.of("hand_written")):
         report.passed += 1
@@ -276,7 +279,7 @@ def check_list(report):
 
 
 def checked(tree):
-    """The report on a tree; if nothing differs, also on the table, which is that of such a tree."""
+    """The report on a tree. If nothing differs, it also covers the table, which describes such a tree."""
     report = compared(tree)
     if not report.differences:
         text = tree.get(TABLE, "")
@@ -290,7 +293,7 @@ def checked(tree):
 
 
 def write(report, tree, root):
-    """Writes the list with the digests of now, and the table, and prints which rows are new, renewed or gone."""
+    """Writes the list with the current digests, and the table. Prints which rows are new, updated or removed."""
     for (kind, file, item), digests in report.needs:
         row, name = report.listed.find(kind, file, item), f"{file}: {item or 'the file'}"
         if row is None:

@@ -1,11 +1,15 @@
 #!/usr/bin/env python3
-"""The book of contracts, one page without a network: tools/contracts.py [FILE | --check | --sums].
+"""Writes the book of contracts, a web page that works offline.
 
-It is made from the sources: each public item of the library, of the programs and of the exports for C with its comment,
-its signature and its clauses; each definition of `specs/`; each promise of docs/PROMISES.md. A word of a clause or of a
-definition links to what defines it. Without FILE the page is docs/out/contracts.html. With --check the page is compared
-with the sources, and the signatures, clauses and definitions of each file with its sum in tools/contracts.sums, so that
-none changes unseen; the last line is then N passed, M failed. With --sums the sums are written anew.
+    tools/contracts.py            writes docs/out/contracts.html
+    tools/contracts.py FILE       writes FILE
+    tools/contracts.py --check    compares, and prints N passed, M failed
+    tools/contracts.py --sums     writes tools/contracts.sums
+
+The page is made from the sources. It has each public item of the library, of the programs and of the C exports, with
+its comment, signature and clauses; each definition in `specs/`; and each promise in docs/PROMISES.md. A name in a
+clause or a definition links to its definition. --check compares the page with the sources, and the signatures, clauses
+and definitions of each file with the file's sum in tools/contracts.sums, so that no change goes unnoticed.
 """
 
 import hashlib
@@ -33,7 +37,7 @@ CRATES = {
     "nanorand_calls": "The calls as C makes them: a status, and what is written",
     "nanorand_c": "The exports for C, Python and the page",
 }
-# Its mutants are wrong implementations of the library's traits, by a user.
+# A crate whose mutants are wrong implementations of the library's traits by a user.
 EXAMPLES = {"nanorand_users"}
 TYPES = ("struct", "enum", "trait", "type", "const")
 WORD = re.compile(r"[A-Za-z_][\w'-]*")
@@ -43,14 +47,14 @@ PART = re.compile(r"^- (?P<word>Clauses|Mutants refused): ")
 
 
 class Entry:
-    """What the book says in one place: an item, a definition or a promise."""
+    """An entry of the book: an item, a definition or a promise."""
 
     def __init__(self, anchor, title, comment, text, file):
         self.anchor, self.title, self.comment, self.text, self.file = anchor, title, comment, text, file
 
 
 class Book:
-    """The entries by their anchors and by their files, the words of each file, and the words that nothing defines."""
+    """The entries by anchor and by file, the words of each file, and the words that nothing defines."""
 
     def __init__(self):
         self.chapters, self.entries, self.words, self.names, self.missing = {}, {}, {}, {}, []
@@ -67,13 +71,13 @@ def anchor_of(*parts):
 
 
 def module_of(path, folder):
-    """The module of a file below a folder, as values.range."""
+    """The module of a file below a folder, such as values.range."""
     parts = list(path.relative_to(folder).with_suffix("").parts)
     return ".".join(part for part in parts if part not in ("lib", "Lib"))
 
 
 def add_source(book, crate, path):
-    """The public items of a file of code, their members after them."""
+    """The public items of a file of code, each followed by its members."""
     module = module_of(path, ROOT / "crates" / crate / "src")
     for item in items_at(path):
         if item.word == "impl" or item.is_public and item.word in (*TYPES, "fn"):
@@ -85,7 +89,7 @@ def add_source(book, crate, path):
 
 
 def members_of(item):
-    """The functions and ghost members of a trait or an impl; of an impl of a type's own, the public ones."""
+    """The functions and ghost members of a trait or an impl; of an inherent impl, only the public ones."""
     of_trait = item.word == "trait" or " for " in item.name
     return [one for one in item.members() if one.word in ("fn", "ghost") and (of_trait or one.is_public)]
 
@@ -98,7 +102,7 @@ def title_of(item, owner=None):
 
 
 def signature_of(item):
-    """An item without its body; an enum, and a struct of public fields, whole."""
+    """An item without its body. An enum, and a struct with public fields, is complete."""
     whole = item.word == "enum" or item.word == "struct" and any(part.is_public for part in item.parts)
     lines = item.code(None if whole else item.brace).split("\n")
     return "\n".join(line.removeprefix(item.indentation()) for line in lines)
@@ -130,8 +134,8 @@ def add_definitions(book, crate, path):
 
 
 def end_of(lines, start, found):
-    """The line after a declaration: what is indented further, what closes it, and the equations that begin with its
-    name."""
+    """The line after a declaration, which has the lines indented further, the line that closes it, and the equations
+    that begin with its name."""
     indent, name = found["indent"], found["name"]
     end = last = start + 1
     while end < len(lines):
@@ -156,7 +160,7 @@ def add_promises(book):
 
 
 def imported(book, path):
-    """Where the words of a file are defined: of its imports, of its own declarations, and of the book's types."""
+    """Where the words of a file are defined: those of its imports, its own declarations, and the book's types."""
     text = path.read_text(encoding="utf-8")
     words = dict(book.names)
     for crate, module, names in IMPORT.findall(text):
@@ -167,7 +171,7 @@ def imported(book, path):
                 owner = module.split(".")[-2 if module.endswith("TheVariants") else -1]
                 target = book.names.get(owner, "")
             elif target not in book.entries:
-                # A constructor: what defines it is its type.
+                # A constructor is defined by its type.
                 target = anchor_of(crate, "specs", module)
             if target in book.entries:
                 words[shown or word] = target
@@ -179,7 +183,7 @@ def imported(book, path):
 
 
 def linked(text, words):
-    """Code as HTML, in which each word that the book defines is a link."""
+    """Code as HTML. Each word that the book defines is a link."""
     def link(found):
         anchor = words.get(found[0])
         return f'<a href="#{anchor}">{escape(found[0])}</a>' if anchor else escape(found[0])
@@ -192,14 +196,14 @@ def linked(text, words):
 
 
 def prose(comment):
-    """A comment as HTML: paragraphs, and code where backquotes stand."""
+    """A comment as HTML: paragraphs, with text in backticks as code."""
     text = re.sub(r"^[ ]*(///?!?|--) ?", "", comment, flags=re.M).strip()
     html = [re.sub(r"`([^`]+)`", r"<code>\1</code>", escape(one)) for one in re.split(r"\n\s*\n", text) if one]
     return "".join(f"<p>{one}</p>" for one in html)
 
 
 def promise(book, text):
-    """A promise as HTML: its sentences, and a line for its clauses and one for its mutants."""
+    """A promise as HTML: its sentences, a line for its clauses, and a line for its mutants."""
     sentences, parts = [], []
     for line in text.split("\n"):
         if PART.match(line):
@@ -218,7 +222,7 @@ def promise(book, text):
 
 
 def cited(book, name):
-    """A clause of a promise, as a link to its function, if one function alone can be meant."""
+    """A clause of a promise, as a link to its function if only one function can be meant."""
     path, _, clauses = unescape(name).partition(": ")
     *owner, word = path.split("::")
     wanted = [f"ensures {one} " for one in clauses.split(", ") if one]
@@ -277,7 +281,7 @@ def page(book):
 
 
 def check(book, html):
-    """How much of the sources is in the page, and what is not: found by patterns, and not by the parser of items."""
+    """How much of the sources is in the page, and what is missing. Patterns find it, not the parser of items."""
     shown = {path: unescape(re.sub(r"<[^>]+>", "", chapter(book, path))) for path in book.chapters}
     ids = set(re.findall(r' id="([^"]+)"', html))
     wanted = [(f"the link #{one}", one in ids) for one in sorted(set(re.findall(r'href="#([^"]+)"', html)))]
@@ -308,7 +312,7 @@ def check(book, html):
 
 
 def sums(book):
-    """A sum of each file's signatures, clauses and definitions, whatever their layout and comments."""
+    """A sum of each file's signatures, clauses and definitions, which their layout and comments do not change."""
     files = {path.relative_to(ROOT): entries for path, entries in book.chapters.items() if path.suffix != ".md"}
     return {name.as_posix(): sum_of(entries) for name, entries in files.items()}
 
@@ -319,7 +323,7 @@ def sum_of(entries):
 
 
 def check_sums(book):
-    """How many files have the sums that are written down, and which have not."""
+    """The number of files with the recorded sums, and the other files."""
     lines = SUMS.read_text(encoding="utf-8").splitlines()
     written = {name: one for one, name in (line.split() for line in lines if not line.startswith("#"))}
     found = sums(book)
@@ -335,7 +339,7 @@ def check_all(book, html):
         print(f"FAILED the book lacks {one}")
     for one in changed:
         print(f"FAILED {one}: a signature, a clause or a definition changed: "
-              "if none is weaker, tools/contracts.py --sums")
+              "if none is weaker, run tools/contracts.py --sums")
     print(f"{passed + same} passed, {len(missing) + len(changed)} failed")
     return bool(missing or changed)
 

@@ -1,10 +1,10 @@
 #!/usr/bin/env python3
 """Reads crates.txt, which names each crate, its kind if it has one, and the libraries that it uses.
 
-    tools/crates.py below CRATE   prints the libraries that the crate stands on, of this repository and the kit
-    tools/crates.py above CRATE   prints the crate, and those of this repository that stand on it
-    tools/crates.py words CRATE CHECKOUT   prints the arguments by which the kit's compiler takes what the crate stands
-                                  on: the libraries that `rt ci` left in the checkout, and the kit's
+    tools/crates.py below CRATE             prints the libraries, of this repository and the kit, that it depends on
+    tools/crates.py above CRATE             prints the crate, and the crates of this repository that depend on it
+    tools/crates.py words CRATE CHECKOUT    prints the kit compiler's arguments for the crate's dependencies: the
+                                            libraries that `rt ci` left in the checkout, and the kit's
 """
 
 import subprocess
@@ -28,7 +28,7 @@ class Crate(NamedTuple):
 
 
 def crates(root=ROOT):
-    """The crates of a repository, by their names."""
+    """The crates of a repository, by name."""
     lines = (root / "crates.txt").read_text(encoding="utf-8").splitlines()
     heads = [line.partition("#")[0].partition(":") for line in lines]
     found = {}
@@ -40,7 +40,7 @@ def crates(root=ROOT):
 
 
 def below(name, all_crates):
-    """The libraries that a crate stands on, each once, those that it names first."""
+    """The libraries that a crate depends on, each once. Those that it names come first."""
     found = list(all_crates[name].libraries) if name in all_crates else []
     for one in found:
         found += [other for other in below(one, all_crates) if other not in found]
@@ -48,7 +48,7 @@ def below(name, all_crates):
 
 
 def above(name, all_crates):
-    """The crate, and those that stand on it."""
+    """The crate, and those that depend on it."""
     return [one for one in all_crates if one == name or name in below(one, all_crates)]
 
 
@@ -59,8 +59,8 @@ def kit():
 
 
 def words(name, all_crates, checkout):
-    """The arguments by which the kit's compiler takes what a crate stands on: the libraries that `rt ci` left in a
-    checkout, and the kit's."""
+    """The kit compiler's arguments for the dependencies of a crate: the libraries that `rt ci` left in a checkout, and
+    the kit's."""
     home = kit()
     left = {one: checkout / "crates" / one / "out/rlib" for one in below(name, all_crates) if one in all_crates}
     found = ["--antt-project", home / "rattle/logic/antt-project.json", "--logic-built", home / "logic_built"]

@@ -1,7 +1,7 @@
-"""What a crate's functions rest on: the definitions and lemmas that their texts name, and all that those name in turn.
+"""What a crate's functions depend on: the definitions and lemmas that their texts name, and everything that those name.
 
-A name counts wherever it stands, whatever it means there, and what breaks one lemma of a file counts as breaking all of
-them. So more is found than is so, and nothing is missed."""
+A name counts wherever it occurs, whatever it means there, and what breaks one lemma of a file counts as breaking all of
+them. So the result may be too large, but nothing is missing."""
 
 import re
 
@@ -10,7 +10,7 @@ from rattle import items_at
 DECLARED = re.compile(
     r"^( *)(?:(?:abbrev|unfoldable|pub) )*(?:(?:record|data|module) (\S+)|([^\s(){}:;,.]+) :(?= |$))", re.M
 )
-# What a module is given, on which all that is declared in it can rest.
+# The parameters of a module, on which everything declared in it can depend.
 GIVEN = re.compile(r"^ *module _ .*?where$", re.M | re.S)
 NAME = re.compile(r"[^\s(){}\[\]:;,.`\"]+")
 
@@ -20,7 +20,7 @@ def names_in(text):
 
 
 def declarations_of(text):
-    """The declarations of a file of definitions or lemmas: the name of each, and where it begins and ends."""
+    """The declarations in a file of definitions or lemmas: the name of each, and where it begins and ends."""
     found = list(DECLARED.finditer(text))
     for i, one in enumerate(found):
         ends = [other.start() for other in found[i + 1 :] if len(other[1]) <= len(one[1])]
@@ -29,7 +29,7 @@ def declarations_of(text):
 
 
 class Definitions:
-    """For each name that a crate declares, the names in all declarations of it."""
+    """For each name that a crate declares, the names in all of its declarations."""
 
     def __init__(self, crate):
         self.named = {}
@@ -48,7 +48,7 @@ class Definitions:
         self.named.setdefault(name, set()).update(names_in(text))
 
     def behind(self, text):
-        """All names of the crate that a text rests on."""
+        """All names of the crate that a text depends on."""
         found, new = set(), names_in(text)
         while new:
             found |= new & self.named.keys()

@@ -1,8 +1,8 @@
-"""Reads and writes `rust/departures.toml`, the list of what differs between the proved sources and the Rust ones.
+"""Reads and writes `rust/departures.toml`, the list of differences between the proved sources and the Rust ones.
 
-A row is `[[departure]]` for a function or another item that differs, `[[hand_written]]` for what has no proved
-counterpart, `[[precondition]]` for a clause of a contract and the statement that checks it. `tools/bodies.py` uses this
-module.
+A row is a `[[departure]]` for a function or another item that differs, a `[[hand_written]]` for what has no proved
+counterpart, or a `[[precondition]]` for a clause of a contract and the statement that checks it. `tools/bodies.py` uses
+this module.
 """
 
 import json
@@ -10,7 +10,7 @@ import re
 import tomllib
 from dataclasses import dataclass
 
-# What stands for a file as a whole.
+# The item of a row for a whole file.
 WHOLE_FILE = ""
 
 
@@ -69,11 +69,11 @@ class Listed:
         return [row for row in self.rows if row.kind == kind]
 
     def find(self, *key):
-        """The row of a kind, a file and an item, or None."""
+        """The row with this kind, file and item, or None."""
         return next((row for row in self.rows if row.key == key), None)
 
     def add(self, kind, **values):
-        """Adds a row after those of its kind and file. A person has to write its reason."""
+        """Adds a row after those with its kind and file. A person has to write its reason."""
         wanted = kind, values.get("file", "")
         alike = [at for at, row in enumerate(self.rows, 1) if (row.kind, row.get("file")) == wanted]
         self.rows.insert(alike[-1] if alike else len(self.rows), Row(kind, 0, {**values, "reason": ""}))

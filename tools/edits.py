@@ -1,14 +1,14 @@
-"""Reads the mutants of a crate: bodies and definitions with one planted bug.
+"""Reads the mutants of a crate: bodies and definitions with one planted bug each.
 
-Those of a file of `src/` stand together in `mutants/`, at the same path: `mutants/rand/wyrand.edits` has those of
-`src/rand/wyrand.rt`; those of `specs/` are in `mutants/specs/`. Each is a paragraph of lines:
+The mutants of a file in `src/` are in one file in `mutants/`, at the same path: `mutants/rand/wyrand.edits` has those
+of `src/rand/wyrand.rt`. Those of `specs/` are in `mutants/specs/`. Each mutant is a paragraph of lines:
 
     mutant NAME, refused at the clauses that refuse it, or else the goals, as the check prints them
-    old: a text that stands once in the file
-    new: what takes its place
+    old: a text that occurs once in the file
+    new: the text that replaces it
 
-More pairs of `old:` and `new:` may follow, and `file:` names another file for those after it. In `must-fail/`, which
-`rt ci` reads too, each mutant has a file of its own, NAME.edit, and `# refused:` names the clauses.
+More pairs of `old:` and `new:` may follow. `file:` names another file for the pairs after it. In `must-fail/`, which
+`rt ci` reads as well, each mutant has a file of its own, NAME.edit, and `# refused:` names the clauses.
 """
 
 import re
@@ -20,7 +20,7 @@ LINE = re.compile(r"^(file|old|new|# refused):(?: (.*))?$")
 
 
 class Edit(NamedTuple):
-    """A mutant: its name, what refuses it, and its changes, each a file of the crate, an old text and a new one."""
+    """A mutant: its name, what refuses it, and its changes. A change has a file of the crate, an old and a new text."""
 
     crate: Path
     name: str
@@ -28,19 +28,19 @@ class Edit(NamedTuple):
     changes: list
 
     def problem(self):
-        """What is wrong with it, or nothing."""
+        """What is wrong with it, or an empty text."""
         if not self.refused:
-            return "it names no clause"
+            return "it names no clause or goal that refuses it"
         for file, old, _ in self.changes:
             path = self.crate / file
             count = path.read_text(encoding="utf-8").count(old) if path.is_file() else 0
             if count != 1:
-                return f"a text is in {file} {count} times, and not once: {old}"
+                return f"this text occurs {count} times in {file}, not once: {old}"
         return "" if self.changes else "it changes nothing"
 
 
 def edit_of(crate, name, refused, lines, file):
-    """The mutant of these lines, which change a file until they name another."""
+    """The mutant in these lines. Its changes are to this file until a line names another."""
     changes, old = [], ""
     for word, said in (match.groups() for match in map(LINE.match, lines) if match):
         if word == "file":

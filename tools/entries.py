@@ -1,9 +1,8 @@
-"""What is compared of a file: one entry for each function, constant, type, trait, implementation and module.
+"""The parts of a file that are compared: an entry for each function, constant, type, trait, implementation and module.
 
-An entry has a name that says where it stands (`trait Rng: fn shuffle`) and facets, such as its result and its body. A
-facet is a list of texts in which a space stands between any two tokens, and nowhere else. `normal` takes out of the
-tokens what has no meaning, of which `IGNORED` is a part. `tools/bodies.py` makes the entries of both sides with this
-module.
+An entry has a name that says where it is (`trait Rng: fn shuffle`) and facets, such as its result and its body. A facet
+is a list of texts with one space between any two tokens, and no other spaces. `normal` removes tokens that have no
+meaning, such as the attributes in `IGNORED`. `tools/bodies.py` makes the entries of both sides with this module.
 """
 
 import functools
@@ -14,11 +13,11 @@ from dataclasses import dataclass
 from rattle import (Alias, Constant, Data, Function, Ghost, Implementation, Module, Other, Part, Token, Trait, Use,
                     closing, derives_of, split, tokens_of)
 
-# Attributes that say nothing of what a program does: lints, hints to the optimizer, docs and layout. `forbid` is not
-# among them, since a crate promises something by it.
+# Attributes that do not affect what a program does: lints, hints to the optimizer, docs and layout of the source.
+# `forbid` is not among them, since a crate promises something with it.
 IGNORED = ("allow", "cold", "deny", "doc", "expect", "inline", "must_use", "rustfmt", "tactic", "warn")
 
-# Words after which a bracket opens a tuple. After any other name it opens arguments.
+# Words after which a parenthesis opens a tuple. After any other name it opens arguments.
 BEFORE_TUPLES = (
     "as", "break", "dyn", "else", "for", "if", "impl", "in", "let", "match", "move", "mut", "ref", "return", "where",
     "while",
@@ -27,7 +26,7 @@ BEFORE_TUPLES = (
 # What may follow the label of a loop or of a block.
 LABELLED = ("for", "loop", "while", "{")
 
-# What an item is compared by, beside its attributes and its visibility.
+# What is compared of an item, besides its attributes and its visibility.
 FACETS = {
     Function: ("words", "generics", "parameters", "result", "conditions", "body"),
     Constant: ("type", "value"),
@@ -42,7 +41,7 @@ FACETS = {
 
 @dataclass(frozen=True)
 class Entry:
-    """What is compared at once. `requires` are the preconditions that the callers of a public function have to keep."""
+    """What is compared together. `requires` are a public function's preconditions, which its callers have to keep."""
 
     name: str
     file: str
@@ -70,7 +69,7 @@ def laid_out(text):
 
 
 def is_ignored(attribute):
-    """Whether an attribute says nothing of what a program does."""
+    """Whether an attribute does not affect what a program does."""
     if attribute[0].text == "cfg_attr":
         applied = split(attribute[2:-1])[1:]
         return all(part[0].text == "diagnostic" or is_ignored(part) for part in applied)
@@ -78,12 +77,12 @@ def is_ignored(attribute):
 
 
 def normal(tokens):
-    """The tokens of a type or a list without what has no meaning: ignored attributes and trailing commas."""
+    """The tokens of a type or a list without those that have no meaning: ignored attributes and trailing commas."""
     return without_commas(without_ignored(list(tokens)))
 
 
 def normal_body(tokens):
-    """The tokens of a body without what has no meaning, which labels and optional braces may be too."""
+    """The tokens of a body without those that have no meaning, which includes unused labels and optional braces."""
     return without_commas(without_arm_braces(without_labels(without_ignored(list(tokens)))))
 
 
@@ -115,7 +114,7 @@ def without_labels(tokens):
 
 
 def without_arm_braces(tokens):
-    """The tokens with one form of each arm of a match: `=> { x }` is `=> x,`, and no comma follows a block."""
+    """The tokens with one form for each arm of a match: `=> { x }` becomes `=> x,`, and no comma follows a block."""
     found, place = [], 0
     while place < len(tokens):
         found.append(tokens[place])
@@ -135,7 +134,7 @@ def without_arm_braces(tokens):
 
 
 def without_commas(tokens):
-    """The tokens without trailing commas. The comma of a tuple of one, `(x,)`, stays."""
+    """The tokens without trailing commas. The comma of a one-element tuple, `(x,)`, stays."""
     found, open_brackets = [], []
     for place, token in enumerate(tokens):
         trailing = found and found[-1].text == ","
@@ -152,7 +151,7 @@ def without_commas(tokens):
 
 
 def opens_tuple(tokens, place):
-    """Whether the bracket at a place opens a tuple, or an expression in brackets, and no arguments."""
+    """Whether the parenthesis at a place opens a tuple or an expression, not arguments."""
     before = tokens[place - 1]
     called = before.kind == "name" and before.text not in BEFORE_TUPLES or before.text in (")", "]", ">", "!", "?")
     return place == 0 or not called
@@ -160,7 +159,7 @@ def opens_tuple(tokens, place):
 
 @functools.lru_cache(maxsize=None)
 def inherent_functions(text):
-    """The functions that a file implements for types alone and not for a trait: name, tokens and line of each.
+    """The functions in a file's inherent implementations: name, tokens and line of each.
 
     Macros may write implementations, so the tokens of the whole file are searched.
     """
@@ -180,7 +179,7 @@ def inherent_functions(text):
 
 
 def without_parameters(tokens):
-    """The head of an implementation without the parameters that it begins with."""
+    """The head of an implementation without its leading generic parameters."""
     depth = 0
     for place, token in enumerate(tokens):
         depth += (token.text == "<") - (token.text == ">")
@@ -190,13 +189,13 @@ def without_parameters(tokens):
 
 
 def attributes_of(attributes):
-    """The attributes that are compared, in one order. Each trait that is derived is one."""
+    """The attributes that are compared, sorted. Each derived trait counts as one."""
     kept = [joined(normal(one)) for one in attributes if one[0].text != "derive" and not is_ignored(one)]
     return sorted([*kept, *(f"derive ( {joined(name)} )" for name in derives_of(attributes))])
 
 
 def entries_of(file):
-    """The entries of a file: of its inner attributes, of all its uses together, and of each item."""
+    """The entries of a file: one for its inner attributes, one for all its uses, and those of each item."""
     found, uses = [], {}
     if attributes := attributes_of(file.attributes):
         found.append(Entry("attributes", file.name, 1, {"attributes": attributes}))
@@ -213,7 +212,7 @@ def entries_of(file):
 
 
 def entries_of_item(item, file, owner=None, before=""):
-    """The entry of an item, and those of what is in it."""
+    """The entry of an item, and the entries of the items in it."""
     if isinstance(item, Ghost):
         return []
     name = f"{item.word} {item.name}".strip()
@@ -238,7 +237,7 @@ def entries_of_item(item, file, owner=None, before=""):
 
 
 def texts_of(value, form=normal):
-    """The texts of a facet: of tokens, of a list of them, or of the parts of a type."""
+    """The texts of a facet, from tokens, from a list of them, or from the parts of a type."""
     if isinstance(value, list):
         return [text for part in value for text in texts_of(part, form)]
     if isinstance(value, Part):

@@ -1,11 +1,12 @@
 #!/usr/bin/env python3
-"""Writes c/include/nanorand.h from the exports of crates/nanorand_c, in the frame of nanorand.h.in: tools/header.py.
+"""Writes c/include/nanorand.h from the exports of crates/nanorand_c and the template c/include/nanorand.h.in.
 
-cbindgen, which does this for Rust, does not read Rattle, in which the exports are proved.
+    tools/header.py                       writes the header
+    tools/header.py --check ARCHIVE..     compares the committed header with what would be written, and its functions
+                                          with the symbols of each static library; prints N passed, M failed
+    tools/header.py --symbols             prints the symbols of the exports
 
-tools/header.py --check ARCHIVE.. compares the committed header with what would be written, its functions with the
-symbols of each static library, and prints N passed, M failed.
-tools/header.py --symbols prints the symbols of the exports.
+cbindgen does this for Rust, but cannot read Rattle, the language in which the exports are proved.
 """
 
 from __future__ import annotations
@@ -22,7 +23,7 @@ sys.path.insert(0, str(ROOT / "tools"))
 from rattle import exports_of, is_laid_out_as_in_c, items_at, name_and_type, text_of  # noqa: E402
 
 SOURCES = sorted((ROOT / "crates/nanorand_c/src").rglob("*.rt"))
-# Structs of the libraries below that cross as they are.
+# Sources of the libraries below, whose structs the C interface passes unchanged.
 BORROWED = [path for crate in ("nanorand_calls/src", "nanorand/src/rand")
             for path in sorted((ROOT / "crates" / crate).rglob("*.rt"))]
 HEADER = ROOT / "c/include/nanorand.h"
@@ -33,21 +34,21 @@ NUMBERS = {"u8": "uint8_t", "u32": "uint32_t", "u64": "uint64_t", "i64": "int64_
 STRUCTS = {"WyRand": "wyrand", "Wide": "pcg64", "ChaChaState": "chacha", "Stream": "stream",
            "GroupStream": "keystream"}
 
-# What a generator is, above its functions. The states are described at their structs.
+# The description of each generator above its functions. The states are described at their structs.
 SECTIONS = {
-    "wyrand": "WyRand: 64 bits of state, the fastest. Not cryptographically secure.",
-    "pcg64": "Pcg64: a seed of 128 bits. Not cryptographically secure.",
-    "chacha8": "ChaCha with 8 rounds. Each call begins a new block, also for a number: fill many bytes at once.",
-    "chacha12": "ChaCha with 12 rounds. Each call begins a new block, also for a number: fill many bytes at once.",
-    "chacha20": "ChaCha with 20 rounds. Each call begins a new block, also for a number: for many, take keystream.",
-    "stream": "The keystream of ChaCha with 20 rounds, without a gap between calls.",
-    "keystream": "The same keystream, eight blocks at once: the one to take where speed counts.",
+    "wyrand": "WyRand: 64 bits of state, the fastest generator. Not cryptographically secure.",
+    "pcg64": "Pcg64: a 128-bit seed. Not cryptographically secure.",
+    "chacha8": "ChaCha with 8 rounds. Even a single number takes a new block: fill many bytes at once.",
+    "chacha12": "ChaCha with 12 rounds. Even a single number takes a new block: fill many bytes at once.",
+    "chacha20": "ChaCha with 20 rounds. Even a single number takes a new block: for many, use keystream.",
+    "stream": "The keystream of ChaCha with 20 rounds, without gaps between calls.",
+    "keystream": "The same keystream, computed eight blocks at once: use it if speed matters.",
     "lots": "The public draw by lot.",
     "version": "The version.",
 }
 GENERATORS = [name for name in SECTIONS if name not in ("lots", "version")]
 
-# The comments of the source in C's words. What has none is an error: see `in_c_words`.
+# The words of the sources' comments and the words for a C programmer. What has none is an error: see `in_c_words`.
 WORDS = [
     (r"`first\.\.=last`", "`first` to `last`, both included"),
     (r"\b[Tt]he slice\b", "`buffer`"),
@@ -73,7 +74,7 @@ class Function(NamedTuple):
 
     @property
     def call(self) -> str:
-        """The name without the generator's."""
+        """The name without that of the generator."""
         return self.symbol.removeprefix(f"{PREFIX}{self.section}").lstrip("_")
 
 
@@ -84,7 +85,7 @@ class Struct(NamedTuple):
 
 
 def paragraphs_of(docs: list[str]) -> str:
-    """The paragraphs of an item's docs, each a line."""
+    """The paragraphs of an item's docs, one on each line."""
     text = "\n".join(line.strip() for line in docs)
     return "\n".join(" ".join(paragraph.split()) for paragraph in text.split("\n\n"))
 
@@ -96,12 +97,12 @@ def in_c_words(name: str, comment: str) -> str:
         text = re.sub(pattern, word, text)
     if not text or (found := RUST_WORDS.search(text)):
         reason = f"it has {found[0]}" if text else "it is empty"
-        sys.exit(f"tools/header.py: the comment of {name} is no text of C: {reason}")
+        sys.exit(f"tools/header.py: the comment of {name} is not for C programmers: {reason}")
     return text[0].upper() + text[1:]
 
 
 def parameter(name: str, kind: str, length: str) -> str:
-    """A parameter in C. A slice is a pointer and then a length."""
+    """A parameter in C. A slice becomes a pointer and then a length."""
     constant = "" if kind.startswith("&mut ") or not kind.startswith("&") else "const "
     inner = re.sub(r"^&(mut )?", "", kind)
     if match := re.fullmatch(r"\[(\w+); (\d+)\]", inner):
@@ -116,7 +117,7 @@ def is_slice(kind: str) -> bool:
 
 
 def parameters(pairs: list[tuple[str, str]]) -> str:
-    """The parameters in C. The last slice's length is `length`, another's has the slice's name."""
+    """The parameters in C. The length of the last slice is `length`. That of another slice has the slice's name."""
     slices = [name for name, kind in pairs if is_slice(kind)]
     lengths = {name: f"{name}_length" for name in slices[:-1]}
     written = [parameter(name, kind, lengths.get(name, "length")) for name, kind in pairs]
@@ -124,7 +125,7 @@ def parameters(pairs: list[tuple[str, str]]) -> str:
 
 
 def attributes(pairs: list[tuple[str, str]], result: str) -> str:
-    """What compilers are told. A reference is never null; a slice, which is two parameters, may be if it is empty."""
+    """The attributes for compilers. A reference is never null. An empty slice (a pointer and a length) may be null."""
     places, place = [], 1
     for _, kind in pairs:
         if kind.startswith("&") and not is_slice(kind):
@@ -140,7 +141,7 @@ def c_type(kind: str) -> str:
     if kind in STRUCTS:
         return f"nanorand_{STRUCTS[kind]}"
     if kind not in NUMBERS:
-        sys.exit(f"tools/header.py: {kind} is no type that crosses to C")
+        sys.exit(f"tools/header.py: the C interface cannot pass the type {kind}")
     return NUMBERS[kind]
 
 
@@ -159,7 +160,7 @@ def functions() -> list[Function]:
 
 
 def structs() -> list[Struct]:
-    """The structs that cross, in the order of STRUCTS, with the first paragraph of their comments."""
+    """The structs of the C interface, in the order of STRUCTS, with the first paragraph of their comments."""
     found = {}
     for item in (item for path in SOURCES + BORROWED for item in items_at(path)):
         if is_laid_out_as_in_c(item) and item.name in STRUCTS:
@@ -170,10 +171,10 @@ def structs() -> list[Struct]:
 
 
 def comment_of(text: str) -> str:
-    """A comment of C, filled to 100 columns; an empty line is between its paragraphs."""
+    """A C comment, filled to 100 columns, with an empty line between paragraphs."""
     if len(text) <= 93 and "\n" not in text:
         return f"/* {text} */"
-    paragraphs = ["\n".join(f" * {line}" for line in textwrap.wrap(paragraph, 97))
+    paragraphs = ["\n".join(f" * {line}" for line in textwrap.wrap(paragraph, 97, break_on_hyphens=False))
                   for paragraph in text.splitlines()]
     return "/*\n" + "\n *\n".join(paragraphs) + "\n */"
 
@@ -188,19 +189,19 @@ def declaration(function: Function) -> str:
         return f"{start}\n{line}"
     # No line ends within a parameter.
     taken = function.parameters.replace(" ", "\0").replace(",\0", ", ") + ")"
-    lines = textwrap.fill(taken, 100, initial_indent="    ", subsequent_indent="    ").replace("\0", " ")
+    lines = textwrap.fill(taken, 100, initial_indent="    ", subsequent_indent="    ", break_on_hyphens=False)
+    lines = lines.replace("\0", " ")
     return f"{start}\n{lines}\n   {end}"
 
 
 def lacking(found: list[Function], call: str) -> list[str]:
-    """The generators that have no such call."""
+    """The generators that do not have this call."""
     having = {one.section for one in found if one.call == call}
     return [name for name in GENERATORS if name not in having]
 
 
 def shared_comments(found: list[Function]) -> dict[str, str]:
-    """The calls that every generator has, or every one but one, each with the comment that it has for the first
-    generator."""
+    """The calls that all generators, or all but one, have. Each has the comment of the first generator's call."""
     return {one.call: one.comment for one in found
             if one.section == GENERATORS[0] and len(lacking(found, one.call)) <= 1}
 
@@ -209,7 +210,7 @@ def shared_text(found: list[Function], shared: dict[str, str]) -> str:
     """One comment for all generators, a paragraph for each call."""
     names = ", ".join(GENERATORS[:-1])
     first = [f"`..` stands for the name of a generator: {names} or {GENERATORS[-1]}."]
-    first += [f"{name} has no {call}." for call in shared for name in lacking(found, call)]
+    first += [f"There is no nanorand_{name}_{call}." for call in shared for name in lacking(found, call)]
     calls = [f"nanorand_.._{call}: {comment}" for call, comment in shared.items()]
     return comment_of("\n".join([" ".join(first), *calls]))
 
@@ -226,7 +227,7 @@ def struct_text(struct: Struct) -> str:
 
 
 def version() -> str:
-    """The number that nanorand_v1_version returns: the last of its body."""
+    """The number that nanorand_v1_version returns: the last one in its body."""
     for export in (export for path in SOURCES for export in exports_of(items_at(path))):
         if export.name == f"{PREFIX}version":
             return export.body[-1].text.replace("_", "")
@@ -234,7 +235,7 @@ def version() -> str:
 
 
 def section(name: str, members: list[Function], shared: dict[str, str]) -> str:
-    """The declarations of a section. Those with a comment of their own stand apart."""
+    """The declarations of a section. Those with a comment of their own are set apart."""
     lines = [f"/* ---- {SECTIONS[name]} ---- */", ""]
     for one, after in zip(members, [*members[1:], None]):
         if (own := one.comment != shared.get(one.call)):
@@ -259,21 +260,21 @@ def header() -> str:
 
 
 def archived(archive: str) -> set[str]:
-    """What the archive defines for others: no symbol that another library could meet."""
+    """The external symbols that the archive defines. None may collide with another library's."""
     listed = subprocess.run(["nm", "--defined-only", "--extern-only", "--format=posix", archive],
                             check=True, capture_output=True, encoding="utf-8").stdout
     return {line.split()[0] for line in listed.splitlines() if len(line.split()) > 1}
 
 
 def is_explained(function: Function, words: str) -> bool:
-    """The words of the header have its comment above the declaration, or at its call in the shared comment."""
+    """Whether the header has the function's comment, above the declaration or at its call in the shared comment."""
     comment = " ".join(function.comment.split())
     places = f"{comment} {function.result} {function.name}(", f"nanorand_.._{function.call}: {comment}"
     return any(place in words for place in places)
 
 
 def check(archives: list[str]) -> int:
-    """Compares header and archives with the source. One test for the text, and one for each comment and symbol."""
+    """Compares the header and the archives with the source: one case for the text, and one per comment and symbol."""
     found = functions()
     symbols = {function.symbol for function in found}
     text = HEADER.read_text(encoding="utf-8") if HEADER.exists() else ""

@@ -1,18 +1,19 @@
 #!/usr/bin/env python3
 """Tries the mutants: tools/mutants.py [CRATE | CRATE/NAME]..; without arguments, all of them.
 
-edits.py says how a mutant is written, and what refuses it. Those of a
-crate that change different functions are planted together in a copy of the crate, and a check of these functions and
-what they call has to refuse each for itself, at every clause that its file names. What is refused there only for a
-function that it calls goes into a further group. A mutant of a definition names the function that refuses it, most
-often a law, `refused at laws::draws_are_fair: shares`; none that is planted with it changes a definition on which that
-law rests. What changes a body and names its function, as a loop with its invariant, is tried alone; so is what changes
-anything else.
+For example, tools/mutants.py nanorand_core. edits.py describes how a mutant is written, and what has to refuse it.
 
-A line for each group has its processor-seconds, and one for each mutant the clauses and goals that refused it. The last
-line is N passed, M failed. Where PROVED names a checkout in which rt ci has passed, its libraries are taken; else each
-crate is proved first, as it stands. LANES is how many crates are tried side by side. LOGS names a folder for what the
-checks said.
+The mutants of a crate that change different functions are planted together in a copy of the crate. A check of these
+functions and what they call has to refuse each one by itself, at every clause that its file names. A mutant that is
+refused there only because of a function that it calls goes into a further group. A mutant of a definition names the
+function that refuses it, usually a law: `refused at laws::draws_are_fair: shares`. No mutant that is planted with it
+changes a definition on which that law depends. A mutant is tried alone if it changes a body and names its function,
+such as a loop with its invariant, or if it changes anything other than a body or a definition.
+
+A line for each group has its processor-seconds, and a line for each mutant has the clauses and goals that refused it.
+The last line is N passed, M failed. If PROVED names a checkout in which rt ci has passed, its libraries are used;
+otherwise each unchanged crate is proved first. LANES is the number of crates that are tried side by side. LOGS names a
+folder for the output of the checks.
 """
 
 import os
@@ -37,12 +38,12 @@ LANES = int(os.environ.get("LANES", "1"))
 
 VERDICT = re.compile(r"^fn (\S+): (.*)$", re.M)
 PASSED, FAILED, AGAIN = "", "FAILED ", "again: "
-# A goal that an answer does not prove: by the file of answers, and what is said of it.
+# A goal that an answer does not prove: the file of answers, and the error message.
 ANSWER = re.compile(r"^\./proofs/(\S+)/\w+\.antt:\d+:\d+: error: (.*)$", re.M)
 
 
 class Function:
-    """A function of a crate: its file and place, its name as the check prints it, and its clauses."""
+    """A function of a crate: its file and position, its name as the check prints it, and its clauses."""
 
     def __init__(self, file, item, name):
         self.file, self.item, self.name = file, item, name
@@ -53,11 +54,11 @@ class Function:
 
 
 def owner_of(item):
-    """How the check prints a trait or an impl: an impl of `Rng<8>` for `WyRand` is WyRandRng8. Parameters, whose names
-    are in capitals, are left out."""
+    """The name of a trait or an impl as the check prints it: an impl of `Rng<8>` for `WyRand` is WyRandRng8.
+    Parameters, whose names are in capitals, are left out."""
     if item.word == "trait":
         return item.name
-    # Of a trait the last part of its path; of a type alone no parameters.
+    # A trait counts with the last part of its path, and the type of an inherent impl without its parameters.
     types = f"{text_of(item.type)} {text_of(item.trait).rpartition('::')[2]}" if item.trait else bare(item.type)
     words = [word for word in re.findall(r"\w+", types) if not word.isupper()]
     is_array = item.trait and item.type[0].text == "["
@@ -82,8 +83,8 @@ definitions_of = cache(Definitions)
 
 
 class Mutant:
-    """A mutant: the texts that it replaces, the functions in whose bodies they stand, or the definitions, and what
-    refuses it."""
+    """A mutant: the texts that it replaces, the functions or definitions that contain them, and what has to refuse
+    it."""
 
     def __init__(self, edit):
         self.crate = edit.crate
@@ -109,16 +110,17 @@ class Mutant:
         self.is_elsewhere |= not found
 
     def asked(self):
-        """What a check of the functions that have to be refused asks for."""
+        """The names with which a check is asked for the functions that have to be refused."""
         return {self.function} if self.function else {one.name.partition("::")[2] for one in self.functions}
 
     def is_alone(self):
-        """Whether it changes more than definitions, or than bodies of functions that it need not name."""
+        """Whether it has to be tried alone: it changes more than only definitions, or only bodies without naming their
+        function."""
         return self.is_elsewhere or bool(self.functions and (self.definitions or self.function))
 
     @cached_property
     def behind(self):
-        """The names that the functions rest on which have to be refused: by their texts and their answers."""
+        """The names on which the functions that have to be refused depend, by their texts and their answers."""
         texts = []
         for one in functions_of(self.crate):
             if self.is_refused_at(one.name):
@@ -127,17 +129,18 @@ class Mutant:
         return definitions_of(self.crate).behind("\n".join(texts))
 
     def is_apart(self, other):
-        """Whether the two change different functions, and neither what a law rests on that has to refuse the other."""
+        """Whether the two change different functions, and neither changes what has to refuse the other."""
         different = self.asked().isdisjoint(other.asked()) and set(self.functions).isdisjoint(other.functions)
         return different and not self.spoils(other) and not other.spoils(self)
 
     def spoils(self, other):
-        """Whether it changes a definition on which what refuses the other rests, or, if that is a law, a function."""
+        """Whether it changes a definition on which the other's refusal depends or, if the other changes definitions, a
+        function on which it depends."""
         functions = {one.item.name for one in self.functions} if other.definitions else set()
         return not other.behind.isdisjoint(self.definitions | functions)
 
     def is_refused_at(self, function):
-        """Whether this function, by the name that the check prints, is the one that has to be refused."""
+        """Whether this function, named as the check prints it, has to be refused."""
         if self.function:
             return function.endswith(f"::{self.function}")
         return any(one.name == function for one in self.functions)
@@ -153,7 +156,7 @@ def libraries_of(name):
 
 
 def command(name, asked):
-    """What checks these functions of a crate, and what they call, over the libraries below it as they were built."""
+    """The command that checks these functions of a crate, and what they call, with the libraries that were built."""
     kind = CRATES[name].kind
     words = [KIT / "bin/rattle", "check", "--crate-name", name, "src/lib.rt", *libraries_of(name)]
     words += ["--crate-type", *kind] if kind else []
@@ -162,7 +165,7 @@ def command(name, asked):
 
 
 def run(words, folder):
-    """Runs a command in a folder, and returns whether it ended well, the processor-seconds and what is said."""
+    """Runs a command in a folder. Returns whether it succeeded, the processor-seconds and the output."""
     with tempfile.TemporaryFile("w+", encoding="utf-8", errors="replace") as said:
         started = subprocess.Popen(words, cwd=folder, stdin=subprocess.DEVNULL, stdout=said, stderr=subprocess.STDOUT)
         _, status, used = os.wait4(started.pid, 0)
@@ -172,7 +175,7 @@ def run(words, folder):
 
 
 def copy_crate(name, crate):
-    """Copies the texts of a crate, and what checks of it kept, if any did."""
+    """Copies the sources of a crate, and what checks of it kept, if there is any."""
     for part in ("src", "specs", "proofs", "out/incremental"):
         folder = (PROVED if part.startswith("out") else ROOT) / "crates" / name / part
         if folder.is_dir():
@@ -180,7 +183,7 @@ def copy_crate(name, crate):
 
 
 def planted(crate, mutants):
-    """The files that the mutants change, and their texts then."""
+    """The files that the mutants change, and their changed texts."""
     texts, places = {}, sorted((place for one in mutants for place in one.places), reverse=True)
     for file, start, end, new in places:
         path = crate / file
@@ -190,7 +193,7 @@ def planted(crate, mutants):
 
 
 def check_planted(crate, mutants):
-    """Checks the functions that these mutants change, with the changes. The crate gets its own texts back."""
+    """Checks the functions that these mutants change, with the changes. Then restores the crate's own texts."""
     texts = planted(crate, mutants)
     own = {path: path.read_text(encoding="utf-8") for path in texts}
     try:
@@ -203,8 +206,8 @@ def check_planted(crate, mutants):
 
 
 def goals_of(said, function, is_its_own):
-    """The goals of a function that are not proved: its answers are refused, or none was found. Where all that is
-    refused is its own, also those whose answers depend on that; in a group it can be another's."""
+    """The goals of a function that are not proved: their answers are refused, or none was found. If all that is refused
+    belongs to this mutant, these include goals whose answers depend on it. In a group that can be another mutant's."""
     folder, goals = "/".join(function.split("::")[1:]), []
     for place, error in ANSWER.findall(said):
         if place == folder:
@@ -217,7 +220,8 @@ def goals_of(said, function, is_its_own):
 
 
 def clause_of(goal, function, crate):
-    """The clause that a goal is of; of a function's only one its name, or `ensures`. Of what is no clause, the goal."""
+    """The clause that a goal belongs to. If a function has only one clause: its name, or `ensures` if it has no name. A
+    goal that belongs to no clause is returned unchanged."""
     named = re.search(r"-clause-(.+)$", goal)
     if named or not goal.startswith("returns"):
         return named[1] if named else goal
@@ -226,7 +230,7 @@ def clause_of(goal, function, crate):
 
 
 def refusal_of(mutant, said, is_alone):
-    """The clauses and goals that refused a mutant, or None if its function is proved; and what to print."""
+    """The clauses and goals that refused a mutant, or None if its function is proved. Also what to print."""
     verdicts = [one for one in VERDICT.findall(said) if mutant.is_refused_at(one[0])]
     is_its_own = is_alone or bool(mutant.definitions)
     goals = [(function, goal) for function, _ in verdicts for goal in goals_of(said, function, is_its_own)]
@@ -239,7 +243,7 @@ def refusal_of(mutant, said, is_alone):
 
 
 def verdict_of(mutant, said, is_alone):
-    """PASSED, FAILED, or AGAIN in a further group; and what to print."""
+    """PASSED, FAILED, or AGAIN for a further group. Also what to print."""
     refused, shown = refusal_of(mutant, said, is_alone)
     if refused and mutant.clauses and mutant.clauses <= refused:
         return PASSED, shown
@@ -249,8 +253,8 @@ def verdict_of(mutant, said, is_alone):
 
 
 def first_group(mutants):
-    """The first mutant, and with it those that are apart from it and from each other, if none is to be alone. Those of
-    bodies come first: most of them are apart."""
+    """The first mutant, with those that are independent of it and of each other, unless it has to be tried alone.
+    Mutants of bodies come first, because most of them are independent."""
     first, *others = sorted(mutants, key=lambda one: bool(one.definitions))
     group = [first]
     for one in others:
@@ -274,7 +278,7 @@ def try_group(crate, group):
 
 
 def is_proved(name):
-    """Whether the crate is proved as it stands."""
+    """Whether the unchanged crate is proved."""
     proved, seconds, said = (True, 0, "") if "PROVED" in os.environ else run(["rt", "check"], ROOT / "crates" / name)
     print(f"{seconds:6.1f}  {name}, unchanged" if proved else said, flush=True)
     return proved

@@ -2,10 +2,9 @@
 """Draws docs/runs.svg and docs/delivery.svg by the definitions' formulas, and the diagram of docs/ARCHITECTURE.md.
 
     tools/pictures.py            writes both files, and the diagram into its document
-    tools/pictures.py --check    says whether the files and the diagram are what the script draws
+    tools/pictures.py --check    checks that they are what the script draws: N passed, M failed
 
-The last line of the check is "N passed, M failed". Each picture has its own background, for a light and for a dark
-page.
+Each picture has its own background, for light and for dark pages. A word is a random number of 8 bits here.
 """
 
 import re
@@ -93,7 +92,7 @@ def first_word(size, k):
 
 
 def named(size, word):
-    """The same file: named. The least k in whose run the word stands, or None."""
+    """The same file: named. The least k whose run contains the word, or None."""
     for k in range(size):
         if first_word(size, k) <= word < first_word(size, k) + quota(size):
             return k
@@ -110,7 +109,7 @@ def by_remainder(low, high, word):
 
 
 def by_old_unsigned(low, high, word):
-    """nanorand 0.7.0, src/gen.rs: u8's random_range of low..=high; None where it draws again."""
+    """nanorand 0.7.0, src/gen.rs: u8's random_range of low..=high. None if it draws again."""
     upper = min(high + 1, 255) - low  # saturating_add
     m = upper * word
     if m % 256 < upper and m % 256 < (256 - upper) % upper:
@@ -149,7 +148,7 @@ def kind_of(number, low, high):
 
 
 def strip(y, rule, low, high):
-    """All 256 words from left to right, and how many words each number has."""
+    """All 256 words from left to right, and the count of words for each number."""
     cell, tall = 3, 26
     numbers = [rule(low, high, word) for word in range(2**BITS)]
     parts, word = [], 0
@@ -222,7 +221,7 @@ def wyrand_block(seed):
 
 
 def plain_requests():
-    """Blocks.antt: taken and plain_after. Of each request: blocks drawn, bytes taken, bytes left."""
+    """Blocks.antt: taken and plain_after. For each request: the blocks drawn, the bytes taken, the bytes left."""
     drawn = 0
     for n in REQUESTS:
         needed = div_ceil(n, OUTPUT)
@@ -232,7 +231,7 @@ def plain_requests():
 
 
 def buffered_requests():
-    """Buffered.antt: blocks_needed, buffered_taken and buffered_after, over the places of the bytes."""
+    """Buffered.antt: blocks_needed, buffered_taken and buffered_after, for the positions of the bytes."""
     rest, drawn = [], 0
     for n in REQUESTS:
         needed = div_ceil(max(n - len(rest), 0), OUTPUT)

@@ -1,5 +1,5 @@
-"""The table of `rust/PROVED.md`: what of the Rust sources is proved source, what departs and why, what is written by
-hand and why. `tools/bodies.py` writes it from what it found, and checks that it is that of now."""
+"""The tables in `rust/PROVED.md`: which Rust sources are proved sources, what departs from them and why, and what is
+hand-written and why. `tools/bodies.py` writes them from what it found, and checks that they are up to date."""
 
 from translation import SENTENCES
 
@@ -7,7 +7,7 @@ BEGIN, END = "<!-- written by tools/bodies.py -->", "<!-- end -->"
 
 
 def with_table(text, report):
-    """The document with the tables of this report between its two markers; without these it stays as it is."""
+    """The document with this report's tables between its two markers. Without markers it stays unchanged."""
     head, begin, rest = text.partition(BEGIN)
     _, end, tail = rest.partition(END)
     sections = (modules, departures, items_by_hand, files_by_hand, preconditions, languages)
@@ -26,7 +26,7 @@ def line_of(cells):
 
 
 def code(text):
-    """A text as code; with a backtick in it, between two."""
+    """A text as code, between double backticks if it contains a backtick."""
     text = " ".join(text.split())
     return f"`` {text} ``" if "`" in text else f"`{text}`"
 

@@ -1,20 +1,20 @@
 """Reads Rattle and Rust: the tokens of a text, and the items of a file.
 
 Rattle is Rust with contracts, and both languages share the grammar of items that this repository uses. `tokens_of`
-splits a text; `file_of` returns the items of a file. What is inside an item (a type, a body, an attribute) stays a
-tuple of tokens. Each item and each token knows its line, for messages, and its place in the text, from which an item
-returns its comment and its code as they are laid out. White space, comments and docs are no tokens; docs are kept with
-their items. Text that is not understood raises `Unreadable`, with the file and the line.
+splits a text into tokens; `file_of` returns the items of a file. The parts of an item (a type, a body, an attribute)
+stay tuples of tokens. Each item and each token knows its line, for messages, and its position in the text. From that an
+item returns its comment and its code with their layout. White space, comments and docs are not tokens, but docs are
+kept with their items. Text that cannot be read raises `Unreadable`, with the file and the line.
 
-Whatever reads the sources imports this module: other tools, and several scripts of `tests/`.
+All tools and tests that read the sources import this module.
 """
 
 import re
 from dataclasses import dataclass, field
 from typing import NamedTuple
 
-# Symbols of several characters, so that `a & &b` is not read as `a && b`. `<` and `>` stay alone in front of another
-# one, since they are brackets too.
+# Symbols of several characters are one token, so that `a & &b` is not read as `a && b`. But `<<` and `>>` are two
+# tokens each, because `<` and `>` are brackets as well.
 TOKENS = re.compile(
     r"""
       (?P<space>\s+)
@@ -38,11 +38,11 @@ FUNCTION_WORDS = ("const", "async", "unsafe", "extern", "default", "final")
 
 
 class Unreadable(Exception):
-    """Text that is not understood, with the file and the line where it stands."""
+    """The error for text that cannot be read, with its file and line."""
 
 
 class Token(NamedTuple):
-    """A token. `spaced` says whether white space or a comment stands before it. It begins at `start` in the text."""
+    """A token. `spaced` says whether white space or a comment precedes it. It begins at `start` in the text."""
 
     kind: str
     text: str
@@ -59,8 +59,8 @@ class Token(NamedTuple):
 class Item:
     """What every item has. `tokens` are all tokens of the item, with its attributes and without docs.
 
-    `source` is the text of its file. In it the comments and attributes of the item begin at `lead`, and the item itself
-    at `start`. `word` is the word that says what it is, such as `fn`. An item is equal to itself alone.
+    `source` is the text of its file. In it, the comments and attributes of the item begin at `lead`, and the item
+    itself at `start`. `word` is its keyword, such as `fn`. An item equals only itself.
     """
 
     line: int
@@ -78,7 +78,7 @@ class Item:
 
     @property
     def brace(self):
-        """The place of the brace that opens its body, its fields or its members, or None if it has none."""
+        """The position of the brace that opens its body, its fields or its members, or None."""
         depth = 0
         for token in reversed(self.tokens):
             if token.kind == "symbol":
@@ -104,13 +104,13 @@ class Item:
         return "".join(f"{self.indentation()}{line}\n" for line in lines if line.startswith("//"))
 
     def code(self, end=None):
-        """The item with the indentation that it has in its file, to its end or to another place."""
+        """The item with its indentation in the file, up to its end or another position."""
         return self.indentation() + self.source[self.start : end or self.end].rstrip()
 
 
 @dataclass(frozen=True)
 class Path:
-    """A path that a `use` names, and the name that it gives to it in the file: of a glob `*`."""
+    """A path that a `use` names, and its name in the file. For a glob the name is `*`."""
 
     text: str
     name: str
@@ -123,7 +123,7 @@ class Use(Item):
 
     @property
     def name(self):
-        """The crate or the module where its first path begins."""
+        """The crate or module with which its first path begins."""
         return self.paths[0].text.partition("::")[0]
 
 
@@ -138,7 +138,7 @@ class Module(Item):
 
 @dataclass(eq=False)
 class Constant(Item):
-    """A constant or a static, which `word` says. `value` is None if a trait declares it alone."""
+    """A constant or a static, as `word` says. `value` is None if a trait only declares it."""
 
     word: str
     name: str
@@ -189,7 +189,7 @@ class Data(Item):
 
 @dataclass
 class Clause:
-    """A precondition or a postcondition. Its text has one space for any white space."""
+    """A precondition or a postcondition. In its text, any white space is one space."""
 
     line: int
     name: str
@@ -198,7 +198,7 @@ class Clause:
 
 @dataclass(eq=False)
 class Function(Item):
-    """A function. `body` is None if it is declared alone, and has no braces around it otherwise."""
+    """A function. `body` is without its braces, or None if the function is only declared."""
 
     word = "fn"
     words: tuple
@@ -225,7 +225,7 @@ class Trait(Item):
 
 @dataclass(eq=False)
 class Implementation(Item):
-    """An implementation. `trait` is empty if it is of the type alone."""
+    """An implementation. `trait` is empty for an inherent one."""
 
     word = "impl"
     words: tuple
@@ -244,7 +244,7 @@ class Implementation(Item):
 
 @dataclass(eq=False)
 class Ghost(Item):
-    """Something of Rattle that only contracts and proofs use. An import of theirs has the name `use`."""
+    """An item of Rattle that only contracts and proofs use. A ghost import has the name `use`."""
 
     name: str
 
@@ -292,7 +292,7 @@ def all_tokens(text, first_line=1):
 
 
 def text_of(tokens):
-    """The tokens as a text, with one space for any white space between them."""
+    """The tokens as a text. Any white space between them becomes one space."""
     return "".join(" " * (token.spaced and place > 0) + token.text for place, token in enumerate(tokens))
 
 
@@ -313,12 +313,12 @@ def name_and_type(tokens):
 
 
 def derives_of(attributes):
-    """What attributes derive: the tokens of each trait."""
+    """The tokens of each trait that the attributes derive."""
     return [name for attribute in attributes if attribute[0].text == "derive" for name in split(attribute[2:-1])]
 
 
 def closing(tokens, opening):
-    """The place of the bracket that closes the one at `opening`."""
+    """The index of the bracket that closes the one at `opening`."""
     depth = 0
     for place in range(opening, len(tokens)):
         if tokens[place].kind == "symbol":
@@ -329,7 +329,7 @@ def closing(tokens, opening):
 
 
 def split(tokens, separator=","):
-    """The parts of a type, of parameters or of bounds between separators that stand outside brackets."""
+    """The parts of a type, of parameters or of bounds between the separators that are outside brackets."""
     parts, depth, start = [], 0, 0
     for place, token in enumerate(tokens):
         if token.kind == "symbol":
@@ -348,7 +348,7 @@ def exports_of(items):
 
 
 def is_laid_out_as_in_c(item):
-    """Whether it is a struct whose fields lie in memory as in C."""
+    """Whether it is a struct with the memory layout of C."""
     return item.word == "struct" and any(text_of(one) == "repr(C)" for one in item.attributes)
 
 
@@ -419,7 +419,7 @@ class Reader:
         return tuple(token for token in self.tokens[start : self.next] if token.kind not in ("doc", "inner"))
 
     def group(self):
-        """Takes a bracket and all up to the one that closes it; the tokens between the two."""
+        """Takes a bracket and everything up to the one that closes it. Returns the tokens between the two."""
         opening = self.take()
         if opening.text not in CLOSING:
             raise self.unreadable(f"a bracket should stand where '{opening.text}' stands", opening)
@@ -434,7 +434,7 @@ class Reader:
         return self.since(start)[:-1]
 
     def until(self, *stops, angles=True):
-        """Takes all tokens before the first of these that stands outside brackets.
+        """Takes all tokens before the first of these that is outside brackets.
 
         `angles` says whether `<` and `>` are brackets, as they are in types and not in values.
         """
@@ -678,7 +678,7 @@ class Reader:
 
 
 def paths_of(tokens, prefix=""):
-    """The paths that a use names, each whole."""
+    """The complete paths that a use names."""
     texts = [token.text for token in tokens]
     if texts[-1:] == ["}"]:
         opening = texts.index("{")

@@ -1,11 +1,10 @@
 #!/usr/bin/env python3
-"""Writes the record in docs/PAGE.md: of the example in docs/LOTS.md, by the page docs/nanorand.html.
+"""Writes the record in docs/PAGE.md: the record that the web page docs/nanorand.html makes of the example in LOTS.
 
-    tools/record.py            writes it
-    tools/record.py --check    says whether it stands there
+    tools/record.py            writes the record
+    tools/record.py --check    checks that the document has it: N passed, M failed
 
-The example's list, seed and lines drawn are those of LOTS, which tests/second_opinion.py draws again. The last
-line of the check is "N passed, M failed".
+The example's list, seed and drawn lines are those in docs/LOTS.md, which tests/second_opinion.py draws again.
 """
 
 import base64
@@ -29,14 +28,14 @@ def sha256(data: bytes) -> str:
 
 
 def module_digest() -> str:
-    """That of the page's module for 64-bit memory."""
+    """The SHA-256 of the page's module for 64-bit memory."""
     page = (DOCS / "nanorand.html").read_text(encoding="utf-8")
     code = re.search(r'<script type="text/plain" id="module">([^<]*)</script>', page)[1]
     return sha256(base64.b64decode(code))
 
 
 def record(version: str) -> str:
-    """The record of the first draw in LOTS."""
+    """The record of the first draw in docs/LOTS.md."""
     text = (DOCS / "LOTS.md").read_text(encoding="utf-8")
     entrants = re.search(r"<!-- example: entrants -->\n```\n(.*?)^```$", text, re.M | re.S)[1]
     seed, drawn = re.search(r'^\$ lots "([^"\n]*)" \d+ < entrants\n(.*?)^```$', text, re.M | re.S).groups()
@@ -67,7 +66,7 @@ def main() -> int:
     if text == wanted:
         print("1 passed, 0 failed")
         return 0
-    print("FAILED the record of docs/PAGE.md is another: tools/record.py writes it")
+    print("FAILED docs/PAGE.md has another record: tools/record.py writes it")
     print("0 passed, 1 failed")
     return 1
 

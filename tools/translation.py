@@ -1,8 +1,8 @@
-"""What the Rust side of a proved item is: the stated differences of the two languages, each with a sentence.
+"""Translates proved items to Rust: the rules for the differences between the languages, each stated in a sentence.
 
-`in_rust` takes the entries of a file of Rattle and returns them as Rust should have them. The rules change the texts of
-the proved side alone, and `tools/bodies.py`, which imports this module, then compares the result with the Rust source
-exactly. `SENTENCES` states the rules, and `rust/PROVED.md` shows them.
+`in_rust` takes the entries of a Rattle file and returns them as Rust should have them. The rules change only the texts
+of the proved side. `tools/bodies.py`, which imports this module, then compares the result exactly with the Rust source.
+`SENTENCES` states the rules, and `rust/PROVED.md` shows them.
 """
 
 import re
@@ -45,10 +45,10 @@ SENTENCES = (
      "They need std. Where a whole module needs it, its `mod` line has the attribute."),
 )
 
-# Names and paths that Rust has in place of Rattle's.
+# Rattle's names and paths, and those that Rust has instead.
 NAMES = {"u32x4": "U32x4", "u32x8": "U32x8", "Blocks": "Rng"}
 
-# Paths that a use of Rattle names, and what Rust names for them. None: Rust needs nothing.
+# Paths in Rattle's `use` declarations, and the paths in Rust. None means that Rust needs nothing.
 USES = {
     "hex::FromHex": "crate::hex",
     "sha2::Digest": None,
@@ -64,30 +64,30 @@ USES = {
     "thiserror::Error": None,
 }
 
-# What functions that take a reader use, and no others: imported with the feature std alone.
+# Used only by functions that take a reader, and so imported only with the feature std.
 USED_WITH_STD = ("crate::entropy::EntropyError", "crate::entropy::system")
 
 STD = 'cfg ( feature = "std" )'
 
-# What Rust has not, by the facet: whole parts.
+# For each facet, whole parts that Rust does not have.
 WITHOUT = {"attributes": ("derive ( Drop )", "derive ( Error )"), "bounds": ("Drop",)}
 
 # The parameter for an allocator, or for what a formatter writes to.
 HIDDEN = re.compile(r"\w+ : (?:Allocator|fmt :: Write)")
 
-# The text of an error, as an attribute of it or of one of its variants.
+# The text of an error, as an attribute of the type or of one of its variants.
 ERROR = re.compile(r'error \( ("(?:[^"\\]|\\.)*") \) ?')
 
 
 def whole(pattern):
-    """A pattern that begins and ends where tokens do."""
+    """A pattern that matches only whole tokens."""
     return re.compile(rf"(?<!\S)(?:{pattern})(?!\S)")
 
 
-# Types that are there with std alone.
+# Types that exist only with std.
 STD_TYPES = whole("Read|Vec|String|std")
 
-# What stands in an entry of Rattle, and what in one of Rust.
+# Patterns in an entry of Rattle, and their replacements in Rust.
 REPLACED = (
     (whole(r"AllocFailed < T >|AllocError"), "std :: collections :: TryReserveError"),
     (whole(r", (?:& '\w+ )?A >"), ">"),
@@ -108,8 +108,8 @@ class Setting:
     """What a translation has to know.
 
     `module` is the path of the module in Rust, such as `crate::rand::chacha`. `crates` are the names of the proved
-    crates in Rust. `without_std` says whether the module is there without the feature std. `checks` has, for each
-    clause of a precondition, the text of the statement that checks it.
+    crates in Rust. `without_std` says whether the module exists without the feature std. `checks` has, for each clause
+    of a precondition, the text of the statement that checks it.
     """
 
     module: str
@@ -123,7 +123,7 @@ def unknown(entry, what):
 
 
 def in_rust(entries, setting):
-    """The entries of a file of Rattle as Rust should have them."""
+    """The entries of a Rattle file as Rust should have them."""
     found = []
     for entry in entries:
         if entry.name == "use":
@@ -134,7 +134,7 @@ def in_rust(entries, setting):
 
 
 def text_in_rust(text, setting):
-    """A text of a facet with what Rust has for types and crates."""
+    """A text of a facet, with Rust's types and crates."""
     for pattern, rust in REPLACED:
         text = pattern.sub(rust, text)
     names = {**setting.crates, **NAMES}
@@ -142,7 +142,7 @@ def text_in_rust(text, setting):
 
 
 def entry_in_rust(entry, setting):
-    """An entry of anything but uses."""
+    """Translates an entry of anything but uses."""
     if "tokens" in entry.facets:
         raise unknown(entry, f"no rule translates '{entry.name}'")
     facets = {}
@@ -162,7 +162,7 @@ def entry_in_rust(entry, setting):
 
 
 def part_in_rust(facet, part):
-    """A part of a facet without what Rust does not need of it; empty if nothing is left."""
+    """A part of a facet without what Rust does not need. Empty if nothing is left."""
     if part in WITHOUT.get(facet, ()) or facet == "generics" and HIDDEN.fullmatch(part):
         return ""
     if facet in ("generics", "conditions", "bounds"):
@@ -172,7 +172,7 @@ def part_in_rust(facet, part):
 
 
 def error_entries(entry):
-    """The implementations of `Display` and of `Error` for an error, by its texts."""
+    """The implementations of `Display` and `Error` for an error, from its texts."""
     lone = [found[1] for one in entry.facets["attributes"] if (found := ERROR.fullmatch(one))]
     found = [(ERROR.match(part), part) for part in entry.facets.get("parts", ())]
     variants = [(match[1], part[match.end() :]) for match, part in found if match]
@@ -194,7 +194,7 @@ def error_entries(entry):
 
 
 def written_arm(name, text, variant):
-    """The arm of a match that writes the text of a variant of an error."""
+    """The match arm that writes the text of a variant of an error."""
     word, _, fields = variant.partition(" ")
     if fields.startswith("("):
         return f"{name}::{word}(field) => write!(f, {text.replace('{0}', '{field}')}),"
@@ -236,9 +236,9 @@ def binding_in_rust(found):
 
 
 def growth_in_rust(found):
-    """A statement that asks for room and one that grows.
+    """A statement that reserves memory, and one that grows the vector.
 
-    An item that is pushed takes room for one: it is a literal of one byte, or the body made the vector.
+    An item that is pushed needs room for one: it is a literal of one byte, or the body made the vector.
     """
     name, word, argument = found.groups()
     made = f"let mut {name} = Vec :: new (" in found.string
@@ -249,7 +249,7 @@ def growth_in_rust(found):
 
 
 def with_std(entry, setting):
-    """The entry with the attribute that what needs std has, if its head names such a type."""
+    """The entry, with the attribute for items that need std if its head names a type that needs it."""
     owner, _, own = entry.name.rpartition(": ")
     head = ""
     if own.startswith("fn ") and " for " not in owner:
@@ -262,7 +262,7 @@ def with_std(entry, setting):
 
 
 def uses_in_rust(entry, setting):
-    """The uses with the paths that Rust has for those of Rattle."""
+    """The uses, with Rust's paths in place of Rattle's."""
     found = {}
     for facet, words in entry.facets.items():
         path, renamed, name = facet.partition(" as ")
@@ -274,7 +274,7 @@ def uses_in_rust(entry, setting):
 
 
 def path_in_rust(path, setting):
-    """The path in Rust, or None if Rust needs nothing in its place."""
+    """The path in Rust, or None if Rust needs none."""
     names = path.split("::")
     if "laws" in names:
         return None

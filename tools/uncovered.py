@@ -1,13 +1,16 @@
 #!/usr/bin/env python3
-"""Lists the code that no test has run: tools/uncovered.py TARGET SOURCE.. With --tools it prints what it needs.
+"""Lists the code that no test has run.
 
-TARGET is a target folder of cargo in which tests ran with RUSTFLAGS=-Cinstrument-coverage, and its folder `profiles`
-has their profiles. A region is the smallest piece of code that the compiler counts: a condition, an arm, an operand of
-`&&`. Each of the SOURCE folders that no test ran is a failure, unless uncovered.txt names its line; so is a line that
-uncovered.txt names and tests run. The last line is N passed, M failed.
+    tools/uncovered.py TARGET SOURCE..    lists the code in the SOURCE folders that no test has run: N passed, M failed
+    tools/uncovered.py --tools            prints the LLVM command and the Debian package that are needed
 
-It takes llvm-profdata and llvm-cov of the compiler's own LLVM: Debian's package, whose commands end in the version, or
-rustup's component llvm-tools. --tools prints the first command and that package, and fails where they are not there.
+For example, tools/uncovered.py target/coverage rust/lots/src. TARGET is a target folder of cargo in which tests ran
+with RUSTFLAGS=-Cinstrument-coverage, and its folder `profiles` has their profiles. A region is the smallest piece of
+code that the compiler counts: a condition, an arm, an operand of `&&`. Each region that no test ran is a failure,
+unless uncovered.txt names its line. A line that uncovered.txt names but tests run is a failure as well.
+
+The script uses llvm-profdata and llvm-cov of the compiler's own LLVM version, from Debian's package, whose commands end
+in the version, or from rustup's component llvm-tools. --tools fails if they are not there.
 """
 
 import json
@@ -29,7 +32,7 @@ def printed(*command):
 
 
 def tools():
-    """The names of both commands, or none, and the version of LLVM."""
+    """The names of both commands, or None, and the version of LLVM."""
     said = printed("rustc", "--version", "--verbose")
     version, host = (re.search(rf"^{word}: ([\w-]+)", said, re.M)[1] for word in ("LLVM version", "host"))
     of_rustup = Path(printed("rustc", "--print", "sysroot").strip()) / "lib/rustlib" / host / "bin"
@@ -41,14 +44,14 @@ def tools():
 
 
 def programs_of(target):
-    """The programs that cargo built there: tests, and what they start."""
+    """The programs that cargo built there: tests, and the programs that they start."""
     for path in [path for folder in PROGRAMS if (target / folder).is_dir() for path in (target / folder).iterdir()]:
         if path.is_file() and path.stat().st_mode & 0o100 and path.suffix != ".so":
             yield path
 
 
 def regions_of(target, sources):
-    """How often tests ran each region of these folders: a file, a line, and where it begins and ends there."""
+    """How often tests ran each region of these folders. A region is a file, a line, and its start and end there."""
     (merge, show), _ = tools()
     profile = target / "profiles/all"
     printed(merge, "merge", "-sparse", "-o", str(profile), *map(str, (target / "profiles").glob("*.profraw")))
@@ -64,7 +67,7 @@ def regions_of(target, sources):
 
 
 def code_at(file, line):
-    """The line of a region. A brace that closes counts to the code before it."""
+    """The line of a region. A closing brace counts with the code before it."""
     lines = file.read_text(encoding="utf-8").splitlines()
     while lines[line - 1].strip() == "}":
         line -= 1
@@ -72,7 +75,7 @@ def code_at(file, line):
 
 
 def exceptions(sources):
-    """The lines that uncovered.txt names below these folders."""
+    """The lines in these folders that uncovered.txt names."""
     lines = (HERE / "uncovered.txt").read_text(encoding="utf-8").splitlines()
     named = [line.partition(": ") for line in lines if line and not line.startswith("#")]
     return {(RUST / path, code) for path, _, code in named if any(one in (RUST / path).parents for one in sources)}

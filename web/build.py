@@ -1,15 +1,15 @@
 #!/usr/bin/env python3
-"""Proves the module and builds the page web/dist/nanorand.html, one file that works offline.
+"""Proves the WebAssembly module and builds the web page web/dist/nanorand.html, one file that works offline.
 
-    web/build.py                             proves the module, in a folder of its own, and builds the page
-    web/build.py MODULE.wasm                 builds the page with a module that is there already
-    web/build.py MODULE.wasm MODULE32.wasm   and with the module for 32-bit memory, too
-    web/build.py --committed                 builds the page with the modules of docs/nanorand.html
-    web/build.py --check                     says whether docs/nanorand.html is that page: N passed, M failed
+    web/build.py                             proves the module in a temporary folder and builds the page
+    web/build.py MODULE.wasm                 builds the page with an existing module
+    web/build.py MODULE.wasm MODULE32.wasm   builds it with existing modules for 64-bit and 32-bit memory
+    web/build.py --committed                 builds it with the modules in docs/nanorand.html
+    web/build.py --check                     checks that --committed would build docs/nanorand.html: N passed, M failed
 
-By itself web/module32.sh compiles the module for 32-bit memory; where it cannot, the page takes the one that
-docs/nanorand.html holds. The page is the same for equal sources and equal modules. The last lines are the
-SHA-256 of the modules and of the page.
+In the first two forms web/module32.sh compiles the module for 32-bit memory. Without a compiler for it, the page gets
+the module in docs/nanorand.html. The same sources and modules always make the same page. The last lines of the output
+are the SHA-256 of the modules and of the page, which are written to web/dist/.
 """
 
 import base64
@@ -33,13 +33,13 @@ import crates  # noqa: E402
 NAME = "nanorand_c"
 COMMITTED = TOP / "docs" / "nanorand.html"
 NO_COMPILER = 3
-# A comment that has its lines to itself.
+# A comment on lines of its own.
 COMMENT = re.compile(r"^ *(?://.*|/\*(?:[^*]|\*(?!/))*\*/)\n", re.M)
 IMPORT = re.compile(r'^import [^;]*? from "\./([a-z0-9]+)\.js";\n', re.M)
 
 
 def prove_module(folder: Path) -> Path:
-    """Copies the crates to a folder, with what is proved of them already, and builds the module there."""
+    """Copies the crates, with the proofs that rt kept, to a folder, and proves and builds the module there."""
     all_crates = crates.crates()
     for name in [NAME, *crates.below(NAME, all_crates)]:
         if name in all_crates:
@@ -55,7 +55,7 @@ def prove_module(folder: Path) -> Path:
 
 
 def number_at(code: bytes, place: int) -> tuple[int, int]:
-    """A number in LEB128, and the place after it."""
+    """An unsigned LEB128 number, and the index after it."""
     value = shift = 0
     while True:
         byte = code[place]
@@ -66,9 +66,9 @@ def number_at(code: bytes, place: int) -> tuple[int, int]:
 
 
 def sections(code: bytes) -> Iterator[tuple[int, bytes]]:
-    """The sections of a module: number and content."""
+    """The number and the content of each section of a module."""
     if code[:8] != b"\0asm\1\0\0\0":
-        sys.exit("web/build.py: this is no WebAssembly module")
+        sys.exit("web/build.py: this is not a WebAssembly module")
     place = 8
     while place < len(code):
         number, (length, begin) = code[place], number_at(code, place + 1)
@@ -77,34 +77,35 @@ def sections(code: bytes) -> Iterator[tuple[int, bytes]]:
 
 
 def look_at_module(code: bytes, bits: int) -> None:
-    """Refuses a module that imports anything, or whose memory is of other bits."""
+    """Exits if a module imports anything, or if its memory has another width than `bits`."""
     found = dict(sections(code))
     if number_at(found.get(2, b"\0"), 0)[0] != 0:
         sys.exit("web/build.py: the module has imports")
     if 5 not in found or (64 if found[5][1] & 4 else 32) != bits:
-        sys.exit(f"web/build.py: the module's memory is not of {bits} bits")
+        sys.exit(f"web/build.py: the module has no {bits}-bit memory")
 
 
 def module_of_page(page: Path, name: str) -> bytes:
-    """The module that a page holds in its element of this name."""
+    """The module in the element of a page with this id."""
     found = re.search(rf'<script type="text/plain" id="{name}">([^<]*)</script>', page.read_text(encoding="utf-8"))
     return base64.b64decode(found[1])
 
 
 def compile_module32(path: Path) -> bytes:
-    """The module for 32-bit memory, compiled, or else that of the committed page."""
+    """The module for 32-bit memory: compiled, or without a compiler the one in the committed page."""
     done = subprocess.run([HERE / "module32.sh", path], stdin=subprocess.DEVNULL, stderr=subprocess.PIPE,
                           encoding="utf-8")
     if done.returncode == NO_COMPILER:
-        print("skipped: compiling the module for 32-bit memory, as there is no Debian rustc: docs/nanorand.html has it")
+        print("skipped: compiling the module for 32-bit memory, as there is no Debian rustc: "
+              "the page gets the one in docs/nanorand.html")
         return module_of_page(COMMITTED, "module32")
     if done.returncode != 0:
-        sys.exit(f"{done.stderr}\nweb/build.py: the module for 32-bit memory was not compiled")
+        sys.exit(f"{done.stderr}\nweb/build.py: the module for 32-bit memory did not compile")
     return path.read_bytes()
 
 
 def joined(name: str, seen: set[str]) -> str:
-    """The code of web/src/NAME.js after that of all it imports, each once, as one script without comments."""
+    """The code of web/src/NAME.js and, before it, that of all its imports, each once, without comments."""
     source = COMMENT.sub("", (SOURCES / f"{name}.js").read_text(encoding="utf-8"))
     parts = []
     for other in IMPORT.findall(source):
@@ -116,13 +117,14 @@ def joined(name: str, seen: set[str]) -> str:
 
 
 def script(name: str) -> str:
-    """A joined script, strict as modules are. A script in a page must not hold the tag that ends it."""
+    """A joined script, in strict mode as modules are. Exits if the script has a tag that would end it in a page."""
     code = '"use strict";\n' + joined(name, {name})
     names = re.findall(r"^(?:const|let|class|function|async function) (\w+)", code, re.M)
     if len(set(names)) < len(names):
-        sys.exit(f"web/build.py: twice below {name}.js: {sorted(set(filter(lambda one: names.count(one) > 1, names)))}")
+        sys.exit(f"web/build.py: {name}.js and its imports have these names twice: "
+                 f"{sorted(set(filter(lambda one: names.count(one) > 1, names)))}")
     if "</script" in code.lower() or "<!--" in code:
-        sys.exit(f"web/build.py: {name}.js has what ends a script")
+        sys.exit(f"web/build.py: {name}.js contains a tag that would end the script")
     return code
 
 
@@ -135,7 +137,7 @@ def python_code() -> str:
 
 
 def rule() -> str:
-    """The list under the heading of the rule, as a list of the page without links."""
+    """The list under the rule's heading in docs/LOTS.md, as HTML without links."""
     section = re.search(r"^## The rule of the draw\n(.*?)^## ", document(), re.M | re.S)[1]
     items = re.findall(r"^- (.*\n(?:  .*\n)*)", section, re.M)
     text = "".join(f"<li>{html.escape(item.strip(), quote=False)}</li>\n" for item in items)
@@ -146,7 +148,7 @@ def rule() -> str:
 
 
 def source_of(text: str) -> str:
-    """The source of a policy that admits exactly this script or style."""
+    """The source of a content security policy that allows exactly this script or style."""
     return f"'sha256-{base64.b64encode(hashlib.sha256(text.encode()).digest()).decode()}'"
 
 
@@ -162,7 +164,7 @@ def page_with(module: bytes, module32: bytes) -> str:
 
 
 def modules(given: list[Path], folder: Path) -> list[bytes]:
-    """The two modules: those that are given, and else built."""
+    """The two modules: the given ones, or else built ones."""
     module = (given[0] if given else prove_module(folder)).read_bytes()
     look_at_module(module, 64)
     module32 = given[1].read_bytes() if len(given) == 2 else compile_module32(folder / "module32.wasm")
@@ -171,10 +173,10 @@ def modules(given: list[Path], folder: Path) -> list[bytes]:
 
 
 def check() -> None:
-    """Compares the committed page with what the sources make of its modules."""
+    """Compares the committed page with the page that the sources build with its modules."""
     page = page_with(module_of_page(COMMITTED, "module"), module_of_page(COMMITTED, "module32"))
     if page != COMMITTED.read_text(encoding="utf-8"):
-        print("FAILED docs/nanorand.html is not what the sources make: web/build.py --committed writes web/dist/")
+        print("FAILED docs/nanorand.html differs from what the sources build, which web/build.py --committed writes")
         sys.exit("0 passed, 1 failed")
     print("1 passed, 0 failed")
 

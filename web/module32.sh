@@ -1,7 +1,11 @@
 #!/usr/bin/env bash
-# Compiles the module for 32-bit memory: web/module32.sh FILE. It is rust/nanorand-c and the two crates below it, by
-# Debian's rustc with its std for WebAssembly. Equal sources and an equal rustc give equal bytes, wherever they lie. With
-# status 3 there is no such compiler.
+# Compiles the module for 32-bit memory into a file:
+#
+#     web/module32.sh web/dist/nanorand_c32.wasm
+#
+# The module is rust/nanorand-c with the two crates that it uses, compiled by Debian's rustc, which needs its std for
+# wasm32-unknown-unknown. The same sources and the same rustc produce the same bytes, in whichever folder they are.
+# Exits with status 3 if there is no such compiler.
 set -euo pipefail
 into=$(realpath -m "$1")
 cd "$(dirname "$0")/.."

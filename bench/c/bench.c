@@ -1,6 +1,6 @@
 /*
- * Times calls of the library, and the same work by a wyrand of this file, inlined: each line has the work, whose it
- * is, and the nanoseconds of an item. bench/c/run.sh runs it.
+ * Measures calls of the library, and the same work with this file's own wyrand, which is inlined. Each line has the
+ * work, who does it, and the nanoseconds per item. bench/c/run.sh runs it.
  */
 #define _POSIX_C_SOURCE 199309L
 #include <stdio.h>
@@ -29,7 +29,7 @@ static inline uint64_t inline_word(uint64_t *seed)
     return word_of(*seed);
 }
 
-/* A number below `count`, of which each has equally many words. */
+/* An unbiased number below `count`. */
 static inline uint64_t inline_below(uint64_t *seed, uint64_t count)
 {
     wide product = (wide)inline_word(seed) * count;
@@ -51,7 +51,7 @@ static void words_inline(void)
     sum = all;
 }
 
-/* As above, where the seed is loaded and stored each time, as that of a call is. */
+/* The same, but the seed is loaded and stored each time, as in a call of the library. */
 static void words_in_memory(void)
 {
     volatile uint64_t seed = 42;

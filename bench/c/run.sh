@@ -1,8 +1,10 @@
 #!/usr/bin/env bash
-# Times both static libraries, cargo's and the kit's, beside a wyrand in C that is inlined: bench/c/run.sh. It prints the
-# nanoseconds of each work, medians of the turns. The kit's is timed as it was built last. CC names the compiler.
+# Measures both static libraries, cargo's and the kit's, and compares them with an inlined wyrand in C: bench/c/run.sh.
 #
-# A short loop is faster or slower by its place, so each begins a line of the cache.
+# It prints the nanoseconds per item for each work, as medians of the turns. The kit's library is used as it was last
+# built. CC names the compiler.
+#
+# The speed of a short loop depends on its address, so each loop begins at the start of a cache line.
 set -euo pipefail
 cd "$(dirname "$0")/../.."
 work=$(mktemp -d)
@@ -21,13 +23,13 @@ else
     echo "skipped: the kit's library, as there is no $kit"
 fi
 
-# The libraries take turns, so that a busy moment of the machine spoils neither alone.
+# The libraries take turns, so that a busy moment of the machine affects both.
 for ((turn = 0; turn < turns; turn++)); do
     for library in "${libraries[@]}"; do
         "$work/$library" | sed "s/called/by $library/" >>"$work/$library.times"
     done
 done
-# What is inlined is the same in both programs. Each work of a side has as many lines as there were turns.
+# The inlined code is the same in both programs. Each work of each side has one line for each turn.
 { cat "$work/cargo.times"; [ ${#libraries[@]} -eq 1 ] || grep 'by kit' "$work/kit.times"; } |
     sort -t $'\t' -k 1,1 -k 2,2 -k 3,3g |
     awk -F '\t' -v turns="$turns" 'NR % turns == int(turns / 2) + 1 { printf "%-20s %-10s %6.2f\n", $1, $2, $3 }'

@@ -1,7 +1,7 @@
-//! Links the static library that `rt lib` makes in `crates/nanorand_bench`, and moves all code by
+//! Links the static library that `rt lib` builds in `crates/nanorand_bench`, and moves all code by
 //! `NANORAND_SHIFT` bytes.
 
-// Above all other sections of the program, and a multiple of every alignment.
+// An address above all other sections of the program, and a multiple of every alignment.
 const TEXT: u64 = 16 << 20;
 
 fn variable(name: &str) -> String {

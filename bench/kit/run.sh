@@ -1,13 +1,15 @@
 #!/bin/sh
-# Times the kit's build of nanorand and prints a table: bench/kit/run.sh [FOLDER]. FOLDER holds the old Rust crate (Cargo.toml and
-# src/), which is compared too. It is used in place; nothing of it is copied.
+# Measures the kit's build of nanorand and prints a table: bench/kit/run.sh [FOLDER].
 #
-# Both sides are compiled for the same processor and fully optimized: the static library by `rt lib`, at
-# -O3, and the rest by cargo, at the opt-level of Cargo.toml.
+# For example, bench/kit/run.sh ~/nanorand-0.7.0. FOLDER has the old Rust crate (Cargo.toml and src/), which is measured
+# as well. It is used in place; nothing of it is copied.
 #
-# A short loop is faster or slower by its place among the lines of 64 bytes that a processor reads. All
-# functions begin at multiples of 16 bytes, so the program is linked four times, all its code 16 bytes
-# further on each time: each loop of both sides is timed at each place that it can have.
+# Both sides are compiled for the same processor and fully optimized: the static library by `rt lib`, at -O3, and the
+# rest by cargo, at the opt-level of Cargo.toml.
+#
+# The speed of a short loop depends on its position in the 64-byte lines that a processor reads. All functions begin at
+# multiples of 16 bytes. So the program is linked four times, each time with all its code 16 bytes further on: each loop
+# of both sides is measured at each position that it can have.
 set -eu
 cpu=x86-64-v2
 shifts="0 16 32 48"
@@ -51,7 +53,7 @@ for shift in $shifts; do
     cp "$here/target/release/bench" "$work/bench$shift"
 done
 
-# The builds take turns, so that a busy moment of the machine spoils no build alone.
+# The builds take turns, so that a busy moment of the machine affects all builds.
 rm -f "$work"/times*
 for _ in 1 2 3 4 5; do
     for shift in $shifts; do

@@ -1,19 +1,20 @@
 #!/usr/bin/env bash
-# Tests the stream of each generator by dieharder, and prints a summary: bench/quality/run.sh [TEST..].
+# Tests the stream of each generator with dieharder, and prints a summary: bench/quality/run.sh [TEST..].
 #
-# Without a TEST each stream is tested by all tests, `dieharder -a`, which takes hours. A TEST is a number of
-# `dieharder -l`, perhaps with a colon and its `-n`, as 203:4. Then these tests read the stream one after
-# another: each goes on where the last one stopped, or up to 4 KiB later. The outputs stay in
+# Without a TEST, all tests (`dieharder -a`) are run on each stream, which takes hours. A TEST is a number of
+# `dieharder -l`, optionally with a colon and a value for `-n`, such as 203:4. These tests then read the stream one
+# after another: each continues where the one before stopped, or up to 4 KiB later. The outputs stay in
 # bench/target/quality/outputs.
 #
-# This measures; it proves nothing of a generator.
+# These are statistical tests. They prove nothing about a generator.
 set -euo pipefail
 here=$(cd "$(dirname "$0")" && pwd)
 work=$here/../target/quality
 outputs=$work/outputs
 at_once=4
 
-# A generator's seed is as many of these 40 bytes as it takes: those of pi after the point, or NANORAND_SEED.
+# A generator's seed is the first of these 40 bytes, as many as it needs: the hexadecimal digits of pi after the point,
+# or NANORAND_SEED.
 bytes=${NANORAND_SEED:-243f6a8885a308d313198a2e03707344a4093822299f31d0082efa98ec4e6c89452821e638d01377}
 streams="wyrand pcg64 pcg64-low pcg64-high chacha8 chacha12 chacha20"
 
@@ -25,7 +26,7 @@ seed_of() {
     esac
 }
 
-# Tests the stream on the standard input.
+# Tests the stream on standard input.
 run_tests() {
     local test number n
     if [ $# -eq 0 ]; then

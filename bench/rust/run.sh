@@ -1,23 +1,27 @@
 #!/usr/bin/env bash
-# Times the Rust crate beside the old one and prints a table: bench/rust/run.sh FOLDER [programs] [RUNS]. FOLDER
-# holds the old Rust crate nanorand 0.7.0 (Cargo.toml and src/). It is used in place; nothing of it is copied.
+# Compares the speed of the Rust crate with the old one, nanorand 0.7.0, and prints a table:
 #
-# Without `programs` each work is in a function of its own, with its generator in a variable. With it, each
-# work is timed wherever a program keeps a generator (programs/contexts.rs), by the profiles
-# NANORAND_PROFILES, which are release, fat (lto "fat", one codegen unit) and dev if it is not set.
+#     bench/rust/run.sh FOLDER [programs] [RUNS]
 #
-# It also times rand 0.8, rand_chacha 0.3, rand_pcg 0.3 and fastrand 1.8 where the folder NANORAND_PEERS has
-# them: a cargo directory registry, as Debian's packages librust-{rand,rand-chacha,rand-pcg,fastrand}-dev
-# install one, which is looked for if the variable is not set. Without them their columns are empty.
+# For example, bench/rust/run.sh ~/nanorand-0.7.0. FOLDER has the old crate (Cargo.toml and src/). It is used in place;
+# nothing of it is copied.
 #
-# NANORAND_TIMED=drop_in times the drop-in in place of the library.
+# Without `programs`, each work is in a function of its own, with its generator in a variable. With it, each work is
+# measured in every context in which a program keeps a generator (programs/contexts.rs), with the profiles in
+# NANORAND_PROFILES. The default is release, fat (lto "fat", one codegen unit) and dev.
 #
-# All are compiled into one program as a user compiles them: for the default processor, with
-# opt-level 3, lto "fat" and one codegen unit (NANORAND_LTO=off: the defaults of cargo's release profile).
+# The script also measures rand 0.8, rand_chacha 0.3, rand_pcg 0.3 and fastrand 1.8 if the folder NANORAND_PEERS has
+# them. It is a cargo directory registry. The default is the one that Debian's packages
+# librust-{rand,rand-chacha,rand-pcg,fastrand}-dev install. Without these crates their columns are empty.
 #
-# A short loop is faster or slower by its place among the lines of 64 bytes that a processor reads. All
-# functions begin at multiples of 16 bytes, so the program is linked four times, all its code 16 bytes
-# further on each time: each loop of each crate is timed at each place that it can have.
+# NANORAND_TIMED=drop_in measures the drop-in instead of the library.
+#
+# All are compiled into one program as a user would compile them: for the default processor, with opt-level 3, lto "fat"
+# and one codegen unit (with NANORAND_LTO=off: the defaults of cargo's release profile).
+#
+# The speed of a short loop depends on its position in the 64-byte lines that a processor reads. All functions begin at
+# multiples of 16 bytes. So the program is linked four times, each time with all its code 16 bytes further on: each loop
+# of each crate is measured at each position that it can have.
 set -euo pipefail
 here=$(cd "$(dirname "${BASH_SOURCE[0]}")" && pwd)
 original=$(cd "${1:?a folder with nanorand 0.7.0}" && pwd)
@@ -32,7 +36,7 @@ target=${CARGO_TARGET_DIR:-$rust/../target}
 work=$target/$program
 mkdir -p "$work/works"
 
-# The folder of a peer, by the pattern of its versions: the names and versions of those that are timed.
+# The peers that are measured: their entries for a manifest, and their names and versions.
 peers=() versions=()
 for peer in rand-0.8.\* rand_chacha-0.3.\* rand_pcg-0.3.\* fastrand-1.8.\*; do
     found=$(compgen -G "$registry/$peer" | head -n 1) || { peers=() versions=(); break; }
@@ -43,7 +47,7 @@ options=(--offline)
 [ ${#peers[@]} -eq 0 ] || options+=(--features peers --config 'source.crates-io.replace-with="peers"'
     --config "source.peers.directory=\"$registry\"")
 
-# What all packages have that call the libraries: package NAME.
+# Prints the part that the manifests of all packages share: package NAME.
 package() {
     cat <<END
 [package]
@@ -59,7 +63,7 @@ $(printf '%s\n' "${peers[@]}")
 END
 }
 
-# The program of all works, each in a function of its own.
+# Writes the program of all works, each in a function of its own.
 write_speed() {
     options+=(--features "${NANORAND_TIMED:-library}")
     cat > "$work/Cargo.toml" <<END
@@ -82,7 +86,7 @@ $1
 END
 }
 
-# The program of all contexts, and the crate of the works.
+# Writes the program of all contexts, and the crate of the works.
 write_programs() {
     cat > "$work/works/Cargo.toml" <<END
 $(package works)
@@ -112,7 +116,7 @@ $1
 END
 }
 
-# Builds the program once for each place of its code: build PROFILE LTO.
+# Builds the program once for each position of its code: build PROFILE LTO.
 build() {
     local shift place folder=${1/dev/debug}
     "write_$program" "$2"
@@ -125,7 +129,7 @@ build() {
     done
 }
 
-# The builds take turns, so that a busy moment of the machine spoils no build alone.
+# The builds take turns, so that a busy moment of the machine affects all builds.
 time_builds() {
     local shift
     rm -f "$work"/times*

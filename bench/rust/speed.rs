@@ -1,6 +1,7 @@
-//! Times the library, or the drop-in, beside the old Rust crate, and beside `rand`, `rand_chacha`, `rand_pcg` and
-//! `fastrand` where they are there: `bench/rust/run.sh FOLDER` builds and starts it. Prints the times of this build, or,
-//! as `speed table FILE..`, the table of the builds whose times the files have.
+//! Compares the speed of the library, or of the drop-in, with the old Rust crate and, if they are
+//! there, with `rand`, `rand_chacha`, `rand_pcg` and `fastrand`. `bench/rust/run.sh FOLDER` builds
+//! and starts it. Prints the times of this build, or, as `speed table FILE..`, the table for the
+//! builds whose times are in the files.
 
 #[path = "../../rust/nanorand-proved/benches/parts/least.rs"]
 mod least;
@@ -18,7 +19,7 @@ mod here {
     include!("../../rust/nanorand-proved/benches/parts/samples.rs");
 }
 
-/// The works by the calls of the old crate.
+/// The works, with the old crate's calls.
 macro_rules! by_its_calls {
     ($library:ident) => {
         use $library as library;
@@ -37,7 +38,7 @@ macro_rules! by_its_calls {
             BufferedRng::new(chacha())
         }
 
-        // Its `shuffle` draws from all indices.
+        // The old crate's `shuffle` draws from all indices.
         fn shuffle_from_all<R: library::Rng<8>>(rng: &mut R, items: &mut [u64]) {
             rng.shuffle(items);
         }
@@ -67,8 +68,8 @@ mod peers {
     }
 }
 
-/// What a Rust user would take instead. The peers of these versions reject words too, so all their ranges
-/// and shuffles are exact.
+/// What a Rust user would use instead. In these versions the peers use rejection sampling as well,
+/// so all their ranges and shuffles are unbiased.
 #[cfg(feature = "peers")]
 mod peers {
     use crate::here::{BYTES, DRAWS, ITEMS};
@@ -160,7 +161,7 @@ mod peers {
         })
     }
 
-    // The row by the types' names; `fastrand` has a method of each.
+    // The rows named after types. `fastrand` has a method for each.
     macro_rules! values {
         ($row:ident: $($value:ident),+) => { $(
             if $row == concat!("WyRand, ", stringify!($value)) {
@@ -207,7 +208,7 @@ mod peers {
         )+ };
     }
 
-    /// The same as the row, by each peer that has it.
+    /// The work of the row by each peer that has it.
     pub fn of(row: &str) -> Vec<Work> {
         values!(row: u8, u16, u32, u64, u128, usize, i8, i16, i32, i64, i128, isize);
         ranges!(row:

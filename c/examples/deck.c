@@ -1,4 +1,4 @@
-/* Shuffles a deck, throws a die, reads a stream and draws lots. All of it is the same at each run. */
+/* Shuffles a deck, rolls a die, reads a stream and draws lots. Each run prints the same. */
 #include <stdio.h>
 #include <string.h>
 
@@ -46,7 +46,7 @@ static int throw_die(void)
     return 0;
 }
 
-/* Requests of 3, 64 and 1 bytes: together they are the first 68 of the keystream. */
+/* Requests of 3, 64 and 1 bytes. Together they are the first 68 bytes of the keystream. */
 static void read_stream(void)
 {
     nanorand_stream stream;

@@ -1,4 +1,4 @@
-/* The header alone, twice. It leaves none of its macros of attributes. */
+/* Includes only the header, twice. Its macros for attributes must not stay defined. */
 #include "nanorand.h"
 #include "nanorand.h"
 

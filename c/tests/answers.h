@@ -1,4 +1,4 @@
-/* What the program that c/tests/answers.py writes is made of: the table's states, and guarded arrays. */
+/* Parts of the program that c/tests/answers.py writes: the table's states, and guarded arrays. */
 #ifndef ANSWERS_H
 #define ANSWERS_H
 
@@ -17,7 +17,7 @@ static uint8_t bytes[MOST + 16];
 static uint8_t *const odd_bytes = bytes + 1;
 static size_t items[MOST + 2];
 static size_t *const inner_items = items + 1;
-static size_t table[MOST]; /* What a sample is drawn with: begins with what the last one left. */
+static size_t table[MOST]; /* The table for drawing a sample. It begins with what the last call left. */
 
 static void check(unsigned row, const char *call, int holds)
 {
@@ -38,7 +38,7 @@ static void begin(size_t count)
     }
 }
 
-/* The first `length` bytes are the wanted ones, and those beside them were not written. */
+/* Whether the first `length` bytes are the wanted ones, and the bytes around them were not written. */
 static int bytes_are(const uint8_t *wanted, size_t length)
 {
     return bytes[0] == GUARD && odd_bytes[length] == GUARD
@@ -53,7 +53,7 @@ static int items_are(const size_t *wanted, size_t length)
         && (length == 0 || memcmp(inner_items, wanted, length * sizeof *wanted) == 0);
 }
 
-/* None of the first `length` items was written. */
+/* Whether none of the first `length` items was written. */
 static int are_untouched(size_t length)
 {
     const uint8_t *inner = (const uint8_t *)inner_items;
@@ -117,7 +117,7 @@ static int same_chacha(const nanorand_chacha *one, const nanorand_chacha *other)
         && one->counter == other->counter;
 }
 
-/* What lies before the buffered bytes does not count. */
+/* A state of the table. The bytes of the block before the buffered ones do not count. */
 static nanorand_stream stream_of(const uint8_t *from, size_t length)
 {
     nanorand_stream state;
@@ -145,7 +145,10 @@ static nanorand_keystream keystream_of(const uint8_t *from, size_t length)
     return state;
 }
 
-/* The same next bytes: whole blocks that one has buffered, the counter of the other has before it. */
+/*
+ * Whether both deliver the same bytes next. One may have whole blocks buffered that the counter of the
+ * other has not reached yet.
+ */
 static int same_keystream(const nanorand_keystream *one, const nanorand_keystream *other)
 {
     nanorand_chacha mine = one->chacha, its = other->chacha;

@@ -1,8 +1,10 @@
 #!/usr/bin/env python3
-"""Writes a C program that makes each call of the table of known answers: c/tests/answers.py TABLE.
+"""Prints a C program that makes each call in the table of known answers.
 
-The program calls through c/include/nanorand.h, and ends in N passed, M failed. The rows of `stream` are
-those of `keystream` too; that of parts is its alone.
+    c/tests/answers.py tests/answers/answers.tsv >answers.c
+
+The program includes c/include/nanorand.h and c/tests/answers.h. Its last line is N passed, M failed. The rows of
+`stream` are used for `keystream` as well, except the rows of `part`.
 """
 
 from __future__ import annotations
@@ -36,7 +38,7 @@ class Row(NamedTuple):
 
 
 def byte_array(name: str, text: str) -> str:
-    """A constant array of C. An empty one has a byte that is not counted."""
+    """A constant C array. An empty one has one byte that is not counted."""
     inner = ", ".join(str(byte) for byte in bytes.fromhex("" if text == "-" else text)) or "0"
     return f"static const uint8_t {name}[] = {{{inner}}};"
 
@@ -51,7 +53,7 @@ def count(text: str) -> int:
 
 
 def literal(kind: str, number: str) -> str:
-    """A number as C writes it; the least of i64 has no literal."""
+    """A number as C writes it. The minimum of i64 has no literal."""
     if kind == "i64":
         if number.startswith("-"):
             return f"(-INT64_C({int(number[1:]) - 1}) - 1)"
@@ -99,7 +101,7 @@ def sample(row: Row) -> list[str]:
 
 
 def extend_sample(row: Row) -> list[str]:
-    """The same by tables of several lengths: in one piece, and in two, of which the first may be empty."""
+    """The same with tables of several lengths, in one piece and in two pieces, the first of which may be empty."""
     numbers, length = row.numbers
     most = length if row.status == "0" else 0
     extend = f"nanorand_{row.generator}_extend_sample"
@@ -142,7 +144,7 @@ def count_lines(row: Row) -> list[str]:
 
 
 def draw(row: Row) -> list[str]:
-    """After status 2 the places are as before. After 3 nothing is said of them."""
+    """After status 2 the places are unchanged. After other errors the test does not look at them."""
     seed, places, drawn = row.numbers
     length = len(bytes.fromhex("" if seed == "-" else seed))
     lines = [byte_array("seed", seed), "begin(0);",
@@ -177,7 +179,7 @@ def kind_of(row: Row) -> str:
 
 
 def states(row: Row) -> tuple[list[str], list[str]]:
-    """What stands before the call, and after it."""
+    """The lines before the call, and those after it."""
     if row.generator == "lots":
         return [], []
     kind = kind_of(row)

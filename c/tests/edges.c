@@ -1,9 +1,9 @@
 /*
- * The edges of the interface, of every generator: null pointers with length 0, empty and whole
- * ranges, samples that are too large, odd addresses, large lengths, parts of a stream, each status that
- * can be reached, and what a refusal leaves.
+ * Edge cases of the interface, for every generator: null pointers with length 0, empty and full ranges,
+ * samples that are too large, odd addresses, large lengths, parts of a stream, each status that can be
+ * reached, and what stays after an error.
  *
- * Not reached: NANORAND_EXHAUSTED and NANORAND_LOTS_EXHAUSTED. No state is known that gives them.
+ * Not tested: NANORAND_EXHAUSTED and NANORAND_LOTS_EXHAUSTED. No state is known that leads to them.
  */
 #include <stdio.h>
 #include <stdlib.h>
@@ -11,7 +11,7 @@
 
 #include "nanorand.h"
 
-/* An array of length -1, which no compiler takes, where the condition does not hold. */
+/* Does not compile if the condition is false: the array would have the length -1. */
 #define HOLDS(name, condition) typedef char holds_##name[(condition) ? 1 : -1]
 
 HOLDS(version, NANORAND_VERSION >= 10000);
@@ -24,14 +24,14 @@ HOLDS(lots_too_few, NANORAND_LOTS_TOO_FEW == 3);
 HOLDS(lots_empty_line, NANORAND_LOTS_EMPTY_LINE == 4);
 HOLDS(lots_exhausted, NANORAND_LOTS_EXHAUSTED == 8);
 
-#ifdef FEW /* where what runs is counted, which takes long */
+#ifdef FEW /* for runs that are counted (code coverage), which are slow */
 enum { LARGE = (1 << 14) + 1, ITEMS = (1 << 10) + 3, GREATEST = (1 << 17) + 1 };
 #else
 enum { LARGE = (1 << 22) + 1, ITEMS = (1 << 18) + 3, GREATEST = (1 << 21) + 1 };
 #endif
 enum { OFFSETS = 16, SHORT = 200, AHEAD = 1025 };
 
-/* About powers of 2 and of 10, in blocks of 64 or not. */
+/* Sizes around powers of 2 and of 10, some of them multiples of 64. */
 static const size_t great_sizes[] = {
     4095,   4096,    4097,    9999,    10000,   10001,   32767,   32768,   32769,
     65472,  65535,   65536,   65537,   65600,   99999,   100000,  100001,  100032,
@@ -53,7 +53,7 @@ static void check(const char *generator, const char *name, int holds)
     }
 }
 
-/* Each number below `count` is there once. */
+/* Whether the items have each number below `count` once. */
 static int is_permutation(const size_t *items, size_t count)
 {
     unsigned char *seen = (unsigned char *)calloc(count + 1, 1);
@@ -78,7 +78,7 @@ static int all_are(const size_t *items, size_t length, size_t wanted)
     return 1;
 }
 
-/* Whether the places are different numbers below the count. */
+/* Whether the places are distinct numbers below the count. */
 static int are_below(const size_t *places, size_t length, size_t count)
 {
     for (size_t place = 0; place < length; place++) {
@@ -94,7 +94,7 @@ static int are_below(const size_t *places, size_t length, size_t count)
     return 1;
 }
 
-/* The tests of one generator. S is the type of its state, */
+/* The tests of one generator. S is the type of its state. */
 #define TESTS(G, S)                                                                                \
     static void null_pointers_##G(S start)                                                         \
     {                                                                                              \
@@ -184,7 +184,7 @@ static int are_below(const size_t *places, size_t length, size_t count)
         check(#G, "every address", 1);                                                             \
     }                                                                                              \
                                                                                                    \
-    /* One fill, and the same bytes in pieces of 64. */                                            \
+    /* One fill returns the same bytes as fills of 64 bytes. */                                    \
     static void lengths_##G(S start)                                                               \
     {                                                                                              \
         static uint8_t memory[LARGE + 2], pieces[LARGE];                                           \
@@ -201,7 +201,7 @@ static int are_below(const size_t *places, size_t length, size_t count)
         check(#G, "a large fill", memcmp(whole, pieces, LARGE) == 0 && whole[LARGE] == 0xee);      \
     }                                                                                              \
                                                                                                    \
-    /* One fill of each great size, the same bytes in pieces of 64, and what comes next. */        \
+    /* A large fill returns the same bytes as fills of 64 bytes, and leaves the same state. */     \
     static void sizes_##G(S start)                                                                 \
     {                                                                                              \
         static uint8_t whole[GREATEST + 1], pieces[GREATEST];                                      \
@@ -222,7 +222,7 @@ static int are_below(const size_t *places, size_t length, size_t count)
         }                                                                                          \
     }                                                                                              \
                                                                                                    \
-    /* Swaps each item with a drawn one: of all items, or of those not before it. */               \
+    /* Swaps each item with a drawn one: any item, or one that is not before it. */                \
     static int exchange_##G(S *state, size_t *items, int full)                                     \
     {                                                                                              \
         int drawn = 1;                                                                             \
@@ -260,7 +260,7 @@ static int are_below(const size_t *places, size_t length, size_t count)
         check(#G, "each once", is_permutation(items, 1000));                                       \
     }                                                                                              \
                                                                                                    \
-    /* Of at least 2^3 numbers, and of many more. */                                               \
+    /* Samples of three numbers below 2^3, 2^4, .., 2^63, and below one more than these. */        \
     static void samples_##G(S start)                                                               \
     {                                                                                              \
         size_t places[3];                                                                          \
@@ -285,7 +285,7 @@ static int are_below(const size_t *places, size_t length, size_t count)
         return memcmp(next, others, AHEAD) == 0;                                                   \
     }                                                                                              \
                                                                                                    \
-    /* A sample by a table, in pieces of all sizes, over what the table held. */                   \
+    /* Draws a sample with a table, in pieces of growing size. The table has old values. */        \
     static int draw_in_pieces_##G(S *state, size_t count, size_t *places, size_t length)           \
     {                                                                                              \
         static size_t table[3 * ITEMS];                                                            \
@@ -371,7 +371,7 @@ PARTS(chacha12, nanorand_chacha)
 PARTS(chacha20, nanorand_chacha)
 PARTS(keystream, nanorand_keystream)
 
-/* Of no buffered byte to the most of them. */
+/* Parts of keystreams with different numbers of buffered bytes, from 0 to the maximum. */
 static void parts_of_keystream(nanorand_keystream start)
 {
     for (start.buffered = 0; start.buffered < 512; start.buffered += 7) {
@@ -379,7 +379,7 @@ static void parts_of_keystream(nanorand_keystream start)
     }
 }
 
-/* More buffered bytes than there can be count as the most of them. */
+/* Counts of buffered bytes above the maximum are clamped to it. */
 static void too_many_buffered(nanorand_stream stream, nanorand_keystream keystream)
 {
     int holds = 1;
@@ -434,7 +434,7 @@ static void draws(void)
 {
     const uint8_t *seed = text_of("s");
     const uint8_t *no_text = text_of("\xff");
-    /* Each begins with its length: zeros, spaces, a byte order mark, ends of lines, a mark without a letter. */
+    /* Each begins with its length: NULs, spaces, a byte order mark, line ends, a combining mark without a letter. */
     const char *const seeds[] = {"1\0", "3\0\0\0", "1 ", "2  ", "3\xef\xbb\xbf", "1\n", "2\r\n", "1\t",
                                  "2\xcc\x81", NULL};
     size_t places[3] = {7, 7, 7};
@@ -460,7 +460,7 @@ static void draws(void)
     check("lots", "each once", is_permutation(places, 3));
 }
 
-/* Requests of all sizes, up to more than two groups: a keystream delivers what the stream does. */
+/* A keystream delivers the same bytes as the stream, for requests of all sizes up to more than two groups. */
 static void one_keystream(nanorand_stream stream, nanorand_keystream keystream)
 {
     uint8_t some[1100], same[1100];

@@ -1,7 +1,7 @@
 /*
- * Memory that no call may touch: each array lies at the end of a page, and then at the beginning of one,
- * beside pages that can be neither read nor written. A byte too many ends the program. Also the greatest
- * counts and numbers, which C's types can say.
+ * No call accesses memory outside its arrays: each array is at the end of a memory page, and then at the
+ * beginning of one, next to pages that can be neither read nor written. One byte too many ends the
+ * program. Also tested are the largest counts and numbers that C's types can hold.
  */
 #define _DEFAULT_SOURCE
 #include <stdio.h>
@@ -14,7 +14,7 @@ enum { PAGE = 65536, LONGEST = 600 };
 
 static unsigned passed = 0;
 static unsigned failed = 0;
-static uint8_t *page; /* A page that can be used, between two that cannot. */
+static uint8_t *page; /* An accessible page between two inaccessible ones. */
 
 static void check(const char *name, int holds)
 {
@@ -26,7 +26,7 @@ static void check(const char *name, int holds)
     }
 }
 
-/* So many bytes at the end of the page, or at its beginning. */
+/* The address of `size` bytes at the end of the page, or at its beginning. */
 static uint8_t *placed(int at_end, size_t size)
 {
     memset(page, 0x61, PAGE);
@@ -106,7 +106,7 @@ PARTS(chacha12, nanorand_chacha)
 PARTS(chacha20, nanorand_chacha)
 PARTS(keystream, nanorand_keystream)
 
-/* A list, a seed and a digest at the edge, and draws of as many as a size_t can say. */
+/* A list, a seed and a digest at the edge of the page, and draws of up to SIZE_MAX entrants. */
 static void lots(int at_end)
 {
     size_t number = 0, length, places[3] = {7, 7, 7};
@@ -119,7 +119,7 @@ static void lots(int at_end)
         holds = holds && nanorand_lots_draw(text, length, places, 3, 3) == 0;
         text[length - 1] = '\n';
         holds = holds && nanorand_lots_count(text, length, &number) == (length == 1 ? 4 : 0);
-        /* The first byte of a character whose others are missing. */
+        /* The first byte of a character, without the others. */
         text[length - 1] = 0xf0;
         holds = holds && nanorand_lots_draw(text, length, places, 3, 3) == NANORAND_LOTS_BAD_SEED;
     }
@@ -133,7 +133,7 @@ static void lots(int at_end)
     check("lots: places", holds);
 }
 
-/* Each call, and some that do nothing or are refused. What it gives is in `out`. */
+/* Makes one of all calls, some of which do nothing or return an error. The results are in `out`. */
 #define CALLS(G)                                                                                   \
     static void make_call_##G(nanorand_##G *state, int call, uint64_t out[4])                      \
     {                                                                                              \
@@ -163,7 +163,7 @@ static void lots(int at_end)
 CALLS(stream)
 CALLS(keystream)
 
-/* For each call a number of buffered bytes that none leaves counts as the greatest that one leaves. */
+/* For each call, a count of buffered bytes above the maximum is clamped to the maximum. */
 #define TOO_MANY_BUFFERED(G, MOST)                                                                 \
     static void too_many_buffered_##G(uint64_t buffered)                                           \
     {                                                                                              \
@@ -187,7 +187,7 @@ CALLS(keystream)
 TOO_MANY_BUFFERED(stream, 63)
 TOO_MANY_BUFFERED(keystream, 511)
 
-/* The same of parts: one within the buffered bytes, one behind them, and one past the period. */
+/* The same for parts: one within the buffered bytes, one behind them, and one past the end of the period. */
 static void too_many_buffered_parts(uint64_t buffered)
 {
     const uint64_t draws[3] = {3, 1000, UINT64_MAX};

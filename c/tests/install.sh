@@ -1,12 +1,14 @@
 #!/usr/bin/env bash
-# Tests c/install: c/tests/install.sh. The PATH of the build has its tools alone, so neither the kit nor Python. What is
-# installed is the header's, and nothing else; programs are built by what pkg-config says; another folder gives equal
-# bytes.
+# Tests c/install: c/tests/install.sh. The last line is N passed, M failed.
+#
+# The PATH of the build has only the build's tools, so neither the kit nor Python. The installed libraries must have the
+# header's functions and no others, programs are built with the flags of pkg-config, and another folder must produce the
+# same bytes.
 # shellcheck source=tests/lib.sh
 source "$(dirname "${BASH_SOURCE[0]}")/../../tests/lib.sh"
 root=$work/'a prefix'
 
-# The tools of the build, in a folder of their own.
+# Puts the tools of the build into a folder of their own.
 tools() {
     local tool
     mkdir "$work/bin"
@@ -15,12 +17,12 @@ tools() {
     done
 }
 
-# Runs the c/install of the folder $1, with the variables that follow.
+# Runs c/install in the folder $1, with the variables that follow.
 install_from() {
     env PATH="$work/bin" "${@:2}" "$1/c/install" 2>&1
 }
 
-# The files below the folder $1, and where its links lead.
+# The files below the folder $1, with their modes and the targets of links.
 files() {
     (cd "$1" && find . ! -type d -printf '%P %m %l\n' | sort)
 }
@@ -39,12 +41,12 @@ END
         "$(grep -v '^Version: ' "$root/lib/pkgconfig/nanorand.pc" | diff - <(grep -v '^Version: ' c/nanorand.pc.in))"
 }
 
-# The symbols of nm's lines, without the version of the interface.
+# The symbols in nm's lines, without the version of the interface.
 symbols() {
     awk '$(NF - 1) != "A" { sub(/@.*/, "", $NF); print $NF }' | sort
 }
 
-# Both libraries have the header's functions, and no others. What they need is what every C library has.
+# Both libraries have the header's functions and no others. They need only functions that every C library has.
 libraries() {
     local archive=$root/lib/libnanorand.a shared=$root/lib/libnanorand.so.1
     sed -n 's/^#define nanorand_.* \(nanorand_v1_\)/\1/p' c/include/nanorand.h | sort >"$work/names"
@@ -63,8 +65,8 @@ libraries() {
     check 'no path of this machine' "$(grep -rlF -e "$PWD" -e "$work" "$root")"
 }
 
-# The example $1 is built by the flags that follow and by those of pkg-config, and prints its text. What pkg-config
-# prints is quoted for a shell.
+# Builds the example as the program $1, with the flags that follow and those of pkg-config, and compares what it prints.
+# pkg-config's output is quoted for a shell.
 example() {
     local program=$work/$1 flags
     shift
@@ -96,8 +98,8 @@ programs() {
         awk -F. '{ print 10000 * $1 + 100 * $2 + $3 }' | diff - <(echo "$version"))"
 }
 
-# A copy of the files of a clone, in another folder, by another umask and time zone, below DESTDIR and a relative
-# PREFIX: equal files.
+# A build from a copy of the files in another folder, with another umask and time zone, DESTDIR and a relative PREFIX,
+# installs the same files.
 another_folder() {
     local copy=$work/another/folder
     mkdir -p "$copy" "$work/here"
@@ -108,7 +110,7 @@ another_folder() {
     check 'the same files' "$(files "$work/here/destination$work/here/usr" | diff - <(files "$root"))"
 }
 
-# Over an installation of another release: every file is replaced, and the link too.
+# Installing over another release replaces every file and the link.
 over_an_older_one() {
     local file
     for file in include/nanorand.h lib/libnanorand.{a,so.1} lib/pkgconfig/nanorand.pc; do
@@ -120,7 +122,7 @@ over_an_older_one() {
     check 'its bytes' "$(diff -r "$root" "$work/here/destination$work/here/usr" 2>&1)"
 }
 
-# Where a tool fails nothing is installed.
+# If a tool fails, nothing is installed.
 failures() {
     local tool
     for tool in rustc objcopy cc; do

@@ -1,9 +1,9 @@
 /*
- * Checks how the structs of crates/nanorand_c lie in memory, by the functions that take or give
+ * Checks the memory layout of the structs of crates/nanorand_c, with the functions that take or return
  * them.
  *
- * Each function has known answers in which the two words of a number differ, and the bytes of a key,
- * a nonce and a block. A guard on either side of a struct shows a write beside it.
+ * Each function has known answers in which the two 64-bit halves of a number differ, and so do the bytes
+ * of a key, a nonce and a block. Guards on both sides of a struct reveal writes beside it.
  */
 #include <stdbool.h>
 #include <stdio.h>
@@ -11,7 +11,7 @@
 
 #include "nanorand.h"
 
-/* An array of length -1, which no compiler takes, where the condition does not hold. */
+/* Does not compile if the condition is false: the array would have the length -1. */
 #define HOLDS(name, condition) typedef char holds_##name[(condition) ? 1 : -1]
 
 HOLDS(pcg64_size, sizeof(nanorand_pcg64) == 16);
@@ -48,7 +48,7 @@ static void check(const char *name, bool holds)
     }
 }
 
-/* Four words of memory: the seed in the middle, low word first, between two guards. */
+/* Four 64-bit words of memory: the seed in the middle, low word first, between two guards. */
 struct guarded_wide {
     uint64_t words[4];
 };
@@ -70,7 +70,7 @@ static bool wide_is(const struct guarded_wide *memory, uint64_t low, uint64_t hi
         && memory->words[3] == GUARD;
 }
 
-/* The same of a seed of one word. */
+/* The same for a seed of one word. */
 struct guarded_word {
     uint64_t words[3];
 };
@@ -91,7 +91,7 @@ static bool word_is(const struct guarded_word *memory, uint64_t seed)
     return memory->words[0] == GUARD && memory->words[1] == seed && memory->words[2] == GUARD;
 }
 
-/* The items 0, 1, .., 9 are in this order. */
+/* Whether the items 0, 1, .., 9 are in this order. */
 static bool is_order(const size_t *items, const char *digits)
 {
     for (size_t place = 0; place < 10; place++) {
@@ -246,14 +246,14 @@ static void check_wyrand_shuffles(void)
     check("wyrand_shuffle_full: the seed", word_is(&memory, 0x449d25ecb765ea00));
 }
 
-/* Fifteen words between two guards: a stream, or the chacha at its beginning. */
+/* Fifteen 64-bit words between two guards: a stream, or the chacha at its beginning. */
 struct guarded_stream {
     uint64_t before;
     nanorand_stream stream;
     uint64_t after;
 };
 
-/* The key is 1, 2, .., the nonce 101, 102, .., and every byte of the block 0xbb. */
+/* A stream whose key is 1, 2, .., whose nonce is 101, 102, .., and whose block has only bytes 0xbb. */
 static struct guarded_stream stream_of(uint64_t counter, uint64_t buffered)
 {
     struct guarded_stream memory;
@@ -270,7 +270,7 @@ static struct guarded_stream stream_of(uint64_t counter, uint64_t buffered)
     return memory;
 }
 
-/* Key and nonce are as before, the counter and the number of buffered bytes as given. */
+/* Whether key and nonce are unchanged, and the counter and the number of buffered bytes are these. */
 static bool stream_is(const struct guarded_stream *memory, uint64_t counter, uint64_t buffered)
 {
     const struct guarded_stream other = stream_of(counter, buffered);

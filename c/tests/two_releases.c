@@ -1,9 +1,9 @@
 /*
- * One program with two releases of the library: this one, and one whose symbols and header have
- * another number. tests/c.sh makes the other, and compares the addresses of all exports.
+ * One program with two releases of the library: this one, and one whose symbols and header have another
+ * number. tests/c.sh makes the other one, and compares the addresses of all exports.
  *
- * It is compiled twice. With OTHER_RELEASE it gives the functions of the other release; without, it is
- * the program.
+ * The file is compiled twice. With OTHER_RELEASE it provides the functions of the other release. Without
+ * it, it is the program.
  */
 #include <stdio.h>
 
@@ -21,7 +21,7 @@ struct release {
 
 #ifdef OTHER_RELEASE
 
-/* The structs of both releases are alike here; a program of one's own would not mix them. */
+/* Here the structs of both releases are the same. A real program must not mix them. */
 struct release other_release(void);
 
 struct release other_release(void)

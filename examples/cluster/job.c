@@ -1,4 +1,4 @@
-/* Some tasks of the percolation threshold, as a job of a job array takes them: job FIRST COUNT. */
+/* Runs COUNT tasks of the percolation threshold from task FIRST on, as a job of a job array: job FIRST COUNT. */
 #include <inttypes.h>
 #include <stdio.h>
 #include <stdlib.h>

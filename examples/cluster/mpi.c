@@ -1,4 +1,4 @@
-/* The percolation threshold by MPI: mpirun -n 4 mpi. Each process takes its share of the tasks. */
+/* Estimates the percolation threshold with MPI: mpirun -n 4 mpi. Each process runs its share of the tasks. */
 #include <mpi.h>
 #include <stdio.h>
 

@@ -1,4 +1,4 @@
-/* The task of percolation.py, in C: from the same parts of the same stream, the same sums. */
+/* The tasks of percolation.py, in C. The same parts of the same stream produce the same sums. */
 #include "percolation.h"
 
 #include <inttypes.h>
@@ -11,14 +11,14 @@ static const nanorand_pcg64 seed = {2026, 0};
 static const size_t sides[SIDES] = {8, 16, 32, 64};
 
 /*
- * A task shuffles so many sites of each side. A shuffle draws at most 128 words a site, so none leaves its part. The
- * length of a part is odd, as docs/SCALE.md advises.
+ * For each side length, a task shuffles SITES sites. A shuffle draws at most 128 words (64-bit random numbers) for each
+ * site, so no task leaves its part. The length of a part is odd, as docs/SCALE.md advises.
  */
 enum { SITES = 4 * 64 * 64, LARGEST = 64, DRAWS = SIDES * SITES * 128 + 1 };
 
 /*
- * The sites of a lattice are numbered row by row from `side` on, so that the edges above and below it are rows too. The
- * root that is reached by the parents of an open site is that of its cluster. A closed site has no parent.
+ * The sites of a lattice are numbered row by row from `side` on, so that the edges above and below it are rows as well.
+ * The parents of an open site lead to the root of its cluster. A closed site has no parent.
  */
 static const size_t CLOSED = SIZE_MAX;
 
@@ -51,7 +51,7 @@ static void open_site(size_t *parents, size_t side, size_t site)
     }
 }
 
-/* How many sites of the order are open when open ones first lead from top to bottom. */
+/* The number of open sites when open sites first connect top and bottom, if they are opened in this order. */
 static uint64_t sites_until_spanning(const size_t *order, size_t side)
 {
     size_t parents[LARGEST * (LARGEST + 2)];
@@ -67,7 +67,7 @@ static uint64_t sites_until_spanning(const size_t *order, size_t side)
     return opened;
 }
 
-/* Adds the lattices of one side that a task fills. Each shuffle goes on from the order before it. */
+/* Adds the lattices of one side length that a task fills. Each shuffle starts from the order before it. */
 static uint8_t add_lattices(nanorand_pcg64 *rng, size_t side, sums *total)
 {
     size_t order[LARGEST * LARGEST];

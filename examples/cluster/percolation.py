@@ -1,10 +1,10 @@
-"""The site percolation threshold of the square lattice, by 1000 tasks on Dask, or by one loop over one generator.
+"""Estimates the site percolation threshold of the square lattice, by 1000 tasks on Dask or by one plain loop.
 
-The sites of a lattice are opened one by one, in random order, until open sites lead from its top to its bottom. The
-mean share of sites that are open then tends to the threshold, 0.592746, as lattices grow (Newman and Ziff, 2000).
+The sites of a lattice are opened one by one, in random order, until open sites connect its top and its bottom. The mean
+share of sites that are open then tends to the threshold, 0.592746, as lattices grow (Newman and Ziff, 2000).
 
-Task i draws from part i of one random stream alone, and its results are whole numbers. So their sum is the same to the
-last digit, whoever runs the tasks, in which order, and how often.
+Task i draws only from part i of one random stream, and its results are whole numbers. So the sum of all results is the
+same to the last digit, whichever workers run the tasks, in any order, and even if some are repeated.
 """
 
 import argparse
@@ -15,24 +15,24 @@ from nanorand import Pcg64
 SEED = 2026
 TASKS = 1000
 SIDES = [8, 16, 32, 64]
-# A task shuffles so many sites of each side. A shuffle draws at most 128 words a site, so no task leaves its part. The
-# length of a part is odd, as docs/SCALE.md advises.
+# For each side length, a task shuffles SITES sites. A shuffle draws at most 128 words (64-bit random numbers) for each
+# site, so no task leaves its part. The length of a part is odd, as docs/SCALE.md advises.
 SITES = 4 * 64 * 64
 DRAWS = len(SIDES) * SITES * 128 + 1
 
 
 def task(index):
-    """The sums of each side, as `sums_of` has them, from part `index` of the stream."""
+    """The sums for each side length, as `sums_of` returns them, from part `index` of the stream."""
     return sums_from(Pcg64(SEED).part(index, DRAWS))
 
 
 def sums_from(rng):
-    """The sums of each side, from this generator on."""
+    """The sums for each side length, drawn from this generator."""
     return [sums_of(rng, side) for side in SIDES]
 
 
 def sums_of(rng, side):
-    """How many lattices there are, their open sites when first spanned, and the squares of these numbers, added up."""
+    """The number of lattices, their open sites when first spanned, and the squares of these numbers, summed up."""
     order, neighbours = sites_of(side), neighbours_of(side)
     lattices = sites = squares = 0
     for _ in range(0, SITES, side * side):
@@ -43,12 +43,12 @@ def sums_of(rng, side):
 
 
 def sites_of(side):
-    """The sites, numbered row by row from `side` on, so that the edges above and below the lattice are rows too."""
+    """The sites, numbered row by row from `side` on, so that the edges above and below the lattice are rows as well."""
     return list(range(side, side * (side + 1)))
 
 
 def neighbours_of(side):
-    """The neighbours of each site: above and below, and within its row."""
+    """The neighbours of each site: above, below, and in its row."""
     neighbours = {}
     for site in sites_of(side):
         beside = [near for near in (site - 1, site + 1) if near // side == site // side]
@@ -57,7 +57,7 @@ def neighbours_of(side):
 
 
 def sites_until_spanning(order, neighbours, side):
-    """How many sites of the order are open when open ones first lead from the edge above to the edge below."""
+    """The number of open sites when open sites first connect the edges above and below, opened in this order."""
     above, below = 0, side + len(order)
     parents = [above] * side + [None] * len(order) + [below] * side  # a closed site has no parent
     for opened, site in enumerate(order, 1):
@@ -70,7 +70,7 @@ def sites_until_spanning(order, neighbours, side):
 
 
 def root_of(parents, site):
-    """The root of the site's cluster. Each step halves the way for the next search."""
+    """The root of the site's cluster. The search shortens the path for the next one (path halving)."""
     while parents[site] != site:
         parents[site] = parents[parents[site]]
         site = parents[site]
@@ -78,7 +78,7 @@ def root_of(parents, site):
 
 
 def plain(tasks):
-    """The same results by one loop over one generator, which goes `DRAWS` draws further for each task."""
+    """The same results from one loop over one generator, which moves ahead by `DRAWS` draws for each task."""
     rng, results = Pcg64(SEED), []
     for _ in range(tasks):
         results.append(sums_from(rng.copy()))
@@ -87,17 +87,17 @@ def plain(tasks):
 
 
 def by_dask(client, tasks):
-    """The results of the tasks, by the workers of a cluster."""
+    """The results of the tasks, computed by the workers of a cluster."""
     futures = client.map(task, range(tasks))
     progress(futures)
     return client.gather(futures)
 
 
 def client_of(scheduler, workers):
-    """A client of the cluster that has its scheduler at this address, or of so many local processes."""
+    """A client of the cluster whose scheduler has this address, or of `workers` local processes."""
     if scheduler:
         return Client(scheduler)
-    here = "127.0.0.1:0"  # the pages that show what runs are for this machine alone
+    here = "127.0.0.1:0"  # the dashboards are only for this machine
     return Client(n_workers=workers, threads_per_worker=1, dashboard_address=here, worker_dashboard_address=here)
 
 

@@ -1,4 +1,4 @@
-"""Draws the estimates of percolation.py beside the published threshold, and a lattice when it is first spanned."""
+"""Draws the estimates of percolation.py with the published threshold, and a lattice when it is first spanned."""
 
 import matplotlib
 from matplotlib.colors import ListedColormap
@@ -9,7 +9,7 @@ from percolation import DRAWS, SEED, SIDES, TASKS, estimate, neighbours_of, site
 
 PUBLISHED = 0.592746
 INK, QUIET, BLUE, ORANGE, OPEN = "#1f2328", "#57606a", "#0072b2", "#d55e00", "#d8dee4"
-# By the salt, equal sums give equal bytes.
+# With this salt, the same sums produce the same bytes.
 matplotlib.rcParams.update({"svg.hashsalt": "nanorand", "font.size": 10, "axes.titlesize": 10, "text.color": INK,
                             "xtick.color": QUIET, "ytick.color": QUIET, "axes.edgecolor": QUIET})
 
@@ -24,7 +24,7 @@ def draw(totals, path):
 
 
 def draw_lattice(axes, side):
-    """Draws a lattice of numbers that no task has: the part after the last one."""
+    """Draws a lattice from random numbers that no task uses: the part after the last one."""
     order, neighbours = sites_of(side), neighbours_of(side)
     Pcg64(SEED).part(TASKS, DRAWS).shuffle(order)
     opened = set(order[:sites_until_spanning(order, neighbours, side)])
@@ -39,7 +39,7 @@ def draw_lattice(axes, side):
 
 
 def reached_from_above(opened, neighbours, side):
-    """The open sites to which open ones lead from the edge above."""
+    """The open sites that are connected to the edge above."""
     reached, frontier = set(), [site for site in range(side, 2 * side) if site in opened]
     while frontier:
         site = frontier.pop()
@@ -50,7 +50,11 @@ def reached_from_above(opened, neighbours, side):
 
 
 def draw_estimates(axes, totals):
+<<<<<<< HEAD
     """Draws the mean share of open sites of each side, with bars of one standard error up and down."""
+=======
+    """Draws the mean share of open sites for each side length, with its standard error."""
+>>>>>>> 1280d4cea916070707461ee345ead2cf9a93f98a
     means, errors = zip(*[estimate(side, *sums) for side, sums in zip(SIDES, totals)])
     axes.axhline(PUBLISHED, color=ORANGE, linewidth=1.2)
     axes.annotate(f"published: {PUBLISHED}", (0, PUBLISHED), (-20, 5), textcoords="offset points", color=ORANGE)

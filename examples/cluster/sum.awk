@@ -1,4 +1,4 @@
-# Adds the tables that jobs printed: awk -f sum.awk slurm-*.out. A file of a job that failed has none, and is refused.
+# Adds the tables that jobs printed: awk -f sum.awk slurm-*.out. A file without a table, of a failed job, is an error.
 
 $1 == "side" { heading = $0; tables++; next }
 

@@ -1,6 +1,6 @@
-"""Tests percolation.py: its parts, its lattices, and Dask with a worker that is killed. tests/cluster.sh runs it.
+"""Tests percolation.py: its parts, its lattices, and Dask when a worker is killed. tests/cluster.sh runs it.
 
-It runs with the folder of the program `job` as its working folder, which has to give the same sums.
+Its working folder is the folder of the C program `job`, which has to compute the same sums.
 """
 
 import heapq
@@ -23,22 +23,22 @@ from nanorand import PastPeriod, Pcg64
 
 HERE = Path(__file__).parent
 TABLE = (HERE / "percolation.out").read_text(encoding="utf-8")
-# How long a process may take on a machine that has others to run.
+# The time in seconds that a process may take on a busy machine.
 PATIENCE = 300
 
 
 def table_by_job(first, count):
-    """What C prints of the tasks."""
+    """The table that the C program prints for the tasks."""
     return subprocess.run(["./job", str(first), str(count)], check=True, stdout=subprocess.PIPE, text=True).stdout
 
 
 def by_job(first, count):
-    """The sums of the tasks by C."""
+    """The sums of the tasks, computed by the C program."""
     return [tuple(map(int, line.split()[1:4])) for line in table_by_job(first, count).splitlines()[1:]]
 
 
 def percent(bar):
-    """What a progress bar showed last."""
+    """The percentage that a progress bar showed last."""
     shown = re.findall(r"(\d+)% Completed", bar)
     return int(shown[-1]) if shown else 0
 
@@ -99,7 +99,7 @@ class Parts(unittest.TestCase):
 
 
 def last_of_best_path(order, side):
-    """The least n so that the first n sites of the order have a path from top to bottom, by Dijkstra's search."""
+    """The least n such that the first n sites connect top and bottom, by Dijkstra's algorithm."""
     rank = {site: place for place, site in enumerate(order, 1)}
     heap = [(rank[site], site) for site in range(side, 2 * side)]
     heapq.heapify(heap)
@@ -184,7 +184,7 @@ class LocalWorkers(unittest.TestCase):
 
 
 class KilledWorker(unittest.TestCase):
-    """Dask as a scheduler and two workers, one of which is killed when it has results and more tasks to run."""
+    """Dask with a scheduler and two workers. One of them is killed while it has results and more tasks to run."""
 
     TASKS = 400
 
@@ -194,12 +194,12 @@ class KilledWorker(unittest.TestCase):
         return process
 
     def server(self, module, *arguments):
-        """A scheduler or a worker. It finds nanorand and not percolation.py, as on another machine."""
+        """Starts a scheduler or a worker. It can import nanorand but not percolation.py, as on another machine."""
         return self.start("-m", f"distributed.cli.{module}", "--scheduler-file", "scheduler.json", "--host",
                           "127.0.0.1", "--dashboard-address", "127.0.0.1:0", *arguments, stderr=subprocess.DEVNULL)
 
     def address(self):
-        """The scheduler's, which it writes once it listens."""
+        """The scheduler's address, which it writes once it listens."""
         for _ in range(10 * PATIENCE):
             try:
                 return json.loads(Path("scheduler.json").read_text(encoding="utf-8"))["address"]
@@ -208,7 +208,7 @@ class KilledWorker(unittest.TestCase):
         self.fail("the scheduler does not listen")
 
     def wait_for(self, wanted, process):
-        """Reads the progress bar of a process until it shows so many percent, and returns what it shows."""
+        """Reads the progress bar of a process until it shows at least `wanted` percent. Returns what it shows."""
         bar = ""
         while percent(bar) < wanted:
             read = process.stdout.read(1)
@@ -235,7 +235,7 @@ class KilledWorker(unittest.TestCase):
 
 
 def results_finished(dask_scheduler):
-    """How many results a scheduler was given: more than there are tasks, if some were lost and computed again."""
+    """The number of results that a scheduler received. It exceeds the number of tasks if lost ones were repeated."""
     return sum(finish == "memory" for key, start, finish, *_ in dask_scheduler.transition_log)
 
 

@@ -1,4 +1,5 @@
-//! Links the archives that `tests/against_c.sh` puts in `target/archives`: `libone.a`, and `libother.a` where it is.
+//! Links the archives that `tests/against_c.sh` puts into `target/archives`: `libone.a` and, if it
+//! is there, `libother.a`.
 
 fn main() {
     let folder = concat!(env!("CARGO_MANIFEST_DIR"), "/target/archives");

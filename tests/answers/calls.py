@@ -1,4 +1,4 @@
-"""The calls of the table: each takes a generator and its arguments, and gives a status and a result."""
+"""The calls in the table. Each takes a generator and its arguments, and returns a status and a result."""
 
 import definitions as rules
 
@@ -101,7 +101,7 @@ LOTS = {"digest": lots_digest, "count": lots_count, "draw": lots_draw}
 
 
 def answer(generator, before, call, arguments):
-    """The status, the result and the state after a call, as the table has them."""
+    """The status, the result and the state after a call, as the table writes them."""
     if generator == "lots":
         return (*LOTS[call](*arguments.split(",")), "-")
     if call == "new_seed":

@@ -1,12 +1,14 @@
-"""The generators, their calls and the draw by lot, from their definitions in docs/REFERENCE.md and docs/LOTS.md.
+"""The generators, their calls and the drawing of lots, written from the definitions in docs/REFERENCE.md and
+docs/LOTS.md.
 
-It shares no code with the library, and takes no care to be fast. Python's standard library alone.
+The module shares no code with the library, needs only Python's standard library, and is not written for speed. A word
+is a random number of 32 or 64 bits. A request is one read of n bytes from a generator.
 """
 
 import hashlib
 import struct
 
-WORD_LIMIT = 128  # rejected words after which a range gives up
+WORD_LIMIT = 128  # a range fails after this many rejected words
 DRAWN, EMPTY, EXHAUSTED, PAST_PERIOD = 0, 1, 2, 3
 SEED_REFUSED, TOO_FEW, EMPTY_LINE, LOTS_EXHAUSTED = 2, 3, 4, 8
 
@@ -16,7 +18,7 @@ class Refused(Exception):
 
 
 def seed_from(number, length):
-    """The first bytes that SplitMix64 draws from a number, of Steele, Lea and Flood, in Vigna's constants."""
+    """The first `length` bytes of SplitMix64 seeded with a number (Steele, Lea and Flood; with Vigna's constants)."""
     words = []
     while 8 * len(words) < length:
         number = (number + 0x9E3779B97F4A7C15) % 2**64
@@ -27,7 +29,7 @@ def seed_from(number, length):
 
 
 class Plain:
-    """A generator each of whose requests begins a new block, and drops the rest of its last one."""
+    """A generator whose requests each begin a new block, and drop the rest of their last block."""
 
     BLOCK = 8
 
@@ -40,7 +42,7 @@ class Plain:
 
 
 class WyRand(Plain):
-    """Wang Yi's wyrand. Its state is the seed's 8 bytes, least first."""
+    """Wang Yi's wyrand. Its state is the seed's 8 bytes, little-endian."""
 
     PERIOD = 2**64
 
@@ -60,7 +62,7 @@ class WyRand(Plain):
 
 
 class Pcg64(Plain):
-    """The library's Pcg64. Its state is the seed's 16 bytes, least first."""
+    """The library's Pcg64. Its state is the seed's 16 bytes, little-endian."""
 
     PERIOD = 2**126
     M = 47026247687942121848144207491837523525
@@ -75,7 +77,7 @@ class Pcg64(Plain):
         return struct.pack("<Q", self.seed >> 64 ^ self.seed % 2**64)
 
     def jump(self, draws):
-        """Applies the map x -> a x + c so often, by squaring it."""
+        """Applies the map x -> a x + c `draws` times, by repeated squaring."""
         factor, summand = self.FACTOR, self.SUMMAND
         while draws:
             if draws % 2:
@@ -88,7 +90,7 @@ class Pcg64(Plain):
 
 
 class ChaCha(Plain):
-    """Daniel J. Bernstein's ChaCha. Its state is key, nonce and counter: 32, 8 and 8 bytes."""
+    """Daniel J. Bernstein's ChaCha. Its state is the key, the nonce and the counter: 32, 8 and 8 bytes."""
 
     BLOCK = 64
     PERIOD = 2**64
@@ -111,7 +113,7 @@ class ChaCha(Plain):
         return struct.pack("<16I", *((a + b) % 2**32 for a, b in zip(before, words)))
 
     def jump(self, draws):
-        """A block is a draw."""
+        """One draw is one block."""
         self.counter = (self.counter + draws) % 2**64
 
     def state(self):
@@ -119,7 +121,7 @@ class ChaCha(Plain):
 
 
 def seeded_state(generator, number):
-    """The state that a number gives. The counter of ChaCha is 0, and no byte of a stream is buffered."""
+    """The state for a seed that is a number. ChaCha's counter is 0, and a stream has no buffered bytes."""
     if generator in ("wyrand", "pcg64"):
         return seed_from(number, 8 if generator == "wyrand" else 16)
     return seed_from(number, 40) + bytes(8)
@@ -133,7 +135,7 @@ def quarter_round(words, a, b, c, d):
 
 
 class Stream:
-    """ChaCha20 without a gap. Its state is ChaCha's, and then the 0 to 63 buffered bytes."""
+    """ChaCha20's keystream without gaps. Its state is ChaCha's, followed by the 0 to 63 buffered bytes."""
 
     PERIOD = 2**67
 
@@ -148,7 +150,7 @@ class Stream:
         return taken
 
     def jump(self, draws):
-        """Eight bytes are a draw. No block is made of which nothing is left."""
+        """One draw is eight bytes. No block is computed unless some of its bytes stay buffered."""
         length = 8 * draws
         if length > len(self.rest):
             blocks, length = divmod(length - len(self.rest), 64)
@@ -171,8 +173,9 @@ GENERATORS = {
 
 
 def number_below(rng, size, bits):
-    """A number below `size` by words of `bits` bits, by Daniel Lemire's method. It is stated by its result:
-    number k has the words from ceil((k * 2^bits + t) / size) on, floor(2^bits / size) of them."""
+    """A number below `size` from words of `bits` bits, by Daniel Lemire's method. It is written by its result: with
+    t = 2^bits mod size, the number k has floor(2^bits / size) words, from ceil((k * 2^bits + t) / size) on. All other
+    words are rejected."""
     words, rejected = divmod(2**bits, size)
     for _ in range(WORD_LIMIT):
         word = int.from_bytes(rng.request(bits // 8), "little")
@@ -188,21 +191,21 @@ def number_in(rng, first, last, bits):
 
 
 def shuffle(rng, items, steps=None):
-    """Fisher and Yates in Durstenfeld's form: index i changes with one of i..n."""
+    """The Fisher-Yates shuffle in Durstenfeld's form: the item at i is swapped with one at i..n (n excluded)."""
     for i in range(len(items) if steps is None else steps):
         partner = number_in(rng, i, len(items) - 1, 64)
         items[i], items[partner] = items[partner], items[i]
 
 
 def shuffle_full(rng, items):
-    """Index i changes with one of 0..n. It is not fair for three items or more."""
+    """Swaps the item at each index with one at 0..n (n excluded). It is biased for three items or more."""
     for i in range(len(items)):
         partner = number_in(rng, 0, len(items) - 1, 64)
         items[i], items[partner] = items[partner], items[i]
 
 
 def sample(rng, count, length):
-    """Floyd's algorithm: different numbers below `count`."""
+    """Distinct numbers below `count`, by Floyd's algorithm."""
     numbers = []
     for last in range(count - length, count):
         number = number_in(rng, 0, last, 64)
@@ -211,7 +214,7 @@ def sample(rng, count, length):
 
 
 def part(rng, index, draws):
-    """A status, and the state moves to the beginning of the part if this ends within the period."""
+    """Moves the state to the beginning of the part if the part ends within the period. Returns a status."""
     if (index + 1) * draws > rng.PERIOD:
         return PAST_PERIOD
     rng.jump(index * draws)
@@ -223,7 +226,7 @@ def lots_digest(text):
 
 
 def lots_count(text):
-    """A status, and how many lines there are, or the first empty one, from 1."""
+    """A status, and the number of lines, or the number of the first empty line, from 1."""
     lines = text.split(b"\n")
     if lines[-1] == b"":
         lines.pop()  # the last line feed begins no line
@@ -233,7 +236,7 @@ def lots_count(text):
 
 
 def lots_draw(seed, length, count):
-    """A status, and the numbers below `length`: the first `count` are drawn, in their order."""
+    """A status, and a permutation of the numbers below `length`. Its first `count` numbers are drawn, in this order."""
     if not seed or not is_text(seed):
         return SEED_REFUSED, None
     if count > length:

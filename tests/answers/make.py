@@ -1,8 +1,11 @@
 #!/usr/bin/env python3
-"""Writes answers.tsv: tests/answers/make.py. The last line is N passed, M failed.
+"""Writes tests/answers/answers.tsv, the table of known answers.
 
-With --check it writes nothing and compares. In both cases the definitions are checked first, and nothing
-is written if they fail.
+    tests/answers/make.py            writes the table
+    tests/answers/make.py --check    writes nothing, and compares the table with what it would write
+
+In both cases the definitions are checked first, and nothing is written if they fail. The last line is N passed, M
+failed.
 """
 
 import sys

@@ -1,4 +1,4 @@
-"""Which rows the table has: a generator, its state before, a call and its arguments."""
+"""The rows of the table: a generator, its state before the call, the call and its arguments."""
 
 import hashlib
 import struct
@@ -15,8 +15,8 @@ SAMPLES = [
 ]
 DRAWS = [0, 1, 2, 3, 1000, 2**32, 2**63 - 1, 2**63, 2**63 + 1, LAST]
 WIDE_DRAWS = [(low, 0) for low in DRAWS] + [(0, 1), (5, 7), (0, 2**61), (0, 2**62), (0, 2**63), (LAST, LAST)]
-# An index and a number of draws: small ones, great ones, and those whose part ends at most one draw before the end of
-# a period of 2^64, 2^67 or 2^126 draws, with it, or one after it.
+# Pairs of an index and a number of draws: small and large ones, and pairs whose part ends within one draw of the end of
+# a period of 2^64, 2^67 or 2^126 draws.
 PARTS = [
     *[(0, 0), (1, 0), (LAST, 0), (0, 1), (1, 1), (2, 1), (3, 2), (1, 7), (2, 7), (1, 8), (2, 8), (1, 9), (3, 9)],
     *[(7, 8), (1000, 64), (5, 65), (1, 2**32), (2**32, 5), (3, 2**61 - 1), (0, 2**63), (0, LAST), (1, LAST)],
@@ -26,8 +26,8 @@ PARTS = [
     (118750098349 * 1429 * 14449 * 5 - 1, 40388473189 * 13 * 29 * 37 * 109 * 113),
 ]
 
-# Each list has ranges of one number, whole types, powers of two, sizes that reject nearly every other
-# word, sizes around those, and ranges without a number.
+# Each list has ranges of one number, whole types, powers of two, sizes that reject nearly every second word, sizes
+# around those, and empty ranges.
 RANGES = {
     "range_u32": [
         *[(0, 0), (7, 7), (2**32 - 1, 2**32 - 1), (0, 2**32 - 1), (1, 2**32 - 1), (0, 2**32 - 2), (0, 1)],
@@ -63,7 +63,7 @@ TEXTS = [bytes(range(length)) for length in (0, 1, 3, 54, 55, 56, 57, 63, 64, 65
 
 
 def pseudorandom(length, number):
-    """Bytes that follow no pattern, the same in each run."""
+    """Bytes without a pattern, the same in each run."""
     digests = (hashlib.sha256(b"answers %d %d" % (number, part)).digest() for part in range(4))
     return b"".join(digests)[:length]
 
@@ -82,7 +82,7 @@ def stream_states():
 
 
 def states():
-    """The states of each generator. The first two seeds of WyRand's third line have the word 0."""
+    """The states of each generator. After the first two seeds in WyRand's second line, the next word is 0."""
     wyrand = [0, 1, 42, LAST]
     wyrand += [0x5F89E29B87429BD1, 0x468D616D27F6C4AC, 0x5F89E29B87429BD2]
     pcg64 = [0, 42, LAST, 2**64 + 5, 2**127, 2**128 - 1]
@@ -97,7 +97,7 @@ def states():
 
 
 def calls(generator):
-    """The calls of one generator, each with its arguments, but for those of every state."""
+    """The calls of one generator, each with its arguments, except the calls that every state has."""
     yield from (("fill_bytes", (length,)) for length in LENGTHS)
     for name, ranges in RANGES.items():
         yield from ((name, bounds) for bounds in ranges)
@@ -113,7 +113,7 @@ def calls(generator):
 
 
 def long_rejections():
-    """Seeds after which 27 and 28 words in a row are rejected, found by a search."""
+    """Calls on seeds after which 27 or 28 words in a row are rejected. A search found these seeds."""
     wyrand = 14739031355157023725, 3071692489891611508
     pcg64 = (15492495453718437424, 11298879230812943787), (7233752262032801848, 7582194604879230685)
     requests = ("range_u64", f"0,{2**63}"), ("range_u32", f"0,{2**31}")
@@ -124,7 +124,7 @@ def long_rejections():
 
 
 def rows_of(generator, its_states):
-    """Each call on one of the states, by turns, and on every state the calls without arguments."""
+    """Each call with arguments on one of the states, in turn, and on every state the calls without arguments."""
     for state in its_states:
         yield generator, state.hex(), "u64", "-"
         if generator.startswith("chacha"):

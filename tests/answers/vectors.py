@@ -1,5 +1,5 @@
-"""Checks of definitions.py against published vectors, and against examples of the documents and of the
-library's own tests."""
+"""Checks of definitions.py against published test vectors, and against examples in the documents and in the library's
+own tests."""
 
 import doctest
 from pathlib import Path
@@ -10,9 +10,9 @@ SCALE = Path(__file__).resolve().parents[2] / "docs/SCALE.md"
 ZEROS = bytes(48)
 COUNTING = bytes(range(32)) + bytes(range(8)) + bytes(8)
 
-# A generator, a state, and the bytes that a request begins with. The first of each number of rounds are
-# of the vectors that J. Strombergson published for ChaCha (draft-strombergson-chacha-test-vectors), the
-# next of RFC 7539's draft for 64-bit nonces (draft-agl-tls-chacha20poly1305).
+# A generator, a state, and the first bytes of a request (one read of bytes from the generator). The first vectors for
+# each number of rounds are from J. Strombergson's draft-strombergson-chacha-test-vectors, the next from
+# draft-agl-tls-chacha20poly1305, the predecessor of RFC 7539 with 64-bit nonces.
 BYTES = [
     ("chacha8", ZEROS, "3e00ef2f895f40d67f5bb8e81f09a5a12c840ec3ce9a7f3b181be188ef711a1e"),
     ("chacha12", ZEROS, "9bf49a6a0755f953811fce125f2683d50429c3bb49e074147e0089a52eae155f"),
@@ -70,7 +70,7 @@ def drawn(rng, draws):
 
 
 def parted(rng, index, draws):
-    """The status, and the state that is left."""
+    """The status, and the state after the call."""
     return rules.part(rng, index, draws), rng.state()
 
 
@@ -82,7 +82,7 @@ def refused(rng, size, bits=64):
 
 
 def numbers_and_words():
-    """Examples of docs/REFERENCE.md, of the crates' tests and of the interface's known values."""
+    """Examples in docs/REFERENCE.md and the crates' tests, and known values of the interface."""
     rng = wyrand()
     yield "WyRand 1..=100", rules.number_in(rng, 1, 100, 64), 69
     yield "WyRand 1..=100 again", rules.number_in(rng, 1, 100, 64), 92
@@ -100,7 +100,7 @@ def numbers_and_words():
 
 
 def seeds():
-    """The words of splitmix64.c from 1234567, as Rosetta Code has them too, and of the zero."""
+    """The words of splitmix64.c for the seed 1234567, which Rosetta Code has as well, and for the seed 0."""
     words = [6457827717110365317, 3203168211198807973, 9817491932198370423, 4593380528125082431, 16408922859458223821]
     yield "a seed of 1234567", rules.seed_from(1234567, 40), b"".join(number.to_bytes(8, "little") for number in words)
     yield "a seed of 0", rules.seed_from(0, 16).hex(), "afcd1d7b39a820e2f465b9a16a9e786e"
@@ -119,13 +119,13 @@ def lists():
 
 
 def states_of(generator):
-    """Some states of a generator; those of the stream have more and less buffered."""
+    """Some states of a generator. Those of the stream have different numbers of buffered bytes."""
     length = {"wyrand": 8, "pcg64": 16}.get(generator, 48)
     return [bytes(range(length + buffered)) for buffered in ((0, 1, 8, 33, 63) if generator == "stream" else (0,))]
 
 
 def begins_of_parts(generator):
-    """A part begins where its draws lead one by one."""
+    """A part begins at the state that single draws lead to."""
     make = rules.GENERATORS[generator]
     for index, draws in (0, 5), (1, 1), (2, 7), (3, 8), (5, 9):
         wanted = [(rules.DRAWN, drawn(make(state), index * draws).state()) for state in states_of(generator)]
@@ -134,7 +134,7 @@ def begins_of_parts(generator):
 
 
 def ends_of_parts(generator):
-    """The last part ends with the period, after which the state comes again."""
+    """The last part ends at the end of the period, after which the first state returns."""
     make, state = rules.GENERATORS[generator], states_of(generator)[0]
     period = make(state).PERIOD
     yield f"{generator} after its period", jumped(make(state), period).state(), state
@@ -172,7 +172,7 @@ def examples():
 
 
 def checks():
-    """The name of each check, what the definitions give, and what is published."""
+    """The name of each check, the value by the definitions, and the published value."""
     for generator, state, published in BYTES:
         given = rules.GENERATORS[generator](state).request(len(published) // 2)
         yield f"{generator} {published[:8]}", given.hex(), published

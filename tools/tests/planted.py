@@ -1,9 +1,9 @@
-"""Changes of one place of the real tree, for `test_bodies.py`: the file, the text there and the text instead."""
+"""Changes of the real tree in one place, for `test_bodies.py`: the file, a text in it, and its replacement."""
 
 CORE, NANORAND, REPLAY = "crates/nanorand_core/src", "crates/nanorand/src", "crates/nanorand_replay/src"
 LOTS, DRAW = "crates/lots_core/src", "crates/draw_core/src"
 
-# Each has to be found.
+# The comparison has to find each of these.
 PLANTED = (
     # Constants, literals and their types.
     ("rust/nanorand-proved/src/values/word.rs", "MAX_WORDS: usize = 128", "MAX_WORDS: usize = 127"),
@@ -110,7 +110,7 @@ PLANTED = (
     (f"{LOTS}/entrants.rt", "fn line_end(text", "fn end_of_line(text"),
     ("rust/nanorand-proved/src/shuffles.rs", "pub fn identity(slots: &mut [usize])", "pub unsafe fn identity(slots: &mut [usize])"),
     ("rust/draw/src/kinds.rs", "pub fn kind_of(name: &str)", "pub fn kind_of(name: &'static str)"),
-    # What is added, and what is gone.
+    # Added and removed items.
     ("rust/nanorand-proved/src/rand/pcg64.rs", "impl Eq for Pcg64 {}",
      "impl Eq for Pcg64 {}\n\nimpl Drop for Pcg64 {\n    fn drop(&mut self) {}\n}"),
     ("rust/nanorand-proved/src/rand/chacha.rs", "    fn fill_four(",
@@ -204,7 +204,7 @@ PLANTED = (
     ("rust/draw/src/lib.rs", "pub use error::DrawError;", "pub use error::*;"),
 )
 
-# None may be found.
+# The comparison must find none of these.
 HARMLESS = (
     ("rust/nanorand-proved/src/values/word.rs", "    let first = draw_word(rng, bits);",
      "    // First.\n    let first = draw_word(rng, bits);"),

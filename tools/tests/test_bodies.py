@@ -1,7 +1,7 @@
-"""Tests of `tools/bodies.py` and of the modules that it is made of: `python3 -m unittest discover -s tools/tests`.
+"""Tests of `tools/bodies.py` and of the modules that it uses: `python3 -m unittest discover -s tools/tests`.
 
-`Planted` changes one place of the real tree at a time, in memory, and `Harmless` does the same with changes that mean
-nothing.
+`Planted` changes one place of the real tree at a time, in memory. `Harmless` does the same with changes that have no
+meaning.
 """
 
 import contextlib
@@ -27,7 +27,7 @@ ROOT = Path(__file__).resolve().parent.parent.parent
 
 
 def item(text):
-    """The one item of a text."""
+    """The only item in a text."""
     items = rattle.file_of(text, "text").items
     assert len(items) == 1, items
     return items[0]
@@ -38,7 +38,7 @@ def text_of(tokens):
 
 
 def entries(text):
-    """The entries of a text by their names. All those of one name say the same."""
+    """The entries of a text by name. Entries with one name have to be equal."""
     found = {}
     for entry in entries_of(rattle.file_of(text, "text")):
         assert found.setdefault(entry.name, entry).text() == entry.text(), entry
@@ -178,7 +178,7 @@ class Items(unittest.TestCase):
 
 
 class Normal(unittest.TestCase):
-    """What has no meaning, and what looks like it."""
+    """What has no meaning, and what only looks as if it had none."""
 
     def same(self, first, second, form=normal_body):
         return text_of(form(rattle.tokens_of(first))) == text_of(form(rattle.tokens_of(second)))
@@ -231,7 +231,7 @@ class Normal(unittest.TestCase):
 
 
 class Rules(unittest.TestCase):
-    """Each rule of the translation, and what it leaves alone."""
+    """Each rule of the translation, and what it leaves unchanged."""
 
     CHECKS = {"1 ≤ n": joined(rattle.tokens_of("assert!(1 <= n);")), "F.IsCallable f": ""}
 
@@ -381,7 +381,7 @@ class Rules(unittest.TestCase):
 
 
 class InTree(unittest.TestCase):
-    """What tests over the real tree, changed in memory, have in common."""
+    """Shared by the tests that change the real tree in memory."""
 
     @classmethod
     def setUpClass(cls):

@@ -1,13 +1,14 @@
-// Lines that look alike: equal once accents, spaces at the ends or capitals are written one way.
+// Finds lines that look alike: equal lines, and lines that differ only in the white space at their
+// ends, in how an accented letter is encoded, or in case.
 
 const SPACES = new Set([9, 11, 12, 13, 32]);
 
-/** Whether a byte, or a letter's code, is a space of ASCII within a line. @param {number} code */
+/** Whether a byte or character code is ASCII white space but no line feed. @param {number} code */
 export function isSpace(code) {
   return SPACES.has(code);
 }
 
-/** A line without the spaces at its ends. @param {string} line */
+/** A line without the white space at its ends. @param {string} line */
 function trimmed(line) {
   let [first, end] = [0, line.length];
   while (first < end && isSpace(line.charCodeAt(first))) first += 1;
@@ -15,7 +16,10 @@ function trimmed(line) {
   return line.slice(first, end);
 }
 
-/** Each form is made of the one before; lines that only then are equal differ in what it names. */
+/**
+ * Each form is computed from the one before. Lines that are equal in a form, but not in the one
+ * before, differ in what `name` says.
+ */
 const FORMS = [
   { of: (line) => line, name: "" },
   { of: trimmed, name: "the spaces at its ends" },
@@ -23,14 +27,14 @@ const FORMS = [
   { of: (line) => line.toLowerCase().normalize("NFC"), name: "small and capital letters" },
 ];
 
-/** The lines of a text in the last form, made at once, as a call for each line takes seconds. */
+/** The last form of each line, computed in one text, because a call for each line takes seconds. */
 function lastForms(lines, isText) {
   const text = lines.join("\n");
   const folded = isText ? text.normalize("NFC").toLowerCase().normalize("NFC") : text;
   return folded.split("\n").map(trimmed);
 }
 
-/** The places of the lines that have one last form, for each form that several have. */
+/** The groups of lines that share a last form: the indices of each group of two or more lines. */
 function groupsOf(forms) {
   const first = new Map();
   const groups = new Map();
@@ -44,8 +48,9 @@ function groupsOf(forms) {
 }
 
 /**
- * How many lines equal an earlier one in each form but not in the one before, and the first one.
- * @param {string[]} lines @param {boolean} isText whether the lines have letters, or bytes alone
+ * For each form: how many lines equal an earlier line in it but not in the form before, and the
+ * number of the first such line, from 1 (Infinity if there is none).
+ * @param {string[]} lines @param {boolean} isText false if the lines are bytes that are not UTF-8
  * @returns {{name: string, count: number, line: number}[]}
  */
 export function alikeIn(lines, isText) {
@@ -70,7 +75,7 @@ export function alikeIn(lines, isText) {
   return found;
 }
 
-/** The number of the first line of spaces alone, 0 if there is none. @param {string[]} lines */
+/** The number, from 1, of the first line of white space only, or 0. @param {string[]} lines */
 export function blankLine(lines) {
   return lines.findIndex((line) => line !== "" && trimmed(line) === "") + 1;
 }

@@ -1,17 +1,17 @@
 // Bytes and text: UTF-8, hexadecimal, base64.
 
-/** Whether a text has half a surrogate pair, which UTF-8 cannot say. @param {string} text */
+/** Whether a text has a lone surrogate, which UTF-8 cannot encode. @param {string} text */
 export function hasHalfCharacter(text) {
   return /\p{Surrogate}/u.test(text);
 }
 
 /**
- * Control and format characters, separators, what fonts leave out (selectors of variants, Hangul
- * fillers), and the empty Braille pattern.
+ * Invisible characters: control and format characters, separators, characters that fonts do not
+ * draw (variation selectors, Hangul fillers), and the blank Braille pattern.
  */
 const UNSEEN = /^[\p{Cc}\p{Cf}\p{Z}\p{Default_Ignorable_Code_Point}\u2800]$/u;
 
-/** Whether a letter cannot be seen, or not be told from another. @param {string} letter */
+/** Whether a character is invisible, or cannot be told from another. @param {string} letter */
 export function isUnseen(letter) {
   return UNSEEN.test(letter);
 }

@@ -1,4 +1,4 @@
-// The check of a record: the draw is repeated with a list, and compared.
+// Checks a record: repeats its draw with a list and compares the results.
 
 import { equalBytes, hex } from "./bytes.js";
 import { draw, resultOf } from "./draw.js";
@@ -10,7 +10,7 @@ import { Refusal } from "./refusal.js";
  * @typedef {Object} Check
  * @property {"agrees"|"other module"|"differs"|"no record"|"no list"} outcome
  * @property {string} title the outcome in a sentence
- * @property {string[]} findings what differs, in plain words
+ * @property {string[]} findings what differs, a sentence each
  */
 
 const TITLES = {
@@ -27,8 +27,8 @@ const TITLES = {
  * @property {string} version
  * @property {string} module SHA-256 of the module that runs here
  * @property {string} otherModule SHA-256 of the page's other module
- * @property {string} words what the module is that runs here
- * @property {string} otherWords what the other one is
+ * @property {string} words describes the module that runs here
+ * @property {string} otherWords describes the other module
  */
 
 /** @param {Check["outcome"]} outcome @param {string[]} findings @returns {Check} */
@@ -66,7 +66,7 @@ function otherMakers(record, { version, module, otherModule }) {
   ].filter(Boolean);
 }
 
-/** That the record was made by the other one of the page's two modules, which is no fault. */
+/** Says so if the page's other module made the record, which is not an error. */
 function otherOfPage(record, { otherModule, words, otherWords }) {
   return record.module !== otherModule ? [] : [
     `The record was made by this page's other module, ${otherWords}. Here runs the one ${words}.`,
@@ -74,7 +74,8 @@ function otherOfPage(record, { otherModule, words, otherWords }) {
 }
 
 /**
- * What differs, or why the record's draw is refused. Throws if the draw itself fails.
+ * Returns what differs, or why the draw that the record describes cannot be made with the list.
+ * Throws if the module fails.
  * @param {import("./record.js").Record} record @returns {string[]}
  */
 function differencesOf(module, list, record) {
@@ -99,7 +100,7 @@ function differencesOf(module, list, record) {
 }
 
 /**
- * The first line of the result that differs, in words, or no text.
+ * Describes the first line of the result that differs. Returns an empty text if none does.
  * @param {Uint8Array[]} named @param {Uint8Array[]} drawn @returns {string}
  */
 function differentLine(named, drawn) {

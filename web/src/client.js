@@ -1,4 +1,4 @@
-// The page's side of the worker: each task is a promise, with its progress told on the way.
+// The page's side of the worker: each task is a promise, and its progress is reported meanwhile.
 
 import { Refusal } from "./refusal.js";
 
@@ -7,12 +7,12 @@ export class Client {
   #tell;
   #open = new Map();
   #last = 0;
-  /** Why the worker is of no use, null while it works. @type {?Refusal} */
+  /** Why the worker cannot be used, or null while it works. @type {?Refusal} */
   #lost = null;
 
   /**
    * @param {string} code the worker's JavaScript
-   * @param {(progress: string) => void} tell is given no text once nothing is left to do
+   * @param {(progress: string) => void} tell gets an empty text once no task is open
    */
   constructor(code, tell) {
     const address = URL.createObjectURL(new Blob([code], { type: "text/javascript" }));
@@ -27,7 +27,7 @@ export class Client {
 
   /**
    * @param {"start"|"list"|"tidy"|"draw"|"check"} task @param {Object} data
-   * @returns {Promise<Object>} refused with a Refusal
+   * @returns {Promise<Object>} rejected with a Refusal
    */
   ask(task, data) {
     if (this.#lost) return Promise.reject(this.#lost);
@@ -39,7 +39,7 @@ export class Client {
     });
   }
 
-  /** Refuses whatever is asked, now and from now on. @param {Refusal} refusal */
+  /** Rejects all open tasks and every later one. @param {Refusal} refusal */
   stop(refusal) {
     this.#lost = refusal;
     for (const { reject } of this.#open.values()) reject(refusal);

@@ -1,4 +1,4 @@
-// A draw: from a list, a seed and a count to the entrants drawn, as the program `lots` draws them.
+// Draws entrants from a list, with a seed and a count, as the program `lots` does.
 
 import { hasHalfCharacter, utf8 } from "./bytes.js";
 import { lineAt, startsOfLines } from "./list.js";
@@ -6,14 +6,21 @@ import { Refusal } from "./refusal.js";
 
 const LARGEST = 2n ** 64n - 1n;
 
-/** The bytes of a seed. @param {string} seed @returns {Uint8Array} */
+/**
+ * The bytes of a seed, in UTF-8. Throws a Refusal if it is empty or has a lone surrogate.
+ * @param {string} seed @returns {Uint8Array}
+ */
 export function bytesOfSeed(seed) {
   if (seed === "") throw new Refusal("seed is empty");
   if (hasHalfCharacter(seed)) throw new Refusal("seed has half a character");
   return utf8(seed);
 }
 
-/** The number of a count, or null for all. @param {string} text @returns {?bigint} */
+/**
+ * The value of a count, or null for "all". Throws a Refusal for anything but digits and for a value
+ * above `LARGEST`.
+ * @param {string} text @returns {?bigint}
+ */
 export function numberOfCount(text) {
   if (text === "all") return null;
   if (!/^[0-9]+$/.test(text)) throw new Refusal("count is no number");
@@ -24,12 +31,12 @@ export function numberOfCount(text) {
 
 /**
  * @typedef {Object} Draw
- * @property {number} entrants how many the list has
+ * @property {number} entrants the number of entrants in the list
  * @property {Uint8Array[]} drawn the entrants drawn, in order
  */
 
 /**
- * Draws. Seed and count are refused before the list, as `lots` does.
+ * Draws. Throws a Refusal for a bad seed, count or list, checked in this order, as `lots` does.
  * @param {import("./module.js").Module} module @param {Uint8Array} list
  * @param {string} seed @param {string} count @returns {Draw}
  */
@@ -45,7 +52,7 @@ export function draw(module, list, seed, count) {
   return { entrants, drawn: Array.from(places, (place) => lineAt(list, starts, Number(place))) };
 }
 
-/** The bytes that `lots` writes: each entrant, then a line feed. @param {Uint8Array[]} drawn */
+/** The bytes that `lots` writes: each entrant and a line feed. @param {Uint8Array[]} drawn */
 export function resultOf(drawn) {
   const result = new Uint8Array(drawn.reduce((length, line) => length + line.length + 1, 0));
   let end = 0;

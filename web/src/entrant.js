@@ -1,8 +1,8 @@
-// An entrant as a text that can be printed, and back. Entrants are bytes; they need not be text.
+// Converts an entrant to printable text and back. Entrants are bytes, which need not be text.
 
 import { hexOfByte, isUnseen, textOf, utf8 } from "./bytes.js";
 
-/** Letters that have a form of their own between others, as in Persian or Hindi. */
+/** Letters of scripts in which a joiner can change how its neighbours look: Persian, Hindi. */
 const JOINING = new RegExp(`[${[
   "Arabic", "Bengali", "Devanagari", "Gujarati", "Gurmukhi", "Kannada", "Khmer", "Malayalam",
   "Mongolian", "Oriya", "Sinhala", "Syriac", "Tamil", "Telugu", "Thaana",
@@ -11,7 +11,7 @@ const PICTURE = /\p{Extended_Pictographic}/u;
 const PICTURE_END = /[\p{Extended_Pictographic}\p{Emoji_Modifier}\ufe0f]/u;
 const TAG = /[\u{e0020}-\u{e007f}]/u;
 
-/** Whether the letter at a place, unseen alone, joins its neighbours or chooses how they look. */
+/** Whether an invisible character joins its neighbours or selects how they look. */
 function joins(letters, place) {
   const letter = letters[place];
   const [before, after] = [letters[place - 1] ?? "", letters[place + 1] ?? ""];
@@ -26,7 +26,7 @@ function joins(letters, place) {
   return letters[first] === "\u{1f3f4}";
 }
 
-/** Whether a letter of a text can be seen where it stands; a space at an edge cannot. */
+/** Whether a character is visible at its place in a text. A space at either end is not. */
 function isSeen(letters, place) {
   if (letters[place] === " ") return place > 0 && place < letters.length - 1;
   return !isUnseen(letters[place]) || joins(letters, place);
@@ -38,8 +38,9 @@ function escapedBytes(bytes) {
 }
 
 /**
- * Writes letters as they are, a backslash twice, and what cannot be seen as bytes, \x and two
- * digits each; so too a space at an edge, and all bytes from 128 on if they are not UTF-8.
+ * Prints an entrant. A visible character stays as it is, a backslash is doubled, and each byte of
+ * an invisible character becomes \x and two hexadecimal digits. So does a space at either end and,
+ * if the entrant is not UTF-8, each byte from 128 on.
  * @param {Uint8Array} bytes @returns {string}
  */
 export function printed(bytes) {
@@ -53,8 +54,8 @@ export function printed(bytes) {
 }
 
 /**
- * An entrant for the page to show: its letters, and in place of each that cannot be seen its code.
- * Bytes that are not UTF-8 are printed.
+ * An entrant for the page to show: its visible characters as texts, and the code point of each
+ * invisible one in its place. An entrant that is not UTF-8 is printed, as one text.
  * @param {Uint8Array} bytes @returns {{isText: boolean, parts: (string|number)[]}}
  */
 export function shown(bytes) {
@@ -72,7 +73,10 @@ export function shown(bytes) {
   return { isText: true, parts: joined };
 }
 
-/** The pieces of a printed entrant: letters, a backslash or an escaped byte. @param {string} text */
+/**
+ * The pieces of a printed entrant: plain text, a doubled backslash or an escaped byte.
+ * @param {string} text
+ */
 function piecesOf(text) {
   return text.match(/[^\\]+|\\\\|\\x[0-9a-f]{2}/gsu) ?? [];
 }
@@ -88,13 +92,16 @@ function escapesOf(text) {
   return piecesOf(text).flatMap((piece) => bytesOf(piece).map(() => piece.startsWith("\\x")));
 }
 
-/** Whether a text escapes all bytes of an entrant that cannot be seen as they are. */
+/** Whether a text escapes every byte of an entrant that `printed` escapes. */
 function hidesNothing(text, bytes) {
   const escapes = escapesOf(text);
   return escapesOf(printed(bytes)).every((isEscaped, place) => !isEscaped || escapes[place]);
 }
 
-/** @param {string} text a printed entrant @returns {?Uint8Array} its bytes, null if it is none */
+/**
+ * @param {string} text a printed entrant
+ * @returns {?Uint8Array} its bytes; null if it is not one, or if something in it is invisible
+ */
 export function unprinted(text) {
   if (!/^(?:[^\\]|\\\\|\\x[0-9a-f]{2})+$/su.test(text)) return null;
   const bytes = Uint8Array.from(piecesOf(text).flatMap(bytesOf));

@@ -1,4 +1,4 @@
-// A list of entrants: its lines as bytes, and what its owner should look at.
+// A list of entrants: its lines as bytes, and warnings for its owner.
 
 import { alikeIn, blankLine } from "./alike.js";
 import { hasHalfCharacter, textOf, utf8 } from "./bytes.js";
@@ -9,7 +9,10 @@ const CARRIAGE_RETURN = 13;
 const SPACE = 32;
 const TAB = 9;
 
-/** The bytes of a pasted list. @param {string} text @returns {Uint8Array} */
+/**
+ * The bytes of a pasted list, in UTF-8. Throws a Refusal if it has a lone surrogate.
+ * @param {string} text @returns {Uint8Array}
+ */
 export function listOfText(text) {
   if (hasHalfCharacter(text)) {
     const line = text.split("\n").findIndex(hasHalfCharacter) + 1;
@@ -19,8 +22,8 @@ export function listOfText(text) {
 }
 
 /**
- * Where each line begins, and at last where a further one would begin. A last line that lacks its
- * line feed counts as if it had one.
+ * The offset at which each line begins, then the offset at which a further one would begin. A last
+ * line without a line feed counts as if it had one.
  * @param {Uint8Array} list @param {number} entrants how many lines it has @returns {Float64Array}
  */
 export function startsOfLines(list, entrants) {
@@ -32,13 +35,13 @@ export function startsOfLines(list, entrants) {
   return starts;
 }
 
-/** The bytes of the line at a place. @param {Uint8Array} list @param {Float64Array} starts */
+/** The bytes of the line with this index. @param {Uint8Array} list @param {Float64Array} starts */
 export function lineAt(list, starts, place) {
   return list.subarray(starts[place], starts[place + 1] - 1);
 }
 
 /**
- * What is worth a second look in a list, in plain words. None of it is an error.
+ * Warnings about a list, a sentence each. None of them is an error.
  * @param {Uint8Array} list @returns {string[]}
  */
 export function warningsOf(list) {
@@ -66,7 +69,7 @@ export function warningsOf(list) {
   ].filter(Boolean);
 }
 
-/** @returns {string|0} nothing if no lines are alike */
+/** @returns {string|0} 0 if no lines are alike */
 function alikeWords({ name, count, line }) {
   const equal = `${count} of the lines ${count === 1 ? "equals" : "equal"} an earlier line`;
   return count && (name === ""
@@ -75,7 +78,7 @@ function alikeWords({ name, count, line }) {
     : `${equal} but for ${name}: look at line ${line}. They are separate entrants.`);
 }
 
-/** What is worth a look in the bytes as a whole. @param {Uint8Array} list @returns {string[]} */
+/** Warnings about the bytes as a whole. @param {Uint8Array} list @returns {string[]} */
 function marks(list) {
   const marked = list[0] === 0xef && list[1] === 0xbb && list[2] === 0xbf;
   const open = list.length > 0 && list[list.length - 1] !== LINE_FEED;

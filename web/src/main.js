@@ -1,4 +1,4 @@
-// The page: what its fields and buttons do.
+// The web page: what its fields and buttons do.
 
 import { textOf } from "./bytes.js";
 import { Client } from "./client.js";
@@ -11,18 +11,22 @@ import {
   showRefusal, showResult, showTab,
 } from "./view.js";
 
-/** In milliseconds: after the last key of a list, and before the progress is shown. */
+/**
+ * In milliseconds: the pause between the last change of a pasted list and sending it to the worker,
+ * and the delay before progress is shown.
+ */
 const PAUSE = 300;
 const MOMENT = 500;
-/** A pasted text of so many letters is kept as a file is: browsers lay out long fields slowly. */
+/** The page keeps a paste of this length or more as a file: browsers lay out long fields slowly. */
 const LARGE = 100000;
 
 /**
- * `file` is what was opened, null where the pasted text counts, and `name` what the page calls it;
- * `bytes` is the list itself. `sent` says whether the worker has it, `pending` is the timer before
- * it gets a changed one, `showing` that before the progress is shown. `turn` counts the changes of
- * all fields and `listTurn` those of the list: an answer to an earlier turn is not shown. `result`
- * is that of the draw that is shown, null where none is.
+ * `file` holds the bytes of the opened file, or is null if the list is the text in the field;
+ * `name` is what the page calls the file. `bytes` is the list itself. `sent` promises whether the
+ * worker has the list. `pending` is the timer until a changed list is sent, `showing` the timer
+ * until progress is shown. `turn` counts the changes of all fields and `listTurn` those of the
+ * list: an answer to an earlier turn is not shown. `result` is the result of the draw that is
+ * shown, or null.
  */
 const state = {
   file: null, name: "", bytes: new Uint8Array(0), sent: Promise.resolve(false), pending: 0,
@@ -31,7 +35,7 @@ const state = {
 
 const client = new Client(part("worker").textContent, tellProgress);
 
-/** Says what the worker does, and shows it once it takes longer than a moment. */
+/** Sets the text of the progress, and shows it once the work takes longer than `MOMENT`. */
 function tellProgress(progress) {
   say("progress-text", progress);
   if (progress === "") {
@@ -43,18 +47,18 @@ function tellProgress(progress) {
   }
 }
 
-/** Shows any error of a task beside its field. @param {unknown} error */
+/** Shows the error of a task beside its field. @param {unknown} error */
 function refuse(error) {
   showRefusal(Refusal.of(error));
 }
 
-/** Shows a refusal, and goes to the field that it is about. @param {unknown} error */
+/** Shows an error, and moves the focus to its field. @param {unknown} error */
 function refuseHere(error) {
   refuse(error);
   document.querySelector("[aria-invalid]")?.focus();
 }
 
-/** Something has changed: takes away the result, which no longer belongs to what the fields say. */
+/** Hides the results after a change of a field, as they belong to the values before it. */
 function changed() {
   state.turn += 1;
   state.result = null;
@@ -64,8 +68,8 @@ function changed() {
 }
 
 /**
- * Gives the list to the worker, and shows what it says.
- * @returns {Promise<boolean>} whether the worker has it and it is good
+ * Sends the list to the worker, and shows its answer.
+ * @returns {Promise<boolean>} whether the worker has the list and found no error in it
  */
 async function sendList() {
   const { listTurn } = state;
@@ -82,7 +86,7 @@ async function sendList() {
   }
 }
 
-/** The list has changed, and is given to the worker after a pause, as typing goes on. */
+/** Handles a change of the list. Sends it after a pause, in milliseconds, as typing may go on. */
 function listChanged(pause) {
   changed();
   state.listTurn += 1;
@@ -93,7 +97,10 @@ function listChanged(pause) {
   state.pending = setTimeout(() => { state.sent = sendList(); }, pause);
 }
 
-/** @returns {Promise<boolean>} whether the worker has the list that the page shows */
+/**
+ * Sends the list at once if it waits for its pause.
+ * @returns {Promise<boolean>} whether the worker has the list that the page shows
+ */
 function listSent() {
   if (state.pending !== 0) {
     clearTimeout(state.pending);
@@ -103,7 +110,7 @@ function listSent() {
 }
 
 /**
- * Reads a file, and gives it to the worker unless the list has changed meanwhile.
+ * Reads a file, and sends it to the worker unless the list has changed meanwhile.
  * @param {File} file @returns {Promise<boolean>} as sendList
  */
 async function readFile(file) {
@@ -137,7 +144,7 @@ function showFile(name, size) {
   part("pasted").hidden = true;
 }
 
-/** Keeps a long text that is pasted, as a file is kept. @param {ClipboardEvent} event */
+/** Keeps a long pasted text as if it were a file. @param {ClipboardEvent} event */
 function pasteLong(event) {
   const pasted = event.clipboardData.getData("text/plain");
   if (pasted.length < LARGE) return;
@@ -159,7 +166,7 @@ function pasteLong(event) {
 }
 
 /**
- * Changes the list, and says how many lines that changed.
+ * Changes the list, and says how many lines changed.
  * @param {"empty"|"trim"|"unique"} change
  */
 async function tidy(change) {
@@ -203,7 +210,7 @@ function closeFile() {
   listChanged(0);
 }
 
-/** Takes a file that was dropped: as the record on the field for it, as the list elsewhere. */
+/** Opens a dropped file: as the record if it is dropped on that field, otherwise as the list. */
 async function dropped(event) {
   const [file] = event.dataTransfer.files;
   if (!file) return;
@@ -226,7 +233,7 @@ function seedChanged() {
     "counts: others must type exactly the same." : "");
 }
 
-/** Says to screen readers how the seed is read, once it is typed. */
+/** Tells screen readers how the seed is read, once it has been typed. */
 function seedTyped() {
   part("heard").textContent = part("seed-read").textContent;
 }
@@ -283,7 +290,10 @@ async function checkNow() {
   }
 }
 
-/** Says which module runs, or why none does, which is then the answer to whatever else is asked. */
+/**
+ * Starts the module, and shows which one runs. If none can, shows the reason, and rejects every
+ * later task with it.
+ */
 async function start() {
   try {
     const bits = bitsOfBrowser();
@@ -306,7 +316,7 @@ function on(id, event, action) {
 }
 
 /**
- * An arrow leads from each of the two tabs to the other, Home to the first, End to the last.
+ * Moves between the two tabs: an arrow key to the other one, Home to the first, End to the last.
  * @param {KeyboardEvent} event
  */
 function moveTab(event) {

@@ -1,4 +1,4 @@
-// The two modules of the page: their memory and their calls.
+// The two WebAssembly modules of the page: their memory and their calls.
 
 import { Refusal } from "./refusal.js";
 
@@ -6,8 +6,8 @@ const PAGE = 65536;
 const DIGEST = 32;
 
 /**
- * What a module's pointers and lengths are in JavaScript, and the places that it writes, by the
- * bits of its memory.
+ * For each memory width in bits: the JavaScript type of the module's pointers and lengths, the
+ * array type of the places (indices of entrants) that it writes, and its description.
  */
 const KINDS = {
   64: { number: BigInt, Places: BigUint64Array, words: "for 64-bit memory, proved" },
@@ -21,13 +21,13 @@ const KINDS = {
 /** A module whose only content is a 64-bit memory of one page. */
 const SMALLEST = Uint8Array.of(0, 97, 115, 109, 1, 0, 0, 0, 5, 3, 1, 4, 1);
 
-/** @returns {64|32} the bits of the memory of the module that the browser is to run */
+/** @returns {64|32} the memory width of the module to run: 64 bits if the browser supports it */
 export function bitsOfBrowser() {
   if (typeof WebAssembly !== "object") throw new Refusal("no WebAssembly");
   return WebAssembly.validate(SMALLEST) ? 64 : 32;
 }
 
-/** What a module is, in plain words. @param {64|32} bits @returns {string} */
+/** Describes the module with this memory width. @param {64|32} bits @returns {string} */
 export function wordsOfModule(bits) {
   return KINDS[bits].words;
 }
@@ -35,7 +35,7 @@ export function wordsOfModule(bits) {
 export class Module {
   #exports;
   #kind;
-  /** Where the pages begin that the module's own code and data never use. */
+  /** The end of the module's initial memory: it never uses addresses from here on by itself. */
   #start;
 
   /** @param {Uint8Array} code @param {64|32} bits @returns {Promise<Module>} */
@@ -57,7 +57,7 @@ export class Module {
     this.#start = this.#exports.memory.buffer.byteLength;
   }
 
-  /** Makes room for so many bytes after the module's own, over those of earlier calls. */
+  /** The address of `length` bytes after the module's own. They overlap those of earlier calls. */
   #room(length) {
     const missing = this.#start + length - this.#exports.memory.buffer.byteLength;
     if (missing > 0) this.#exports.memory.grow(this.#kind.number(Math.ceil(missing / PAGE)));
@@ -94,7 +94,7 @@ export class Module {
     return new Uint8Array(this.#exports.memory.buffer, digest, DIGEST).slice();
   }
 
-  /** How many entrants a list has; an empty line is refused. @param {Uint8Array} list */
+  /** The number of entrants. Throws a Refusal if a line is empty. @param {Uint8Array} list */
   count(list) {
     const size = this.#kind.Places.BYTES_PER_ELEMENT;
     const number = this.#room(size + list.length);
@@ -108,7 +108,7 @@ export class Module {
   }
 
   /**
-   * The places drawn by a seed, in order, from 0 on.
+   * The places (indices of entrants, from 0) that a seed draws, in the order drawn.
    * @param {Uint8Array} seed @param {number} entrants @param {number} count at most `entrants`
    * @returns {BigUint64Array|Uint32Array}
    */

@@ -1,4 +1,4 @@
-// The names of letters that cannot be seen, as Unicode has them.
+// Names of invisible characters, mostly those of Unicode.
 
 const NAMES = new Map([
   [0x00, "null"], [0x09, "tab"], [0x0d, "carriage return"], [0x20, "space"], [0x7f, "delete"],

@@ -1,11 +1,11 @@
-// The record of a draw: the text that says everything another needs to repeat it.
+// The record of a draw: a text that tells others everything they need to repeat it with the list.
 
 import { hasHalfCharacter, isUnseen } from "./bytes.js";
 import { printed, unprinted } from "./entrant.js";
 
 const TITLE = "nanorand public draw 1";
 
-/** How many entrants a record names at most. Its SHA-256 of the result covers all. */
+/** The largest number of entrants that a record names. Its SHA-256 of the result covers all. */
 export const NAMED = 1000;
 
 /**
@@ -17,19 +17,19 @@ export const NAMED = 1000;
  * @property {string} version
  * @property {string} module SHA-256 of the module
  * @property {string} result SHA-256 of the result
- * @property {Uint8Array[]} named the first entrants drawn, all if they are at most `NAMED`
+ * @property {Uint8Array[]} named the first entrants drawn, at most `NAMED`
  */
 
 const SUM = /^[0-9a-f]{64}$/;
 const NUMBER = /^(?:0|[1-9][0-9]{0,14})$/;
 const VERSION = /^[0-9]{1,6}\.[0-9]{1,2}\.[0-9]{1,2}$/;
 
-/** A mail program folds no line that is shorter. */
+/** The shortest line, in UTF-16 units, that a mail program is expected to fold. */
 const FOLDED = 50;
 
 /**
- * The lines after the title: property, what stands before the colon, how its value is read, and
- * what joins the lines of one that was folded.
+ * The lines after the title. For each: its property, the name before the colon, the function that
+ * reads the value, and the text that joins a value that was folded into several lines.
  */
 const LINES = [
   ["seed", "seed", readSeed, " "],
@@ -46,20 +46,24 @@ function matching(form, value) {
   return (text) => (form.test(text) ? value(text) : null);
 }
 
-/** A letter as JSON's escapes, one for each unit of UTF-16. @param {string} letter */
+/** A character as JSON escapes, one for each UTF-16 unit. @param {string} letter */
 function escapedUnits(letter) {
   return letter.replace(/[^]/g, (unit) => `\\u${unit.charCodeAt(0).toString(16).padStart(4, "0")}`);
 }
 
-/** A seed as a JSON string in which all that cannot be seen is escaped. @param {string} seed */
+/**
+ * A seed as a JSON string in which every invisible character except the space is escaped.
+ * @param {string} seed
+ */
 export function writtenSeed(seed) {
   return Array.from(JSON.stringify(seed), (letter) =>
     (letter !== " " && isUnseen(letter) ? escapedUnits(letter) : letter)).join("");
 }
 
 /**
- * Whether a text shows all that it says: no white space around the string, and within it nothing
- * that cannot be seen. Else a seed could look like the one that was announced.
+ * Whether a text shows everything that it contains: there is no white space around the string, and
+ * nothing invisible in it except spaces. Otherwise a different seed could look like the one that
+ * was announced.
  * @param {string} text of a JSON string
  */
 function showsAll(text) {
@@ -88,7 +92,7 @@ export function writeRecord(record) {
   return [TITLE, ...lines, ...named, ...more, ""].join("\n");
 }
 
-/** A text that is no record, with its line and the reason. */
+/** The error for a text that is not a record: the line and the reason. */
 export class RecordError extends Error {
   /** @param {number} line from 1 @param {string} reason */
   constructor(line, reason) {
@@ -115,20 +119,20 @@ export function readRecord(text) {
   return { ...values, named: readNamed(lines, at, values.drawn) };
 }
 
-/** A line without the marks of a quotation in a mail, and without spaces at its end. */
+/** A line without the `>` marks of a quoted mail and without white space at its end. */
 function unquoted(line) {
   return line.replace(/^>[> ]*/, "").replace(/[ \t\r]+$/, "");
 }
 
-/** Whether a line goes on with what stands before, as mail programs fold it. */
+/** Whether a line continues the one before, as when a mail program folds a long line. */
 function goesOn(line) {
   return Boolean(line) && !/^[0-9]+: /.test(line) &&
     !LINES.some(([, name]) => line.startsWith(`${name}: `));
 }
 
 /**
- * What follows a name and a colon, and the place of the line after it. The value may stand on
- * several lines, which are joined until it can be read.
+ * Reads the value after a name and a colon. Returns it and the index of the line after it. The
+ * value may be folded into several lines, which are joined until it can be read.
  */
 function readLine(lines, index, [, name, read, joint]) {
   const line = lines[index] ?? "";
@@ -147,8 +151,8 @@ function readLine(lines, index, [, name, read, joint]) {
 }
 
 /**
- * A line of an entrant, and the place of the line after it. A long one may be folded, into lines
- * that end before the line `end`.
+ * Reads the line of an entrant. Returns the entrant and the index of the line after it. A long line
+ * may be folded into several, which end before the line `end`.
  */
 function readEntrant(lines, index, number, end) {
   const start = `${number}: `;
@@ -168,7 +172,7 @@ function readEntrant(lines, index, number, end) {
   return { entrant, next };
 }
 
-/** The entrants named, which end the record. */
+/** Reads the named entrants, which end the record. */
 function readNamed(lines, first, drawn) {
   const named = [];
   const rest = drawn > NAMED ? `and ${drawn - NAMED} more` : null;

@@ -1,6 +1,6 @@
-// What the page refuses, and how it says so.
+// The errors that the page shows, and their texts.
 
-/** @typedef {"seed"|"count"|"list"|"page"} Field  where the refusal is shown */
+/** @typedef {"seed"|"count"|"list"|"page"} Field  where the error is shown */
 
 /** @type {Record<string, {field: Field, words: (values: Object) => string}>} */
 const REFUSALS = {
@@ -59,9 +59,9 @@ const REFUSALS = {
   },
 };
 
-/** A draw, a list or a page that is refused, with its reason. */
+/** An error that the page shows: why a draw, a list or the module failed. */
 export class Refusal extends Error {
-  /** @param {string} reason a name of REFUSALS @param {Object} [values] what its words need */
+  /** @param {string} reason a name in REFUSALS @param {Object} [values] what its text contains */
   constructor(reason, values = {}) {
     super(reason);
     this.reason = reason;

@@ -1,4 +1,4 @@
-// Changes that the owner of a list may want. Each makes another list, with another SHA-256.
+// Changes that the owner of a list may want. The changed list has another SHA-256.
 
 import { isSpace } from "./alike.js";
 import { resultOf } from "./draw.js";
@@ -20,7 +20,7 @@ function trimmedBytes(line) {
   return line.subarray(first, end);
 }
 
-/** The first of equal lines. @param {Uint8Array[]} lines */
+/** The lines without repetitions: the first of equal lines stays. @param {Uint8Array[]} lines */
 function unique(lines) {
   const letters = new TextDecoder("latin1");
   const seen = new Set();
@@ -34,8 +34,9 @@ const CHANGES = {
 };
 
 /**
- * The list after a change, and how many lines it removed or made shorter. A last line without a
- * line feed stays so, unless it is empty: without one it would be no line.
+ * The list after a change, and the number of lines that were removed or shortened. If the list has
+ * no line feed at its end, the changed list has none either, unless its last line is empty: without
+ * a line feed, an empty line would not be a line.
  * @param {Uint8Array} list @param {"empty"|"trim"|"unique"} change
  * @returns {{list: Uint8Array, changed: number}}
  */

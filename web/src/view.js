@@ -7,14 +7,14 @@ export function part(id) {
   return document.getElementById(id);
 }
 
-/** Shows a text, or hides its element if there is none. @param {string} id @param {string} text */
+/** Shows a text, or hides its element if it is empty. @param {string} id @param {string} text */
 export function say(id, text) {
   part(id).textContent = text;
   part(id).hidden = text === "";
 }
 
 /**
- * Shows one item for each text, and hides a list of none.
+ * Shows one item for each text, or hides the list if there are none.
  * @param {string} id @param {string[]} texts
  */
 export function itemize(id, texts) {
@@ -26,21 +26,21 @@ export function itemize(id, texts) {
   part(id).hidden = texts.length === 0;
 }
 
-/** The fields that each kind of refusal can belong to: of a list the pasted text, or the file. */
+/** The fields that each kind of error can belong to. A list is a pasted text or a file. */
 const FIELDS = { seed: ["seed"], count: ["count"], list: ["list-text", "list-file"], page: [] };
 
-/** The one of them that is there to be seen. @param {string} kind @returns {HTMLElement|undefined} */
+/** The one of these fields that is visible. @param {string} kind @returns {HTMLElement|undefined} */
 export function fieldOf(kind) {
   return FIELDS[kind].map(part).find((field) => field.getClientRects().length > 0);
 }
 
-/** Shows a refusal beside its field. @param {import("./refusal.js").Refusal} refusal */
+/** Shows an error beside its field. @param {import("./refusal.js").Refusal} refusal */
 export function showRefusal(refusal) {
   say(`${refusal.field}-error`, refusal.words);
   fieldOf(refusal.field)?.setAttribute("aria-invalid", "true");
 }
 
-/** Takes the refusals of some fields away. @param {...string} kinds */
+/** Removes the errors of some kinds. @param {...string} kinds */
 export function clearRefusals(...kinds) {
   for (const kind of kinds) {
     say(`${kind}-error`, "");
@@ -48,12 +48,12 @@ export function clearRefusals(...kinds) {
   }
 }
 
-/** @param {number} number with thin groups, such as 1 000 000 */
+/** The digits in groups of three with narrow spaces, such as 1 000 000. @param {number} number */
 export function grouped(number) {
   return String(number).replace(/\B(?=(\d{3})+$)/g, "\u202f");
 }
 
-/** Hides what was said of an earlier list. */
+/** Hides what the page shows about the list. */
 export function hideList() {
   say("tidied", "");
   say("entrants", "");
@@ -69,7 +69,7 @@ export function showList({ digest, entrants, warnings }) {
   part("list-facts").hidden = false;
 }
 
-/** An entrant as an item, with the names of letters that cannot be seen in their place. */
+/** An entrant as a list item, in which each invisible character is replaced by its name. */
 function itemOf({ isText, parts }) {
   const item = document.createElement("li");
   item.className = isText ? "text" : "bytes";
@@ -83,7 +83,7 @@ function itemOf({ isText, parts }) {
   return item;
 }
 
-/** @param {Object} drawing what the worker says of a draw */
+/** @param {Object} drawing the worker's answer to a draw */
 export function showResult({ entrants, drawn, named, hasEscapes, record }) {
   part("result").hidden = false;
   part("publish-hint").hidden = true;
@@ -99,7 +99,7 @@ export function showResult({ entrants, drawn, named, hasEscapes, record }) {
   part("record").replaceChildren(...withDigests(record));
 }
 
-/** A text whose digests are elements of their own, which the style breaks into rows. */
+/** The pieces of a text. Each digest is an element of its own, which the style breaks into rows. */
 function withDigests(text) {
   return text.split(/\b([0-9a-f]{64})$/m).map((piece, index) => {
     if (index % 2 === 0) return piece;
@@ -110,7 +110,7 @@ function withDigests(text) {
   });
 }
 
-/** What the list is for, in each tab. */
+/** The texts around the list, for each tab. */
 const LIST_WORDS = {
   draw: {
     "list-heading": "1. Close the list",
@@ -146,7 +146,7 @@ export function showCheck({ outcome, title, findings }) {
   itemize("findings", findings);
 }
 
-/** Gives bytes to the user as a file. @param {BlobPart} bytes @param {string} name */
+/** Offers bytes as a file to download. @param {BlobPart} bytes @param {string} name */
 export function save(bytes, name) {
   const link = document.createElement("a");
   link.href = URL.createObjectURL(new Blob([bytes], { type: "application/octet-stream" }));
@@ -156,7 +156,7 @@ export function save(bytes, name) {
 }
 
 /**
- * Copies a text, and says on the button that it did, and to screen readers.
+ * Copies a text to the clipboard. The button, and screen readers, say whether that worked.
  * @param {HTMLElement} button @param {string} text
  */
 export async function copy(button, text) {

@@ -1,4 +1,4 @@
-// The worker: holds the module and the list, so that the page stays usable while they work.
+// The worker holds the module and the list, so that the page stays usable while they are busy.
 
 import { fromBase64, hex } from "./bytes.js";
 import { check } from "./check.js";
@@ -13,9 +13,9 @@ import { tidied } from "./tidy.js";
 /** @type {{module: ?Module, maker: ?import("./check.js").Maker, list: Uint8Array}} */
 const held = { module: null, maker: null, list: new Uint8Array(0) };
 
-/** What the page can ask for. Each takes the message's data and a function that tells progress. */
+/** The tasks that the page can ask for. Each takes its data and a function to report progress. */
 const TASKS = {
-  /** `codes` are the modules for 64 and for 32 bits of memory, of which that of `bits` is run. */
+  /** `codes` are the modules for 64-bit and 32-bit memory, in base64. The one for `bits` is run. */
   async start({ codes, bits }) {
     const modules = codes.map(fromBase64);
     const [run, other] = bits === 64 ? modules : [...modules].reverse();

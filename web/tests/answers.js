@@ -1,17 +1,18 @@
-// Runs tests/answers/answers.tsv through the exports of a module, in a page. The arguments are the
-// module in base64, the table, and the bits of the module's memory. Returns how many rows were run,
-// those that are wrong, and how many name a number that a length of so many bits cannot hold.
+// Runs tests/answers/answers.tsv through the exports of a module, in a web page. The arguments are
+// the module in base64, the table, and the width of the module's memory in bits. Returns the number
+// of rows that were run, the wrong rows, and the number of rows with a number that a length of this
+// width cannot hold.
 
 const [code, table, bits] = arguments;
 const bytes = Uint8Array.from(atob(code), (letter) => letter.charCodeAt(0));
 const module = new WebAssembly.Module(bytes);
 const MASK = 2n ** 64n - 1n;
 const ROOM = 1 << 20;
-/** A pointer or a length of this module, and the numbers that it writes as lengths. */
+/** The types of this module's pointers and lengths, and of the lengths that it writes. */
 const size = bits === 64 ? BigInt : Number;
 const Sizes = bits === 64 ? BigUint64Array : Uint32Array;
 
-/** A new instance for each row, with room for a state, for what is written, for what is read. */
+/** A new instance for each row, with memory for a state, for output and for input. */
 function start() {
   const { exports } = new WebAssembly.Instance(module, {});
   const state = exports.memory.buffer.byteLength;
@@ -28,14 +29,14 @@ const toHex = (part) =>
   Array.from(part, (byte) => byte.toString(16).padStart(2, "0")).join("") || "-";
 const listed = (numbers) => numbers.join(",") || "-";
 
-/** The generator that a row is of in C: a stream has parts by groups of eight blocks alone. */
+/** The generator of a row in C. Only the stream in groups of eight blocks has parts. */
 const nameOf = (generator, call) =>
   generator === "stream" && call === "part" ? "keystream" : generator;
-/** How many bytes of a stream are computed at once. */
+/** The number of bytes of a stream that are computed at once. */
 const BLOCKS = { stream: 64, keystream: 512 };
 const CHACHA = 48;
 
-/** Lays a state down as the C structure has it. */
+/** Writes a state with the layout of the C struct. */
 function layState(world, generator, before) {
   const state = fromHex(before);
   const block = BLOCKS[generator];
@@ -51,7 +52,7 @@ function layState(world, generator, before) {
   return CHACHA + block + 8;
 }
 
-/** The state after a call, as the table has it. A whole block that is buffered is not yet drawn. */
+/** The state after a call, as the table writes it. A whole buffered block counts as not drawn. */
 function stateOf(world, generator, length) {
   const all = world.memory.slice(world.state, world.state + length);
   const block = BLOCKS[generator];
@@ -65,7 +66,7 @@ function stateOf(world, generator, length) {
   return toHex(all.slice(0, CHACHA)) + rest.replace("-", "");
 }
 
-/** The calls of the generators: what they return, and their result read from memory. */
+/** The calls of the generators: their status, and their result read from memory. */
 const CALLS = {
   u64: (call) => ({ result: String(call() & MASK) }),
   fill_bytes: (call, [length], { memory, out }) => {
@@ -117,7 +118,7 @@ const CALLS = {
 };
 CALLS.shuffle_full = CALLS.shuffle;
 
-/** The calls of the draw by lot. */
+/** The calls for drawing lots. */
 const LOTS = {
   digest: (call, [text], { memory, out, into }) => {
     memory.set(text, into);
@@ -158,7 +159,7 @@ function runRow([kind, before, call, given, status, result, after]) {
   return String(found.status ?? 0) === status && said === result && left === after;
 }
 
-/** Whether each length that a row gives is one of so many bits. */
+/** Whether each length in a row fits into the module's width. */
 function fits([generator, , call, given]) {
   const isOfSizes = generator === "lots" || ["range_usize", "sample"].includes(call);
   return !isOfSizes || given.split(",").slice(generator === "lots" ? 1 : 0)

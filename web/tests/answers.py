@@ -1,4 +1,4 @@
-"""The table of answers, through the exports of both modules in a browser."""
+"""The table of known answers, through the exports of both modules in a browser."""
 
 import base64
 from pathlib import Path
@@ -9,7 +9,8 @@ from page import Page
 
 HERE = Path(__file__).resolve().parent
 TABLE = HERE.parent.parent / "tests/answers/answers.tsv"
-# Rows of the table that name a number of 33 bits and more as a length: ranges of `usize`, samples and draws.
+# The number of rows with a length of more than 32 bits, which a 32-bit module cannot take: ranges of `usize`, samples
+# and draws.
 TOO_LARGE = {64: 0, 32: 61}
 
 

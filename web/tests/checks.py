@@ -1,4 +1,4 @@
-"""The field that checks a record: each outcome, and texts that are no record."""
+"""The field that checks a record: each outcome, and texts that are not records."""
 
 import json
 import random
@@ -24,14 +24,14 @@ NAMES = ["seed", "list SHA-256", "entrants", "drawn", "version", "module SHA-256
 
 
 def with_line(record: str, number: int, text: str) -> str:
-    """The record with another line at a number, from 1."""
+    """The record with another line in place of the line with this number, from 1."""
     lines = record.split("\n")
     lines[number - 1] = text
     return "\n".join(lines)
 
 
 def outcome(counts: Counts, page: Page, name: str, record: str, wanted: str, *findings: str) -> None:
-    """The outcome, and how each of its findings begins, no more and no fewer."""
+    """Compares the outcome, and the beginning of each of its findings, no more and no fewer."""
     shown = page.check(record)
     found = shown["findings"]
     right = len(found) == len(findings) and all(one.startswith(begin) for one, begin in zip(found, findings))
@@ -152,12 +152,12 @@ def no_records(counts: Counts, page: Page, record: str) -> None:
 
 
 def folded(line: str, width: int) -> str:
-    """A line as a mail program folds it, at spaces, or within a word that is too long."""
+    """A line folded as a mail program does: at spaces, or within a word that is too long."""
     return "\n".join(textwrap.wrap(line, width)) or line
 
 
 def records_of_mails(counts: Counts, page: Page) -> None:
-    """Quoted, with text around, and folded: as mails bring records."""
+    """Records as mails contain them: quoted, with text around, and folded."""
     long_names = "".join(f"{name} {' '.join(['of the house at the river'] * 5)}\n" for name in ("Ada", "Max", "Zoë"))
     for name, text in (("short", LIST), ("long", long_names)):
         record = first_record(page, SEED + " 6" * 40, "3", text)
@@ -179,7 +179,7 @@ def records_of_mails(counts: Counts, page: Page) -> None:
 
 
 def long_records(counts: Counts, page: Page) -> None:
-    """Above 1000 entrants drawn a record names the first 1000."""
+    """If more than 1000 entrants are drawn, a record names the first 1000."""
     text = "".join(f"{number}\n" for number in range(1500))
     record = first_record(page, "seed", "1200", text)
     counts.same("a long record ends", record.split("\n")[-2], "and 200 more")
@@ -197,7 +197,7 @@ def long_records(counts: Counts, page: Page) -> None:
 
 
 def of_no_entrants(counts: Counts, page: Page) -> None:
-    """A list without a line has no entrants, of whom all can be drawn."""
+    """An empty list has no entrants, and all of them can be drawn."""
     record = first_record(page, "seed", "all", "")
     counts.same("no entrants", record.split("\n")[2:5], [f"list SHA-256: {sha256(b'')}", "entrants: 0", "drawn: 0"])
     outcome(counts, page, "a record of no entrants", record, "agrees")
@@ -206,7 +206,7 @@ def of_no_entrants(counts: Counts, page: Page) -> None:
 
 
 def seeds_survive(counts: Counts, page: Page, program: str) -> None:
-    """A record holds any seed in one line, and a second page reads the same from it."""
+    """A record contains any seed in one line, and another page reads the same seed from it."""
     seeds = [" ", "  two  ", "\ttab", "\"quoted\"", "\\", "\\n", "é", "e\u0301", "🎲", "\u200b",
              "\u00a0x", "\u2028", "\u202eabc", "\x00", "\x7f", "</script>", "{{python}}", "nanorand public draw 1",
              "\ufeffx", "\U000e0041", "漢字", f"a{UNSEEN[1:]}b"]
@@ -225,7 +225,7 @@ def seeds_survive(counts: Counts, page: Page, program: str) -> None:
 
 
 def seed_of_lines(counts: Counts, page: Page, program: str, record: str) -> None:
-    """A seed with line feeds, which no field takes, is read from a record."""
+    """A seed with line feeds, which a field does not accept, is read from a record."""
     for seed in ("\n", "a\nb\n"):
         drawn = lots(program, seed, "3", LIST.encode()).output
         lines = record.split("\n")
@@ -235,7 +235,7 @@ def seed_of_lines(counts: Counts, page: Page, program: str, record: str) -> None
 
 
 def broken_records(counts: Counts, page: Page, record: str) -> None:
-    """Records with a letter changed: nothing but an agreement in meaning is called one."""
+    """Records with a changed character agree only if they still have the same meaning."""
     rng = random.Random(37)
     letters: List[str] = list("0123456789abcdefx\\\":. \n") + ["é", "\u0000"]
     for _ in range(60):
@@ -251,7 +251,7 @@ def broken_records(counts: Counts, page: Page, record: str) -> None:
 
 
 def record_of_document(counts: Counts, record: str) -> None:
-    """The record in docs/PAGE.md is that of the example."""
+    """The record in docs/PAGE.md is the example's."""
     document = (Path(__file__).resolve().parents[2] / "docs/PAGE.md").read_text(encoding="utf-8")
     found = re.search(r"^```\n(nanorand public draw 1\n.*?)^```$", document, re.M | re.S)
     counts.same("the record of docs/PAGE.md", found[1], record)

@@ -1,4 +1,4 @@
-"""Counts of cases, and the program `lots` that the page is compared with."""
+"""Counts cases, and runs the program `lots`, with which the page is compared."""
 
 import hashlib
 import re
@@ -9,14 +9,15 @@ from typing import Any, List, NamedTuple
 from unicodedata import category
 
 
-# The version of the library, which the header has as a number.
+# The version of the library, as the number in the header.
 NUMBER = int(re.search(r"^#define NANORAND_VERSION (\d+)$",
                        (Path(__file__).resolve().parents[2] / "c/include/nanorand.h").read_text("ascii"), re.M)[1])
 VERSION = f"{NUMBER // 10000}.{NUMBER // 100 % 100}.{NUMBER % 100}"
-# Some that nobody sees: control and format characters, separators, what fonts leave out, the empty Braille pattern.
+# Some invisible characters: control and format characters, separators, characters that fonts do not draw, and the blank
+# Braille pattern.
 UNSEEN = ("\0\t\x7f\x85\xa0\xad\u034f\u061c\u115f\u1160\u17b4\u180b\u180e\u2003\u200b\u200d\u200e\u2028\u2029\u202e"
           "\u2060\u2066\u2800\u3000\u3164\ufe00\ufe0f\ufeff\uffa0\U0001d173\U000e0041\U000e0100")
-# These and all control and format characters and separators, but for the space and the line feed, which lines have.
+# These and all control and format characters and separators, except the space and the line feed.
 ALL_UNSEEN = sorted({*UNSEEN, *(letter for letter in map(chr, range(sys.maxunicode + 1))
                                 if category(letter) in ("Cc", "Cf", "Zs", "Zl", "Zp"))} - {" ", "\n"})
 
@@ -41,7 +42,7 @@ class Counts:
 
 
 class Ran(NamedTuple):
-    """What the program did."""
+    """The outcome of the program."""
 
     status: int
     output: bytes
@@ -59,7 +60,7 @@ def sha256(data: bytes) -> str:
 
 
 def bytes_of(printed: str) -> bytes:
-    """The bytes of an entrant as the page prints it."""
+    """The bytes of an entrant that the page has printed."""
     parts = re.findall(r"\\x([0-9a-f]{2})|\\(\\)|([^\\]+)", printed, re.S)
     return b"".join(bytes.fromhex(byte) if byte else (slash or text).encode() for byte, slash, text in parts)
 

@@ -1,4 +1,4 @@
-"""Draws of the page beside those of the program `lots`."""
+"""Draws of the page, compared with those of the program `lots`."""
 
 import json
 import random
@@ -15,7 +15,7 @@ LENGTHS = [1, 2, 5, 20, 31, 32, 33, 55, 56, 57, 63, 64, 65, 119, 120, 200]
 NAMED = 1000
 LONG = 600_000
 ROOM = 65536
-# Notes the addresses of files, and what is to be done later.
+# Records the addresses of files, and what is to be done later.
 ADDRESSES = """
 window.made = [];
 window.givenBack = [];
@@ -27,14 +27,14 @@ HTMLAnchorElement.prototype.click = function () { made.push(this.href); };
 
 
 def a_seed(rng: random.Random) -> str:
-    """A text of one or several alphabets. A field has no line's end, an argument no byte 0."""
+    """A text of one or several alphabets, without line ends, for the field, and without byte 0, for the argument."""
     one, mixed = rng.choice(ALPHABETS), rng.random() < 0.3
     letters = (chr(rng.randrange(*(rng.choice(ALPHABETS) if mixed else one))) for _ in range(rng.choice(LENGTHS)))
     return "".join(letters).replace("\n", "\t")
 
 
 def some_lines(rng: random.Random, size: int, is_text: bool) -> List[bytes]:
-    """Lines that are not empty: text that can be pasted, or any bytes but line feeds."""
+    """Non-empty lines: text that can be pasted, or any bytes but line feeds."""
     longest = rng.choice([1, 2, 8, 40])
     if is_text:
         letters = rng.choice(["ab", "abcdefgh ", "äöü漢字🎲\\ \t\u200b\u00a0e\u0301"])
@@ -51,7 +51,7 @@ def a_count(rng: random.Random, size: int) -> str:
 
 
 def record_of(seed: str, data: bytes, result: bytes, module: str) -> Dict[str, Any]:
-    """What a record must say."""
+    """What a record has to contain."""
     drawn = lines_of(result)
     return {
         "title": "nanorand public draw 1", "seed": seed, "list SHA-256": sha256(data),
@@ -62,7 +62,7 @@ def record_of(seed: str, data: bytes, result: bytes, module: str) -> Dict[str, A
 
 
 def record_read(text: str) -> Dict[str, Any]:
-    """What a record says, read by other code than the page's."""
+    """The content of a record, read by other code than the page's."""
     lines = text.split("\n")
     said: Dict[str, Any] = {"title": lines[0], "more": ""}
     for line in lines[1:8]:
@@ -80,7 +80,7 @@ def record_read(text: str) -> Dict[str, Any]:
 
 def compare(counts: Counts, page: Page, program: str, module: str, name: str,
             seed: str, count: str, data: bytes) -> Dict[str, Any]:
-    """Draws in the page, where list, seed and count stand already, and by the program."""
+    """Draws in the page, whose list, seed and count are set already, and with the program."""
     ran = lots(program, seed, count, data)
     shown = page.draw()
     errors = [shown[field] for field in ("page", "list", "seed", "count") if shown[field]]
@@ -97,7 +97,7 @@ def compare(counts: Counts, page: Page, program: str, module: str, name: str,
 
 
 def random_draws(counts: Counts, page: Page, program: str, module: str, number: int) -> None:
-    """Half of the lists are pasted, half are files; each record is then checked by the page."""
+    """Half of the lists are pasted, half are files. The page then checks each record."""
     rng = random.Random(31)
     for index in range(number):
         is_text = index % 2 == 0
@@ -119,7 +119,7 @@ def random_draws(counts: Counts, page: Page, program: str, module: str, number: 
 
 
 def sizes(counts: Counts, page: Page, program: str, module: str) -> None:
-    """Lists whose bytes, or whose places, just fill pages of memory, or just do not."""
+    """Lists whose bytes or places exactly fill memory pages, or nearly do."""
     page.load()
     for length in [*range(ROOM - 34, ROOM + 2), 2 * ROOM - 33, 2 * ROOM - 32, 2 * ROOM - 31, 5 * ROOM - 8]:
         data = b"a" * (length - 4) + b"\nbc\n"
@@ -137,7 +137,7 @@ def sizes(counts: Counts, page: Page, program: str, module: str) -> None:
 
 
 def long_entrants(counts: Counts, page: Page, program: str, module: str) -> None:
-    """Entrants of more bytes than a browser takes as arguments of one call, drawn and checked."""
+    """Draws and checks entrants of more bytes than a browser accepts as arguments of one call."""
     page.load()
     for name, letter in (("letters", b"a"), ("wide letters", "\u6f22".encode()), ("backslashes", b"\\"),
                          ("no UTF-8", b"\xff"), ("any bytes", bytes(set(range(256)) - {10}))):
@@ -171,7 +171,7 @@ def long_lists(counts: Counts, page: Page, program: str, module: str) -> None:
 
 
 def watch_progress(page: Page) -> None:
-    """Keeps each text of the progress line."""
+    """Records each text of the progress line."""
     page.browser.run("""
         window.told = [];
         new MutationObserver(() => window.told.push(document.getElementById("progress-text").textContent))
@@ -179,7 +179,7 @@ def watch_progress(page: Page) -> None:
 
 
 def saved(page: Page, folder: Path, name: str) -> bytes:
-    """What a button gives as a file."""
+    """The file that a button saves."""
     path = folder / name
     end = time.monotonic() + 20
     while time.monotonic() < end:
@@ -192,7 +192,7 @@ def saved(page: Page, folder: Path, name: str) -> bytes:
 
 
 def files(counts: Counts, page: Page, program: str, folder: Path) -> None:
-    """The three files that the page gives: the list, the record, the result."""
+    """The three files that the page saves: the list, the record and the result."""
     page.load()
     large = b"".join(b"entrant %d\n" % number for number in range(20_000))
     pasted = "Zo\u00eb\n\u200b".encode()
@@ -209,7 +209,7 @@ def files(counts: Counts, page: Page, program: str, folder: Path) -> None:
 
 
 def addresses_of_files(counts: Counts, page: Page) -> None:
-    """The address of a file is good for a while, as a browser may ask where to save it, and then given back."""
+    """A file's address stays valid for a while, because a browser may ask where to save it, and is then released."""
     page.load()
     page.paste("Ada\n")
     page.fill("seed", "all")
@@ -227,7 +227,7 @@ def addresses_of_files(counts: Counts, page: Page) -> None:
 
 
 def copies(counts: Counts, page: Page) -> None:
-    """What the two buttons copy, inserted in the field that checks a record."""
+    """The texts that the two buttons copy, pasted into the field that checks a record."""
     for text in ("Ada\nBarbara\n", "".join(f"entrant {number}\n" for number in range(20_000))):
         page.load()
         page.paste(text)

@@ -1,6 +1,6 @@
-"""Chromium, by its driver's HTTP protocol, and Firefox, by Marionette's socket, with one face.
+"""One interface to Chromium, by the HTTP protocol of its driver, and to Firefox, by the socket of Marionette.
 
-Both take the commands of the W3C's WebDriver. Only Python's standard library is needed.
+Both accept the commands of the W3C's WebDriver. The module needs only Python's standard library.
 """
 
 import base64
@@ -18,14 +18,14 @@ import urllib.request
 from pathlib import Path
 from typing import Any, Dict, List, Optional
 
-# Milliseconds that a script and the loading of a page may take: a check of a million entrants is long.
+# The milliseconds that a script and loading a page may take. Checking a million entrants takes long.
 TIMEOUTS = {"script": 120_000, "pageLoad": 120_000}
 ELEMENT = "element-6066-11e4-a52e-4f735466cecf"
 BACKSPACE, TAB, ENTER, SHIFT, CONTROL, SPACE = "\ue003", "\ue004", "\ue007", "\ue008", "\ue009", " "
 
 
 class DriverError(Exception):
-    """The browser or its driver refused a command."""
+    """The browser or its driver returned an error for a command."""
 
 
 class Browser:
@@ -44,7 +44,7 @@ class Browser:
         return self.command("ExecuteScript", script=script, args=list(values))
 
     def wait(self, script: str, *values: Any, seconds: float = 120) -> Any:
-        """The first value of a script that is not false."""
+        """Runs a script until its value is not false, and returns the value."""
         end = time.monotonic() + seconds
         while time.monotonic() < end:
             value = self.run(script, *values)
@@ -63,11 +63,11 @@ class Browser:
         self.command("ElementClick", id=self.element(selector))
 
     def label(self, selector: str) -> str:
-        """What a screen reader says that the element is."""
+        """The element's name for screen readers."""
         return self.command("GetComputedLabel", id=self.element(selector))
 
     def press(self, keys: str) -> None:
-        """Presses keys one after another, wherever the focus is."""
+        """Presses keys one after another, in the focused element."""
         actions = [{"type": kind, "value": key} for key in keys for kind in ("keyDown", "keyUp")]
         self.command("PerformActions", actions=[{"type": "key", "id": "keys", "actions": actions}])
 
@@ -86,22 +86,22 @@ class Browser:
         return base64.b64decode(self.command("Print"))
 
     def size(self, width: int, height: int) -> None:
-        """Gives the page a width and a height, in pixels of CSS."""
+        """Sets the width and the height of the page, in CSS pixels."""
         raise NotImplementedError
 
     def dark(self, is_dark: bool) -> None:
         raise NotImplementedError
 
     def media(self, kind: str = "", **features: str) -> bool:
-        """Shows the page as on paper, the kind print, or by a feature of CSS. False if the driver cannot."""
+        """Emulates a CSS media type, such as print, or a media feature. Returns False if the driver cannot."""
         return False
 
     def lose(self, feature: str) -> None:
-        """Pages opened from now on lack WebAssembly, or its memory64."""
+        """Makes pages that are opened later lack WebAssembly, or its 64-bit memory."""
         raise NotImplementedError
 
     def errors(self) -> List[str]:
-        """The errors of the console since the last call."""
+        """The console errors since the last call."""
         raise NotImplementedError
 
     def close(self) -> None:
@@ -109,7 +109,7 @@ class Browser:
 
 
 def stop(process: subprocess.Popen) -> None:
-    """Ends a process and those that it started, all of one group."""
+    """Ends a process and those that it started, which are in one process group."""
     for number in (signal.SIGTERM, signal.SIGKILL):
         try:
             os.killpg(process.pid, number)
@@ -178,7 +178,7 @@ class Chromium(Browser):
         return True
 
     def lose(self, feature: str) -> None:
-        """A script before those of the page does it; no flag would."""
+        """A script that runs before the page's does this. There is no flag for it."""
         source = {"WebAssembly": "delete self.WebAssembly;",
                   "memory64": "WebAssembly.validate = () => false;"}[feature]
         self._protocol("Page.addScriptToEvaluateOnNewDocument", source=source)
@@ -221,14 +221,14 @@ class Firefox(Browser):
             "browser.shell.checkDefaultBrowser": False, "app.update.enabled": False,
             "datareporting.policy.dataSubmissionEnabled": False, "network.captive-portal-service.enabled": False,
             "network.connectivity-service.enabled": False, "browser.aboutwelcome.enabled": False,
-            # Else Firefox warns if a list above what is seen changes faster than a person types.
+            # Otherwise Firefox warns if a list above the visible part changes faster than a person types.
             "layout.css.scroll-anchoring.max-consecutive-adjustments": 0,
         }
         lines = [f"user_pref({json.dumps(name)}, {json.dumps(value)});" for name, value in values.items()]
         (self.profile / "user.js").write_text("\n".join(lines) + "\n")
 
     def _connect(self) -> socket.socket:
-        """The port stands in a file of the profile once Firefox listens."""
+        """The port, which is in a file of the profile once Firefox listens."""
         port = self.profile / "MarionetteActivePort"
         end = time.monotonic() + 60
         while time.monotonic() < end:
@@ -245,7 +245,7 @@ class Firefox(Browser):
         return data
 
     def _read(self) -> Any:
-        """A message: its length in digits, a colon, and so many bytes of JSON."""
+        """Reads a message: its length in digits, a colon, and that many bytes of JSON."""
         while b":" not in self.rest:
             self.rest += self._more()
         length, _, self.rest = self.rest.partition(b":")
@@ -277,7 +277,7 @@ class Firefox(Browser):
             self.command("Marionette:SetContext", value="content")
 
     def size(self, width: int, height: int) -> None:
-        """A window cannot be narrow: the page is magnified in one of twice the width."""
+        """A window cannot be narrow, so the page is zoomed in a window of twice the width."""
         zoom = 2 if width < 600 else 1
         self._in_firefox("gBrowser.selectedBrowser.fullZoom = arguments[0];", zoom)
         self.command("SetWindowRect", width=width * zoom, height=height * zoom)
@@ -291,7 +291,7 @@ class Firefox(Browser):
             0 if is_dark else 1)
 
     def lose(self, feature: str) -> None:
-        """As for Chromium; a preference would no longer do it."""
+        """As for Chromium. There is no preference for it."""
         change = {"WebAssembly": "delete page.WebAssembly;",
                   "memory64": "page.WebAssembly.validate = Cu.exportFunction(() => false, page);"}[feature]
         script = f"""addEventListener("DOMWindowCreated", ({{target}}) => {{

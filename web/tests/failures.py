@@ -1,5 +1,5 @@
-"""What goes wrong beside the page: a module that fails, memory that is missing, a worker that is lost, files that
-cannot be read, and what is dropped that is no file."""
+"""What goes wrong around the page: a module that fails, too little memory, a worker that is lost, files that cannot be
+read, and dropped items that are not files."""
 
 from itertools import cycle
 from pathlib import Path
@@ -11,7 +11,7 @@ from counts import Counts, sha256
 from page import Page
 
 LIST = "Ada\nBarbara\nChidi\n"
-# In place of the worker, what `refused` or `answered` has for a task is its answer.
+# Answers a task in place of the worker, if `refused` or `answered` has an answer for it.
 REFUSED = """
 window.refused = {};
 window.answered = {};
@@ -29,7 +29,7 @@ SET = "window.refused = { [arguments[0]]: { reason: arguments[1], values: argume
 ANSWER = "window.refused = {}; window.answered = { [arguments[0]]: arguments[1] };"
 FIELDS = ("page", "list", "seed", "count")
 FAILED = "The module failed, and nothing is drawn: it stopped"
-# Each refusal that no input leads to, or that another test leads to, with where it stands and what it says.
+# Errors that no input leads to, or that other tests lead to as well: the place where each is shown, and its text.
 REFUSALS: "Dict[str, Tuple[Dict[str, Any], str, str]]" = {
     "no memory": ({}, "page", "The browser gives no memory for a list of this size."),
     "the module failed": ({"reason": "it stopped"}, "page", FAILED),
@@ -39,7 +39,7 @@ REFUSALS: "Dict[str, Tuple[Dict[str, Any], str, str]]" = {
     "too few entrants": ({"entrants": 5, "count": "9"}, "count", "The list has 5 entrants, and 9 are asked for."),
     "seed is empty": ({}, "seed", "The seed is empty. Type at least one character."),
 }
-# Before the code of the worker: its first answer to each task but the start cannot be copied to the page.
+# Runs before the worker's code. The first answer to each task but the start cannot be copied to the page.
 UNCOPIED = """
 {
   const tasks = new Map();
@@ -78,7 +78,7 @@ def filled(page: Page) -> None:
 
 
 def draws_again(counts: Counts, page: Page, name: str) -> None:
-    """Once the cause is gone, so is what was said of it."""
+    """Once the cause is gone, so is the error."""
     page.browser.run("window.refused = {};")
     page.paste(LIST + "Dmitri\n")
     page.facts()
@@ -96,7 +96,7 @@ def draws(counts: Counts, page: Page) -> None:
         shown = page.draw()
         counts.same(f"a draw, {reason}", (errors(page), shown["record"], shown["title"]), ({field: words}, "", ""))
         page.browser.run("window.refused = {};")
-        # What is said of a list stays until it is another.
+        # The error of a list stays until the list changes.
         left = {field: words} if field == "list" else {}
         counts.same(f"a draw, {reason}: again", (len(page.draw()["drawn"]), errors(page)), (3, left))
         draws_again(counts, page, f"a draw, {reason}")
@@ -118,7 +118,7 @@ def checks(counts: Counts, page: Page) -> None:
 
 
 def failing(task: str) -> "Dict[str, Tuple[List[Any], str]]":
-    """Each refusal of the page as the answer to a task, and what it says."""
+    """Each error of the page as the answer to a task, and its text."""
     return {reason: ([SET, task, reason, values], words)
             for reason, (values, field, words) in REFUSALS.items() if field == "page"}
 
@@ -130,14 +130,14 @@ def outcome_of(name: str) -> Dict[str, Any]:
 
 
 def drawing(names: List[str], drawn: int) -> Dict[str, Any]:
-    """An answer to a draw of which these are named."""
+    """An answer to a draw that names these entrants."""
     named = [{"isText": True, "parts": [name]} for name in names]
     return {"entrants": 9, "drawn": drawn, "named": named, "hasEscapes": len(names) > 1, "record": f"the {drawn} drawn",
             "result": [10]}
 
 
 def each_pair(names: List[str]) -> Iterator[str]:
-    """The names in an order in which each stands after each, and after itself."""
+    """The names in an order in which each follows each other one, and itself."""
     for place, name in enumerate(names):
         yield from (name, name)
         for other in names[place + 1:]:
@@ -146,7 +146,7 @@ def each_pair(names: List[str]) -> Iterator[str]:
 
 def one_after_another(counts: Counts, page: Page, task: str, kinds: "Dict[str, Tuple[List[Any], Tuple[Any, ...]]]",
                       ask: "Callable[[], Tuple[Any, ...]]") -> None:
-    """Whatever came before, with the same fields, each answer is shown alone."""
+    """Each answer is shown alone, whatever answer came before with the same fields."""
     page.load()
     page.browser.run(REFUSED)
     filled(page)
@@ -161,7 +161,7 @@ def one_after_another(counts: Counts, page: Page, task: str, kinds: "Dict[str, T
 
 
 def outcome_shown(page: Page) -> Tuple[Any, ...]:
-    """What the same check once more shows."""
+    """What repeating the same check shows."""
     found = page.check_again()
     return found["page"], found["outcome"], found["outcomeTitle"], found["findings"]
 
@@ -212,7 +212,7 @@ def lists_after_lists(counts: Counts, page: Page) -> None:
 
 
 def lost_after_checks(counts: Counts, page: Page) -> None:
-    """Of a check before the worker was lost nothing is left, whatever its outcome was."""
+    """After the worker is lost, nothing of an earlier check is shown, whatever its outcome was."""
     for name in ("agrees", "other module", "differs", "no record", "no list"):
         page.load()
         page.browser.run(REFUSED)
@@ -244,7 +244,7 @@ def lists(counts: Counts, page: Page) -> None:
 
 
 def errors_of_the_page(counts: Counts, page: Page) -> None:
-    """What is said of the page goes with another list, also before a draw."""
+    """An error of the page disappears with another list, even before a draw."""
     page.load()
     page.browser.run(REFUSED)
     filled(page)
@@ -255,7 +255,7 @@ def errors_of_the_page(counts: Counts, page: Page) -> None:
 
 
 def changes(counts: Counts, page: Page) -> None:
-    """Equal lines that cannot be removed."""
+    """Equal lines cannot be removed, because of an error."""
     page.load()
     page.browser.run(REFUSED)
     page.paste(LIST + LIST)
@@ -270,7 +270,7 @@ def changes(counts: Counts, page: Page) -> None:
 
 
 def lost_workers(counts: Counts, page: Page) -> None:
-    """Whatever is asked for after it is refused, and nothing of before is left as if it were new."""
+    """Every later task is rejected, and nothing old is shown as if it were new."""
     page.load()
     page.browser.run(REFUSED)
     filled(page)
@@ -300,7 +300,7 @@ def with_worker(page: Page, code: str) -> Page:
 
 
 def answers_not_copied(counts: Counts, page: Page) -> None:
-    """An answer that finds no room in the page is refused, and the page goes on with the next."""
+    """An answer that cannot be copied to the page is an error, and the page continues with the next one."""
     wanted = {"page": "The module failed, and nothing is drawn: DataCloneError: no room"}
     page = with_worker(page, UNCOPIED)
     page.load()

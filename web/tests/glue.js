@@ -1,7 +1,6 @@
-// Watches the calls of module.js, whose code stands before this: each pointer has to lie in memory
-// that the module itself never uses, no two areas may overlap, and what is read has to be what was
-// given.
-// Returns how many calls were watched, what is wrong, and the digests.
+// Watches the calls of module.js, whose code precedes this. Each pointer has to be in memory that the
+// module itself never uses, no two areas may overlap, and the module has to read what it was given.
+// Returns the number of calls, what is wrong, and the digests.
 
 const [code, bits] = arguments;
 const compiled = new WebAssembly.Module(
@@ -11,7 +10,7 @@ let calls = 0;
 
 const SIZE = BigInt(bits / 8);
 
-/** The areas of each call: where its pointer stands, how long it is, whether it is read. */
+/** The areas of each call: the index of the pointer argument, the length, and whether it is read. */
 const AREAS = {
   nanorand_v1_lots_digest: (rest) => [[rest[0], rest[1], true], [rest[2], 32n, false]],
   nanorand_v1_lots_count: (rest) => [[rest[0], rest[1], true], [rest[2], SIZE, false]],
@@ -36,7 +35,7 @@ function look(name, exports, own, rest, given) {
   if (one < other + otherLength && other < one + oneLength) say("two areas overlap");
 }
 
-/** A module whose calls are watched. `given` says which bytes the next call gets. */
+/** A module whose calls are watched. `given` has the bytes that the next call gets. */
 function watched(given) {
   const { exports } = new WebAssembly.Instance(compiled, {});
   const own = BigInt(exports.memory.buffer.byteLength);
@@ -51,7 +50,7 @@ const bytesOf = (length) => Uint8Array.from({ length }, (_, index) => 11 + index
 const seedOf = (length) => new Uint8Array(length).fill(97);
 const digests = [];
 
-/** Each call as the first one of a module, and on one module after others of all sizes. */
+/** Each call as the first one of a module, and on one module after other calls of all sizes. */
 function all(make, lengths) {
   for (const length of lengths) {
     const given = make.given;
@@ -73,7 +72,7 @@ function all(make, lengths) {
   }
 }
 
-/** A result must stay as it is when the module is called again. */
+/** A result must not change when the module is called again. */
 function staysAfterCalls(make) {
   const given = make.given;
   given.bytes = seedOf(5);

@@ -1,4 +1,4 @@
-"""The calls of web/src/module.js alone, watched in a browser."""
+"""The calls of web/src/module.js alone, checked in a browser."""
 
 import base64
 import sys

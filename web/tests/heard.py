@@ -1,4 +1,4 @@
-"""What a screen reader announces: statuses that are there before they speak, and what each then says."""
+"""What a screen reader announces: status elements that exist before they get a text, and their texts."""
 
 import time
 from typing import List
@@ -9,7 +9,7 @@ from page import Page
 
 STATUSES = {"draw": ["list-status", "progress-status", "heard"],
             "check": ["list-status", "outcome-status", "progress-status", "heard"]}
-# What the page says of the list, by tab: the heading, the hint, and what its SHA-256 is for.
+# What the page says about the list in each tab: the heading, the hint, and the purpose of its SHA-256.
 LIST_WORDS = {
     "draw": ["1. Close the list", "One entrant a line, no empty line. Publish the list with its SHA-256 before "
              "anybody knows the seed.", "SHA-256 to publish:"],
@@ -28,7 +28,7 @@ def said(page: Page, status: str) -> List[str]:
 
 
 def before_they_speak(counts: Counts, page: Page) -> None:
-    """A reader hears what changes in a status that is there, and may miss one that comes with its text."""
+    """A screen reader announces changes in an existing status element. It may miss one that is added with its text."""
     page.load()
     for tab, wanted in STATUSES.items():
         page.tab(tab)
@@ -38,7 +38,7 @@ def before_they_speak(counts: Counts, page: Page) -> None:
 
 
 def of_a_list(counts: Counts, page: Page) -> None:
-    """The count and the warnings, and no digits of the SHA-256; each change alone is read."""
+    """It announces the count and the warnings, but not the digits of the SHA-256, and only what changes."""
     page.load()
     page.paste("Ada\nAda \n")
     page.facts()
@@ -63,7 +63,7 @@ def of_a_check(counts: Counts, page: Page) -> None:
 
 
 def of_copies(counts: Counts, page: Page) -> None:
-    """A copy is said beside the button, whose own text changes for two seconds."""
+    """A copy is announced beside the button, whose own text changes for two seconds."""
     page.load()
     page.paste("Ada\n")
     page.facts()
@@ -77,7 +77,7 @@ def of_copies(counts: Counts, page: Page) -> None:
 
 
 def of_a_seed(counts: Counts, page: Page) -> None:
-    """How an odd seed is read is said once it is typed, and not at each key."""
+    """How an odd seed is read is announced once it has been typed, not at each key."""
     page.load()
     for typed, wanted in ((" x", ['The seed is read as " x". Each space, line and accent counts: others must type '
                                   "exactly the same."]), (BACKSPACE * 2 + "4 1 6", [])):
@@ -89,7 +89,7 @@ def of_a_seed(counts: Counts, page: Page) -> None:
 
 
 def of_tabs(counts: Counts, page: Page) -> None:
-    """Whoever checks a draw publishes no list."""
+    """In the tab for a check, nothing asks the user to publish a list."""
     page.load()
     page.paste("Ada\n")
     page.facts()

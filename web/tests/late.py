@@ -1,4 +1,4 @@
-"""Answers that come late, to a list, a file, a record or a field that is no longer there, and errors that are over."""
+"""Late answers, for a list, a file, a record or a field that has changed meanwhile, and errors whose cause is gone."""
 
 import failures
 from counts import Counts, sha256
@@ -10,13 +10,13 @@ window.put = (id, value) => {
   document.getElementById(id).dispatchEvent(new Event("input"));
 };
 """
-# Each text that an element shows from here on.
+# Records each text that an element shows from here on.
 WATCH = """
 window.seen = [];
 const element = document.getElementById(arguments[0]);
 new MutationObserver(() => seen.push(element.textContent)).observe(element, {childList: true});
 """
-# A text is put in place of another at once when that one has been sent to the worker, before its answer.
+# Replaces a text by another as soon as it has been sent to the worker, before the answer.
 REPLACED = """
 const [first, second] = arguments;
 const post = Worker.prototype.postMessage;
@@ -28,7 +28,7 @@ Worker.prototype.postMessage = function (...sent) {
 };
 put("list-text", first);
 """
-# The first file is read slowly, as from a drive far away, and each later one at once.
+# Reads the first file slowly, as from a remote drive, and each later one at once.
 SLOW_FILE = """
 const read = Blob.prototype.arrayBuffer;
 let files = 0;
@@ -38,7 +38,7 @@ Blob.prototype.arrayBuffer = function () {
   return files > 1 ? bytes : new Promise((done) => setTimeout(() => done(bytes), 800));
 };
 """
-# A text is put in place of the list that a change has left, before the worker has answered to that.
+# Replaces the list that a change has left by a text, before the worker has answered.
 REPLACED_TIDIED = """
 const [text] = arguments;
 const post = Worker.prototype.postMessage;
@@ -54,19 +54,19 @@ TIDIED = """
 const said = document.getElementById("tidied");
 return said.checkVisibility() ? said.textContent : "";
 """
-# In milliseconds: longer than the pause after typing, and than the slow file takes.
+# In milliseconds: longer than the pause after typing and than reading the slow file.
 LATEST = 1500
 
 
 def idle(page: Page) -> None:
-    """Waits until the worker has had nothing to do for longer than any of these answers is late."""
+    """Waits until the worker has been idle for longer than any of these answers is late."""
     page.browser.run("window.busy = performance.now();")
     page.browser.wait("""if (!document.getElementById("progress").hidden) window.busy = performance.now();
         return performance.now() - window.busy > arguments[0];""", LATEST)
 
 
 def last_digest(page: Page, wanted: str) -> str:
-    """The digest that stays. On a machine with much else to do the one that is wanted may take a while."""
+    """The final digest. On a busy machine the expected one may take a while."""
     for _ in range(20):
         idle(page)
         if page.shown()["digest"] == wanted:
@@ -75,7 +75,7 @@ def last_digest(page: Page, wanted: str) -> str:
 
 
 def facts_of_older_lists(counts: Counts, page: Page) -> None:
-    """Of a list that another one follows nothing is shown, whatever the other one is."""
+    """Nothing is shown of a list that is replaced, whatever replaces it."""
     for text in ("Ada\n", "", "a\n\nb\n"):
         page.load()
         page.browser.run(SET)
@@ -87,8 +87,8 @@ def facts_of_older_lists(counts: Counts, page: Page) -> None:
 
 
 def files_read_late(counts: Counts, page: Page) -> None:
-    """A file that is read after another was opened, or after it was closed, is not the list. While it is read there is
-    none."""
+    """A file whose content arrives after another was opened, or after it was closed, is not the list. While a file is
+    read, there is no list."""
     page.load()
     page.browser.run(SLOW_FILE)
     page.fill("seed", "all")
@@ -114,7 +114,7 @@ def files_read_late(counts: Counts, page: Page) -> None:
 
 
 def checks_of_older_records(counts: Counts, page: Page) -> None:
-    """A check's outcome is of the record, the list and the fields that are still there."""
+    """A check's outcome is shown only if the record, the list and the fields are unchanged."""
     page.load()
     page.browser.run(SET)
     page.browser.run('put("list-text", arguments[0]); put("seed", "seed"); put("count", "2");', LARGE)
@@ -129,7 +129,7 @@ def checks_of_older_records(counts: Counts, page: Page) -> None:
 
 
 def refusals_of_older_fields(counts: Counts, page: Page) -> None:
-    """A refusal of fields that have changed since is not shown, and does not take the keyboard away."""
+    """An error about fields that have changed meanwhile is not shown, and does not move the focus."""
     page.load()
     page.browser.run(SET)
     page.browser.run(failures.REFUSED)
@@ -152,7 +152,7 @@ def refusals_of_older_fields(counts: Counts, page: Page) -> None:
 
 
 def lists_changed_while_tidied(counts: Counts, page: Page) -> None:
-    """A list that is changed while equal lines are removed from it stays as it was changed."""
+    """A list that changes while equal lines are removed from it keeps the change."""
     page.load()
     page.browser.run(SET)
     for name, change in (("typed", 'put("list-text", "later\\n");'), ("emptied", 'put("list-text", "");')):
@@ -173,7 +173,7 @@ def lists_changed_while_tidied(counts: Counts, page: Page) -> None:
 
 
 def lists_changed_after_tidied(counts: Counts, page: Page) -> None:
-    """A list that is changed once equal lines are removed from it is not said to have lost them."""
+    """If a list changes after equal lines were removed, the page does not say that they were."""
     for text in ("later\n", "", "a\n\n"):
         page.load()
         page.browser.run(SET)
@@ -187,7 +187,7 @@ def lists_changed_after_tidied(counts: Counts, page: Page) -> None:
 
 
 def errors_that_are_over(counts: Counts, page: Page) -> None:
-    """A refusal goes at the next draw, also where another field has done away with its cause."""
+    """An error disappears at the next draw, even if a change of another field has removed its cause."""
     page.load()
     page.paste("a\nb\n")
     page.fill("seed", "3")

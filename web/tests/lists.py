@@ -1,4 +1,4 @@
-"""Lists as people have them: long ones that are pasted, lines that look alike, changes, letters that nobody sees."""
+"""Lists as people have them: long pasted ones, lines that look alike, changes, and invisible characters."""
 
 import re
 import time
@@ -9,7 +9,7 @@ from counts import Counts, sha256
 from page import Page
 from said import grouped
 
-# Pastes a text as the keyboard does, which a script may not do with the browser's own clipboard.
+# Pastes a text as the keyboard does. A script may not do this with the browser's own clipboard.
 PASTE = """
 const [given, first, last] = arguments;
 const text = given ?? window.text;
@@ -21,7 +21,7 @@ const event = new ClipboardEvent("paste",
   { clipboardData: data, data: text, dataType: "text/plain", bubbles: true, cancelable: true });
 return field.dispatchEvent(event);
 """
-# Notes when the page last answered, and for how long the progress was to be seen.
+# Records when the page last responded, and how long the progress was visible.
 WATCH = """
 window.latest = performance.now();
 window.longest = 0;
@@ -30,7 +30,7 @@ setInterval(() => {
   window.latest = performance.now();
 }, 20);
 """
-# Seconds that the list and a draw of all may take, by the number of lines, and those of a slow machine beside them.
+# For each number of lines, the seconds that the list and a draw of all may take, and a factor for slow machines.
 SECONDS = {100_000: 1.0, 1_000_000: 5.0}
 SLOWNESS = 3
 NFC, NFD = "Zo\u00eb", "Zoe\u0308"
@@ -67,11 +67,11 @@ TIDY = {
     ("unique", b"a\n\na"): (b"a\n\n", 1), ("unique", b"\n\n\na"): (b"\na", 2), ("trim", b"a\n "): (b"a\n\n", 1),
     ("trim", b"\t"): (b"\n", 1), ("trim", b" \na"): (b"\na", 1), ("empty", b"\na\n\n"): (b"a\n", 2),
 }
-# No byte of another letter is a space: each letter of Latin-1, and each byte that is none of ASCII, at both ends.
+# No byte of another character is a space: each Latin-1 character, and each non-ASCII byte, at both ends of a line.
 for whole in ("".join(f"{chr(code)}x{chr(code)}\n" for code in range(0xa0, 0x100)).encode(), b"voil\xc3\xa0\n",
               b"".join(bytes([byte, 120, byte, 10]) for byte in range(128, 256))):
     TIDY["trim", whole] = (whole, 0)
-# What stands in a list, and how the page shows it.
+# Entrants of a list, and how the page shows them.
 SHOWN = {
     "\U0001f468\u200d\U0001f469\u200d\U0001f467": "\U0001f468\u200d\U0001f469\u200d\U0001f467",
     "\u2764\ufe0f\u200d\U0001f525": "\u2764\ufe0f\u200d\U0001f525", "1\ufe0f\u20e3": "1\ufe0f\u20e3",
@@ -93,7 +93,7 @@ SHOWN = {
     "\U0001f600\U000e0041": "\U0001f600[U+E0041]", "\u2764\U000e0067\U000e0062": "\u2764[U+E0067][U+E0062]",
     "\U0001f3f3\U000e0067": "\U0001f3f3[U+E0067]",
 }
-# The scripts whose letters join, or choose a form, by a joiner between them, and others, each with a letter.
+# A letter of each script in which a joiner between letters matters, and letters of other scripts.
 JOINING = ("ARABIC LETTER BEH", "BENGALI LETTER KA", "DEVANAGARI LETTER KA", "GUJARATI LETTER KA", "GURMUKHI LETTER KA",
            "KANNADA LETTER KA", "KHMER LETTER KA", "MALAYALAM LETTER KA", "MONGOLIAN LETTER A", "ORIYA LETTER KA",
            "SINHALA LETTER ALPAPRAANA KAYANNA", "SYRIAC LETTER BETH", "TAMIL LETTER KA", "TELUGU LETTER KA",
@@ -105,7 +105,7 @@ JOINERS = {"\u200c": "[U+200C zero width non-joiner]", "\u200d": "[U+200D zero w
 
 
 def long_pastes(counts: Counts, page: Page) -> None:
-    """A paste and a draw of all take no longer than they may, and the page answers meanwhile."""
+    """A paste and a draw of all finish within the limits, and the page stays responsive."""
     for size, most in SECONDS.items():
         text = "".join(f"entrant {number}\n" for number in range(size))
         page.load()
@@ -125,7 +125,7 @@ def long_pastes(counts: Counts, page: Page) -> None:
 
 
 def pastes(counts: Counts, page: Page) -> None:
-    """What is pasted stands between what stood there; a short text is left to the browser."""
+    """Pasted text is inserted into the old text. The browser itself handles short texts."""
     page.load()
     counts.same("a short text", page.browser.run(PASTE, "Ada\n" * 20_000, None, None), True)
     for lines in ("Ada\r\n", "Ada\r", "Ada\n", "Ada\rBob\r\nCid\n"):
@@ -139,7 +139,7 @@ def pastes(counts: Counts, page: Page) -> None:
 
 
 def pasted_between(counts: Counts, page: Page, long: str) -> None:
-    """A long text at both ends of a short one, within it, and in its place. Each end of a line is a line feed then."""
+    """A long text at both ends of a short one, within it, and in its place. All line ends become line feeds."""
     for first, last, wanted in ((0, 0, "{}x\ny\n"), (2, 2, "x\n{}y\n"), (0, 4, "{}"), (4, 4, "x\ny\n{}")):
         page.paste("x\ny\n")
         page.browser.run(PASTE, long, first, last)
@@ -160,7 +160,7 @@ def alike(counts: Counts, page: Page) -> None:
 
 
 def tidied(counts: Counts, page: Page) -> None:
-    """Each change of a file and of a pasted text: the list that it leaves, and how many lines it says."""
+    """Each change of a file and of a pasted text: the changed list, and the number of lines that the page reports."""
     page.load()
     for (change, before), (after, changed) in TIDY.items():
         lines = "1 line was" if changed == 1 else f"{changed} lines were"
@@ -201,7 +201,7 @@ def is_text(data: bytes) -> bool:
 
 
 def alike_bytes(counts: Counts, page: Page) -> None:
-    """Lines that are no text are equal only if all their bytes are: no byte stands for another."""
+    """Lines that are not text are equal only if all their bytes are equal."""
     page.load()
     each = [bytes([66, byte, 110]) for byte in range(128, 256)]
     for lines, begins in ((each, []), (each + each, ["128 of the lines equal an earlier line: look at line 129."]),
@@ -215,7 +215,7 @@ def alike_bytes(counts: Counts, page: Page) -> None:
 
 
 def joined_letters(counts: Counts, page: Page) -> None:
-    """A joiner between two letters is shown as it is in each script that joins by it, and by its name in others."""
+    """A joiner between two letters is shown unchanged in scripts in which it matters, and by its name in others."""
     pairs = [(unicodedata.lookup(name), name in JOINING) for name in JOINING + OTHERS]
     wanted = {}
     for letter, joins in pairs:
@@ -230,7 +230,7 @@ def joined_letters(counts: Counts, page: Page) -> None:
 
 
 def shown_by_name(page: Page, entrants: List[str]) -> List[str]:
-    """What the page shows of a draw of all, with the names of what cannot be seen in brackets."""
+    """What the page shows for a draw of all, with the names of invisible characters in brackets."""
     page.load()
     page.open_file("".join(f"{entrant}\n" for entrant in entrants).encode())
     page.fill("seed", "all")
@@ -241,7 +241,7 @@ def shown_by_name(page: Page, entrants: List[str]) -> List[str]:
 
 
 def letters_by_name(counts: Counts, page: Page) -> None:
-    """Joined letters as they are, and what cannot be seen by its name."""
+    """Joined letters are shown unchanged, and invisible characters by name."""
     counts.same("letters by name", sorted(shown_by_name(page, list(SHOWN))), sorted(SHOWN.values()))
     record = page.shown()["record"]
     for entrant in list(SHOWN)[:7]:

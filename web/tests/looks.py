@@ -1,4 +1,4 @@
-"""Widths, colours, names for screen readers, the keyboard, what the page says of a list, and no request."""
+"""Widths, colours, names for screen readers, the keyboard, what the page says about a list, and no network requests."""
 
 import http.server
 import threading
@@ -42,7 +42,8 @@ const low = (elements, least, colours) => Array.from(document.querySelectorAll(e
     return [element.id || element.tagName, (Math.max(...two) + 0.05) / (Math.min(...two) + 0.05)];
   }).filter(([, contrast]) => contrast < least);
 """
-# Texts on what is behind them; the borders of fields and buttons, and the tab that is shown, on what is around them.
+# The contrast of texts with their background, and of the borders of fields and buttons, and of the selected tab, with
+# their surroundings.
 CONTRAST = COLOURS + """
 return [
   ...low("p, li, label, h1, h2, h3, code, pre, summary, textarea, input, button, strong", 4.5,
@@ -62,7 +63,7 @@ const left = (place) => {
 };
 return left(text.length - 1) < left(0);
 """
-# What sticks out of its card or of the window, and what has to be moved sideways to be read.
+# What extends out of its card or of the window, and what has to be scrolled sideways.
 WIDE = """
 const shown = Array.from(document.querySelectorAll("body *")).filter((element) => element.checkVisibility());
 const right = (element) => element.getBoundingClientRect().right;
@@ -75,19 +76,19 @@ return [
     !element.matches("textarea, input, #heard") && getComputedStyle(element).overflowX !== "visible"),
 ].map(name);
 """
-# Whether the list stands beside the second step, and above it.
+# Whether the list is beside the second step, and whether it is above it.
 PLACES = """
 const [one, other] = Array.from(document.querySelectorAll("#panel > .columns > section"))
   .filter((section) => section.checkVisibility()).map((section) => section.getBoundingClientRect());
 return [one.right <= other.left, one.bottom <= other.top];
 """
-# Texts that are there with nothing to say.
+# Visible elements without a text.
 EMPTY = """
 return Array.from(document.querySelectorAll("p, ul, ol, pre, h1, h2, h3, label, details, section")).filter((element) =>
   element.checkVisibility() && element.id !== "heard" && element.textContent.trim() === "")
   .map((element) => element.id || element.tagName);
 """
-# What tells by its colour, too.
+# Errors, warnings and the like that have no colour of their own, but should have one.
 COLOURED = """
 const colour = (element) => getComputedStyle(element).color;
 const wanted = ["[role=alert]", ".error", "#list-warnings", ".unseen",
@@ -179,7 +180,7 @@ def names(counts: Counts, page: Page) -> None:
 
 
 def reached(page: Page) -> List[str]:
-    """Where the key Tab leads, from the tab on."""
+    """The elements that the Tab key reaches, from the tab on."""
     page.browser.run("document.getElementById(arguments[0]).focus();", ORDER[0])
     places = [ORDER[0]]
     while len(places) < len(ORDER):
@@ -189,7 +190,7 @@ def reached(page: Page) -> List[str]:
 
 
 def keyboard(counts: Counts, page: Page) -> None:
-    """A draw and its check with no mouse: Tab reaches all in the order of the page, Space presses."""
+    """A draw and its check without a mouse: Tab reaches everything in the order of the page, Space presses."""
     page.load()
 
     def go(element: str) -> None:
@@ -224,7 +225,7 @@ def keyboard(counts: Counts, page: Page) -> None:
 
 
 def directions(counts: Counts, page: Page) -> None:
-    """A name is read in the direction of its first letter, whatever stands around it."""
+    """A name is read in the direction of its first letter, whatever is around it."""
     ada = "\u05d0\u05d3\u05d4"
     for entrant, is_left in (("Ada!", False), ("7 Ada (7)", False), (f"Ada {ada}!", False), (f"{ada}!", True),
                              ("\u0639\u0644\u064a!", True), (f"7 {ada}!", True), (f"{ada} Ada!", True)):
@@ -235,7 +236,7 @@ def directions(counts: Counts, page: Page) -> None:
 
 
 def forced_colours(counts: Counts, page: Page) -> None:
-    """Where the user's own colours take the place of the page's, the tab that is shown still differs."""
+    """If the user's own colours replace the page's, the selected tab still differs."""
     page.load()
     if page.browser.media(forced_colors="active"):
         for tab in ("draw", "check"):
@@ -274,7 +275,7 @@ def said_of_lists(counts: Counts, page: Page) -> None:
 
 
 def no_request(counts: Counts, page: Page) -> None:
-    """Nothing leaves the page, even if a script in it tried."""
+    """Nothing is sent to the network, even if a script in the page tries it."""
     asked: List[str] = []
 
     class Server(http.server.BaseHTTPRequestHandler):
@@ -286,7 +287,7 @@ def no_request(counts: Counts, page: Page) -> None:
         def log_message(self, *_: object) -> None:
             pass
 
-    # A browser may connect and ask nothing: each connection has a thread, so that none waits for it.
+    # A browser may connect without a request. Each connection has a thread, so that no other one waits for it.
     server = http.server.ThreadingHTTPServer(("127.0.0.1", 0), Server)
     threading.Thread(target=server.serve_forever, daemon=True).start()
     page.browser.run("""

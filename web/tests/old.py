@@ -1,4 +1,4 @@
-"""Browsers of other years: without 64-bit memory the second module draws the same, without WebAssembly nothing does."""
+"""Old browsers: without 64-bit memory the second module draws the same; without WebAssembly the page cannot draw."""
 
 import base64
 import re
@@ -22,7 +22,7 @@ FAILED = "The module failed, and nothing is drawn: TypeError: "
 MAKER = f"Version {VERSION}, module SHA-256 {{}}, for 32-bit memory: the same source, its proof erased"
 OTHER = ("The record was made by this page's other module, for 64-bit memory, proved. "
          "Here runs the one for 32-bit memory: the same source, its proof erased.")
-# What is to be seen once there is something to do with it, or to say.
+# Elements that are visible only once they are of use or have a text.
 LATER = """
 return ["tidy", "opened", "list-facts", "progress", "result", "check-step", "outcome", "maker"]
   .filter((id) => document.getElementById(id).checkVisibility());
@@ -30,7 +30,7 @@ return ["tidy", "opened", "list-facts", "progress", "result", "check-step", "out
 
 
 def without_modules(counts: Counts, page: Page, name: str, words: str = WORDS) -> None:
-    """The page says what went wrong, and does nothing else."""
+    """The page shows what went wrong, and does nothing else."""
     page.load()
     shown = page.shown()
     said = shown["page"] if shown["page"].startswith(words) else words
@@ -47,7 +47,7 @@ def without_modules(counts: Counts, page: Page, name: str, words: str = WORDS) -
 
 
 def with_module32(counts: Counts, page: Page, program: str, digests: Dict[int, str]) -> None:
-    """The second module runs, says so, and draws as the program does; a record of the first one agrees."""
+    """The second module runs, the page says so, and it draws as the program does. A record by the first one agrees."""
     page.load()
     maker = page.browser.run('return document.getElementById("maker").textContent;')
     counts.same("the module for 32-bit memory", maker, MAKER.format(digests[32]))
@@ -59,14 +59,14 @@ def with_module32(counts: Counts, page: Page, program: str, digests: Dict[int, s
 
 
 def strict_copy(address: str, folder: Path) -> str:
-    """A page that forbids modules, as its policy reads in a browser that does not know 'wasm-unsafe-eval'."""
+    """A page that forbids modules, like this page in a browser that does not know 'wasm-unsafe-eval'."""
     page = Path(url2pathname(urlparse(address).path)).read_text(encoding="utf-8")
     (folder / "strict.html").write_text(page.replace(" 'wasm-unsafe-eval'", "", 1), encoding="utf-8")
     return (folder / "strict.html").as_uri()
 
 
 def empty_copy(address: str, folder: Path) -> str:
-    """A page whose modules have nothing, so that they compile and do not start."""
+    """A page whose modules are empty, so that they compile but do not start."""
     page = Path(url2pathname(urlparse(address).path)).read_text(encoding="utf-8")
     empty = base64.b64encode(b"\0asm\1\0\0\0").decode()
     page = re.sub(r'(<script type="text/plain" id="module(?:32)?">)[^<]*', rf"\g<1>{empty}", page)

@@ -1,11 +1,11 @@
-"""The page as its user sees it: fields, buttons, texts."""
+"""The web page as its user sees it: fields, buttons, texts."""
 
 from pathlib import Path
 from typing import Any, Dict, Optional
 
 from drivers import Browser
 
-# As a method of input does that composes letters, and tells nothing when it is done.
+# Sets a text as an input method does that composes characters and sends no event at the end.
 SET = """
 const field = document.getElementById(arguments[0]);
 field.value = arguments[1];
@@ -51,7 +51,7 @@ class Page:
             !document.getElementById("page-error").hidden;""")
 
     def shown(self) -> Dict[str, Any]:
-        """All that the page says, hidden parts as empty texts."""
+        """All texts of the page. Hidden parts are empty texts."""
         return self.browser.run(SHOWN)
 
     def paste(self, text: str) -> None:
@@ -72,13 +72,13 @@ class Page:
             self.browser.run(SET, "count", count)
 
     def facts(self) -> Dict[str, Any]:
-        """What the page says once it has looked at the list."""
+        """What the page says after it has checked the list."""
         self.browser.wait("""return ["list-facts", "list-error", "page-error"].some((id) =>
             !document.getElementById(id).hidden);""")
         return self.shown()
 
     def tab(self, name: str) -> None:
-        """Shows what belongs to a draw, or to a check."""
+        """Shows the tab for a draw or for a check."""
         self.browser.run("document.getElementById(arguments[0]).click();", f"tab-{name}")
 
     def draw(self) -> Dict[str, Any]:
@@ -93,7 +93,7 @@ class Page:
         return self.check_again()
 
     def check_again(self) -> Dict[str, Any]:
-        """Checks what is in the field, which is not touched."""
+        """Checks what is in the field, without changing it."""
         self.tab("check")
         self.browser.run('document.getElementById("check").click();')
         self.browser.wait('return !document.getElementById("check").disabled;')

@@ -1,5 +1,5 @@
 #!/usr/bin/env python3
-"""Draws docs/page.png: the page docs/nanorand.html after the example's draw, in Chromium."""
+"""Makes docs/page.png, a picture of docs/nanorand.html in Chromium after the example's draw: web/tests/picture.py."""
 
 import tempfile
 from pathlib import Path

@@ -1,4 +1,4 @@
-// Tries scripts of the page, whose code stands before this. Returns names of cases, what was found, and what was wanted.
+// Tests scripts of the page, whose code precedes this. Returns the names of the cases, and what was found and expected.
 
 const cases = [];
 const same = (name, found, wanted) => cases.push([name, found, wanted]);
@@ -9,7 +9,7 @@ function moduleOf(exports) {
   return new Module({ exports: { memory, ...exports } }, 64);
 }
 
-/** The reason of the refusal, and what its words need, that an error becomes. */
+/** The reason and the values of the Refusal that an error is turned into. */
 function refusalOf(error) {
   const { reason, values } = Refusal.of(error);
   return [reason, values];
@@ -29,7 +29,7 @@ function errors() {
   }
 }
 
-/** Each status of an export that a draw or a count may return, as the page tells it. */
+/** Each status that the export for a draw or a count may return, and the error of the page for it. */
 function statuses() {
   const refusedBy = (call) => {
     try {
@@ -63,7 +63,7 @@ function versions() {
   }
 }
 
-/** The entrants that a record names, as texts, or the line at which it is none. */
+/** The entrants that a record names, as texts, or the line at which it is not a record. */
 function namedIn(text) {
   try {
     return readRecord(text).named.map(textOf);
@@ -72,7 +72,7 @@ function namedIn(text) {
   }
 }
 
-/** Lines of every length, folded once, twice or not at all, with text right below. */
+/** Lines of every length, folded once, twice or not at all, with text directly below. */
 function folds() {
   for (let length = 40; length < 60; length += 1) {
     const line = "x".repeat(length);
@@ -87,7 +87,7 @@ function folds() {
   }
 }
 
-/** A line goes on with whatever follows it but the beginning of another line of a record. */
+/** A line is continued by whatever follows it, except the beginning of another line of a record. */
 function continuations() {
   const words = "x".repeat(60);
   for (const next of ["12:30 by the exchange", "3:1", "7:", ":", ": x", "1 : x", "a: b", "seed:", "seeds: 1", "-1: x",
@@ -100,7 +100,7 @@ function continuations() {
   }
 }
 
-/** What the page says of a module that cannot be made: that there are none, or what went wrong. */
+/** The error if a module cannot be created: WebAssembly is missing, or what went wrong. */
 async function starts() {
   const [real, validate] = [WebAssembly.instantiate, WebAssembly.validate];
   const { CompileError, LinkError, RuntimeError } = WebAssembly;
@@ -124,7 +124,7 @@ async function starts() {
   }
 }
 
-/** The last entrant that a record names may be folded: the number of those that are left is not of it. */
+/** The last named entrant may be folded. The line with the number of further entrants is not part of it. */
 function restOfLong() {
   for (const length of [1, 43, 44, 50, 200]) {
     for (const left of [1, 5, 10 ** 6]) {
@@ -139,7 +139,7 @@ function restOfLong() {
   }
 }
 
-/** A text of a record with one character more, less or another is refused, or says something else. */
+/** A record with one character added, removed or changed is an error, or has another meaning. */
 function otherTexts() {
   const drawn = { ...RECORD, seed: "4 1 6", entrants: 12, drawn: 3, named: ["Ada", "x".repeat(60), "1: a\\b"].map(utf8) };
   const record = writeRecord(drawn);
@@ -151,7 +151,7 @@ function otherTexts() {
       return error.message;
     }
   };
-  // What a mail program may do to a line: spaces at its end, marks of a quotation, folds.
+  // What a mail program may do to a line: add spaces at its end or `>` marks, or fold it.
   const plain = (text) => text.replace(/^>[> ]*/gm, "").replace(/[ \t\r]+$/gm, "").replace(/[ \n]+/g, "");
   const wanted = read(record);
   const [title, ...rest] = record.split("\n");
@@ -174,7 +174,7 @@ function otherTexts() {
   }
 }
 
-/** In lists of a few words, the lines that are like an earlier one are those that a plain search finds. */
+/** In lists of a few words, the lines that look like an earlier one are those that a plain search finds. */
 function alikes() {
   const forms = [(line) => line, (line) => line.replace(/^[\t ]+|[\t ]+$/g, ""), (line) => line.normalize("NFC"),
     (line) => line.toLowerCase().normalize("NFC")];
@@ -198,7 +198,7 @@ function alikes() {
   same("lines alike", differ.slice(0, 3), []);
 }
 
-/** A list without the memory for it: of so many bytes, with line feeds at these places. A part of it is its ends. */
+/** A stand-in for a long list, without its memory: a length, and line feeds at these places. A part is its two ends. */
 function listOfEnds(length, ends) {
   return {
     length,
@@ -207,7 +207,7 @@ function listOfEnds(length, ends) {
   };
 }
 
-/** Lines are found at their places, however far from a list's beginning. */
+/** Lines are found at their offsets, however far from the beginning of a list. */
 function farLines() {
   for (const power of [16, 24, 31, 32, 33, 52]) {
     const ends = [0, 1, 3, 6].map((more) => 2 ** power + more);
@@ -223,10 +223,10 @@ function farLines() {
   }
 }
 
-/** The bytes of a list's end, and how many there are, as a long list is not compared whole. */
+/** The last bytes of a list, and its length. A long list is not compared as a whole. */
 const endOf = (list) => [list.length, Array.from(list.slice(-7))];
 
-/** What is made of more than 2^24 bytes has each byte in its place. */
+/** A result of more than 2^24 bytes has each byte in its place. */
 function largeLists() {
   const size = 2 ** 24;
   const lines = [new Uint8Array(size).fill(97), ...["b", "", "cd"].map(utf8)];
@@ -239,7 +239,7 @@ function largeLists() {
     [size + 5, [97, 97, 10, 98, 10, 99, 100]]);
 }
 
-/** A check whose own draw fails says so, and not that the record differs. */
+/** If the draw of a check fails, the check says so, and not that the record differs. */
 function failedChecks() {
   const list = utf8("Ada\nBob\n");
   const sum = new Uint8Array(32).fill(7);
@@ -263,7 +263,7 @@ function failedChecks() {
     ["The list has 2 entrants, and 3 are asked for."]);
 }
 
-/** An error that is none of the record's, while it is read, is not told as a fault of it. */
+/** An error that is not the record's, while the record is read, is not shown as an error of the record. */
 function unreadRecords() {
   const outcomeOf = (text) => {
     try {
@@ -279,18 +279,18 @@ function unreadRecords() {
     same(`a line that fails by ${error}`, outcomeOf({ split: () => ["", { replace: fail }] }), refusalOf(error));
   }
   same("a text that is no record", outcomeOf("a\n"), "no record");
-  // Browsers differ in how long a line an expression takes. A line that is too long is no fault of the record.
+  // Browsers differ in how long a line a regular expression accepts. A line that is too long is not the record's error.
   const record = writeRecord({ ...RECORD, named: ["Ada"].map(utf8) });
   same("a long line", outcomeOf(record.replace("Ada", "x".repeat(2e7))) === "no record", false);
 }
 
-/** A letter that nobody sees, bare in a record, is refused with its line wherever it stands. */
+/** An invisible character in a record that is not escaped is an error with its line, wherever it is. */
 function bareLetters(letters) {
   const lines = writeRecord(RECORD).trimEnd().split("\n");
   const lineOf = (place, line) => namedIn([...lines.slice(0, place), line, ...lines.slice(place + 1)].join("\n"));
   const parts = ["", "A", "\\x41", "\\x41\\x64", "\\x41\\x64\\x61\\x41", "\\\\", "\\xe2\\x80"];
   for (const letter of letters) {
-    // Of these two the reader takes away those at a line's end, as mail programs add them.
+    // The reader removes these two at the end of a line, because mail programs add them.
     const isDropped = "\t\r".includes(letter);
     const taken = [];
     const refused = (place, line) => {
@@ -308,7 +308,7 @@ function bareLetters(letters) {
   }
 }
 
-/** Spaces and tabs at the ends of lines are told, whether the list is text or not. */
+/** Spaces and tabs at the ends of lines cause a warning, whether the list is text or not. */
 function spaces() {
   for (const line of [[97], [0xff], [0xc3, 0xa9], [0xc3]]) {
     for (const space of [9, 32]) {
@@ -323,7 +323,7 @@ function spaces() {
   }
 }
 
-/** Lines that differ in spaces of ASCII at their ends are alike, and a line of them alone is blank; of no other byte. */
+/** Lines that differ only in ASCII white space at their ends are alike, and a line of only white space is blank. */
 function endings() {
   const isTold = (list, words) => warningsOf(Uint8Array.from(list)).some((warning) => warning.includes(words));
   for (const line of [[97], [0xff]]) {
@@ -338,7 +338,7 @@ function endings() {
   }
 }
 
-/** What a promise became: its answer, or the reason and the values of its refusal. */
+/** The outcome of a promise: its answer, or the reason and the values of its Refusal. */
 const ended = (promise) => promise.then((answer) => answer, ({ reason, values }) => [reason, values]);
 
 async function clients() {
@@ -382,7 +382,7 @@ async function clients() {
   }
 }
 
-/** Whatever is asked of a client that was stopped is refused for the same reason, as is what was asked before. */
+/** A stopped client rejects every task, earlier and later ones, with the same reason. */
 async function stopped(workers) {
   const told = [];
   const client = new Client("", (progress) => told.push(progress));
@@ -397,7 +397,7 @@ async function stopped(workers) {
   same("what is sent", [worker.sent.length, told], [1, ["Starting", ""]]);
 }
 
-/** A message that cannot be sent is refused, and leaves nothing to wait for. */
+/** A message that cannot be sent is rejected, and no task stays open. */
 async function unsent(workers) {
   const told = [];
   const client = new Client("", (progress) => told.push(progress));

@@ -1,5 +1,5 @@
-"""The scripts of the page alone, in a browser: versions, errors, the worker's client, folded records, large lists,
-letters that nobody sees, spaces, names."""
+"""The page's scripts alone, in a browser: versions, errors, the worker's client, folded records, large lists, invisible
+characters, spaces, names."""
 
 import unicodedata
 from pathlib import Path
@@ -9,7 +9,7 @@ from glue import build
 from page import Page
 
 SCRIPTS = ("record", "list", "module", "client", "check", "tidy")
-# Letters that Unicode has no name for, or one that says less.
+# Characters for which Unicode has no name, or one that is less clear.
 NAMES = {
     0x00: "null", 0x09: "tab", 0x0d: "carriage return", 0x7f: "delete", 0x2800: "empty Braille pattern",
     0xfe0e: "text variation", 0xfe0f: "emoji variation", 0xfeff: "byte order mark",
@@ -17,7 +17,7 @@ NAMES = {
 
 
 def names(counts: Counts, page: Page) -> None:
-    """A letter that nobody sees has Unicode's name."""
+    """Other invisible characters have Unicode's names."""
     found = page.browser.run('"use strict";\n' + build.joined("names", set()) + "return Array.from(NAMES);")
     counts.case("names", "" if len(found) > 30 else "there are few")
     for number, name in found:

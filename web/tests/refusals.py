@@ -1,4 +1,4 @@
-"""Each refusal of the page, beside the status of the program `lots` where it has one."""
+"""Each error of the page, compared with the status of the program `lots` if it has one."""
 
 from typing import Callable
 
@@ -24,7 +24,7 @@ def half(line: int) -> str:
 
 
 def refused(counts: Counts, page: Page, name: str, field: str, words: str) -> None:
-    """Draws: the words stand at the field alone, there is no result, and the keyboard is at the field."""
+    """Draws. The text is shown only at the field, there is no result, and the field has the focus."""
     shown = page.draw()
     said = {key: shown[key] for key in ("page", "list", "seed", "count", "record", "title") if shown[key]}
     counts.same(name, said, {field: words})
@@ -92,7 +92,7 @@ def lists_refused(counts: Counts, page: Page, program: str) -> None:
 
 
 def stale_results(counts: Counts, page: Page) -> None:
-    """A result and an outcome go once a field is changed, and an answer that comes late is not shown."""
+    """A result and an outcome disappear once a field changes, and a late answer is not shown."""
     for field, value in (("list-text", "a\nb\nc\n"), ("seed", "other"), ("count", "1"), ("check-text", "other")):
         page.paste("a\nb\n")
         page.fill("seed", "all")

@@ -1,9 +1,12 @@
 #!/usr/bin/env python3
-"""Tests the built page in browsers: web/tests/run.py LOTS BROWSER... [--pictures FOLDER] [--only PART]
+"""Tests the built page, web/dist/nanorand.html, in browsers.
 
-LOTS is the program that the page is compared with; each BROWSER is chromium or firefox, and all work side
-by side. The parts are answers, glue, pieces, draws, sizes, refusals, checks, failures, said, heard, late, steps,
-lists, looks, files, copies, long and old. The last line is N passed, M failed.
+    web/tests/run.py LOTS BROWSER.. [--pictures FOLDER] [--only PART]
+
+For example, web/tests/run.py crates/lots/out/lots chromium firefox. LOTS is the program with which the page is
+compared. Each BROWSER is chromium or firefox; all run side by side. The parts are answers, glue, pieces, draws, sizes,
+refusals, checks, failures, said, heard, late, steps, lists, looks, files, copies, long and old. The last line is N
+passed, M failed.
 """
 
 import argparse
@@ -36,7 +39,7 @@ BROWSERS = {"chromium": Chromium, "firefox": Firefox}
 
 
 def in_browser(kind: type, program: str, pictures: Path, only: str) -> Counts:
-    """Tries the parts in a browser of its own."""
+    """Runs the parts in a browser of its own."""
     counts = Counts()
     address = (OUT / "nanorand.html").as_uri()
     modules = {64: (OUT / "nanorand_c.wasm").read_bytes(), 32: (OUT / "nanorand_c32.wasm").read_bytes()}

@@ -1,4 +1,4 @@
-"""What the page says beside a draw: counts, hints, the module, the Python code; its frame, and what it may load."""
+"""What the page says besides a draw: counts, hints, the module, the Python code; its HTML; and what it may load."""
 
 import re
 import time
@@ -10,7 +10,7 @@ from page import Page
 
 TOP = Path(__file__).resolve().parents[2]
 BYTES = r"\x and two digits are a byte that is no visible letter, \\ is one backslash."
-# What a screen reader says of each field beside its name.
+# The description of each field for screen readers, besides its name.
 DESCRIPTIONS = {
     "list-file": ["list-hint", "list-error"], "list-text": ["list-hint", "list-error"],
     "seed": ["seed-hint", "seed-read", "seed-error"], "count": ["count-hint", "count-error"],
@@ -21,7 +21,7 @@ POLICY = [
     "img-src data:", "base-uri 'none'", "form-action 'none'",
 ]
 
-# A browser changes nothing of what is typed in these, and offers nothing that was typed before.
+# A browser does not change what is typed in these fields, and does not suggest what was typed before.
 TYPED = ["list-text", "seed", "count", "check-text"]
 AS_TYPED = {"spellcheck": "false", "autocomplete": "off", "autocapitalize": "off", "autocorrect": "off"}
 MARKED = "<b>Ada</b>&amp;<img>"
@@ -57,7 +57,7 @@ def hints_on_bytes(counts: Counts, page: Page) -> None:
 
 
 def letters_that_nobody_sees(counts: Counts, page: Page) -> None:
-    """Each is shown by its bytes, so that no two entrants look alike. Others are shown as they are."""
+    """Each invisible character is shown by its bytes, so that no two entrants look alike. Others are unchanged."""
     wanted = {f"a{letter}b": "a" + "".join(f"\\x{byte:02x}" for byte in letter.encode()) + "b" for letter in ALL_UNSEEN}
     wanted.update({entrant: entrant for entrant in ("a b", "é", "e\u0301", "漢字", "🎲", "\u2801")})
     page.open_file("".join(f"{entrant}\n" for entrant in wanted).encode())
@@ -85,7 +85,7 @@ def descriptions(counts: Counts, page: Page) -> None:
 
 
 def loads_nothing(counts: Counts, page: Page) -> None:
-    """No element names an address, and the policy admits none."""
+    """No element has an address, and the content security policy allows none."""
     found = page.browser.run("""return Array.from(document.querySelectorAll("*")).flatMap((element) =>
         Array.from(element.attributes).filter(({ name, value }) => value !== "data:," && !value.startsWith("blob:") &&
           (/^(src|srcset|href|action|formaction|data|poster|ping|background|style|integrity)$/.test(name) ||
@@ -98,7 +98,7 @@ def loads_nothing(counts: Counts, page: Page) -> None:
 
 
 def frame(counts: Counts, page: Page) -> None:
-    """The language, the title, a phone's width, the headings' levels, and what stands there without scripts."""
+    """The language, the title, the width on a phone, the levels of headings, and the text without scripts."""
     found = page.browser.run("""return [document.documentElement.lang, document.title,
         document.querySelector("meta[name=viewport]")?.content, document.querySelector("noscript")?.textContent];""")
     counts.same("the frame", [" ".join((text or "").split()) for text in found], [
@@ -125,7 +125,7 @@ def fields(counts: Counts, page: Page) -> None:
 
 
 def fresh_page(counts: Counts, page: Page) -> None:
-    """Before anything was typed the list is empty: nobody is drawn, and a record has no list."""
+    """Before anything is typed, the list is empty: nobody is drawn, and a record has no list."""
     page.load()
     page.browser.run('document.getElementById("seed").value = "seed";')
     counts.same("a draw of nobody", page.draw()["title"], "Nobody was drawn.")
@@ -136,7 +136,7 @@ def fresh_page(counts: Counts, page: Page) -> None:
 
 
 def files_named(counts: Counts, page: Page) -> None:
-    """The name and the size of the file that is open, and none of one that was closed: the pasted text is the list."""
+    """The name and the size of the open file. After it is closed they disappear, and the pasted text is the list."""
     page.paste("Max\n")
     for name, size in (("one", 3), (MARKED.replace("/", ""), 12345)):
         (page.folder / name).write_bytes(b"a" * (size - 1) + b"\n")
@@ -152,7 +152,7 @@ def files_named(counts: Counts, page: Page) -> None:
 
 
 def mark_up(counts: Counts, page: Page) -> None:
-    """What others wrote is shown as it is written, and makes no element."""
+    """Text by others is shown as it is written, and creates no element."""
     elements = 'return document.querySelectorAll("b, img").length;'
     page.paste(f"{MARKED}\n")
     page.fill(f" {MARKED}", "all")
@@ -166,7 +166,7 @@ def mark_up(counts: Counts, page: Page) -> None:
 
 
 def copies_that_fail(counts: Counts, page: Page) -> None:
-    """A button says for a while that nothing was copied, also to screen readers, and then what it said before."""
+    """A button says for a while that nothing was copied, also to screen readers. Then it has its old text again."""
     page.tab("draw")
     page.browser.run("navigator.clipboard.writeText = () => Promise.reject(new Error());")
     heard = 'return document.getElementById("heard").textContent;'

@@ -1,4 +1,4 @@
-"""The steps of a draw and the tab of a check: what stands where, the keyboard, files that are dropped, and paper."""
+"""The steps of a draw and the tab for a check: what is where, the keyboard, dropped files, and printing."""
 
 import re
 import time
@@ -13,7 +13,7 @@ from page import Page
 LIST = "Ada\nBarbara\nChidi\nDmitri\nElif\nFarid\nGrace\nHedy\nInes\nJun\nKatherine\nLise\n"
 SEED = "4 1 6 3 3 2 5 6 1 4 2 6 5 3 1 1 6 2 4 5"
 ARROW_LEFT, ARROW_RIGHT, HOME, END = "\ue012", "\ue014", "\ue011", "\ue010"
-# The height of two screens of a phone that is 360 wide.
+# The height of two screens of a phone with a width of 360 pixels.
 TWO_SCREENS = 1600
 HEADINGS = """return Array.from(document.querySelectorAll("h2"))
   .filter((one) => one.checkVisibility()).map((one) => one.textContent);"""
@@ -25,7 +25,7 @@ return [size(document.querySelector("#drawn li")), Math.max(...others.map(size))
   document.getElementById("record").getBoundingClientRect().top -
     document.getElementById("drawn").getBoundingClientRect().bottom];
 """
-# The width of a winner's number, the room beside the winners, and the width of a number with one digit more.
+# The width of a winner's number, the space before the winners, and the width of a number with one more digit.
 NUMBERS = """
 const list = document.getElementById("drawn");
 const widthOf = (text) => {
@@ -40,7 +40,7 @@ const widthOf = (text) => {
 const room = list.firstElementChild.getBoundingClientRect().left - list.getBoundingClientRect().left;
 return [widthOf(`${arguments[0]}.`), room, widthOf(`${arguments[0]}0.`)];
 """
-# How many letters of each digest stand in each of its rows.
+# The number of characters in each row of each digest.
 ROWS = """
 return Array.from(document.querySelectorAll(".digest")).map((digest) => {
   const text = digest.firstChild;
@@ -60,7 +60,7 @@ return ["tab-draw", "list-heading", "list-hint", "list-file", "list-text", "file
   "list-warnings", "list-digest", "seed", "check-text", "outcome", "publish-hint", "drawn", "record", "print"]
   .filter((id) => document.getElementById(id).checkVisibility());
 """
-# Whether a part is higher than what is seen of it, and what becomes of the rest.
+# Whether a part is higher than its visible part, and how the rest is reached.
 CUT = """
 const part = document.getElementById(arguments[0]);
 return [part.scrollHeight > part.clientHeight + 1, getComputedStyle(part).overflowY];
@@ -97,7 +97,7 @@ def drawn(page: Page) -> None:
 
 
 def tab_is(counts: Counts, page: Page, name: str) -> None:
-    """The tab of this name is chosen, Tab leads to it alone, and what it shows is named by it."""
+    """The tab with this name is selected, it is the only one that the Tab key reaches, and it labels its panel."""
     found = page.browser.run("""return Array.from(document.querySelectorAll("[role=tab]"), (tab) =>
         [tab.id, tab.getAttribute("aria-selected"), tab.tabIndex, tab.getAttribute("aria-controls")]);""")
     wanted = [[f"tab-{one}", str(one == name).lower(), 0 if one == name else -1, "panel"] for one in ("draw", "check")]
@@ -107,7 +107,7 @@ def tab_is(counts: Counts, page: Page, name: str) -> None:
 
 
 def tabs(counts: Counts, page: Page) -> None:
-    """The steps stand under one tab; the list, the record and the answer under the other."""
+    """The steps are in one tab; the list, the record and the answer are in the other."""
     page.load()
     steps = ["1. Close the list", "2. Draw", "3. Publish", "Why believe it"]
     counts.same("the steps", page.browser.run(HEADINGS), steps)
@@ -141,7 +141,7 @@ def winners_first(counts: Counts, page: Page) -> None:
 
 
 def numbers_of_winners(counts: Counts, page: Page) -> None:
-    """No number of a winner is cut off, and the winners stand no further in than two digits or theirs need."""
+    """No winner's number is cut off, and the winners are indented no more than their numbers, or two digits, need."""
     for drawn in (1, 9, 10, 99, 100, 999, 1000):
         page.paste("".join(f"entrant {number}\n" for number in range(drawn)))
         page.fill(SEED, "all")
@@ -154,7 +154,7 @@ def numbers_of_winners(counts: Counts, page: Page) -> None:
 
 
 def details(counts: Counts, page: Page) -> None:
-    """What is proved, the rule and the Python code are there to be opened, and the rule is that of LOTS."""
+    """What is proved, the rule and the Python code can be opened, and the rule is the one in docs/LOTS.md."""
     found = page.browser.run("""return Array.from(document.querySelectorAll("details"),
         (one) => [one.open, one.querySelector("summary").textContent]);""")
     counts.same("details", found, [[False, "What is proved, and what is not"], [False, "The rule of the draw"],
@@ -181,7 +181,7 @@ def enter_draws(counts: Counts, page: Page) -> None:
 
 
 def files_dropped(counts: Counts, page: Page) -> None:
-    """A file is the list wherever it is dropped, but on the field of the record."""
+    """A dropped file is the list, unless it is dropped on the field for the record."""
     drawn(page)
     record = page.shown()["record"]
     drop(page, "list-text", "people.txt", f"{LIST}Max\n".encode())
@@ -213,7 +213,7 @@ def files_dropped(counts: Counts, page: Page) -> None:
 
 
 def records_dropped(counts: Counts, page: Page) -> None:
-    """A record is found in a file with a mark in front, or with other bytes than UTF-8 around."""
+    """A record is found in a file that begins with a byte order mark, or has bytes around it that are not UTF-8."""
     drawn(page)
     record = page.shown()["record"].encode()
     page.tab("check")
@@ -229,7 +229,7 @@ def records_dropped(counts: Counts, page: Page) -> None:
 
 
 def sheets(document: bytes) -> int:
-    """The pages of a PDF, whose objects may be compressed."""
+    """The number of pages of a PDF, whose objects may be compressed."""
     parts = [document]
     for stream in re.findall(rb"stream\r?\n(.*?)endstream", document, re.S):
         try:
@@ -240,7 +240,7 @@ def sheets(document: bytes) -> int:
 
 
 def on_paper(counts: Counts, page: Page, name: str, wanted: List[str]) -> None:
-    """One sheet, with no more than is wanted."""
+    """The page prints on one sheet, with only the wanted parts."""
     counts.same(f"sheets of paper, {name}", sheets(page.browser.printed()), 1)
     if page.browser.media("print"):
         counts.same(f"on paper, {name}", page.browser.run(ON_PAPER), wanted)
@@ -249,8 +249,8 @@ def on_paper(counts: Counts, page: Page, name: str, wanted: List[str]) -> None:
 
 
 def paper(counts: Counts, page: Page) -> None:
-    """Before a draw what is to be published of the list, after it the winners and the record; of a check the record
-    and the outcome."""
+    """Printed before a draw: what is to be published about the list. After it: the winners and the record. For a check:
+    the record and the outcome."""
     page.load()
     page.paste(LIST)
     page.facts()
@@ -268,7 +268,7 @@ def paper(counts: Counts, page: Page) -> None:
 
 
 def long_results(counts: Counts, page: Page) -> None:
-    """Many winners are scrolled on the screen, and stand on paper all; so does a long record in its field."""
+    """Many winners can be scrolled on the screen, and are all printed. So is a long record in its field."""
     page.paste("".join(f"entrant {number}\n" for number in range(300)))
     page.fill(SEED, "all")
     record = page.draw()["record"]
@@ -283,7 +283,7 @@ def long_results(counts: Counts, page: Page) -> None:
 
 
 def by_keyboard(counts: Counts, page: Page) -> None:
-    """A draw of 300 entrants and its check, by keys alone, in less than two minutes."""
+    """A draw of 300 entrants and its check, with the keyboard only, take less than two minutes."""
     page.load()
     begun = time.monotonic()
 

@@ -1,5 +1,6 @@
-//! Times nanorand, the kit's generators, and the old Rust crate if `run` is given its folder. Prints the
-//! times of this build, or, as `bench table FILE..`, the table of the builds whose times the files have.
+//! Measures nanorand, the kit's generators, and the old Rust crate if `run.sh` is given its folder.
+//! Prints the times of this build, or, as `bench table FILE..`, the table for the builds whose
+//! times are in the files.
 
 mod calls;
 #[cfg(feature = "original")]

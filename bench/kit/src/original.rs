@@ -1,5 +1,5 @@
-//! The same work with the old Rust crate. As in the static library, each function is compiled once, and
-//! no number that it is called with is known to it.
+//! The same work with the old Rust crate. As in the static library, each function is compiled once,
+//! and the compiler does not know its arguments.
 
 use nanorand::{BufferedRng, ChaCha, Pcg64, Rng, WyRand};
 use std::hint::black_box;
@@ -114,7 +114,7 @@ pub fn shuffle(seed: u64, items: &mut [u64], times: u32) {
     }
 }
 
-// It has no `choose`: this is what its callers write.
+// The old crate has no `choose`. This is what its users write.
 #[inline(never)]
 pub fn choose(seed: u64, items: &mut [u64], count: u64) -> u64 {
     let mut rng = WyRand::new_seed(seed);

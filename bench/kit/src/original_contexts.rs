@@ -1,5 +1,5 @@
-//! The works of `contexts` with the old Rust crate: behind a `&mut` parameter of a function that is not
-//! inlined, and in a field.
+//! The works of `contexts` with the old Rust crate: with the generator behind a `&mut` parameter of
+//! a function that is not inlined, and in a field.
 
 use nanorand::{Rng, WyRand};
 use std::hint::black_box;

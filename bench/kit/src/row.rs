@@ -1,4 +1,4 @@
-//! One row: its timing by turns, and its line.
+//! One row of the table: its timing and its line.
 
 use std::array::from_fn;
 use std::fmt;
@@ -10,7 +10,8 @@ const TURNS: usize = 15;
 
 pub type Work = Box<dyn FnMut() -> u64>;
 
-/// One row: the number of items that a turn makes, and the work of each library that makes them.
+/// One row: the number of items that a turn produces, and the work of each library that produces
+/// them.
 pub struct Row {
     name: &'static str,
     items: u64,
@@ -58,7 +59,7 @@ impl Row {
     }
 }
 
-/// Nanoseconds an item of nanorand, the old crate and the kit, each the best of the turns.
+/// Nanoseconds per item of nanorand, the old crate and the kit, each the lowest of all turns.
 pub struct Times {
     pub name: String,
     pub times: [Option<f64>; 3],
@@ -67,7 +68,7 @@ pub struct Times {
 }
 
 impl Times {
-    /// Keeps the less of both times of each library.
+    /// Keeps the lower of both times for each library.
     pub fn lower(&mut self, other: &Times) {
         for (time, other) in self.times.iter_mut().zip(other.times) {
             *time = time.zip(other).map(|(time, other)| time.min(other));

@@ -1,4 +1,4 @@
-//! The rows: what is timed.
+//! The rows of the table: what is measured.
 
 use crate::calls::*;
 use crate::row::{Row, Work};
@@ -61,7 +61,7 @@ fn words(rows: &mut Vec<Row>) {
 
 type Fill = fn(&mut [u8], u32);
 
-// Fills a slice again and again, and returns a number that depends on the last fill.
+// Fills a slice repeatedly, and returns a number that depends on the last fill.
 fn filled(length: u64, fill: Fill) -> impl FnMut() -> u64 {
     let mut bytes = vec![0; length as usize];
     let times = (BYTES / length) as u32;
@@ -151,7 +151,7 @@ fn ranges(rows: &mut Vec<Row>) {
 
 type Shuffle = fn(u64, &mut [u64], u32);
 
-// Shuffles numbers again and again, and returns a number that depends on the first eight.
+// Shuffles numbers repeatedly, and returns a number that depends on the first eight.
 fn shuffled(length: u64, shuffle: Shuffle) -> impl FnMut() -> u64 {
     let mut items: Vec<u64> = (0..length).collect();
     let times = (ITEMS / length) as u32;
@@ -183,13 +183,13 @@ fn shuffles(rows: &mut Vec<Row>) {
 
 type Choose = fn(u64, &mut [u64], u64) -> u64;
 
-// Chooses from a slice of numbers again and again.
+// Chooses from a slice of numbers repeatedly.
 fn chosen(length: u64, choose: Choose) -> impl FnMut() -> u64 {
     let mut items: Vec<u64> = (1..=length).collect();
     move || choose(42, &mut items, WORDS)
 }
 
-// Samples numbers below `count` again and again, and returns a number that depends on the last sample.
+// Samples numbers below `count` repeatedly, and returns a number that depends on the last sample.
 fn sampled(slots: u64, count: usize) -> impl FnMut() -> u64 {
     let mut places = vec![0; slots as usize];
     let times = (ITEMS / slots) as u32;
@@ -201,7 +201,7 @@ fn sampled(slots: u64, count: usize) -> impl FnMut() -> u64 {
 
 type PartialShuffle = fn(u64, &mut [u64], usize, u32);
 
-// Shuffles the first numbers of a slice again and again, and returns a number that depends on eight.
+// Shuffles the first numbers of a slice repeatedly, and returns a number that depends on eight.
 fn partly_shuffled(length: u64, steps: u64, shuffle: PartialShuffle) -> impl FnMut() -> u64 {
     let mut items: Vec<u64> = (0..length).collect();
     let times = (ITEMS / steps) as u32;
@@ -270,12 +270,12 @@ fn others(rows: &mut Vec<Row>) {
     }));
 }
 
-// Does a work to 1000 numbers again and again, and returns a number that depends on the first eight.
+// Does a work on 1000 numbers repeatedly, and returns a number that depends on the first eight.
 fn done(work: Shuffle) -> impl FnMut() -> u64 {
     shuffled(1000, work)
 }
 
-// Works behind a `&mut` parameter, and in a field.
+// Works with the generator behind a `&mut` parameter, and in a field.
 fn contexts(rows: &mut Vec<Row>) {
     let works: [(_, Shuffle, Option<Shuffle>, Shuffle); 8] = [
         (
@@ -350,7 +350,7 @@ pub fn all() -> Vec<Row> {
     rows
 }
 
-/// Where a function of each library begins in its line of 64 bytes.
+/// The position of one function of each library in its 64-byte line.
 pub fn places() -> [usize; 2] {
     let here = nanorand_bench_wyrand_u64 as *const () as usize;
     #[cfg(feature = "original")]

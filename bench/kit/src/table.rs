@@ -1,11 +1,12 @@
-//! The table: of each row the least and the median of the builds.
+//! The table: for each row the lowest time of the builds, and their median.
 
 use crate::row::Times;
 use std::collections::HashSet;
 use std::error::Error;
 use std::fs;
 
-// The times of one build: of each row the least of its runs, which the file has one after another.
+// The times of one build: for each row the lowest of its runs. The file has the runs one after
+// another.
 struct Build {
     places: String,
     rows: Vec<Times>,
@@ -28,7 +29,7 @@ impl Build {
     }
 }
 
-// Whether each library's code begins at another place in each build.
+// Whether each library's code begins at a different position in each build.
 fn is_moved(builds: &[Build]) -> bool {
     (0..2).all(|library| {
         let places = builds
@@ -38,7 +39,7 @@ fn is_moved(builds: &[Build]) -> bool {
     })
 }
 
-// The least of the builds' times, and their median.
+// The lowest of the builds' times, and their median.
 fn figures(builds: &[Build], row: usize, library: usize) -> Option<[f64; 2]> {
     let mut times: Vec<f64> = builds
         .iter()
@@ -64,7 +65,7 @@ fn ratio(here: Option<[f64; 2]>, other: Option<[f64; 2]>) -> String {
     )
 }
 
-/// Prints the table of the builds whose times the files have.
+/// Prints the table for the builds whose times are in the files.
 pub fn print(paths: impl Iterator<Item = String>) -> Result<(), Box<dyn Error>> {
     let builds = paths
         .map(|path| Build::read(&path))

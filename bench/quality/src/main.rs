@@ -1,5 +1,5 @@
-//! Writes the stream of a generator to the standard output until its reader closes it:
-//! `quality STREAM SEED`. The seed is the hexadecimal digits of the bytes that `reseed` takes.
+//! Writes the stream of a generator to standard output until the reader closes it:
+//! `quality STREAM SEED`. The seed is the bytes that `reseed` takes, in hexadecimal digits.
 
 use nanorand_proved::{ChaCha, Pcg64, Rng, SeedableRng, WyRand};
 use std::env;
@@ -11,7 +11,7 @@ type Failed = Box<dyn Error>;
 const USAGE: &str = "usage: quality STREAM SEED; STREAM is wyrand, pcg64, pcg64-low, pcg64-high, \
                      chacha8, chacha12 or chacha20";
 
-/// The bytes of one request.
+/// The number of bytes of one request.
 const FILL: usize = 1 << 16;
 
 fn main() -> Result<(), Failed> {
@@ -31,12 +31,12 @@ fn main() -> Result<(), Failed> {
     }
 }
 
-/// `ChaCha` of the key 0.
+/// `ChaCha` with the key 0 and the nonce 0.
 fn chacha<const ROUNDS: u8>() -> ChaCha<ROUNDS> {
     ChaCha::new_key([0; 32], [0; 8])
 }
 
-/// The generator, seeded anew.
+/// The generator, reseeded.
 fn seeded<G, const SEED_SIZE: usize, const OUTPUT: usize>(
     mut generator: G,
     seed: &str,
@@ -55,7 +55,7 @@ where
     Ok(generator)
 }
 
-/// Writes fill after fill, of each the part that the stream has.
+/// Writes fill after fill; of each, the part that belongs to the stream.
 fn write<const OUTPUT: usize>(
     mut generator: impl Rng<OUTPUT>,
     part: impl Fn(&[u8]) -> Vec<u8>,
@@ -71,7 +71,7 @@ fn write<const OUTPUT: usize>(
     }
 }
 
-/// Four bytes of each word of 64 bits, from its byte `first` on. A word's least byte is byte 0.
+/// Four bytes of each 64-bit word, from its byte `first` on. Byte 0 is the least significant one.
 fn halves(bytes: &[u8], first: usize) -> Vec<u8> {
     let (words, _) = bytes.as_chunks::<8>();
     let halves = words.iter().flat_map(|word| &word[first..first + 4]);

@@ -1,17 +1,17 @@
-//! Where a program keeps its generator: each work in each of these contexts. A function of a context is
-//! compiled by itself, once for each work.
+//! Contexts in which a program keeps its generator. Each work is done in each of them. A function
+//! of a context is compiled separately, once for each work.
 
 use crate::mixing::{mixed_items, Mix};
 use std::hint::black_box;
 use works::{Draw, Whole};
 
-/// How many items a run makes.
+/// The number of items that a run produces.
 pub const ITEMS: u32 = 1 << if cfg!(debug_assertions) { 14 } else { 17 };
 
 /// The bounded contexts: see [`draws`].
 pub const BOUNDED: [&str; 5] = ["local", "parameter", "field", "capture", "elsewhere"];
 
-/// Those that are told, and have no limit.
+/// The contexts that are only reported, without a limit.
 pub const TOLD: [&str; 2] = ["thread-local", "dyn"];
 
 /// A generator that a program seeds, and one that each thread has.
@@ -21,14 +21,14 @@ pub trait Generator: Sized + 'static {
     fn with<T>(run: impl FnOnce(&mut Self) -> T) -> T;
 }
 
-/// What a context does, again and again.
+/// What a context does repeatedly.
 pub type Run = Box<dyn FnMut() -> u64>;
 
 fn items_of<T: Copy + Default>(length: u32) -> (Vec<T>, u32) {
     (vec![T::default(); length as usize], ITEMS / length)
 }
 
-/// Runs a turn again and again, and mixes the items.
+/// Runs a turn repeatedly, and mixes the items.
 pub fn again<R: Generator, T: Copy + Default + Mix + 'static>(
     length: u32,
     mut turn: impl FnMut(&mut R, &mut [T]) + 'static,
@@ -149,7 +149,7 @@ fn drawn_by_capture<D: Draw<R>, R>(rng: &mut R, items: &mut [D::Item], bound: D:
     each(items, &mut || D::draw(rng, bound));
 }
 
-// A function that takes a closure, as a program's own does.
+// A function that takes a closure, as programs have.
 #[inline(never)]
 fn each<T>(items: &mut [T], draw: &mut impl FnMut() -> T) {
     for item in items {
@@ -157,7 +157,7 @@ fn each<T>(items: &mut [T], draw: &mut impl FnMut() -> T) {
     }
 }
 
-// The generator is asked for at each item.
+// The thread's generator is looked up for each item.
 #[inline(never)]
 fn drawn_by_thread<D: Draw<R>, R: Generator>(items: &mut [D::Item], bound: D::Item) {
     for item in items {
@@ -165,7 +165,7 @@ fn drawn_by_thread<D: Draw<R>, R: Generator>(items: &mut [D::Item], bound: D::It
     }
 }
 
-/// A slice of this length, by calls for the whole slice.
+/// A slice of this length, filled by calls for the whole slice.
 pub fn wholes<W, R, T>(length: u32) -> Vec<Run>
 where
     W: Whole<R, Item = T> + 'static,

@@ -1,10 +1,11 @@
-//! The generators that are timed: how a program seeds each, keeps one in a thread, and lends one by `dyn`.
+//! The generators that are measured: how a program seeds each, keeps one in a thread, and borrows
+//! one as `dyn`.
 
 use crate::contexts::Generator;
 use std::cell::RefCell;
 use std::hint::black_box;
 
-// Seeds are not known to the compiler.
+// The compiler does not know the seeds.
 macro_rules! generators {
     ($($generator:ty = $seeded:expr;)+) => { $(
         impl Generator for $generator {
@@ -45,7 +46,7 @@ mod peers {
     }
 }
 
-// The contexts behind `dyn`: a function that takes `&mut dyn AnyRng`, or another library's like.
+// The contexts with `dyn`: a function that takes `&mut dyn AnyRng`, or the same of another library.
 macro_rules! behind {
     ($dynamic:path) => {
         use crate::contexts::{again, drawn_by_parameter, run_by_parameter, Generator, Run};

@@ -1,6 +1,7 @@
-//! Times works where programs keep their generators, beside the old Rust crate and the peers, all in one
-//! program: `bench/rust/run.sh FOLDER programs` builds and starts it. Prints the times of this build, or, as
-//! `programs table FILE..`, the table of the builds whose times the files have.
+//! Measures works in the contexts in which programs keep their generators, and compares them with
+//! the old Rust crate and the peers, all in one program. `bench/rust/run.sh FOLDER programs` builds
+//! and starts it. Prints the times of this build, or, as `programs table FILE..`, the table for the
+//! builds whose times are in the files.
 
 #[path = "contexts.rs"]
 mod contexts;
@@ -29,7 +30,7 @@ use {
     works::{Fast, Rand},
 };
 
-// A library's contexts of one work, and its name.
+// A library's name, and its contexts of one work.
 type Runs = (&'static str, Vec<Run>);
 
 fn work(name: String, run: Run) -> Work {
@@ -41,7 +42,7 @@ fn work(name: String, run: Run) -> Work {
     }
 }
 
-// The rows of one work: one for each context. A library that lacks the last, `dyn`, has fewer.
+// The rows of one work, one for each context. A library without the last context, `dyn`, has fewer.
 fn rows_of(name: &str, here: Vec<Run>, original: Vec<Run>, peers: Vec<Runs>) -> Vec<(String, Row)> {
     let mut original = original.into_iter();
     let mut peers: Vec<_> = peers
@@ -68,7 +69,7 @@ fn with(mut runs: Vec<Run>, last: Run) -> Vec<Run> {
     runs
 }
 
-// A work by this library, with the context `dyn`.
+// A work by this library, including the context `dyn`.
 macro_rules! here {
     ($generator:ident, $contexts:ident $work:ident<$($value:ty)?>($($argument:expr),+)) => {
         with(
@@ -78,7 +79,7 @@ macro_rules! here {
     };
 }
 
-// A work by a generator that `rand` calls, with the context `dyn`.
+// A work by a generator of `rand`'s traits, including the context `dyn`.
 #[cfg(feature = "peers")]
 macro_rules! by_rand {
     ($generator:ty, $contexts:ident $work:ident<$($value:ty)?>($($argument:expr),+)) => {
@@ -89,7 +90,7 @@ macro_rules! by_rand {
     };
 }
 
-// The peers of a work of `WyRand`. `fastrand` has no call for bytes, and no trait.
+// The peers for a work of `WyRand`. `fastrand` has no call for bytes, and no trait.
 #[cfg(feature = "peers")]
 macro_rules! peers_of_wyrand {
     ($contexts:ident Bytes<>($($argument:expr),+)) => {
@@ -171,7 +172,7 @@ fn main() -> Result<(), Box<dyn Error>> {
     if first.as_deref() == Some("table") {
         return worst::print(arguments);
     }
-    // An argument names rows: those that contain it.
+    // An argument selects the rows whose names contain it.
     let text = first.unwrap_or_default();
     let rows = rows!(WyRand, peers_of_wyrand).into_iter();
     for (name, mut row) in rows.chain(rows!(Pcg64, peers_of_pcg64)).flatten() {

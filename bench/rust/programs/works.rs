@@ -1,7 +1,8 @@
-//! The works of the benchmark of programs, by the calls of each library: a crate of its own, so that its
-//! generic functions are compiled where a program uses them.
+//! The works of the benchmark of programs, with the calls of each library. They are a separate
+//! crate, so that its generic functions are compiled where a program uses them.
 
-// A work is inlined as if it stood where it is used; what the library inlines is then its own affair.
+// A work is inlined as if it were written where it is used. What else is inlined is up to the
+// library.
 #![allow(clippy::inline_always)]
 
 use std::fmt::Debug;
@@ -11,11 +12,11 @@ use std::marker::PhantomData;
 pub trait Draw<R> {
     type Item: Copy;
 
-    /// Draws the value. The bound is known when the program runs; not every work has one.
+    /// Draws the value. The bound is known only at run time. Not every work has one.
     fn draw(rng: &mut R, bound: Self::Item) -> Self::Item;
 }
 
-/// What is done to a slice by one call.
+/// What one call does to a slice.
 pub trait Whole<R> {
     type Item: Copy;
 
@@ -25,34 +26,34 @@ pub trait Whole<R> {
 /// Any value of the type.
 pub struct Value<L, T>(PhantomData<(L, T)>);
 
-/// A number from 0 to below the bound.
+/// A number from 0 up to the bound, exclusive.
 pub struct Below<L, T>(PhantomData<(L, T)>);
 
-/// A number of -50 to 50: the bounds are known when the program is compiled.
+/// A number from -50 to 50. The bounds are known at compile time.
 pub struct Within<L>(PhantomData<L>);
 
 /// A shuffle of the items.
 pub struct Shuffle<L, T>(PhantomData<(L, T)>);
 
-/// Any values, by the library's own call for a slice.
+/// Any values, with the library's own call for a slice.
 pub struct Fill<L, T>(PhantomData<(L, T)>);
 
-/// Bytes, by one request.
+/// Bytes, with one request.
 pub struct Bytes<L>(PhantomData<L>);
 
-/// A generic function over generators.
+/// A function that is generic over generators.
 pub fn draw_each<D: Draw<R>, R>(rng: &mut R, items: &mut [D::Item], bound: D::Item) {
     for item in items {
         *item = D::draw(rng, bound);
     }
 }
 
-/// A generic function over generators.
+/// A function that is generic over generators.
 pub fn run_whole<W: Whole<R>, R>(rng: &mut R, items: &mut [W::Item]) {
     W::run(rng, items);
 }
 
-// As a program takes a draw's number.
+// Takes the number of a draw, as a program does.
 #[inline(always)]
 fn drawn<T, E: Debug>(result: Result<T, E>) -> T {
     result.unwrap()
@@ -183,7 +184,7 @@ mod original {
     }
 }
 
-/// rand 0.8, by its `SmallRng` and `StdRng` and by those of `rand_pcg`.
+/// rand 0.8, with its `SmallRng` and `StdRng` and the generators of `rand_pcg`.
 pub struct Rand;
 
 #[cfg(feature = "peers")]
@@ -313,7 +314,7 @@ mod by_fastrand {
 
     macro_rules! fills {
         ($($value:ident),+) => { $(
-            // It has no call for a slice.
+            // `fastrand` has no call for a slice.
             impl Whole<Rng> for Fill<Fast, $value> {
                 type Item = $value;
 

@@ -1,4 +1,4 @@
-//! The table of the benchmark of programs: of each work the best context and the worst.
+//! The table of the benchmark of programs: for each work the best and the worst context.
 
 use crate::contexts::{BOUNDED, TOLD};
 use crate::least::read;
@@ -15,7 +15,7 @@ fn work_and_context(row: &Times) -> (&str, &str) {
     row.name.rsplit_once(": ").unwrap_or((&row.name, ""))
 }
 
-// The least time of each library in all builds.
+// The lowest time of each library in all builds.
 fn least_of(paths: impl Iterator<Item = String>) -> Result<Vec<Times>, Box<dyn Error>> {
     let mut builds = paths.map(|path| read(&path));
     let mut least = builds.next().ok_or("no times")??;
@@ -36,7 +36,7 @@ fn peer_of(row: &Times) -> Option<(&str, f64)> {
     least.map(|(name, time)| (name.as_str(), row.here / time))
 }
 
-// What a row is judged by: beside the fastest peer, or the old crate if there is none.
+// The ratio by which a row is judged: to the fastest peer, or to the old crate if there is no peer.
 fn ratio_of(row: &Times) -> f64 {
     peer_of(row).map_or(row.here / row.original, |(_, ratio)| ratio)
 }
@@ -94,7 +94,7 @@ fn print_work(work: &[&Times]) {
     }
 }
 
-// Each context of each work: our time, and beside the fastest peer.
+// Each context of each work: our time, and its ratio to the fastest peer's.
 fn print_contexts(work: &[&Times]) {
     let contexts = BOUNDED.iter().chain(&TOLD);
     let cells: Vec<String> = contexts.map(|context| told(work, context)).collect();
@@ -105,7 +105,7 @@ fn print_contexts(work: &[&Times]) {
     );
 }
 
-/// Prints the tables of the builds whose times the files have.
+/// Prints the tables for the builds whose times are in the files.
 pub fn print(paths: impl Iterator<Item = String>) -> Result<(), Box<dyn Error>> {
     let least = least_of(paths)?;
     let works = by_work(&least);

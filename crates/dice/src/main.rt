@@ -7,7 +7,7 @@ use nanorand::choices::between;
 use nanorand::{RangeError, WyRand};
 use std::io;
 
-/// A number from 1 to 6.
+/// Draws a number from 1 to 6.
 fn throw(rng: &mut WyRand) -> Result<u8, RangeError>
     ensures face { IfOk result (λ pips. (1 ≤ pips) × (pips ≤ 6)) }
     ensures refusal { IfErr result (λ refusal. refusal ≡ RangeError.Exhausted) }

@@ -1,4 +1,4 @@
--- What the arguments of the command line ask for.
+-- What the command-line arguments ask for.
 use Rattle.std.specs.Prelude.{◌≡◌, ℕ, zero, suc, ◌+◌, ◌-◌, ◌<◌, ◌≤◌, max, List, [], ◌∷◌, length, drop, map, codes, Ok, slice_index_or, String, string_bytes}
 use Rattle.hex.specs.Hex.{decode_sized}
 use Rattle.nanorand_replay.specs.declared.replay.Call.{Call}
@@ -16,8 +16,8 @@ use Rattle.draw_core.specs.Requests.{IsRequest}
 abbrev pub texts : {A : Type 0} → List (String A) → List (List ℕ)
 texts arguments = map string_bytes arguments
 
--- The argument at an index, counted from 0. A missing argument counts as an empty one, which
--- cannot be read at any index.
+-- The argument at an index, counted from 0. A missing argument counts as an empty one, which is
+-- unreadable at every index.
 abbrev pub argument_at : List (List ℕ) → ℕ → List ℕ
 argument_at arguments index = slice_index_or arguments index []
 
@@ -36,7 +36,7 @@ generator_of (ChaCha8 seed) = generators.ChaCha8
 generator_of (ChaCha12 seed) = generators.ChaCha12
 generator_of (ChaCha20 seed) = generators.ChaCha20
 
--- The second is the seed: two hexadecimal digits a byte, in upper or lower case.
+-- The second argument is the seed: two hexadecimal digits for each byte, in upper or lower case.
 abbrev pub IsSeed : List ℕ → SeededGenerator → Type 0
 IsSeed text (WyRand seed) = decode_sized text 8 ≡ Ok seed
 IsSeed text (Pcg64 seed) = decode_sized text 16 ≡ Ok seed
@@ -44,12 +44,12 @@ IsSeed text (ChaCha8 seed) = decode_sized text 40 ≡ Ok seed
 IsSeed text (ChaCha12 seed) = decode_sized text 40 ≡ Ok seed
 IsSeed text (ChaCha20 seed) = decode_sized text 40 ≡ Ok seed
 
--- The third is the mode.
+-- The third argument is the mode.
 abbrev pub name_of_mode : Mode → List ℕ
 name_of_mode Plain = codes "plain"
 name_of_mode Buffered = codes "buffered"
 
--- The fourth is the number of items, at most 1000.
+-- The fourth argument is the number of items, at most 1000.
 pub record IsCount (text : List ℕ) (count : ℕ) : Type 0 where
   pub number : IsUnsigned 64 text count
   pub small : count ≤ 1000
@@ -68,7 +68,7 @@ pub record Asked : Type 0 where
   pub count : ℕ
   pub calls : List Call
 
--- What a command asks for, without its allocator.
+-- What a command asks for, without the allocator of the command.
 abbrev pub asked_by : {A : Type 0} → Command A → Asked
 asked_by command = record {
   generator = command.generator;
@@ -77,7 +77,7 @@ asked_by command = record {
   calls = command.calls.items;
 }
 
--- The arguments ask for this.
+-- The arguments ask for `asked`.
 pub record AsksFor (arguments : List (List ℕ)) (asked : Asked) : Type 0 where
   pub generator : argument_at arguments 0 ≡ name_of_generator (generator_of asked.generator)
   pub seed : IsSeed (argument_at arguments 1) asked.generator
@@ -101,15 +101,15 @@ IsReadable arguments (suc (suc (suc zero))) =
 IsReadable arguments (suc (suc (suc (suc index)))) =
     (call : Call) × IsRequest (argument_at arguments (4 + index)) call
 
--- Argument k, counted from 1, is the first that cannot be read. A missing one of the first four is
--- such an argument.
+-- Argument k, counted from 1, is the first one that cannot be read. A missing argument among the
+-- first four cannot be read.
 pub record IsFirstUnreadable (arguments : List (List ℕ)) (k : ℕ) : Type 0 where
   pub counted : 0 < k
   pub there : k ≤ max 4 (length arguments)
   pub unreadable : IsReadable arguments (k - 1) → ⊥
   pub first : (index : ℕ) → index + 1 < k → IsReadable arguments index
 
--- Argument k, counted from 1, is the first request that cannot be read. The requests begin with
+-- Argument k, counted from 1, is the first request that cannot be read. The first request is
 -- argument 5.
 pub record FirstBadRequest (requests : List (List ℕ)) (k : ℕ) : Type 0 where
   pub index : ℕ

@@ -27,14 +27,14 @@ name_of kinds.U128 = codes "u128"
 name_of kinds.Usize = codes "usize"
 name_of kinds.Bool = codes "bool"
 
--- The text before the dots: nothing, or the least number. `is_text` relates a text to its number.
+-- The text before the dots: empty, or the least number. `is_text` relates a text to its number.
 abbrev pub IsLow : {N : Type 0} → (List ℕ → N → Type 0) → List ℕ → Bound N → Type 0
 IsLow is_text text Unbounded = text ≡ []
 IsLow is_text text (Included n) = is_text text n
 IsLow is_text text (Excluded n) = ⊥
 
--- The text after the dots: nothing, or the number that ends the range and is not in it, or `=` and
--- the greatest number.
+-- The text after the dots: empty, or the number that ends the range and is excluded from it, or `=`
+-- and the greatest number.
 abbrev pub IsHigh : {N : Type 0} → (List ℕ → N → Type 0) → List ℕ → Bound N → Type 0
 IsHigh is_text text Unbounded = text ≡ []
 IsHigh is_text text (Excluded n) = is_text text n

@@ -20,13 +20,13 @@ use Rattle.draw_core.specs.declared.error.DrawError.{DrawError}
 use Rattle.draw_core.specs.declared.error.DrawError.TheVariants.{BadWord, Memory, Write}
 use Rattle.draw_core.specs.Arguments.{Asked}
 
--- The answers to the calls, and the items after them.
+-- The answers to the calls, and the items after the calls.
 pub record Drawn : Type 0 where
   pub answers : List Answer
   pub items : List ℕ
 
 -- Runs the calls on a generator with blocks of `output` bytes: in plain mode on the generator
--- itself, and in buffered mode on a buffer around it that is empty at first.
+-- itself, and in buffered mode on a buffer around it, which is empty at first.
 abbrev pub in_mode :
     {G : Type 0} → (G → List ℕ) → (G → G) → ℕ → G → Mode → List Call → List ℕ → Drawn
 in_mode block step output g Plain calls items =
@@ -53,24 +53,24 @@ answer_text Empty = codes "empty"
 answer_text Exhausted = codes "exhausted"
 answer_text Shuffled = codes "shuffled"
 
--- The line of an answer, ended by a line feed.
+-- The line of an answer, with its line feed.
 abbrev pub line_of : Answer → List ℕ
 line_of answer = answer_text answer ++ 10 ∷ []
 
--- An item, after a space.
+-- An item, preceded by a space.
 abbrev pub item_text : ℕ → List ℕ
 item_text item = 32 ∷ decimal item
 
--- The last line, written only if there are items.
+-- The last line, which is written only if there are items.
 abbrev pub items_line : List ℕ → List ℕ
 items_line [] = []
 items_line (item ∷ items) = codes "items:" ++ flat_map item_text (item ∷ items) ++ 10 ∷ []
 
--- The whole text: a line for each answer, and the line of the items.
+-- The whole text: one line for each answer, and the line of the items.
 abbrev pub text_of : Drawn → List ℕ
 text_of drawn = flat_map line_of drawn.answers ++ items_line drawn.items
 
--- The text of what the arguments ask for. The items are 0, 1, .. below the count.
+-- The text that the arguments ask for. The initial items are 0, 1, .. below the count.
 abbrev pub text_asked : Asked → List ℕ
 text_asked asked =
     text_of (from_seeded asked.generator asked.mode asked.calls (range_with_len 0 asked.count))

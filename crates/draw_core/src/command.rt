@@ -1,4 +1,4 @@
-//! Reads the arguments of the command line into a command.
+//! Parses the command-line arguments into a command.
 
 ghost use Rattle.std.specs.Prelude.{◌≡◌, ◌≢◌, ℕ, ◌<◌, ◌≤◌, ◌+◌, IfOk, IfErr, IfSome, OnOk, Some, List, drop, IsTrue, ◌↔◌, slice_index_or, [], length};
 ghost use Rattle.draw_core.specs.Arguments.{IsSeed, generator_of, name_of_generator, IsCount, IsFirstUnreadable, AreRequests, Asked, AsksFor, asked_by, name_of_mode, FirstBadRequest, texts, argument_at};
@@ -24,7 +24,7 @@ pub enum Generator {
     ChaCha20,
 }
 
-/// A generator with the bytes of its seed: a little-endian number for `WyRand` and `Pcg64`, and a
+/// A generator and the bytes of its seed: a little-endian number for `WyRand` and `Pcg64`, and a
 /// key of 32 bytes followed by a nonce of 8 bytes for ChaCha.
 #[derive(Clone, Copy)]
 pub enum SeededGenerator {
@@ -35,15 +35,16 @@ pub enum SeededGenerator {
     ChaCha20([u8; 40]),
 }
 
-/// Whether draws are buffered. In plain mode each value or word starts on a new block of the
-/// generator; in buffered mode it continues where the last one ended.
+/// Whether the draws are buffered. A word is a random integer of N bits. In plain mode each value
+/// or word starts with a new block of the generator; in buffered mode it continues where the last
+/// one ended.
 #[derive(Clone, Copy)]
 pub enum Mode {
     Plain,
     Buffered,
 }
 
-/// What the arguments ask for: `count` items 0, 1, .. and a list of calls on a generator.
+/// What the arguments ask for: `count` items 0, 1, .., and a list of calls of a generator.
 #[derive(Drop)]
 pub struct Command<A: Allocator> {
     pub generator: SeededGenerator,
@@ -52,10 +53,10 @@ pub struct Command<A: Allocator> {
     pub calls: Vec<Call, A>,
 }
 
-/// The greatest number of items.
+/// The greatest allowed number of items.
 const MOST_ITEMS: u64 = 1000;
 
-/// The generator of that name.
+/// Returns the generator with this name.
 fn generator_named(name: &str) -> Option<Generator>
     ensures found { IfSome result (λ generator. name.now ≡ name_of_generator generator) }
     ensures only { (generator : AGenerator) → name.now ≡ name_of_generator generator →
@@ -71,7 +72,8 @@ fn generator_named(name: &str) -> Option<Generator>
     }
 }
 
-/// The generator with the seed that the text gives, two hexadecimal digits a byte.
+/// Returns the generator with the seed that the text gives, as two hexadecimal digits for each
+/// byte.
 fn seeded_generator(generator: Generator, seed: &str) -> Option<SeededGenerator>
     ensures found { IfSome result (λ seeded.
         (generator_of seeded ≡ generator) × IsSeed seed.now seeded) }
@@ -87,7 +89,7 @@ fn seeded_generator(generator: Generator, seed: &str) -> Option<SeededGenerator>
     }
 }
 
-/// The mode of that name.
+/// Returns the mode with this name.
 fn mode_of(name: &str) -> Option<Mode>
     ensures found { IfSome result (λ mode. name.now ≡ name_of_mode mode) }
     ensures only { (mode : AMode) → name.now ≡ name_of_mode mode → result ≡ Some mode }
@@ -99,8 +101,8 @@ fn mode_of(name: &str) -> Option<Mode>
     }
 }
 
-/// The number of items, from the decimal digits of argument 4. It is a bad word if the text is no
-/// number, or one above `MOST_ITEMS`.
+/// Reads the number of items, argument 4, in decimal digits. Returns the error `BadWord` if the
+/// text is not a number, or a number above `MOST_ITEMS`.
 fn count_of(text: &str) -> Result<u64, DrawError>
     ensures found { IfOk result (IsCount text.now) }
     ensures only { (count : ℕ) → IsCount text.now count → result ≡ Ok count }
@@ -111,7 +113,7 @@ fn count_of(text: &str) -> Result<u64, DrawError>
         .ok_or(DrawError::BadWord(4))
 }
 
-/// The calls that the requests ask for. The first request is argument 5.
+/// Reads the requests and returns their calls. The first request is argument 5.
 fn calls_of<A: Allocator>(alloc: A, requests: &[String]) -> Result<Vec<Call, A>, DrawError>
     ensures said { IfOk result (λ calls. AreRequests (texts requests.now) calls.items) }
     ensures only { IfOk result (λ calls. (others : List ACall) →
@@ -130,7 +132,7 @@ fn calls_of<A: Allocator>(alloc: A, requests: &[String]) -> Result<Vec<Call, A>,
     Ok(calls)
 }
 
-/// The argument at the index, or an empty text if it is missing.
+/// Returns the argument at the index, or an empty text if it is missing.
 fn argument(arguments: &[String], index: usize) -> &str
     ensures { result.now ≡ argument_at (texts arguments.now) index }
 {
@@ -139,7 +141,9 @@ fn argument(arguments: &[String], index: usize) -> &str
         .map_or("", |argument| argument.as_str())
 }
 
-/// The command that the arguments give. Fails with `BadWord` or `Memory`.
+/// Parses the command-line arguments into a command.
+///
+/// Returns `BadWord` if an argument cannot be read, and `Memory` if an allocation fails.
 pub fn read<A: Allocator>(alloc: A, arguments: &[String]) -> Result<Command<A>, DrawError>
     ensures said { IfOk result (λ command. AsksFor (texts arguments.now) (asked_by command)) }
     ensures only { IfOk result (λ command. (other : Asked) →
@@ -148,8 +152,8 @@ pub fn read<A: Allocator>(alloc: A, arguments: &[String]) -> Result<Command<A>, 
     ensures bad { (k : ℕ) → result ≡ Err (DrawError.BadWord k) →
         IsFirstUnreadable (texts arguments.now) k }
 
-    // An unreadable argument of the first four is named even if there is no memory: they are read
-    // without allocating.
+    // If one of the first four arguments cannot be read, the error is `BadWord` even if memory has
+    // run out: they are read without allocating.
     ensures early { (k : ℕ) → k ≤ 4 → IsFirstUnreadable (texts arguments.now) k →
         result ≡ Err (DrawError.BadWord k) }
 {
@@ -157,7 +161,7 @@ pub fn read<A: Allocator>(alloc: A, arguments: &[String]) -> Result<Command<A>, 
     let seeded = seeded_generator(generator, argument(arguments, 1)).ok_or(DrawError::BadWord(2))?;
     let mode = mode_of(argument(arguments, 2)).ok_or(DrawError::BadWord(3))?;
     let count = count_of(argument(arguments, 3))?;
-    // An empty count is refused, so there are four arguments.
+    // An empty COUNT is an error, so there are at least four arguments here.
     let calls = calls_of(alloc, &arguments[4..])?;
     Ok(Command {
         generator: seeded,

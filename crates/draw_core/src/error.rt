@@ -1,4 +1,4 @@
-//! The ways in which a run fails.
+//! The errors of a run.
 
 ghost use Rattle.std.specs.Prelude.{◌≡◌};
 ghost use Rattle.draw_core.specs.declared.error.DrawError.TheVariants.{Memory};
@@ -6,19 +6,20 @@ ghost use Rattle.draw_core.specs.declared.error.DrawError.TheVariants.{Memory};
 use std::alloc::{AllocError, AllocFailed};
 use thiserror::Error;
 
-/// Why `run` failed.
+/// The reasons why `run` failed.
 #[derive(Clone, Copy, Debug, PartialEq, Eq, Error)]
 pub enum DrawError {
-    /// The number, counted from 1, of the first argument that cannot be read. A missing one of the
-    /// first four is such an argument. Nothing was written.
+    /// An argument cannot be read. The value is the number of the first such argument, counted from
+    /// 1; a missing argument among the first four counts as one. Nothing was written.
     #[error("bad word {0}")]
     BadWord(usize),
 
-    /// Out of memory: an allocation was refused. Nothing was written.
+    /// Out of memory: an allocation failed. Nothing was written.
     #[error("no memory")]
     Memory,
 
-    /// The writer returned an error, or took no bytes. How much of the text it took is unspecified.
+    /// The writer returned an error, or accepted 0 bytes. How much of the text it accepted is
+    /// unspecified.
     #[error("write failed")]
     Write,
 }

@@ -1,4 +1,4 @@
-//! Runs calls on the generator of a seed and a mode.
+//! Runs calls on a generator with a seed, in plain or buffered mode.
 
 ghost use Rattle.std.specs.Prelude.{◌≡◌, ◌%◌, length};
 ghost use Rattle.nanorand.specs.generators.ChaCha.{chacha_block, next_state, seeded_state};
@@ -9,7 +9,7 @@ use crate::command::{Mode, SeededGenerator};
 use nanorand::replay::{Answer, Call, replay};
 use nanorand::{BufferedRng, ChaCha, Pcg64, SeedableRng, WyRand};
 
-/// Runs the calls on the generator with its seed, or on a buffer around it in buffered mode.
+/// Runs the calls on the generator with its seed, or on a `BufferedRng` around it in buffered mode.
 pub fn replay_seeded(
     generator: SeededGenerator,
     mode: Mode,

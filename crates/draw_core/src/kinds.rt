@@ -6,7 +6,7 @@ ghost use Rattle.draw_core.specs.Requests.{name_of};
 
 use nanorand::replay::Kind;
 
-/// The type of that name.
+/// Returns the type with this name.
 pub fn kind_of(name: &str) -> Option<Kind>
     ensures found { IfSome result (λ kind. name.now ≡ name_of kind) }
     ensures only { (kind : AKind) → name.now ≡ name_of kind → result ≡ Some kind }

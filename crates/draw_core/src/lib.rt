@@ -1,10 +1,10 @@
-//! What the program `draw` does: it reads the arguments of a command line, draws, and writes the
-//! text that they ask for. `main` of the crate `draw` calls `run` and `report`, and nothing else.
+//! The implementation of the program `draw`: it parses the command-line arguments, draws, and
+//! writes the resulting text. The program, in the crate `draw`, only calls `run` and `report`.
 //!
-//! `specs/Arguments.antt` says what arguments ask for, `specs/Text.antt` which text that is, and the
-//! exit status of each outcome.
+//! `specs/Arguments.antt` defines what arguments ask for. `specs/Text.antt` defines the text that
+//! is written and the exit status.
 //!
-//! Draw no keys or passwords with it: WyRand and Pcg64 are not cryptographically secure.
+//! Do not use it to generate keys or passwords: WyRand and Pcg64 are not cryptographically secure.
 #![tactic(auto)]
 
 mod bounds;

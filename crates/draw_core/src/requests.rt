@@ -9,7 +9,7 @@ use crate::bounds::bounds;
 use crate::kinds::kind_of;
 use nanorand::replay::{Call, Kind, Span};
 
-/// The call that a request asks for, or `None` if the text is no request.
+/// Returns the call that a request asks for, or `None` if the text is not a request.
 pub fn call_of(text: &str) -> Option<Call>
     ensures found { IfSome result (IsRequest text.now) }
     ensures only { (call : ACall) → IsRequest text.now call → result ≡ Some call }
@@ -21,7 +21,8 @@ pub fn call_of(text: &str) -> Option<Call>
     }
 }
 
-/// The range of that type with the bounds that the text gives. `i128`, `u128` and `bool` have none.
+/// Returns the range of this type with the bounds that the text gives. `i128`, `u128` and `bool`
+/// have no ranges.
 fn span_of(kind: Kind, range: &str) -> Option<Span>
     ensures found { IfSome result (λ span. (kind_of_span span ≡ kind) × IsBounds range.now span) }
     ensures only { (span : ASpan) → kind_of_span span ≡ kind → IsBounds range.now span →

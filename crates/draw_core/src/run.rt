@@ -1,4 +1,4 @@
-//! The whole run: from the arguments of the command line to the text that is written.
+//! The whole run, from the command-line arguments to the text that is written.
 
 ghost use Rattle.std.specs.Prelude.{◌≡◌, ◌≢◌, ◌≤◌, ℕ, length, IfOk, IfErr, OnOk, string_bytes};
 ghost use Rattle.std.specs.List.{range_with_len};
@@ -14,7 +14,7 @@ use nanorand::replay::Answer;
 use std::alloc::{AllocError, Allocator};
 use std::io::Write;
 
-/// The items at the start: the numbers 0, 1, .. below the count.
+/// Returns the initial items: the numbers 0, 1, .. below `count`.
 fn items_below<A: Allocator>(alloc: A, count: u64) -> Result<Vec<u64, A>, AllocError>
     ensures { IfOk result (λ items. items.items ≡ range_with_len 0 count) }
 {
@@ -25,7 +25,7 @@ fn items_below<A: Allocator>(alloc: A, count: u64) -> Result<Vec<u64, A>, AllocE
     Ok(items)
 }
 
-/// The text that the command asks for.
+/// Runs the command and returns the text to write.
 fn text_of_command<'a, A: Allocator>(
     alloc: &'a A,
     command: &Command<&'a A>,
@@ -45,7 +45,8 @@ fn text_of_command<'a, A: Allocator>(
     text_of(alloc, &answers, &items)
 }
 
-/// The text that the arguments ask for. Fails with `BadWord` or `Memory`.
+/// Parses and runs the arguments, and returns the text to write, or the error `BadWord` or
+/// `Memory`.
 fn text_for_arguments<'a, A: Allocator>(
     alloc: &'a A,
     arguments: &[String],
@@ -73,42 +74,43 @@ fn write_text<W: Write>(out: &mut W, text: &str) -> Result<(), DrawError>
     out.flush().map_err(|_| DrawError::Write)
 }
 
-/// Writes the text that the arguments ask for, all of it at once, and then flushes. The arguments
-/// are those after the name of the program.
+/// Writes the text that the arguments ask for, all at once, and then flushes. The arguments do not
+/// include the name of the program.
 ///
-/// With the error `Write`, how much of the text `out` took is unspecified. With any other error,
-/// nothing was written.
+/// Returns `BadWord` if an argument cannot be read, `Memory` if an allocation fails, and `Write` if
+/// writing fails. After `Write`, how much of the text `out` accepted is unspecified. After any
+/// other error, nothing was written.
 pub fn run<A: Allocator, W: Write>(
     alloc: A,
     arguments: &[String],
     out: &mut W,
 ) -> Result<(), DrawError>
-    // On success the arguments can be read, and `out` has taken the text that they ask for.
+    // On success, the arguments can be read, and the text that they ask for was appended to `out`.
     ensures readable { OnOk result ((asked : Asked) × AsksFor (texts arguments.now) asked) }
     ensures written { OnOk result ((asked : Asked) → AsksFor (texts arguments.now) asked →
         Appends (W.contents out.old) (W.contents out.new) (text_asked asked)) }
 
-    // `BadWord` has the number of the first argument that cannot be read. `Write` is returned only
-    // if all arguments can be read.
+    // `BadWord` holds the number of the first argument that cannot be read. `Write` is returned
+    // only if all arguments can be read.
     ensures bad_word { (k : ℕ) → result ≡ Err (DrawError.BadWord k) →
         IsFirstUnreadable (texts arguments.now) k }
     ensures write { result ≡ Err DrawError.Write →
         (asked : Asked) × AsksFor (texts arguments.now) asked }
 
-    // If one of the first four arguments cannot be read, `BadWord` is returned, also when no memory
-    // is left.
+    // If one of the first four arguments cannot be read, `BadWord` is returned even if memory has
+    // run out.
     ensures early { (k : ℕ) → k ≤ 4 → IsFirstUnreadable (texts arguments.now) k →
         result ≡ Err (DrawError.BadWord k) }
 
-    // With any error but `Write`, nothing was written.
+    // After any error but `Write`, nothing was written.
     ensures untouched { IfErr result (λ error. error ≢ DrawError.Write → out.new ≡ out.old) }
 {
     let text = text_for_arguments(&alloc, arguments)?;
     write_text(out, text.as_str())
 }
 
-/// Returns the exit status of an outcome, and writes an error as one line to `err`. A failure to
-/// write that line is ignored.
+/// Returns the exit status of a result. If the result is an error, it is written as one line to
+/// `err`; a failure to write that line is ignored.
 pub fn report<W: Write>(outcome: Result<(), DrawError>, err: &mut W) -> u8
     ensures { result ≡ status_of outcome }
 {

@@ -21,7 +21,7 @@ fn push_answer<A: Allocator>(text: &mut String<A>, answer: &Answer) -> Result<()
     }
 }
 
-/// Appends a line for each answer.
+/// Appends one line for each answer.
 fn push_answers<A: Allocator>(text: &mut String<A>, answers: &[Answer]) -> Result<(), AllocError>
     ensures { OnOk result
         (string_bytes text.new ≡ string_bytes text.old ++ flat_map line_of answers.now) }
@@ -32,7 +32,7 @@ fn push_answers<A: Allocator>(text: &mut String<A>, answers: &[Answer]) -> Resul
     Ok(())
 }
 
-/// Appends each item after a space.
+/// Appends each item, preceded by a space.
 fn push_items<A: Allocator>(text: &mut String<A>, items: &[u64]) -> Result<(), AllocError>
     ensures { OnOk result
         (string_bytes text.new ≡ string_bytes text.old ++ flat_map item_text items.now) }
@@ -43,7 +43,8 @@ fn push_items<A: Allocator>(text: &mut String<A>, items: &[u64]) -> Result<(), A
     Ok(())
 }
 
-/// The text of answers and items: a line for each answer, and one for the items if there are any.
+/// Returns the text of the answers and the items: one line for each answer, and one line with the
+/// items if there are any.
 pub fn text_of<A: Allocator>(
     alloc: A,
     answers: &[Answer],

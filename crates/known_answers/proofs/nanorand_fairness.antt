@@ -1,4 +1,5 @@
--- Known answers: numbers drawn in turn, deals, samples and taken words of small lists, and one draw at its limit.
+-- Known answers: numbers drawn in turn, deals, samples and the words taken, for small lists, and
+-- one draw at its limit.
 use Rattle.std.specs.Prelude.{◌≡◌, ℕ, ◌==◌, true, false, List, [], ◌∷◌, ◌++◌, length, map, replicate, refl, Some, None}
 use Rattle.std.specs.Cmp.Lexicographic.{pointwise}
 use Rattle.nanorand_core.specs.values.Runs.{named}
@@ -12,7 +13,8 @@ use Rattle.nanorand_core.specs.samples.Samples.{holds}
 use Rattle.nanorand_fairness.specs.Samples.{sample_by, sample_sizes}
 use Rattle.nanorand_fairness.specs.Reservoirs.{later_sizes, reservoir_by}
 
--- a number below 3, then one below 2: the byte 0 names none below 3, the last byte is not drawn
+-- A number below 3, then one below 2. The byte 0 is rejected below 3, and the last byte is not
+-- drawn.
 abbrev bytes : List ℕ
 bytes = 0 ∷ 1 ∷ 255 ∷ 7 ∷ []
 
@@ -24,12 +26,12 @@ deciding_bytes : deciding_in_turn 8 (3 ∷ 2 ∷ []) bytes ≡ false ∷ true �
 unfolding named
 deciding_bytes = refl
 
--- where the words end, the draws end
+-- The draws end where the words end.
 words_end : numbers_in_turn 8 (3 ∷ 2 ∷ []) (0 ∷ 1 ∷ []) ≡ 0 ∷ []
 unfolding named
 words_end = refl
 
--- 127 rejected words, and 128, which refuse the draw and end all draws
+-- 127 rejected words, and then 128, after which the draw fails and all draws end.
 last_word_decides : numbers_in_turn 8 (3 ∷ 2 ∷ []) (replicate 127 0 ++ 255 ∷ 0 ∷ []) ≡ 2 ∷ 0 ∷ []
 unfolding named
 last_word_decides = refl
@@ -42,7 +44,8 @@ words_of_refusal : length (deciding_in_turn 8 (3 ∷ 2 ∷ []) (replicate 128 0 
 unfolding named
 words_of_refusal = refl
 
--- 0 and 2 exchanged in the first draw, 0 and 1 in the second: the rejected byte stays, and the last
+-- 0 and 2 are exchanged in the first draw, 0 and 1 in the second. The rejected byte and the last
+-- one stay.
 abbrev exchanges : List Exchange
 exchanges = record { size = 3; one = 0; other = 2 } ∷ record { size = 2; one = 0; other = 1 } ∷ []
 
@@ -57,7 +60,7 @@ swapped_results = refl
 exchanged_numbers : swapped_numbers exchanges (0 ∷ 1 ∷ []) ≡ 2 ∷ 0 ∷ []
 exchanged_numbers = refl
 
--- 85 bytes name each number below 3, and 128 each below 2
+-- 85 bytes draw each number below 3, and 128 bytes draw each number below 2.
 bytes_of_each : quotas 8 (3 ∷ 2 ∷ []) ≡ 10880
 bytes_of_each = refl
 
@@ -68,8 +71,8 @@ one_byte : word_lists_that 8 1 (3 ∷ []) (pointwise ◌==◌ (2 ∷ [])) ≡ 85
 unfolding named sum_over_lists
 one_byte = refl
 
--- words of two bits are few enough to walk over all lists: below 3 the word 0 is rejected, and each
--- number has one word; below 2 it has two
+-- There are so few words of two bits that all lists can be enumerated. Below 3, the word 0 is
+-- rejected, and each number is drawn by one word. Below 2, each number is drawn by two words.
 abbrev six : List (List ℕ)
 six = (0 ∷ 0 ∷ []) ∷ (0 ∷ 1 ∷ []) ∷ (1 ∷ 0 ∷ []) ∷ (1 ∷ 1 ∷ []) ∷ (2 ∷ 0 ∷ []) ∷ (2 ∷ 1 ∷ []) ∷ []
 
@@ -77,26 +80,26 @@ two_words : map (λ wanted. word_lists_that 2 2 (3 ∷ 2 ∷ []) (pointwise ◌=
 unfolding named sum_over_lists
 two_words = refl
 
--- of the 64 lists of three words, the four that begin 0, 0 draw no two numbers
+-- Of the 64 lists of three words, only the four that begin with 0, 0 do not draw two numbers.
 three_words : map (λ wanted. word_lists_that 2 3 (3 ∷ 2 ∷ []) (pointwise ◌==◌ wanted)) six ≡ 10 ∷ 10 ∷ 10 ∷ 10 ∷ 10 ∷ 10 ∷ []
 unfolding named sum_over_lists
 three_words = refl
 
--- The numbers 2, 0, 0 choose the indices 2, 1, 2, which turns 0, 1, 2 round.
+-- The numbers 2, 0, 0 choose the indices 2, 1, 2, which reverses 0, 1, 2.
 three_choices : choices_by 0 (2 ∷ 0 ∷ 0 ∷ []) ≡ 2 ∷ 1 ∷ 2 ∷ []
 three_choices = refl
 
 whole_shuffle : dealt 3 3 (2 ∷ 0 ∷ 0 ∷ []) ≡ 2 ∷ 1 ∷ 0 ∷ []
 whole_shuffle = refl
 
--- Two of four items: 3 comes to the front, and then 2.
+-- Two of four items: 3 moves to the front, and then 2.
 two_of_four : dealt 2 4 (3 ∷ 1 ∷ []) ≡ 3 ∷ 2 ∷ []
 two_of_four = refl
 
 sizes_of_a_deal : deal_sizes 3 5 ≡ 5 ∷ 4 ∷ 3 ∷ []
 sizes_of_a_deal = refl
 
--- Of the six lists of numbers of a shuffle of three, one makes each order.
+-- Of the six lists of numbers for a shuffle of three, one makes each order.
 all_shuffles : number_lists_that (deal_sizes 3 3) (λ numbers. true) ≡ 6
 all_shuffles = refl
 
@@ -109,12 +112,13 @@ one_hand = refl
 no_double : number_lists_that (deal_sizes 2 4) (λ numbers. pointwise ◌==◌ (dealt 2 4 numbers) (3 ∷ 3 ∷ [])) ≡ 0
 no_double = refl
 
--- One of three: each index is dealt by one of three lists of numbers, and no other number is.
+-- One of three items: each index is dealt by one of the three lists of numbers, and no other number
+-- is dealt.
 shares_of_one : map (λ index. number_lists_that (deal_sizes 1 3)
     (λ numbers. list_any (λ item. item == index) (dealt 1 3 numbers))) (0 ∷ 1 ∷ 2 ∷ 3 ∷ []) ≡ 1 ∷ 1 ∷ 1 ∷ 0 ∷ []
 shares_of_one = refl
 
--- Two of three: by four of six.
+-- Two of three items: each index is dealt by four of the six lists.
 shares_of_two : map (λ index. number_lists_that (deal_sizes 2 3)
     (λ numbers. list_any (λ item. item == index) (dealt 2 3 numbers))) (0 ∷ 1 ∷ 2 ∷ 3 ∷ []) ≡ 4 ∷ 4 ∷ 4 ∷ 0 ∷ []
 shares_of_two = refl
@@ -125,7 +129,8 @@ lists_of_two = refl
 deals_of_three : deals_of 3 5 ≡ 60
 deals_of_three = refl
 
--- The same of lists of three words of two bits, of which some are rejected: by 40 of 60.
+-- The same for lists of three words of two bits, of which some are rejected: each index is dealt by
+-- 40 of 60 lists.
 shares_of_words : map (λ index. word_lists_that 2 3 (deal_sizes 2 3)
     (λ numbers. list_any (λ item. item == index) (dealt 2 3 numbers))) (0 ∷ 1 ∷ 2 ∷ 3 ∷ []) ≡ 40 ∷ 40 ∷ 40 ∷ 0 ∷ []
 unfolding named sum_over_lists
@@ -135,33 +140,34 @@ words_of_two : word_lists_that 2 3 (deal_sizes 2 3) (λ numbers. true) ≡ 60
 unfolding named sum_over_lists
 words_of_two = refl
 
--- Choices from all indices: of 27 lists, five make each of three orders, and four each of the rest.
+-- Choices from all indices: of the 27 lists, three orders are made by five lists each, and the
+-- other three by four each.
 made_by_five : map choices_making ((0 ∷ 2 ∷ 1 ∷ []) ∷ (1 ∷ 0 ∷ 2 ∷ []) ∷ (1 ∷ 2 ∷ 0 ∷ []) ∷ []) ≡ 5 ∷ 5 ∷ 5 ∷ []
 made_by_five = refl
 
 made_by_four : map choices_making ((0 ∷ 1 ∷ 2 ∷ []) ∷ (2 ∷ 0 ∷ 1 ∷ []) ∷ (2 ∷ 1 ∷ 0 ∷ []) ∷ []) ≡ 4 ∷ 4 ∷ 4 ∷ []
 made_by_four = refl
 
--- Of two items, both orders come from two of four lists.
+-- With two items, each order is made by two of the four lists.
 made_by_two : map choices_making ((0 ∷ 1 ∷ []) ∷ (1 ∷ 0 ∷ []) ∷ []) ≡ 2 ∷ 2 ∷ []
 made_by_two = refl
 
--- Three of five: 2 joins, then 3 in the place of a second 2, then 0.
+-- Three of five numbers: 2 joins, then 3 in place of a second 2, then 0.
 sample_of_three : sample_by 2 (2 ∷ 2 ∷ 0 ∷ []) [] ≡ 2 ∷ 3 ∷ 0 ∷ []
 sample_of_three = refl
 
 sizes_of_a_sample : sample_sizes 3 5 ≡ 3 ∷ 4 ∷ 5 ∷ []
 sizes_of_a_sample = refl
 
--- Three of five: item 3 replaces item 1, and item 4 draws no slot.
+-- Three of five items: item 3 replaces item 1, and item 4 draws no slot.
 reservoir_of_three : reservoir_by 3 (1 ∷ 4 ∷ []) ≡ 0 ∷ 3 ∷ 2 ∷ []
 reservoir_of_three = refl
 
 sizes_of_a_reservoir : later_sizes 3 5 ≡ 4 ∷ 5 ∷ []
 sizes_of_a_reservoir = refl
 
--- One of three: of lists of two words of two bits each item is in the sample by four of twelve, and
--- of three words, of which some are rejected, by 20 of 60.
+-- One of three items: of the lists of two words of two bits, each item is in the sample for four of
+-- twelve. Of the lists of three words, some of which are rejected, it is for 20 of 60.
 reservoirs_of_words : map (λ item. word_lists_that 2 2 (later_sizes 1 3) (λ slots. holds item (reservoir_by 1 slots))) (0 ∷ 1 ∷ 2 ∷ 3 ∷ []) ≡ 4 ∷ 4 ∷ 4 ∷ 0 ∷ []
 unfolding named sum_over_lists
 reservoirs_of_words = refl
@@ -170,7 +176,7 @@ reservoirs_with_rejections : map (λ item. word_lists_that 2 3 (later_sizes 1 3)
 unfolding named sum_over_lists
 reservoirs_with_rejections = refl
 
--- Below 3 the byte 0 is rejected and the byte 9 decides; of 0 alone all is taken.
+-- Below 3, the byte 0 is rejected and the byte 9 decides. If all bytes are 0, all are taken.
 taken_to_the_deciding_word : words_taken 8 3 (0 ∷ 9 ∷ 7 ∷ []) ≡ 2
 unfolding named
 taken_to_the_deciding_word = refl
@@ -179,7 +185,7 @@ taken_in_vain : words_taken 8 3 (0 ∷ 0 ∷ []) ≡ 2
 unfolding named
 taken_in_vain = refl
 
--- The last of 128 words still decides. After 128 rejected words no other is taken.
+-- The last of 128 words still decides. After 128 rejected words, no further word is taken.
 last_word_of_the_limit : number_by_words 8 3 (replicate 127 0 ++ 255 ∷ 0 ∷ []) ≡ Some 2
 unfolding named
 last_word_of_the_limit = refl

@@ -1,12 +1,13 @@
-//! Draws by lot from a list, so that anyone can repeat it: `lots SEED COUNT|all < entrants`.
+//! Draws by lot from a list, so that anyone can repeat the draw: `lots SEED COUNT|all < entrants`.
 //!
-//! - SEED is any text that is not empty.
-//! - COUNT is how many entrants to draw, in decimal digits; `all` is all of them.
+//! - SEED is any non-empty text.
+//! - COUNT is the number of entrants to draw, in decimal digits; `all` draws all of them.
 //! - The entrants are the lines of standard input. No line may be empty.
 //!
-//! It prints the entrants drawn, one a line, in the order drawn. The exit status is 0 on success, 2 if
-//! the arguments are not these, 3 if there are too few entrants, 4 if a line is empty, 5 if out of
-//! memory, 6 if a read failed, 7 if a write failed, and 8 if 128 words in a row were rejected.
+//! It prints the entrants drawn, one on each line, in the order in which they were drawn. The exit
+//! status is 0 on success, 2 if the arguments are not a seed and a count, 3 if there are too few
+//! entrants, 4 if a line is empty, 5 if memory runs out, 6 if a read failed, 7 if a write failed,
+//! and 8 if 128 words (random integers of 64 bits) in a row were rejected.
 #![tactic(auto)]
 
 use lots_core::LotsError;
@@ -27,7 +28,7 @@ fn main(rt: HostRuntime) -> ExitCode {
             ),
             Err(_) => Err(LotsError::Memory),
         },
-        // An argument that is no text.
+        // An argument is not valid text.
         Err(error) if error.kind() == ErrorKind::InvalidData => Err(LotsError::Usage),
         Err(_) => Err(LotsError::Memory),
     };

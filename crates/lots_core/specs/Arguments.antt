@@ -1,4 +1,4 @@
--- What the arguments of the command line ask for.
+-- What the command-line arguments ask for.
 use Rattle.std.specs.Prelude.{◌≡◌, ◌≢◌, ℕ, ◌^◌, ◌<◌, List, [], ◌∷◌, map, codes, String, string_bytes}
 use Rattle.std.specs.Str.Parse.{IsNumeral, digits_value}
 use Rattle.lots_core.specs.declared.arguments.Count.{Count}
@@ -20,7 +20,7 @@ abbrev pub IsCount : List ℕ → Count → Type 0
 IsCount text All = text ≡ codes "all"
 IsCount text (Of n) = IsNumber text n
 
--- How many of n entrants are asked for.
+-- How many of n entrants to draw.
 abbrev pub number_asked : Count → ℕ → ℕ
 number_asked All n = n
 number_asked (Of k) n = k

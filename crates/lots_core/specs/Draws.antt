@@ -1,4 +1,4 @@
--- What a seed draws: the key, the words, and the entrants in the order drawn.
+-- What a seed draws: its key, its words, and the entrants in the order in which they are drawn.
 use Rattle.std.specs.Prelude.{ℕ, List, [], take, replicate}
 use Rattle.sha2.specs.Sha256.{sha256}
 use Rattle.nanorand_core.specs.generators.Blocks.{Requests}
@@ -7,28 +7,28 @@ use Rattle.nanorand_core.specs.shuffles.Shuffles.{Shuffle, from_itself, partly_s
 use Rattle.nanorand_replay.specs.generators.Buffered.{Buffered, buffer_of, buffered}
 use Rattle.nanorand.specs.generators.ChaCha.{chacha_block, initial_state, next_state}
 
--- The key of a seed: SHA-256 of its text.
+-- The key of a seed: the SHA-256 of its text.
 abbrev pub key_of : List ℕ → List ℕ
 key_of seed = sha256 seed
 
--- The start of a seed's stream: ChaCha under its key, with the nonce and the counter 0. Nothing is
--- buffered yet.
+-- The start of a seed's stream: ChaCha with its key, and with the nonce and the counter 0. Nothing
+-- is buffered.
 abbrev pub start_of : List ℕ → Buffered (List ℕ)
 start_of seed = buffer_of [] (initial_state (key_of seed) (replicate 8 0))
 
--- The stream is that of ChaCha with 20 rounds, and requests join in it without a gap.
+-- The requests of the stream: ChaCha with 20 rounds, without gaps between requests.
 abbrev pub requests : Requests (Buffered (List ℕ))
 requests = buffered (chacha_block 20) next_state 64
 
--- The draw: the first `count` steps of the shuffle of the entrants. For each place from 0 on, the
--- entrant there and the one at a place drawn from it and all later ones are swapped.
+-- The draw: the first `count` steps of the shuffle of the entrants. For each place, from 0 up, the
+-- entrant there is swapped with the one at a place drawn from this place and all later ones.
 abbrev pub drawing : {T : Type 0} → List ℕ → ℕ → List T → Shuffle (Buffered (List ℕ)) T
 drawing seed count entrants = partly_shuffled requests from_itself count (start_of seed) entrants
 
--- The entrants drawn, in the order drawn.
+-- The entrants drawn, in the order in which they are drawn.
 abbrev pub drawn : {T : Type 0} → List ℕ → ℕ → List T → List T
 drawn seed count entrants = take count (drawing seed count entrants).items
 
--- The places drawn of n, counted from 0, in the order drawn.
+-- The places drawn from n places, counted from 0, in the order in which they are drawn.
 abbrev pub places_drawn : List ℕ → ℕ → ℕ → List ℕ
 places_drawn seed count n = drawn seed count (rising n)

@@ -1,9 +1,9 @@
--- The entrants of a list: its lines.
+-- The entrants of a list, which are its lines.
 use Rattle.std.specs.Prelude.{◌≡◌, ◌≢◌, ℕ, ◌-◌, ◌<◌, ◌≤◌, ◌==◌, if◌then◌else◌, List, [], ◌∷◌, length, slice_index_or}
 use Rattle.std.specs.Prelude.{take, All}
 use Rattle.std.specs.List.{onto_first}
 
--- The lines of a text, without their line feeds. The last line may lack one.
+-- The lines of a text, without their line feeds. The last line need not end with one.
 abbrev pub lines_of : List ℕ → List (List ℕ)
 lines_of [] = []
 lines_of (byte ∷ bytes) =
@@ -17,7 +17,7 @@ HasNoLineFeed bytes = All (λ byte. byte ≢ 10) bytes
 abbrev pub AreFull : List (List ℕ) → Type 0
 AreFull lines = All (λ line. line ≢ []) lines
 
--- Line k, counted from 1, is the first that is empty.
+-- Line k, counted from 1, is the first empty line.
 pub record IsFirstEmpty (lines : List (List ℕ)) (k : ℕ) : Type 0 where
   pub counted : 0 < k
   pub there : k ≤ length lines

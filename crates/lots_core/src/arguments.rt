@@ -1,19 +1,19 @@
-//! Reads the arguments of the command line: a seed and a count.
+//! Parses the command-line arguments: a seed and a count.
 ghost use Rattle.std.specs.Prelude.{◌≡◌, ℕ, IfSome, Some, IsSomeAnd};
 ghost use Rattle.lots_core.specs.Arguments.{Asked, AsksFor, IsCount, asked_by, number_asked, texts};
 ghost use Rattle.lots_core.specs.declared.arguments.Count.{Count as ACount};
 
-/// How many entrants are asked for.
+/// How many entrants to draw.
 #[derive(Clone, Copy)]
 pub enum Count {
-    /// All of them: a shuffle.
+    /// All of them, which is a shuffle.
     All,
     /// This many.
     Of(usize),
 }
 
 impl Count {
-    /// How many of the entrants are asked for.
+    /// Returns how many of the entrants to draw.
     pub fn among(self, entrants: usize) -> usize
         ensures { result ≡ number_asked self entrants }
     {
@@ -31,7 +31,7 @@ pub struct Request<'a> {
     pub count: Count,
 }
 
-/// The count that the text gives: `all`, or decimal digits of a number below 2^64.
+/// Reads the count: `all`, or decimal digits of a number below 2^64.
 fn count_of(text: &str) -> Option<Count>
     ensures found { IfSome result (IsCount text.now) }
     ensures only { (count : ACount) → IsCount text.now count → result ≡ Some count }
@@ -45,7 +45,7 @@ fn count_of(text: &str) -> Option<Count>
     text.parse().ok().map(Count::Of)
 }
 
-/// What the arguments ask for, or `None` if they are not a seed and a count.
+/// Parses the arguments, or returns `None` if they are not a seed and a count.
 pub fn read(arguments: &[String]) -> Option<Request<'_>>
     ensures found { IfSome result (λ request. AsksFor (texts arguments.now) (asked_by request)) }
     ensures only { (asked : Asked) → AsksFor (texts arguments.now) asked →

@@ -1,4 +1,4 @@
-//! The draw: a seed's words, and the entrants that they choose.
+//! The draw: the random words that a seed produces, and the entrants that they select.
 ghost use Rattle.std.specs.Prelude.{◌≡◌, ◌⊎◌, ◌<◌, ◌≤◌, length, take, IsPermutation, IfErr, OnOk};
 ghost use Rattle.nanorand_core.specs.shuffles.Arrangements.{rising, IsArrangement};
 ghost use Rattle.nanorand_core.specs.declared.values.range.RangeError.TheVariants as ranges;
@@ -10,20 +10,21 @@ use nanorand::shuffles::partial_shuffle;
 use nanorand::{BufferedRng, ChaCha20};
 use sha2::{Digest, Sha256};
 
-/// The start of a seed's words: the key stream of ChaCha20, eight bytes a word, least byte first. Its
-/// key is SHA-256 of the text, its nonce and counter are 0.
+/// Returns the generator of a seed: the keystream of ChaCha20, read as little-endian words (random
+/// integers) of 64 bits. Its key is the SHA-256 of the text; its nonce and its counter are 0.
 fn words_of(seed: &str) -> BufferedRng<ChaCha20, 64>
     ensures { result ≡ start_of seed.now }
 {
     BufferedRng::new(ChaCha20::new_key(Sha256::digest(seed), [0; 8]))
 }
 
-/// Draws `count` of the entrants by the seed. The first `count` items are then the entrants drawn, in
-/// the order drawn, and the others follow.
+/// Draws `count` of the entrants, as the seed determines. The first `count` items are then the
+/// entrants drawn, in the order in which they were drawn, and the others follow. Nothing is
+/// allocated.
 ///
-/// It returns `TooFew` exactly if there are fewer entrants than `count`; nothing is moved then. It
-/// returns `Exhausted` if 128 words in a row were rejected for one place; the items are then a
-/// permutation of what they were, and no selection. Nothing is allocated.
+/// Returns `TooFew` if and only if there are fewer entrants than `count`; nothing is moved then.
+/// Returns `Exhausted` if 128 words in a row were rejected for one place; the items are then a
+/// permutation of the entrants, and not a selection.
 pub fn draw<T>(seed: &str, entrants: &mut [T], count: usize) -> Result<(), LotsError>
     ensures drawn { OnOk result (take count entrants.new ≡ drawn seed.now count entrants.old) }
     ensures enough { OnOk result (count ≤ length entrants.old) }
@@ -55,10 +56,11 @@ fn number(places: &mut [usize])
     }
 }
 
-/// Draws `count` of the places 0, 1, .. by the seed, as many places as there are items. The first
-/// `count` items are then the places drawn, in the order drawn; the old items do not matter.
+/// Draws `count` of the places 0, 1, .., as the seed determines. There are as many places as items.
+/// The first `count` items are then the places drawn, in the order in which they were drawn; the
+/// old items are ignored.
 ///
-/// It fails as `draw` does. The items are then the places in some order, and no selection.
+/// Returns the errors of `draw`. The items are then the places in some order, and not a selection.
 pub fn draw_places(seed: &str, places: &mut [usize], count: usize) -> Result<(), LotsError>
     ensures drawn { OnOk result
         (take count places.new ≡ places_drawn seed.now count (length places.old)) }

@@ -1,4 +1,4 @@
-//! The entrants of a list: its lines.
+//! The entrants of a list, which are its lines.
 ghost use Rattle.std.specs.Prelude.{◌≡◌, ◌≢◌, ◌⊎◌, ℕ, ◌<◌, ◌≤◌, ◌∷◌, ◌++◌, [], length, map, slice_index, MatchOption, drop, take, IfOk, IfErr, OnOk};
 ghost use Rattle.lots_core.specs.Lists.{AreFull, HasNoLineFeed, IsFirstEmpty, lines_of};
 ghost use Rattle.lots_core.specs.declared.error.LotsError.TheVariants.{EmptyLine, Memory};
@@ -6,7 +6,7 @@ ghost use Rattle.lots_core.specs.declared.error.LotsError.TheVariants.{EmptyLine
 use crate::error::LotsError;
 use std::alloc::Allocator;
 
-/// The index of the first line feed, if there is one.
+/// Returns the index of the first line feed, if there is one.
 fn line_end(text: &[u8]) -> Option<usize>
     ensures { MatchOption result (HasNoLineFeed text.now)
         (λ end. (end < length text.now) × (slice_index text.now end ≡ 10)
@@ -15,7 +15,7 @@ fn line_end(text: &[u8]) -> Option<usize>
     text.iter().position(|byte| *byte == b'\n')
 }
 
-/// The first line of a text, without its line feed, and the text after it.
+/// Returns the first line of a text, without its line feed, and the text after it.
 fn first_line(text: &[u8]) -> (&[u8], &[u8])
     requires { 0 < length text.now }
     ensures lines { lines_of text.now ≡ result.0.now ∷ lines_of result.1.now }
@@ -27,10 +27,11 @@ fn first_line(text: &[u8]) -> (&[u8], &[u8])
     }
 }
 
-/// The entrants of a list, one a line: the bytes of each line without its line feed, which the last
-/// line may lack. Equal lines are separate entrants.
+/// Returns the entrants of a list, one for each line: the bytes of the line without its line feed,
+/// which the last line need not have. Equal lines are separate entrants.
 ///
-/// It returns `EmptyLine` with the number of the first empty line, counted from 1, or `Memory`.
+/// Returns `EmptyLine` with the number of the first empty line, counted from 1, or `Memory` if an
+/// allocation fails.
 pub fn entrants_of<'a, A: Allocator>(
     alloc: A,
     list: &'a [u8],
@@ -55,9 +56,9 @@ pub fn entrants_of<'a, A: Allocator>(
     Ok(entrants)
 }
 
-/// The number of entrants of a list, those that `entrants_of` returns. It takes no memory.
+/// Returns the number of entrants of a list, as `entrants_of` counts them. Nothing is allocated.
 ///
-/// It returns `EmptyLine` as `entrants_of` does, and no other error.
+/// Returns `EmptyLine`, the only error, as `entrants_of` does.
 pub fn count_entrants(list: &[u8]) -> Result<usize, LotsError>
     ensures number { IfOk result (λ count. count ≡ length (lines_of list.now)) }
     ensures full { OnOk result (AreFull (lines_of list.now)) }

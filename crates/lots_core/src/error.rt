@@ -1,4 +1,4 @@
-//! The ways in which a draw fails.
+//! The errors of a draw.
 
 ghost use Rattle.std.specs.Prelude.{◌≡◌, Err};
 ghost use Rattle.lots_core.specs.Text.{status_of};
@@ -7,22 +7,22 @@ ghost use Rattle.lots_core.specs.declared.error.LotsError.TheVariants.{Memory};
 use std::alloc::{AllocError, AllocFailed};
 use thiserror::Error;
 
-/// Why nothing was drawn, or why the selection was not written.
+/// The reasons why nothing was drawn, or why the selection was not written.
 #[derive(Clone, Copy, Debug, PartialEq, Eq, Error)]
 pub enum LotsError {
     /// The arguments are not a seed and a count. Nothing was read.
     #[error("usage: lots SEED COUNT|all < entrants")]
     Usage,
 
-    /// More entrants were asked for than there are.
+    /// There are fewer entrants than were asked for.
     #[error("{entrants} entrants, {count} asked for")]
     TooFew { entrants: usize, count: usize },
 
-    /// The number, counted from 1, of the first empty line.
+    /// A line is empty. The value is the number of the first such line, counted from 1.
     #[error("line {0} is empty")]
     EmptyLine(usize),
 
-    /// Out of memory: an allocation was refused.
+    /// Out of memory: an allocation failed.
     #[error("no memory")]
     Memory,
 
@@ -30,18 +30,19 @@ pub enum LotsError {
     #[error("read failed")]
     Read,
 
-    /// The writer returned an error, or took no bytes. How much of the text it took is unspecified.
+    /// The writer returned an error, or accepted 0 bytes. How much of the text it accepted is
+    /// unspecified.
     #[error("write failed")]
     Write,
 
-    /// 128 words in a row were rejected for one place: for a place among n, less than once in 2^128
-    /// draws.
+    /// 128 words (random integers of 64 bits) in a row were rejected for one place. For a place
+    /// among n entrants, this happens less than once in 2^128 draws.
     #[error("128 words were rejected")]
     Exhausted,
 }
 
 impl LotsError {
-    /// The exit status that tells of the error.
+    /// Returns the exit status for the error.
     pub fn status(self) -> u8
         ensures { result ≡ status_of (Err self) }
     {

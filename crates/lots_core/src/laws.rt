@@ -1,5 +1,5 @@
-//! Laws of the draw. Each contract states a law. The functions do nothing; a proof calls one to use its
-//! law.
+//! Laws of the draw. Each contract states a law. The functions do nothing; a proof calls one to use
+//! its law.
 ghost use Rattle.lots_core.specs.Fairness.{AllAreDrawn, DrawsBeginAlike, EntrantsByPlaces, ListsAreDrawnEquallyOften, PlacesAreDifferent, RejectionsPreferNoList, SeedsDrawByWords, SharesAreEqual, WordsAreTheKeyStream};
 
 use nanorand::laws::{
@@ -8,16 +8,18 @@ use nanorand::laws::{
 };
 use nanorand::{BufferedRng, ChaCha20};
 
-/// No list of places is preferred, and no place.
+/// No list of places is preferred, and neither is any place.
 ///
-/// A draw of `count` of n places takes a word of 64 bits for each place, and one more for each word
-/// that is rejected. `lists`: each list of `count` different places is drawn by equally many lists of
-/// `count` words, the product of floor(2^64 / n), floor(2^64 / (n - 1)), .. `rejections`: of all lists
-/// of m words that draw, rejected words included, exactly one of every n (n - 1) .. (n - count + 1)
-/// draws a given list of places. `shares`: and exactly `count` of every n draw a given place. So any
-/// two places are drawn by equally many.
+/// A draw of `count` of n places takes one word of 64 bits for each place, and one more for each
+/// rejected word. `lists`: each list of `count` different places is drawn by the same number of
+/// sequences of `count` words, which is the product of floor(2^64 / n), floor(2^64 / (n - 1)), ..
+/// `rejections`: of all sequences of m words that draw a list, with or without rejected words,
+/// exactly one in n (n - 1) .. (n - count + 1) draws a given list of places. `shares`: of the same
+/// sequences, exactly `count` in n draw a given place. So any two places are drawn by the same
+/// number of sequences.
 ///
-/// It does not say that seeds draw equally often. A seed gives one list of words.
+/// The law does not say that all places are drawn by the same number of seeds. A seed yields one
+/// sequence of words.
 pub fn draws_are_fair()
     ensures lists { ListsAreDrawnEquallyOften }
     ensures rejections { RejectionsPreferNoList }
@@ -28,9 +30,10 @@ pub fn draws_are_fair()
 
 /// What a seed draws, in terms of its words.
 ///
-/// `words`: the words of a seed are its key stream, ChaCha20 under the SHA-256 of the seed: eight bytes
-/// a word, least byte first, without a gap. `draws`: a seed draws the places that these words draw. So
-/// what `draws_are_fair` says of lists of words is said of the words of a seed.
+/// `words`: the words of a seed are its keystream (ChaCha20 with the SHA-256 of the seed as the
+/// key), read as little-endian words of 8 bytes without gaps. `draws`: a seed draws the places that
+/// these words draw. So what `draws_are_fair` says about sequences of words holds for the words of
+/// a seed.
 pub fn seeds_draw_by_words()
     ensures words { WordsAreTheKeyStream }
     ensures draws { SeedsDrawByWords }
@@ -40,11 +43,11 @@ pub fn seeds_draw_by_words()
     shuffles_draw_in_turn::<BufferedRng<ChaCha20, 64>, usize, 64>();
 }
 
-/// A draw loses nobody, and draws nobody twice, for entrants of every type.
+/// A draw loses no entrant and draws no entrant twice, for entrants of every type.
 ///
-/// `places`: the entrants drawn are those at the places drawn, which by `places_are_different` are
-/// different ones. `all`: a draw of all is a permutation of the entrants. `begins`: a draw of k is the
-/// first k of a draw of all.
+/// `places`: the entrants drawn are those at the places drawn, which are different by
+/// `places_are_different`. `all`: a draw of all entrants is a permutation of them. `begins`: a draw
+/// of k entrants is the first k of a draw of all.
 pub fn draws_lose_nobody<T>()
     ensures places { EntrantsByPlaces T }
     ensures all { AllAreDrawn T }
@@ -53,7 +56,7 @@ pub fn draws_lose_nobody<T>()
     partial_shuffles::<BufferedRng<ChaCha20, 64>, T, 64>();
 }
 
-/// A draw of `count` places of n draws different ones, each of them below n.
+/// A draw of `count` of n places draws `count` different places, each of them below n.
 pub fn places_are_different()
     ensures { PlacesAreDifferent }
 {

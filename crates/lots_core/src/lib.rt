@@ -1,10 +1,11 @@
-//! A public draw that anyone can repeat: from a seed and a list of entrants, a selection in an order.
+//! A public draw that anyone can repeat: a seed and a list of entrants determine a selection and
+//! its order.
 //!
-//! The program `lots` calls `run` and `report`, and nothing else. `draw` and `draw_places` are the draw
-//! itself, without text, for other callers. `laws` says that no place is preferred to another.
+//! The program `lots` only calls `run` and `report`. `draw` and `draw_places` are the draw itself,
+//! without text, for other callers. `laws` states that no place is preferred to another.
 //!
-//! `specs/Draws.antt` says what a seed draws, `specs/Lists.antt` what the entrants of a list are, and
-//! `specs/Arguments.antt` and `specs/Text.antt` what the program does with its arguments.
+//! `specs/Draws.antt` defines what a seed draws, `specs/Lists.antt` what the entrants of a list
+//! are, and `specs/Arguments.antt` and `specs/Text.antt` what the program does with its arguments.
 #![tactic(auto)]
 
 mod arguments;

@@ -1,4 +1,4 @@
-//! The whole run: from the arguments and the list to the text that is written.
+//! The whole run, from the arguments and the list to the text that is written.
 ghost use Rattle.std.specs.Prelude.{◌≡◌, ◌≢◌, ◌⊎◌, ℕ, List, IfOk, IfErr, IfSome, OnOk};
 ghost use Rattle.std.specs.Io.KnownBytes.{Appends};
 ghost use Rattle.lots_core.specs.Arguments.{Asked, AsksFor, asked_by, texts};
@@ -14,7 +14,7 @@ use crate::text::text_of;
 use std::alloc::Allocator;
 use std::io::{ErrorKind, Read, Write};
 
-/// All bytes of the reader.
+/// Returns all bytes of the reader.
 fn read_list<A: Allocator, R: Read>(alloc: A, input: &mut R) -> Result<Vec<u8, A>, LotsError>
     ensures read { IfOk result (λ list.
         WasRead (R.remaining input.old) (R.remaining input.new) list.items) }
@@ -28,7 +28,7 @@ fn read_list<A: Allocator, R: Read>(alloc: A, input: &mut R) -> Result<Vec<u8, A
     }
 }
 
-/// The text of the selection that the request makes from the list, or why there is none.
+/// Returns the text of the selection that the request makes from the list, or the error.
 fn select<'a, A: Allocator>(
     alloc: &'a A,
     request: &Request<'_>,
@@ -42,35 +42,39 @@ fn select<'a, A: Allocator>(
     Ok(text_of(alloc, &entrants[..count])?)
 }
 
-/// Draws what the arguments ask for from the list that `input` has, and writes it to `out`, all at
-/// once, and then flushes. The arguments are those after the name of the program.
+/// Draws what the arguments ask for from the list that `input` provides, writes the selection to
+/// `out`, all at once, and then flushes. The arguments do not include the name of the program.
 ///
-/// Everything is read and drawn before anything is written. With the error `Write`, how much of the
-/// text `out` took is unspecified. With any other error, nothing was written.
+/// Everything is read and drawn before anything is written. Returns the errors that `LotsError`
+/// lists. After `Write`, how much of the text `out` accepted is unspecified. After any other error,
+/// nothing was written.
 pub fn run<A: Allocator, R: Read, W: Write>(
     alloc: A,
     arguments: &[String],
     input: &mut R,
     out: &mut W,
 ) -> Result<(), LotsError>
-    // On success, the input was read to its end, and `out` has taken the text of the selection.
+    // On success, the input was read to its end, and the text of the selection was appended to
+    // `out`.
     ensures drawn { OnOk result ((text : List ℕ)
         × IsDrawn (texts arguments.now) (R.remaining input.old) (R.remaining input.new) text
         × Appends (W.contents out.old) (W.contents out.new) text) }
 
-    // So of a reader whose bytes are known, it is the text of their selection.
+    // So if the bytes of the reader are known, the text is that of the selection from them.
     ensures written { OnOk result ((asked : Asked) → AsksFor (texts arguments.now) asked →
         IfSome (R.remaining input.old) (λ list. Appends (W.contents out.old) (W.contents out.new)
         (text_drawn asked (lines_of list)))) }
 
-    // `Usage` is returned exactly if the arguments are no seed and count. Nothing was read then.
+    // `Usage` is returned if and only if the arguments are not a seed and a count. Nothing was read
+    // then.
     ensures usage { result ≡ Err Usage →
         (asked : Asked) → AsksFor (texts arguments.now) asked → ⊥ }
     ensures unread { result ≡ Err Usage → input.new ≡ input.old }
     ensures unreadable { ((asked : Asked) → AsksFor (texts arguments.now) asked → ⊥) →
         result ≡ Err Usage }
 
-    // The other refusals: a line is empty, there are too few entrants, or a draw is refused.
+    // The other errors of the draw: a line is empty, there are too few entrants, or 128 words in a
+    // row were rejected.
     ensures empty { (k : ℕ) → result ≡ Err (EmptyLine k) → (list : List ℕ)
         × WasRead (R.remaining input.old) (R.remaining input.new) list
         × IsFirstEmpty (lines_of list) k }
@@ -83,7 +87,7 @@ pub fn run<A: Allocator, R: Read, W: Write>(
         × WasRead (R.remaining input.old) (R.remaining input.new) list
         × AreFull (lines_of list) × IsRefused asked (lines_of list) }
 
-    // `Write` is returned only if there is a selection. With any other error, nothing was written.
+    // `Write` is returned only if there is a selection. After any other error, nothing was written.
     ensures write { result ≡ Err Unwritten → (text : List ℕ)
         × IsDrawn (texts arguments.now) (R.remaining input.old) (R.remaining input.new) text }
     ensures untouched { IfErr result (λ error. error ≢ Unwritten → out.new ≡ out.old) }
@@ -95,8 +99,8 @@ pub fn run<A: Allocator, R: Read, W: Write>(
     out.flush().map_err(|_| LotsError::Write)
 }
 
-/// Returns the exit status of an outcome, and writes an error as one line to `err`. A failure to
-/// write that line is ignored.
+/// Returns the exit status of a result. If the result is an error, it is written as one line to
+/// `err`; a failure to write that line is ignored.
 pub fn report<W: Write>(outcome: Result<(), LotsError>, err: &mut W) -> u8
     ensures { result ≡ status_of outcome }
 {

@@ -4,7 +4,7 @@ ghost use Rattle.lots_core.specs.Text.{text_of};
 
 use std::alloc::{AllocError, Allocator};
 
-/// The text of the lines, each ended by a line feed.
+/// Returns the text of the lines, each ended by a line feed.
 pub fn text_of<A: Allocator>(alloc: A, lines: &[&[u8]]) -> Result<Vec<u8, A>, AllocError>
     ensures { IfOk result (λ text. text.items ≡ text_of (map (λ line. line.now) lines.now)) }
 {

@@ -1,5 +1,5 @@
-//! Where programs keep a generator: behind a `&mut` parameter of a function that is not inlined, and in
-//! a field. Each work is done to the items of a slice.
+//! Where programs keep a generator: behind a `&mut` parameter of a function that is not inlined,
+//! and in a field. Each task runs over the items of a slice.
 
 use nanorand::{Rng, WyRand};
 use std::ops::Bound::{Excluded, Included};

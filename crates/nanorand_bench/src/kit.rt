@@ -1,5 +1,5 @@
-//! The same work with the kit's `rand`, `rand_pcg` and `rand_chacha`. Ranges and shuffles draw from
-//! its `Pcg64`.
+//! The same tasks with the kit's `rand`, `rand_pcg` and `rand_chacha`. Ranges and shuffles draw
+//! from its `Pcg64`.
 
 use crate::words::mixed;
 use rand::seq::{IndexedRandom, SliceRandom};

@@ -1,4 +1,4 @@
-//! Where programs keep a generator of the kit's: the works of `contexts`.
+//! Where programs keep a generator of the kit: the tasks of `contexts`.
 
 use rand::seq::SliceRandom;
 use rand::{Rng, RngExt};

@@ -1,7 +1,8 @@
-//! The functions that `bench/` times: calls of `nanorand`, and the same work with the kit's `rand`.
+//! The functions that `bench/` times: calls of `nanorand`, and the same tasks with the kit's
+//! `rand`.
 //!
 //! Those that fill or shuffle a slice leave their result in it. Each of the others returns a number
-//! that depends on all its results, so that no work can be left out.
+//! that depends on all its results, so that the compiler cannot drop any of the work.
 #![tactic(auto)]
 
 pub mod buffers;

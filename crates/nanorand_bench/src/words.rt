@@ -53,7 +53,7 @@ pub extern "C" fn nanorand_bench_chacha20_blocks(seed: u8, count: u64) -> u64 {
     all
 }
 
-/// Mixes the eight 64-bit words of a block into one, so that none is left unused.
+/// Mixes the eight 64-bit words of a block into one word, so that none is left unused.
 pub fn mixed(block: &[u8; 64]) -> u64 {
     let mut all = 0u64;
     for i in 0..8 {
@@ -62,7 +62,7 @@ pub fn mixed(block: &[u8; 64]) -> u64 {
     all
 }
 
-// The eight bytes from index `at` on, little-endian.
+// Returns the eight bytes from index `at` on, in little-endian order.
 fn u64_at(block: &[u8; 64], at: usize) -> u64
     requires { at + 8 ≤ 64 }
 {

@@ -1,4 +1,4 @@
-//! ChaCha with 8 rounds, fewer than the standard has. Each request begins a new block.
+//! ChaCha with 8 rounds, fewer than the standard's 20. Each request starts with a new block.
 ghost use Rattle.std.specs.Prelude.{◌≡◌, ◌≢◌, ◌<◌, ◌≤◌, ◌≤ℤ◌, ◌+◌, ◌%◌, ◌^◌, ◌*◌, ◌-◌};
 ghost use Rattle.std.specs.Prelude.{All, IsPermutation, length, ℕ, take};
 ghost use Rattle.std.specs.List.{AllPairs};
@@ -18,10 +18,13 @@ ghost use Rattle.nanorand_calls.specs.Words.{IsAfterAtMost};
 
 use nanorand_calls::chacha::{self, ChaChaState};
 
-/// Makes the state from a number, which may be small: 0, 1, 2, .., a port, a year. Its seed is what
-/// SplitMix64 draws from the number (Guy Steele, Doug Lea and Christine Flood, 2014, in Sebastiano
-/// Vigna's constants), each word little-endian; of ChaCha it is the key and then the nonce, the
-/// counter is 0, and a stream has nothing buffered. Different numbers give different states.
+/// Makes the state from a number, which may be small: 0, 1, 2, .., a port, a year. Different
+/// numbers produce different states.
+///
+/// The seed consists of the first words of 64 bits that SplitMix64 produces from the number, in
+/// little-endian order (Guy Steele, Doug Lea and Christine Flood, 2014, with the constants of
+/// Sebastiano Vigna). For ChaCha and its streams, the seed is the key followed by the nonce, the
+/// counter is 0, and a stream has nothing buffered.
 #[unsafe(no_mangle)]
 pub extern "C" fn nanorand_v1_chacha8_seed_from_u64(state: &mut ChaChaState, number: u64)
     ensures { chacha_at state.new ≡ seeded_state (seed_from 40 number) }
@@ -29,7 +32,7 @@ pub extern "C" fn nanorand_v1_chacha8_seed_from_u64(state: &mut ChaChaState, num
     chacha::seed_from_u64::<8>(state, number);
 }
 
-/// Writes the block at the counter, and adds 1 to the counter.
+/// Writes the block at the counter to `out`, and adds 1 to the counter, modulo 2^64.
 #[unsafe(no_mangle)]
 pub extern "C" fn nanorand_v1_chacha8_block(state: &mut ChaChaState, out: &mut [u8; 64])
     ensures block { out.new ≡ chacha_block 8 (chacha_at state.old) }
@@ -41,7 +44,7 @@ pub extern "C" fn nanorand_v1_chacha8_block(state: &mut ChaChaState, out: &mut [
     chacha::block::<8>(state, out);
 }
 
-/// Draws a number of 64 bits: the next 8 bytes, least byte first.
+/// Draws a 64-bit number: the next 8 bytes, in little-endian order.
 #[unsafe(no_mangle)]
 pub extern "C" fn nanorand_v1_chacha8_u64(state: &mut ChaChaState) -> u64
     ensures value { result ≡ number_of ((chacha_requests 8).bytes (chacha_at state.old) 8) }
@@ -52,8 +55,9 @@ pub extern "C" fn nanorand_v1_chacha8_u64(state: &mut ChaChaState) -> u64
     chacha::number::<8>(state)
 }
 
-/// Fills the slice with the blocks from the counter on, by one request. The counter advances by the
-/// number of blocks that the slice takes, the last one counted whole. A length of 0 draws nothing.
+/// Fills the slice with blocks, by one request. The first one is the block at the counter. The
+/// counter advances by the number of blocks; a last block of which only a part is used counts as a
+/// whole one, and the rest of it is dropped. A length of 0 draws nothing.
 #[unsafe(no_mangle)]
 pub extern "C" fn nanorand_v1_chacha8_fill_bytes(state: &mut ChaChaState, buffer: &mut [u8])
     ensures bytes { let start = chacha_at state.old in
@@ -68,9 +72,9 @@ pub extern "C" fn nanorand_v1_chacha8_fill_bytes(state: &mut ChaChaState, buffer
     chacha::fill_bytes::<8>(state, buffer);
 }
 
-/// Draws a number from `first..=last`, by words of 32 bits, and returns a status: 0 if `number` was
-/// written, 1 if the range is empty, 2 if 128 words in a row were rejected. After 1 and 2 `number`
-/// is unchanged. After 1 nothing was drawn; after 2 the words stay consumed.
+/// Draws a number from `first..=last`, by rejection sampling of 32-bit words, and writes it to
+/// `number`. Returns 0, or 1 if the range is empty, or 2 if 128 words in a row were rejected. After
+/// 1 and 2, `number` is unchanged. After 1, nothing was drawn; after 2, the words stay consumed.
 #[unsafe(no_mangle)]
 pub extern "C" fn nanorand_v1_chacha8_range_u32(
     state: &mut ChaChaState,
@@ -92,7 +96,8 @@ pub extern "C" fn nanorand_v1_chacha8_range_u32(
     chacha::range_u32::<8>(state, first, last, number)
 }
 
-/// Draws a number from `first..=last`, by words of 64 bits. The status is that of a range of `u32`.
+/// Draws a number from `first..=last`, by rejection sampling of 64-bit words, and otherwise as
+/// `range_u32` does.
 #[unsafe(no_mangle)]
 pub extern "C" fn nanorand_v1_chacha8_range_u64(
     state: &mut ChaChaState,
@@ -114,8 +119,8 @@ pub extern "C" fn nanorand_v1_chacha8_range_u64(
     chacha::range_u64::<8>(state, first, last, number)
 }
 
-/// Draws a signed number from `first..=last`, by words of 64 bits. The status is that of a range of
-/// `u32`.
+/// Draws a signed number from `first..=last`, by rejection sampling of 64-bit words, and otherwise
+/// as `range_u32` does.
 #[unsafe(no_mangle)]
 pub extern "C" fn nanorand_v1_chacha8_range_i64(
     state: &mut ChaChaState,
@@ -140,8 +145,8 @@ pub extern "C" fn nanorand_v1_chacha8_range_i64(
     chacha::range_i64::<8>(state, first, last, number)
 }
 
-/// Draws an index or a length from `first..=last`, by words of 64 bits. The status is that of a
-/// range of `u32`.
+/// Draws an index or a length from `first..=last`, by rejection sampling of 64-bit words, and
+/// otherwise as `range_u32` does.
 #[unsafe(no_mangle)]
 pub extern "C" fn nanorand_v1_chacha8_range_usize(
     state: &mut ChaChaState,
@@ -163,9 +168,9 @@ pub extern "C" fn nanorand_v1_chacha8_range_usize(
     chacha::range_usize::<8>(state, first, last, number)
 }
 
-/// Shuffles the items: each, from the first on, is exchanged with one drawn from it and those after
-/// it. It returns 0, or 2 if 128 words in a row were rejected for one index; the exchanges before
-/// that stay, and the words stay consumed. A length of 0 draws nothing.
+/// Shuffles the items, by Fisher-Yates: swaps each item, from the first on, with one drawn from it
+/// and the items after it. Returns 0, or 2 if 128 words in a row were rejected for one index; the
+/// swaps before that stay, and the words stay consumed. A length of 0 draws nothing.
 #[unsafe(no_mangle)]
 pub extern "C" fn nanorand_v1_chacha8_shuffle(state: &mut ChaChaState, items: &mut [usize]) -> u8
     ensures status { let start = chacha_at state.old in
@@ -185,8 +190,9 @@ pub extern "C" fn nanorand_v1_chacha8_shuffle(state: &mut ChaChaState, items: &m
     chacha::shuffle::<8>(state, items)
 }
 
-/// Shuffles the items as the crate nanorand 0.7.0 did: each is exchanged with one drawn from all,
-/// and of three items or more the orders are not equally frequent. The status is that of `shuffle`.
+/// Shuffles the items as the Rust crate nanorand 0.7.0 does: swaps each item, from the first on,
+/// with one drawn from all items. This is biased: for three or more items, not all orders are
+/// equally frequent. Statuses are those of `shuffle`.
 #[unsafe(no_mangle)]
 pub extern "C" fn nanorand_v1_chacha8_shuffle_full(
     state: &mut ChaChaState,
@@ -209,12 +215,14 @@ pub extern "C" fn nanorand_v1_chacha8_shuffle_full(
     chacha::shuffle_full::<8>(state, items)
 }
 
-/// Samples different numbers below `count`, one for each place, by Floyd's algorithm; each set of
-/// them is the sample for equally many lists of words, their order is not uniform. It returns 0, or
-/// 1 if there are more places than numbers (nothing is drawn or written), or 2 if 128 words in a
-/// row were rejected for one place; the places before it are then written, and the words stay
-/// consumed. A length of 0 draws nothing. The time is O(k^2) for k places, since each number drawn
-/// is compared with those before it.
+/// Draws a sample without replacement, by Floyd's algorithm: writes different numbers below
+/// `count`, one to each place. Each set of numbers is produced by the same number of sequences of
+/// words. The order of the places is not uniform: shuffle them if it matters. The time is O(k^2)
+/// for k places, since each number drawn is compared with those before it.
+///
+/// Returns 0, or 1 if there are more places than numbers, or 2 if 128 words in a row were rejected
+/// for one place. After 1, nothing was drawn or written. After 2, the places before that one are
+/// written, the others are unchanged, and the words stay consumed. A length of 0 draws nothing.
 #[unsafe(no_mangle)]
 pub extern "C" fn nanorand_v1_chacha8_sample(
     state: &mut ChaChaState,
@@ -239,15 +247,22 @@ pub extern "C" fn nanorand_v1_chacha8_sample(
     chacha::sample::<8>(state, count, places)
 }
 
-/// Goes on with a sample whose first `filled` places stand, by a table that the caller lends: in
-/// expected time O(k) for k places. With `filled` 0 it is a whole sample, and leaves the same as
-/// `sample`. The table's length and items change nothing but the time: with 3k items a number drawn is
-/// compared with at most one place on average, with k or fewer with all of them. It must not overlap
-/// the places, and what it then holds means nothing. To draw a long sample in pieces, give the first
-/// places of it, and a count that is less by the number of the missing ones; then go on. It returns 0,
-/// or 1 if there are more places than numbers or fewer than `filled` (nothing is drawn or written), or
-/// 2 if 128 words in a row were rejected for one place; the places before it are then written, and the
-/// words stay consumed.
+/// Continues a sample: keeps the first `filled` places and fills the others, in expected time O(k)
+/// for k places, by a table that the caller provides. If `filled` is 0, it draws a whole sample,
+/// with the same results as `sample`.
+///
+/// The length and the contents of the table change only the time. With 3k items, a number drawn is
+/// compared with at most one place on average; with k items or fewer, with all of them. The table
+/// must not overlap the places. Its contents are unspecified afterwards.
+///
+/// To draw a long sample in pieces, first pass only the first places, and a `count` that is smaller
+/// by the number of places left out; then continue. After 0, all places hold different numbers
+/// below `count`, provided that the places kept held different numbers below `count` minus the
+/// number of the other places.
+///
+/// Returns 0, or 1 if there are more places than numbers or fewer places than `filled`, or 2 if 128
+/// words in a row were rejected for one place. After 1, nothing was drawn or written. After 2, the
+/// places before that one are written, the others are unchanged, and the words stay consumed.
 #[unsafe(no_mangle)]
 pub extern "C" fn nanorand_v1_chacha8_extend_sample(
     state: &mut ChaChaState,
@@ -275,11 +290,13 @@ pub extern "C" fn nanorand_v1_chacha8_extend_sample(
     chacha::extend_sample::<8>(state, count, places, filled, table)
 }
 
-/// Moves to the beginning of part `index`, counted from 0, of parts of so many draws: `index *
-/// draws` draws further on, where a draw is what a `u64` takes. Parts of one length that are cut
-/// from copies of one state do not overlap, if no task draws more than `draws` draws. It returns 0,
-/// or 3 if the part ends past the period: 2^64 draws of WyRand and ChaCha, 2^126 of Pcg64, 2^67 of
-/// the keystream. Nothing moves then.
+/// Moves to the beginning of part `index`, counted from 0, where each part is `draws` draws long:
+/// moves ahead by `index * draws` draws. A draw is what a `u64` takes: 8 bytes for WyRand, Pcg64
+/// and the keystream, a block of 64 bytes for ChaCha. Parts of the same length from copies of the
+/// same state do not overlap, as long as no task draws more than `draws` draws.
+///
+/// Returns 0, or 3 if the part ends past the period; the state does not move then. The period is
+/// 2^64 draws for WyRand and ChaCha, 2^126 for Pcg64, and 2^67 for the keystream.
 #[unsafe(no_mangle)]
 pub extern "C" fn nanorand_v1_chacha8_part(state: &mut ChaChaState, index: u64, draws: u64) -> u8
     ensures status { let start = chacha_at state.old in

@@ -1,9 +1,9 @@
-//! The generators, ranges, shuffles and samples of `nanorand`, and the draw by lot of `lots_core`,
-//! for callers from C.
+//! The C interface: exports of the generators, ranges, shuffles and samples of `nanorand`, and of
+//! the draw by lot of `lots_core`.
 //!
-//! The state of a generator is the caller's memory, lent for the call. No export allocates or has a
-//! precondition beyond its types. The names carry the version of this interface, so that two
-//! versions can be linked into one program.
+//! The state of a generator is the caller's memory, borrowed for the call. No export allocates
+//! memory, and none has a precondition beyond its types. The names carry the version of this
+//! interface, so that two versions can be linked into one program.
 #![tactic(auto)]
 
 pub mod chacha12;

@@ -1,4 +1,4 @@
-//! The draw by lot of `lots_core`, over the caller's memory.
+//! The draw by lot of `lots_core`, on the caller's memory.
 ghost use Rattle.std.specs.Prelude.{◌≡◌, ◌≢◌, ◌⊎◌, ◌↔◌, [], ◌<◌, ◌≤◌, Ok, Err, length, take};
 ghost use Rattle.std.specs.Str.{IsUtf8};
 ghost use Rattle.sha2.specs.Sha256.{sha256};
@@ -18,9 +18,9 @@ pub extern "C" fn nanorand_v1_lots_digest(text: &[u8], digest: &mut [u8; 32])
     *digest = Sha256::digest(text);
 }
 
-/// Counts the entrants of a list, one a line; the last line may lack its line feed. It returns 0,
-/// with their number in `number`, or 4 if a line is empty, with the number of the first such line,
-/// counted from 1.
+/// Counts the entrants of a list, which has one entrant on each line; the last line may lack its
+/// line feed. Returns 0 and writes the number of entrants to `number`; or returns 4 if a line is
+/// empty, and writes the number of the first empty line, counted from 1.
 #[unsafe(no_mangle)]
 pub extern "C" fn nanorand_v1_lots_count(list: &[u8], number: &mut usize) -> u8
     ensures status { (result ≡ 0) ⊎ (result ≡ 4) }
@@ -41,12 +41,14 @@ pub extern "C" fn nanorand_v1_lots_count(list: &[u8], number: &mut usize) -> u8
     }
 }
 
-/// Draws `count` of the places 0, 1, .. by the seed, as many places as there are items. The first
-/// `count` items are then the places drawn, in the order drawn; the old items do not matter.
+/// Draws `count` of the places 0, 1, .. as the seed determines. There are as many places as
+/// `places` has items, and the old values of the items are ignored. Afterwards, the first `count`
+/// items are the places drawn, in the order drawn, and the other items are the other places, in
+/// some order.
 ///
-/// It returns 0; or 2 if the seed is empty or no UTF-8, and the items are as before; or 3 if
-/// `count` is more than there are places; or 8 if 128 words in a row were rejected for one place.
-/// After 3 and 8 the items are the places in some order, and no selection.
+/// Returns 0, or 2 if the seed is empty or not valid UTF-8, or 3 if `count` is greater than the
+/// number of places, or 8 if 128 words in a row were rejected for one place. After 2, the items are
+/// unchanged. After 3 and 8, the items are the places in some order, which is not a selection.
 #[unsafe(no_mangle)]
 pub extern "C" fn nanorand_v1_lots_draw(seed: &[u8], places: &mut [usize], count: usize) -> u8
     ensures status { (result ≡ 0) ⊎ (result ≡ 2) ⊎ (result ≡ 3) ⊎ (result ≡ 8) }

@@ -1,5 +1,5 @@
-//! The keystream of ChaCha with 20 rounds without a gap: a generator that buffers the bytes that a
-//! request leaves over.
+//! The keystream of ChaCha with 20 rounds as one unbroken stream: a generator that buffers the
+//! bytes that a request leaves over.
 ghost use Rattle.std.specs.Prelude.{◌≡◌, ◌≢◌, ◌<◌, ◌≤◌, ◌≤ℤ◌, ◌*◌, ◌+◌, ◌-◌, All, IsPermutation, length, ℕ, take};
 ghost use Rattle.std.specs.List.{AllPairs};
 ghost use Rattle.nanorand_core.specs.values.Draws.{after_words};
@@ -16,10 +16,13 @@ ghost use Rattle.nanorand_calls.specs.Words.{IsAfterAtMost};
 
 use nanorand_calls::stream::{self, Stream};
 
-/// Makes the state from a number, which may be small: 0, 1, 2, .., a port, a year. Its seed is what
-/// SplitMix64 draws from the number (Guy Steele, Doug Lea and Christine Flood, 2014, in Sebastiano
-/// Vigna's constants), each word little-endian; of ChaCha it is the key and then the nonce, the
-/// counter is 0, and a stream has nothing buffered. Different numbers give different states.
+/// Makes the state from a number, which may be small: 0, 1, 2, .., a port, a year. Different
+/// numbers produce different states.
+///
+/// The seed consists of the first words of 64 bits that SplitMix64 produces from the number, in
+/// little-endian order (Guy Steele, Doug Lea and Christine Flood, 2014, with the constants of
+/// Sebastiano Vigna). For ChaCha and its streams, the seed is the key followed by the nonce, the
+/// counter is 0, and a stream has nothing buffered.
 #[unsafe(no_mangle)]
 pub extern "C" fn nanorand_v1_stream_seed_from_u64(stream: &mut Stream, number: u64)
     ensures state { stream_at stream.new ≡ fresh_stream (seeded_state (seed_from 40 number)) }
@@ -28,7 +31,7 @@ pub extern "C" fn nanorand_v1_stream_seed_from_u64(stream: &mut Stream, number: 
     stream::seed_from_u64(stream, number);
 }
 
-/// Draws a number of 64 bits: the next 8 bytes, least byte first.
+/// Draws a 64-bit number: the next 8 bytes, in little-endian order.
 #[unsafe(no_mangle)]
 pub extern "C" fn nanorand_v1_stream_u64(stream: &mut Stream) -> u64
     ensures value { result ≡ number_of (stream_requests.bytes (stream_at stream.old) 8) }
@@ -49,9 +52,9 @@ pub extern "C" fn nanorand_v1_stream_fill_bytes(stream: &mut Stream, buffer: &mu
     stream::fill_bytes(stream, buffer);
 }
 
-/// Draws a number from `first..=last`, by words of 32 bits, and returns a status: 0 if `number` was
-/// written, 1 if the range is empty, 2 if 128 words in a row were rejected. After 1 and 2 `number`
-/// is unchanged. After 1 nothing was drawn; after 2 the words stay consumed.
+/// Draws a number from `first..=last`, by rejection sampling of 32-bit words, and writes it to
+/// `number`. Returns 0, or 1 if the range is empty, or 2 if 128 words in a row were rejected. After
+/// 1 and 2, `number` is unchanged. After 1, nothing was drawn; after 2, the words stay consumed.
 #[unsafe(no_mangle)]
 pub extern "C" fn nanorand_v1_stream_range_u32(
     stream: &mut Stream,
@@ -74,7 +77,8 @@ pub extern "C" fn nanorand_v1_stream_range_u32(
     stream::range_u32(stream, first, last, number)
 }
 
-/// Draws a number from `first..=last`, by words of 64 bits. The status is that of a range of `u32`.
+/// Draws a number from `first..=last`, by rejection sampling of 64-bit words, and otherwise as
+/// `range_u32` does.
 #[unsafe(no_mangle)]
 pub extern "C" fn nanorand_v1_stream_range_u64(
     stream: &mut Stream,
@@ -97,8 +101,8 @@ pub extern "C" fn nanorand_v1_stream_range_u64(
     stream::range_u64(stream, first, last, number)
 }
 
-/// Draws a signed number from `first..=last`, by words of 64 bits. The status is that of a range of
-/// `u32`.
+/// Draws a signed number from `first..=last`, by rejection sampling of 64-bit words, and otherwise
+/// as `range_u32` does.
 #[unsafe(no_mangle)]
 pub extern "C" fn nanorand_v1_stream_range_i64(
     stream: &mut Stream,
@@ -124,8 +128,8 @@ pub extern "C" fn nanorand_v1_stream_range_i64(
     stream::range_i64(stream, first, last, number)
 }
 
-/// Draws an index or a length from `first..=last`, by words of 64 bits. The status is that of a
-/// range of `u32`.
+/// Draws an index or a length from `first..=last`, by rejection sampling of 64-bit words, and
+/// otherwise as `range_u32` does.
 #[unsafe(no_mangle)]
 pub extern "C" fn nanorand_v1_stream_range_usize(
     stream: &mut Stream,
@@ -148,9 +152,9 @@ pub extern "C" fn nanorand_v1_stream_range_usize(
     stream::range_usize(stream, first, last, number)
 }
 
-/// Shuffles the items: each, from the first on, is exchanged with one drawn from it and those after
-/// it. It returns 0, or 2 if 128 words in a row were rejected for one index; the exchanges before
-/// that stay, and the words stay consumed. A length of 0 draws nothing.
+/// Shuffles the items, by Fisher-Yates: swaps each item, from the first on, with one drawn from it
+/// and the items after it. Returns 0, or 2 if 128 words in a row were rejected for one index; the
+/// swaps before that stay, and the words stay consumed. A length of 0 draws nothing.
 #[unsafe(no_mangle)]
 pub extern "C" fn nanorand_v1_stream_shuffle(stream: &mut Stream, items: &mut [usize]) -> u8
     ensures status { let start = stream_at stream.old in
@@ -171,8 +175,9 @@ pub extern "C" fn nanorand_v1_stream_shuffle(stream: &mut Stream, items: &mut [u
     stream::shuffle(stream, items)
 }
 
-/// Shuffles the items as the crate nanorand 0.7.0 did: each is exchanged with one drawn from all,
-/// and of three items or more the orders are not equally frequent. The status is that of `shuffle`.
+/// Shuffles the items as the Rust crate nanorand 0.7.0 does: swaps each item, from the first on,
+/// with one drawn from all items. This is biased: for three or more items, not all orders are
+/// equally frequent. Statuses are those of `shuffle`.
 #[unsafe(no_mangle)]
 pub extern "C" fn nanorand_v1_stream_shuffle_full(stream: &mut Stream, items: &mut [usize]) -> u8
     ensures status { let start = stream_at stream.old in
@@ -193,12 +198,14 @@ pub extern "C" fn nanorand_v1_stream_shuffle_full(stream: &mut Stream, items: &m
     stream::shuffle_full(stream, items)
 }
 
-/// Samples different numbers below `count`, one for each place, by Floyd's algorithm; each set of
-/// them is the sample for equally many lists of words, their order is not uniform. It returns 0, or
-/// 1 if there are more places than numbers (nothing is drawn or written), or 2 if 128 words in a
-/// row were rejected for one place; the places before it are then written, and the words stay
-/// consumed. A length of 0 draws nothing. The time is O(k^2) for k places, since each number drawn
-/// is compared with those before it.
+/// Draws a sample without replacement, by Floyd's algorithm: writes different numbers below
+/// `count`, one to each place. Each set of numbers is produced by the same number of sequences of
+/// words. The order of the places is not uniform: shuffle them if it matters. The time is O(k^2)
+/// for k places, since each number drawn is compared with those before it.
+///
+/// Returns 0, or 1 if there are more places than numbers, or 2 if 128 words in a row were rejected
+/// for one place. After 1, nothing was drawn or written. After 2, the places before that one are
+/// written, the others are unchanged, and the words stay consumed. A length of 0 draws nothing.
 #[unsafe(no_mangle)]
 pub extern "C" fn nanorand_v1_stream_sample(
     stream: &mut Stream,
@@ -223,15 +230,22 @@ pub extern "C" fn nanorand_v1_stream_sample(
     stream::sample(stream, count, places)
 }
 
-/// Goes on with a sample whose first `filled` places stand, by a table that the caller lends: in
-/// expected time O(k) for k places. With `filled` 0 it is a whole sample, and leaves the same as
-/// `sample`. The table's length and items change nothing but the time: with 3k items a number drawn is
-/// compared with at most one place on average, with k or fewer with all of them. It must not overlap
-/// the places, and what it then holds means nothing. To draw a long sample in pieces, give the first
-/// places of it, and a count that is less by the number of the missing ones; then go on. It returns 0,
-/// or 1 if there are more places than numbers or fewer than `filled` (nothing is drawn or written), or
-/// 2 if 128 words in a row were rejected for one place; the places before it are then written, and the
-/// words stay consumed.
+/// Continues a sample: keeps the first `filled` places and fills the others, in expected time O(k)
+/// for k places, by a table that the caller provides. If `filled` is 0, it draws a whole sample,
+/// with the same results as `sample`.
+///
+/// The length and the contents of the table change only the time. With 3k items, a number drawn is
+/// compared with at most one place on average; with k items or fewer, with all of them. The table
+/// must not overlap the places. Its contents are unspecified afterwards.
+///
+/// To draw a long sample in pieces, first pass only the first places, and a `count` that is smaller
+/// by the number of places left out; then continue. After 0, all places hold different numbers
+/// below `count`, provided that the places kept held different numbers below `count` minus the
+/// number of the other places.
+///
+/// Returns 0, or 1 if there are more places than numbers or fewer places than `filled`, or 2 if 128
+/// words in a row were rejected for one place. After 1, nothing was drawn or written. After 2, the
+/// places before that one are written, the others are unchanged, and the words stay consumed.
 #[unsafe(no_mangle)]
 pub extern "C" fn nanorand_v1_stream_extend_sample(
     stream: &mut Stream,

@@ -1,8 +1,8 @@
 //! The version of the library.
 ghost use Rattle.std.specs.Prelude.{◌≡◌};
 
-/// The version of the library: 10000 times the major number, and 100 times the minor one, and the
-/// patch. Version 1.2.3 would be 10203.
+/// Returns the version of the library: 10000 times the major number, plus 100 times the minor
+/// number, plus the patch number. Version 1.2.3 would be 10203.
 #[unsafe(no_mangle)]
 pub extern "C" fn nanorand_v1_version() -> u32
     ensures { result ≡ 10000 }

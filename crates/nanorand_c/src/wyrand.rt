@@ -1,4 +1,4 @@
-//! WyRand. The generator itself is the caller's memory. Not cryptographically secure.
+//! WyRand. The generator itself is in the caller's memory. Not cryptographically secure.
 ghost use Rattle.std.specs.Prelude.{◌≡◌, ◌≢◌, ◌<◌, ◌≤◌, ◌≤ℤ◌, ◌^◌, ◌*◌, ◌+◌, ◌-◌, All, IsPermutation, length, ℕ, take};
 ghost use Rattle.std.specs.List.{AllPairs};
 ghost use Rattle.nanorand_core.specs.values.Draws.{after_words};
@@ -19,10 +19,13 @@ use nanorand_calls::calls::{
     shuffle_full,
 };
 
-/// Makes the state from a number, which may be small: 0, 1, 2, .., a port, a year. Its seed is what
-/// SplitMix64 draws from the number (Guy Steele, Doug Lea and Christine Flood, 2014, in Sebastiano
-/// Vigna's constants), each word little-endian; of ChaCha it is the key and then the nonce, the
-/// counter is 0, and a stream has nothing buffered. Different numbers give different states.
+/// Makes the state from a number, which may be small: 0, 1, 2, .., a port, a year. Different
+/// numbers produce different states.
+///
+/// The seed consists of the first words of 64 bits that SplitMix64 produces from the number, in
+/// little-endian order (Guy Steele, Doug Lea and Christine Flood, 2014, with the constants of
+/// Sebastiano Vigna). For ChaCha and its streams, the seed is the key followed by the nonce, the
+/// counter is 0, and a stream has nothing buffered.
 #[unsafe(no_mangle)]
 pub extern "C" fn nanorand_v1_wyrand_seed_from_u64(rng: &mut WyRand, number: u64)
     ensures { rng.new ≡ number_of (seed_from 8 number) }
@@ -30,11 +33,10 @@ pub extern "C" fn nanorand_v1_wyrand_seed_from_u64(rng: &mut WyRand, number: u64
     *rng = WyRand::seed_from_u64(number);
 }
 
-/// The generator with this seed. The seed is the state itself, and is not mixed: generators with
-/// neighbouring seeds, such as 0, 1, 2, .., draw correlated numbers; for such numbers take
-/// seed_from_u64. For many generators take parts
-/// of one stream, or mixed seeds: numbers that another generator drew, or the first 8 bytes of a
-/// SHA-256 of a name.
+/// Returns a generator with this seed. The seed is the state itself, and is not mixed. Generators
+/// with neighbouring seeds, such as 0, 1, 2, .., draw correlated numbers: for such numbers, use
+/// seed_from_u64. If you need many generators, use parts of one stream, or mixed seeds: numbers
+/// that another generator drew, or the first 8 bytes of the SHA-256 of a name.
 #[unsafe(no_mangle)]
 pub extern "C" fn nanorand_v1_wyrand_new_seed(seed: u64) -> WyRand
     ensures { result ≡ seed }
@@ -42,7 +44,7 @@ pub extern "C" fn nanorand_v1_wyrand_new_seed(seed: u64) -> WyRand
     WyRand::new_seed(seed)
 }
 
-/// Draws a number of 64 bits: the next 8 bytes, least byte first.
+/// Draws a 64-bit number: the next 8 bytes, in little-endian order.
 #[unsafe(no_mangle)]
 pub extern "C" fn nanorand_v1_wyrand_u64(rng: &mut WyRand) -> u64
     ensures value { result ≡ number_of (wyrand_requests.bytes rng.old 8) }
@@ -60,9 +62,9 @@ pub extern "C" fn nanorand_v1_wyrand_fill_bytes(rng: &mut WyRand, buffer: &mut [
     rng.fill_bytes(buffer);
 }
 
-/// Draws a number from `first..=last`, by words of 32 bits, and returns a status: 0 if `number` was
-/// written, 1 if the range is empty, 2 if 128 words in a row were rejected. After 1 and 2 `number`
-/// is unchanged. After 1 nothing was drawn; after 2 the words stay consumed.
+/// Draws a number from `first..=last`, by rejection sampling of 32-bit words, and writes it to
+/// `number`. Returns 0, or 1 if the range is empty, or 2 if 128 words in a row were rejected. After
+/// 1 and 2, `number` is unchanged. After 1, nothing was drawn; after 2, the words stay consumed.
 #[unsafe(no_mangle)]
 pub extern "C" fn nanorand_v1_wyrand_range_u32(
     rng: &mut WyRand,
@@ -81,7 +83,8 @@ pub extern "C" fn nanorand_v1_wyrand_range_u32(
     range_u32(rng, first, last, number)
 }
 
-/// Draws a number from `first..=last`, by words of 64 bits. The status is that of a range of `u32`.
+/// Draws a number from `first..=last`, by rejection sampling of 64-bit words, and otherwise as
+/// `range_u32` does.
 #[unsafe(no_mangle)]
 pub extern "C" fn nanorand_v1_wyrand_range_u64(
     rng: &mut WyRand,
@@ -100,8 +103,8 @@ pub extern "C" fn nanorand_v1_wyrand_range_u64(
     range_u64(rng, first, last, number)
 }
 
-/// Draws a signed number from `first..=last`, by words of 64 bits. The status is that of a range of
-/// `u32`.
+/// Draws a signed number from `first..=last`, by rejection sampling of 64-bit words, and otherwise
+/// as `range_u32` does.
 #[unsafe(no_mangle)]
 pub extern "C" fn nanorand_v1_wyrand_range_i64(
     rng: &mut WyRand,
@@ -120,8 +123,8 @@ pub extern "C" fn nanorand_v1_wyrand_range_i64(
     range_i64(rng, first, last, number)
 }
 
-/// Draws an index or a length from `first..=last`, by words of 64 bits. The status is that of a
-/// range of `u32`.
+/// Draws an index or a length from `first..=last`, by rejection sampling of 64-bit words, and
+/// otherwise as `range_u32` does.
 #[unsafe(no_mangle)]
 pub extern "C" fn nanorand_v1_wyrand_range_usize(
     rng: &mut WyRand,
@@ -140,9 +143,9 @@ pub extern "C" fn nanorand_v1_wyrand_range_usize(
     range_usize(rng, first, last, number)
 }
 
-/// Shuffles the items: each, from the first on, is exchanged with one drawn from it and those after
-/// it. It returns 0, or 2 if 128 words in a row were rejected for one index; the exchanges before
-/// that stay, and the words stay consumed. A length of 0 draws nothing.
+/// Shuffles the items, by Fisher-Yates: swaps each item, from the first on, with one drawn from it
+/// and the items after it. Returns 0, or 2 if 128 words in a row were rejected for one index; the
+/// swaps before that stay, and the words stay consumed. A length of 0 draws nothing.
 #[unsafe(no_mangle)]
 pub extern "C" fn nanorand_v1_wyrand_shuffle(rng: &mut WyRand, items: &mut [usize]) -> u8
     ensures status { let shuffle = shuffled wyrand_requests from_itself rng.old items.old in
@@ -157,8 +160,9 @@ pub extern "C" fn nanorand_v1_wyrand_shuffle(rng: &mut WyRand, items: &mut [usiz
     shuffle(rng, items)
 }
 
-/// Shuffles the items as the crate nanorand 0.7.0 did: each is exchanged with one drawn from all,
-/// and of three items or more the orders are not equally frequent. The status is that of `shuffle`.
+/// Shuffles the items as the Rust crate nanorand 0.7.0 does: swaps each item, from the first on,
+/// with one drawn from all items. This is biased: for three or more items, not all orders are
+/// equally frequent. Statuses are those of `shuffle`.
 #[unsafe(no_mangle)]
 pub extern "C" fn nanorand_v1_wyrand_shuffle_full(rng: &mut WyRand, items: &mut [usize]) -> u8
     ensures status { let shuffle = shuffled wyrand_requests from_all rng.old items.old in
@@ -173,12 +177,14 @@ pub extern "C" fn nanorand_v1_wyrand_shuffle_full(rng: &mut WyRand, items: &mut 
     shuffle_full(rng, items)
 }
 
-/// Samples different numbers below `count`, one for each place, by Floyd's algorithm; each set of
-/// them is the sample for equally many lists of words, their order is not uniform. It returns 0, or
-/// 1 if there are more places than numbers (nothing is drawn or written), or 2 if 128 words in a
-/// row were rejected for one place; the places before it are then written, and the words stay
-/// consumed. A length of 0 draws nothing. The time is O(k^2) for k places, since each number drawn
-/// is compared with those before it.
+/// Draws a sample without replacement, by Floyd's algorithm: writes different numbers below
+/// `count`, one to each place. Each set of numbers is produced by the same number of sequences of
+/// words. The order of the places is not uniform: shuffle them if it matters. The time is O(k^2)
+/// for k places, since each number drawn is compared with those before it.
+///
+/// Returns 0, or 1 if there are more places than numbers, or 2 if 128 words in a row were rejected
+/// for one place. After 1, nothing was drawn or written. After 2, the places before that one are
+/// written, the others are unchanged, and the words stay consumed. A length of 0 draws nothing.
 #[unsafe(no_mangle)]
 pub extern "C" fn nanorand_v1_wyrand_sample(
     rng: &mut WyRand,
@@ -198,15 +204,22 @@ pub extern "C" fn nanorand_v1_wyrand_sample(
     sample(rng, count, places)
 }
 
-/// Goes on with a sample whose first `filled` places stand, by a table that the caller lends: in
-/// expected time O(k) for k places. With `filled` 0 it is a whole sample, and leaves the same as
-/// `sample`. The table's length and items change nothing but the time: with 3k items a number drawn is
-/// compared with at most one place on average, with k or fewer with all of them. It must not overlap
-/// the places, and what it then holds means nothing. To draw a long sample in pieces, give the first
-/// places of it, and a count that is less by the number of the missing ones; then go on. It returns 0,
-/// or 1 if there are more places than numbers or fewer than `filled` (nothing is drawn or written), or
-/// 2 if 128 words in a row were rejected for one place; the places before it are then written, and the
-/// words stay consumed.
+/// Continues a sample: keeps the first `filled` places and fills the others, in expected time O(k)
+/// for k places, by a table that the caller provides. If `filled` is 0, it draws a whole sample,
+/// with the same results as `sample`.
+///
+/// The length and the contents of the table change only the time. With 3k items, a number drawn is
+/// compared with at most one place on average; with k items or fewer, with all of them. The table
+/// must not overlap the places. Its contents are unspecified afterwards.
+///
+/// To draw a long sample in pieces, first pass only the first places, and a `count` that is smaller
+/// by the number of places left out; then continue. After 0, all places hold different numbers
+/// below `count`, provided that the places kept held different numbers below `count` minus the
+/// number of the other places.
+///
+/// Returns 0, or 1 if there are more places than numbers or fewer places than `filled`, or 2 if 128
+/// words in a row were rejected for one place. After 1, nothing was drawn or written. After 2, the
+/// places before that one are written, the others are unchanged, and the words stay consumed.
 #[unsafe(no_mangle)]
 pub extern "C" fn nanorand_v1_wyrand_extend_sample(
     rng: &mut WyRand,
@@ -229,7 +242,7 @@ pub extern "C" fn nanorand_v1_wyrand_extend_sample(
     extend_sample(rng, count, places, filled, table)
 }
 
-/// Advances by so many draws, in one step.
+/// Jumps ahead by `draws` draws, by one multiplication.
 #[unsafe(no_mangle)]
 pub extern "C" fn nanorand_v1_wyrand_jump(rng: &mut WyRand, draws: u64)
     ensures { rng.new ≡ seed_after draws rng.old }
@@ -237,11 +250,13 @@ pub extern "C" fn nanorand_v1_wyrand_jump(rng: &mut WyRand, draws: u64)
     rng.jump(draws);
 }
 
-/// Moves to the beginning of part `index`, counted from 0, of parts of so many draws: `index *
-/// draws` draws further on, where a draw is what a `u64` takes. Parts of one length that are cut
-/// from copies of one state do not overlap, if no task draws more than `draws` draws. It returns 0,
-/// or 3 if the part ends past the period: 2^64 draws of WyRand and ChaCha, 2^126 of Pcg64, 2^67 of
-/// the keystream. Nothing moves then.
+/// Moves to the beginning of part `index`, counted from 0, where each part is `draws` draws long:
+/// moves ahead by `index * draws` draws. A draw is what a `u64` takes: 8 bytes for WyRand, Pcg64
+/// and the keystream, a block of 64 bytes for ChaCha. Parts of the same length from copies of the
+/// same state do not overlap, as long as no task draws more than `draws` draws.
+///
+/// Returns 0, or 3 if the part ends past the period; the state does not move then. The period is
+/// 2^64 draws for WyRand and ChaCha, 2^126 for Pcg64, and 2^67 for the keystream.
 #[unsafe(no_mangle)]
 pub extern "C" fn nanorand_v1_wyrand_part(rng: &mut WyRand, index: u64, draws: u64) -> u8
     ensures status { let parting = parting wyrand_requests (2 ^ 64) draws index rng.old in

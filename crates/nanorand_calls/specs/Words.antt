@@ -1,6 +1,7 @@
--- How many words a call draws.
+-- The number of words that a call draws.
 use Rattle.std.specs.Prelude.{◌≡◌, ℕ, ◌≤◌}
 
--- What is seen of the state at the end is what is seen after n words, for an n of at most `most`.
+-- `end` is what `after` yields for some n of at most `most`: the state, or a part of it, after n
+-- words.
 abbrev pub IsAfterAtMost : {S : Type 0} → ℕ → (ℕ → S) → S → Type 0
 IsAfterAtMost most after end = (n : ℕ) × (n ≤ most) × (end ≡ after n)

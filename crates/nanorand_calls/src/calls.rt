@@ -1,4 +1,4 @@
-//! The calls of every generator that lies in memory as the library has it.
+//! The calls on any generator of the library, in the library's own type.
 ghost use Rattle.std.specs.Prelude.{◌≡◌, ◌≢◌, ◌<◌, ◌≤◌, ◌≤ℤ◌, ◌*◌, ◌+◌, ◌-◌, All, IsPermutation, ℕ, length, take};
 ghost use Rattle.std.specs.List.{AllPairs};
 ghost use Rattle.nanorand_core.specs.values.Draws.{after_words};
@@ -15,8 +15,8 @@ use nanorand::values::range::draw_number;
 use nanorand::{Parts, Rng, samples, shuffles};
 use std::ops::Bound;
 
-/// Draws a number from `first..=last`, by words of 32 bits. Returns the status 0, 1 or 2, and
-/// writes `number` only if it is 0.
+/// Draws a number from `first..=last`, by rejection sampling of 32-bit words. Returns the status 0,
+/// 1 or 2, and writes `number` only if the status is 0.
 pub fn range_u32<G: Rng<OUTPUT>, const OUTPUT: usize>(
     rng: &mut G,
     first: u32,
@@ -34,7 +34,7 @@ pub fn range_u32<G: Rng<OUTPUT>, const OUTPUT: usize>(
     hand_over(&outcome, number)
 }
 
-/// Draws a number from `first..=last`, by words of 64 bits, as `range_u32` does.
+/// Draws a number from `first..=last` as `range_u32` does, but by 64-bit words.
 pub fn range_u64<G: Rng<OUTPUT>, const OUTPUT: usize>(
     rng: &mut G,
     first: u64,
@@ -52,7 +52,7 @@ pub fn range_u64<G: Rng<OUTPUT>, const OUTPUT: usize>(
     hand_over(&outcome, number)
 }
 
-/// Draws a signed number from `first..=last`, by words of 64 bits, as `range_u32` does.
+/// Draws a signed number from `first..=last` as `range_u32` does, but by 64-bit words.
 pub fn range_i64<G: Rng<OUTPUT>, const OUTPUT: usize>(
     rng: &mut G,
     first: i64,
@@ -70,7 +70,7 @@ pub fn range_i64<G: Rng<OUTPUT>, const OUTPUT: usize>(
     hand_over(&outcome, number)
 }
 
-/// Draws an index or a length from `first..=last`, by words of 64 bits, as `range_u32` does.
+/// Draws an index or a length from `first..=last` as `range_u32` does, but by 64-bit words.
 pub fn range_usize<G: Rng<OUTPUT>, const OUTPUT: usize>(
     rng: &mut G,
     first: usize,
@@ -88,8 +88,8 @@ pub fn range_usize<G: Rng<OUTPUT>, const OUTPUT: usize>(
     hand_over(&outcome, number)
 }
 
-/// Shuffles the items, as `Rng::shuffle` does. Returns the status 0 or 2; after 2, the exchanges
-/// that were made stay.
+/// Shuffles the items as `Rng::shuffle` does. Returns the status 0 or 2; after 2, the swaps that
+/// were made stay.
 pub fn shuffle<G: Rng<OUTPUT>, const OUTPUT: usize>(rng: &mut G, items: &mut [usize]) -> u8
     ensures status { let shuffle = shuffled G.requests from_itself rng.old items.old in
         result ≡ status shuffle.answer }
@@ -103,7 +103,7 @@ pub fn shuffle<G: Rng<OUTPUT>, const OUTPUT: usize>(rng: &mut G, items: &mut [us
     status(&outcome)
 }
 
-/// Shuffles the items as the crate nanorand 0.7.0 did: see `shuffles::shuffle_full`. Returns the
+/// Shuffles the items as the crate `nanorand` 0.7.0 does: see `shuffles::shuffle_full`. Returns the
 /// status 0 or 2, as `shuffle` does.
 pub fn shuffle_full<G: Rng<OUTPUT>, const OUTPUT: usize>(rng: &mut G, items: &mut [usize]) -> u8
     ensures status { let shuffle = shuffled G.requests from_all rng.old items.old in
@@ -118,8 +118,9 @@ pub fn shuffle_full<G: Rng<OUTPUT>, const OUTPUT: usize>(rng: &mut G, items: &mu
     status(&outcome)
 }
 
-/// Samples different numbers below `count`, one for each place, as `samples::sample` does. Returns
-/// the status 0, 1 or 2: 1, with nothing drawn, if there are more places than numbers.
+/// Draws a sample as `samples::sample` does: different numbers below `count`, one into each place.
+/// Returns the status 0, 1 or 2. The status is 1, and nothing is drawn, if there are more places
+/// than numbers.
 pub fn sample<G: Rng<OUTPUT>, const OUTPUT: usize>(
     rng: &mut G,
     count: usize,
@@ -140,9 +141,9 @@ pub fn sample<G: Rng<OUTPUT>, const OUTPUT: usize>(
     status(&outcome)
 }
 
-/// Goes on with a sample whose first `filled` places stand, as `samples::extend_sample` does, with a
-/// table that the caller lends. Returns the status 0, 1 or 2: 1, with nothing drawn, if there are more
-/// places than numbers, or fewer than `filled`.
+/// Continues a sample as `samples::extend_sample` does: keeps the first `filled` places and fills
+/// the others, by a table that the caller provides. Returns the status 0, 1 or 2. The status is 1,
+/// and nothing is drawn, if there are more places than numbers, or fewer places than `filled`.
 pub fn extend_sample<G: Rng<OUTPUT>, const OUTPUT: usize>(
     rng: &mut G,
     count: usize,
@@ -167,7 +168,7 @@ pub fn extend_sample<G: Rng<OUTPUT>, const OUTPUT: usize>(
 }
 
 /// Moves to the beginning of part `index` of parts of `draws` draws each. Returns the status 0, or
-/// 3 if the part ends past the period; nothing moves then.
+/// 3 if the part ends past the period; the generator does not move then.
 pub fn part<G: Parts<OUTPUT> + Drop, const OUTPUT: usize>(rng: &mut G, index: u64, draws: u64) -> u8
     ensures status { result ≡ (parting G.requests G.period draws index rng.old).0 }
     ensures state { rng.new ≡ (parting G.requests G.period draws index rng.old).1 }

@@ -1,7 +1,7 @@
-//! The calls of ChaCha, whose key, nonce and counter are the caller's memory. Each request begins a
-//! new block.
+//! The calls on ChaCha, whose key, nonce and counter are in the caller's memory. Each request
+//! starts with a new block.
 //!
-//! `nanorand::ChaCha` says what it is and is not for.
+//! The docs of `nanorand::ChaCha` say what it is suitable for and what not.
 ghost use Rattle.std.specs.Prelude.{◌≡◌, ◌+◌, ◌%◌, ◌^◌, ◌≢◌, ◌<◌, ◌≤◌, ◌≤ℤ◌, ◌*◌, ◌-◌};
 ghost use Rattle.std.specs.Prelude.{ℕ, length, All, IsPermutation, take};
 ghost use Rattle.std.specs.Fn.{iterate};
@@ -24,8 +24,9 @@ use crate::calls;
 use nanorand::laws::chacha_counter;
 use nanorand::{Blocks, ChaCha, Rng};
 
-/// A generator: its key, its nonce, and the number of its next block. Each request begins a new
-/// block. After the block of the greatest counter, 2^64 - 1, comes that of 0.
+/// The state of ChaCha: its key, its nonce, and its counter, which is the index of the next block.
+/// Each request starts with a new block. After the block of the greatest counter, 2^64 - 1, the
+/// counter is 0 again.
 #[derive(Clone, Copy)]
 #[repr(C)]
 pub struct ChaChaState {
@@ -34,7 +35,8 @@ pub struct ChaChaState {
     pub counter: u64,
 }
 
-// The generator of this state. n draws later, its counter is n more, modulo 2^64.
+// Returns the generator in this state. After n draws, its counter is greater by n, modulo 2^64, and
+// its key and nonce are the same.
 pub(crate) fn loaded<const ROUNDS: u8>(state: &ChaChaState) -> ChaCha<ROUNDS>
     requires { ROUNDS % 2 ≡ 0 }
     ensures state { result ≡ chacha_at state.now }
@@ -60,7 +62,7 @@ pub(crate) fn store<const ROUNDS: u8>(state: &mut ChaChaState, rng: &ChaCha<ROUN
     };
 }
 
-/// Makes key and nonce from a number, as `ChaCha::seed_from_u64` does. The counter is 0.
+/// Makes the key and the nonce from a number, as `ChaCha::seed_from_u64` does. The counter is 0.
 pub fn seed_from_u64<const ROUNDS: u8>(state: &mut ChaChaState, number: u64)
     requires { ROUNDS % 2 ≡ 0 }
     ensures { chacha_at state.new ≡ seeded_state (seed_from 40 number) }
@@ -68,7 +70,7 @@ pub fn seed_from_u64<const ROUNDS: u8>(state: &mut ChaChaState, number: u64)
     store(state, &ChaCha::<ROUNDS>::seed_from_u64(number));
 }
 
-/// Writes the block at the counter, and adds 1 to the counter.
+/// Writes the block at the counter to `out`, and adds 1 to the counter, modulo 2^64.
 pub fn block<const ROUNDS: u8>(state: &mut ChaChaState, out: &mut [u8; 64])
     requires { ROUNDS % 2 ≡ 0 }
     ensures block { out.new ≡ chacha_block ROUNDS (chacha_at state.old) }
@@ -82,7 +84,7 @@ pub fn block<const ROUNDS: u8>(state: &mut ChaChaState, out: &mut [u8; 64])
     store(state, &rng);
 }
 
-/// Draws a number of 64 bits: the next 8 bytes, little-endian.
+/// Draws a 64-bit number: the next 8 bytes, in little-endian order.
 pub fn number<const ROUNDS: u8>(state: &mut ChaChaState) -> u64
     requires { ROUNDS % 2 ≡ 0 }
     ensures value { result ≡ number_of ((chacha_requests ROUNDS).bytes (chacha_at state.old) 8) }
@@ -113,8 +115,8 @@ pub fn fill_bytes<const ROUNDS: u8>(state: &mut ChaChaState, buffer: &mut [u8])
     store(state, &rng);
 }
 
-/// Draws a number from `first..=last`, by words of 32 bits. Returns the status 0, 1 or 2, and
-/// writes `number` only if it is 0.
+/// Draws a number from `first..=last`, by rejection sampling of 32-bit words. Returns the status 0,
+/// 1 or 2, and writes `number` only if the status is 0.
 pub fn range_u32<const ROUNDS: u8>(
     state: &mut ChaChaState,
     first: u32,
@@ -142,7 +144,7 @@ pub fn range_u32<const ROUNDS: u8>(
     status
 }
 
-/// Draws a number from `first..=last`, by words of 64 bits, as `range_u32` does.
+/// Draws a number from `first..=last` as `range_u32` does, but by 64-bit words.
 pub fn range_u64<const ROUNDS: u8>(
     state: &mut ChaChaState,
     first: u64,
@@ -170,7 +172,7 @@ pub fn range_u64<const ROUNDS: u8>(
     status
 }
 
-/// Draws a signed number from `first..=last`, by words of 64 bits, as `range_u32` does.
+/// Draws a signed number from `first..=last` as `range_u32` does, but by 64-bit words.
 pub fn range_i64<const ROUNDS: u8>(
     state: &mut ChaChaState,
     first: i64,
@@ -198,7 +200,7 @@ pub fn range_i64<const ROUNDS: u8>(
     status
 }
 
-/// Draws an index or a length from `first..=last`, by words of 64 bits, as `range_u32` does.
+/// Draws an index or a length from `first..=last` as `range_u32` does, but by 64-bit words.
 pub fn range_usize<const ROUNDS: u8>(
     state: &mut ChaChaState,
     first: usize,
@@ -226,8 +228,8 @@ pub fn range_usize<const ROUNDS: u8>(
     status
 }
 
-/// Shuffles the items, as `Rng::shuffle` does. Returns the status 0 or 2; after 2, the exchanges
-/// that were made stay.
+/// Shuffles the items as `Rng::shuffle` does. Returns the status 0 or 2; after 2, the swaps that
+/// were made stay.
 pub fn shuffle<const ROUNDS: u8>(state: &mut ChaChaState, items: &mut [usize]) -> u8
     requires { ROUNDS % 2 ≡ 0 }
     ensures status { let start = chacha_at state.old in
@@ -250,7 +252,7 @@ pub fn shuffle<const ROUNDS: u8>(state: &mut ChaChaState, items: &mut [usize]) -
     status
 }
 
-/// Shuffles the items as the crate nanorand 0.7.0 did: see `shuffles::shuffle_full`. Returns the
+/// Shuffles the items as the crate `nanorand` 0.7.0 does: see `shuffles::shuffle_full`. Returns the
 /// status 0 or 2, as `shuffle` does.
 pub fn shuffle_full<const ROUNDS: u8>(state: &mut ChaChaState, items: &mut [usize]) -> u8
     requires { ROUNDS % 2 ≡ 0 }
@@ -274,8 +276,9 @@ pub fn shuffle_full<const ROUNDS: u8>(state: &mut ChaChaState, items: &mut [usiz
     status
 }
 
-/// Samples different numbers below `count`, one for each place, as `samples::sample` does. Returns
-/// the status 0, 1 or 2: 1, with nothing drawn, if there are more places than numbers.
+/// Draws a sample as `samples::sample` does: different numbers below `count`, one into each place.
+/// Returns the status 0, 1 or 2. The status is 1, and nothing is drawn, if there are more places
+/// than numbers.
 pub fn sample<const ROUNDS: u8>(state: &mut ChaChaState, count: usize, places: &mut [usize]) -> u8
     requires { ROUNDS % 2 ≡ 0 }
     ensures status { let start = chacha_at state.old in
@@ -299,9 +302,9 @@ pub fn sample<const ROUNDS: u8>(state: &mut ChaChaState, count: usize, places: &
     status
 }
 
-/// Goes on with a sample whose first `filled` places stand, as `samples::extend_sample` does, with a
-/// table that the caller lends. Returns the status 0, 1 or 2: 1, with nothing drawn, if there are more
-/// places than numbers, or fewer than `filled`.
+/// Continues a sample as `samples::extend_sample` does: keeps the first `filled` places and fills
+/// the others, by a table that the caller provides. Returns the status 0, 1 or 2. The status is 1,
+/// and nothing is drawn, if there are more places than numbers, or fewer places than `filled`.
 pub fn extend_sample<const ROUNDS: u8>(
     state: &mut ChaChaState,
     count: usize,
@@ -333,7 +336,7 @@ pub fn extend_sample<const ROUNDS: u8>(
 }
 
 /// Moves to the beginning of part `index` of parts of `draws` draws each. Returns the status 0, or
-/// 3 if the part ends past the period; nothing moves then.
+/// 3 if the part ends past the period; the generator does not move then.
 pub fn part<const ROUNDS: u8>(state: &mut ChaChaState, index: u64, draws: u64) -> u8
     requires { ROUNDS % 2 ≡ 0 }
     ensures status { let start = chacha_at state.old in

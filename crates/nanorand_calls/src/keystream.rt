@@ -1,7 +1,7 @@
-//! The keystream of ChaCha with 20 rounds without a gap, which computes eight blocks at once.
+//! The keystream of ChaCha with 20 rounds as one unbroken stream, computed eight blocks at once.
 //!
-//! From equal states with nothing buffered it delivers what `Stream` delivers, by the law
-//! `nanorand::laws::streams_deliver_chacha`.
+//! Starting with the same state and nothing buffered, it delivers the same bytes as `Stream`, by
+//! the law `nanorand::laws::streams_deliver_chacha`.
 ghost use Rattle.std.specs.Prelude.{◌≡◌, ◌≢◌, ◌<◌, ◌≤◌, ◌≤ℤ◌, ◌^◌, ◌*◌, ◌+◌, ◌-◌, All, IsPermutation, length, ℕ, take};
 ghost use Rattle.std.specs.Bool.{OnFalse, OnTrue};
 ghost use Rattle.std.specs.List.{AllPairs};
@@ -22,10 +22,10 @@ use crate::calls;
 use crate::chacha::{self, ChaChaState};
 use nanorand::{BufferedRng, ChaCha20Stream, ChaChaGroups, Rng};
 
-/// A stream that computes eight blocks at once: its generator, and a group of blocks whose last
-/// `buffered` bytes are delivered first; the bytes before them mean nothing. At most 511 bytes are
-/// buffered; a greater number counts as 511, and no call leaves one. With 0, the stream begins at
-/// the generator's next block.
+/// A stream that computes eight blocks at once: the state of its ChaCha, and a group of eight
+/// blocks, whose last `buffered` bytes are delivered first. The bytes before them are ignored. At
+/// most 511 bytes are buffered: a greater `buffered` counts as 511, and no call leaves a greater
+/// one. If it is 0, the stream starts at the next block of its ChaCha.
 #[derive(Clone, Copy)]
 #[repr(C)]
 pub struct GroupStream {
@@ -60,8 +60,8 @@ fn store(stream: &mut GroupStream, rng: &ChaCha20Stream)
     };
 }
 
-/// Fills the slice from the buffered bytes, and answers whether they suffice. If not, nothing
-/// changes.
+/// Fills the slice from the buffered bytes, and returns whether there were enough of them. If not,
+/// nothing changes.
 #[inline]
 fn served(stream: &mut GroupStream, buffer: &mut [u8]) -> bool
     ensures bytes { OnTrue result
@@ -83,7 +83,8 @@ fn served(stream: &mut GroupStream, buffer: &mut [u8]) -> bool
     true
 }
 
-/// Makes key and nonce from a number, as `Keystream::seed_from_u64` does. Nothing is buffered.
+/// Makes the key and the nonce from a number, as `Keystream::seed_from_u64` does. Nothing is
+/// buffered.
 pub fn seed_from_u64(stream: &mut GroupStream, number: u64)
     ensures state { groups_at stream.new ≡ fresh_stream (seeded_state (seed_from 40 number)) }
     ensures buffered { stream.new.buffered ≡ 0 }
@@ -92,7 +93,7 @@ pub fn seed_from_u64(stream: &mut GroupStream, number: u64)
     stream.buffered = 0;
 }
 
-/// Draws a number of 64 bits: the next 8 bytes, little-endian.
+/// Draws a 64-bit number: the next 8 bytes, in little-endian order.
 pub fn number(stream: &mut GroupStream) -> u64
     ensures value { result ≡ number_of (by_groups.bytes (groups_at stream.old) 8) }
     ensures state { groups_at stream.new ≡ by_groups.after (groups_at stream.old) 8 }
@@ -118,8 +119,8 @@ pub fn fill_bytes(stream: &mut GroupStream, buffer: &mut [u8])
     store(stream, &rng);
 }
 
-/// Draws a number from `first..=last`, by words of 32 bits. Returns the status 0, 1 or 2, and
-/// writes `number` only if it is 0.
+/// Draws a number from `first..=last`, by rejection sampling of 32-bit words. Returns the status 0,
+/// 1 or 2, and writes `number` only if the status is 0.
 pub fn range_u32(stream: &mut GroupStream, first: u32, last: u32, number: &mut u32) -> u8
     ensures status { let draw = between by_groups 32 first last (groups_at stream.old) in
         result ≡ status draw.0 }
@@ -139,7 +140,7 @@ pub fn range_u32(stream: &mut GroupStream, first: u32, last: u32, number: &mut u
     status
 }
 
-/// Draws a number from `first..=last`, by words of 64 bits, as `range_u32` does.
+/// Draws a number from `first..=last` as `range_u32` does, but by 64-bit words.
 pub fn range_u64(stream: &mut GroupStream, first: u64, last: u64, number: &mut u64) -> u8
     ensures status { let draw = between by_groups 64 first last (groups_at stream.old) in
         result ≡ status draw.0 }
@@ -159,7 +160,7 @@ pub fn range_u64(stream: &mut GroupStream, first: u64, last: u64, number: &mut u
     status
 }
 
-/// Draws a signed number from `first..=last`, by words of 64 bits, as `range_u32` does.
+/// Draws a signed number from `first..=last` as `range_u32` does, but by 64-bit words.
 pub fn range_i64(stream: &mut GroupStream, first: i64, last: i64, number: &mut i64) -> u8
     ensures status { let start = groups_at stream.old in
         let draw = between_signed by_groups 64 first last start in
@@ -182,7 +183,7 @@ pub fn range_i64(stream: &mut GroupStream, first: i64, last: i64, number: &mut i
     status
 }
 
-/// Draws an index or a length from `first..=last`, by words of 64 bits, as `range_u32` does.
+/// Draws an index or a length from `first..=last` as `range_u32` does, but by 64-bit words.
 pub fn range_usize(stream: &mut GroupStream, first: usize, last: usize, number: &mut usize) -> u8
     ensures status { let draw = between by_groups 64 first last (groups_at stream.old) in
         result ≡ status draw.0 }
@@ -202,8 +203,8 @@ pub fn range_usize(stream: &mut GroupStream, first: usize, last: usize, number: 
     status
 }
 
-/// Shuffles the items, as `Rng::shuffle` does. Returns the status 0 or 2; after 2, the exchanges
-/// that were made stay.
+/// Shuffles the items as `Rng::shuffle` does. Returns the status 0 or 2; after 2, the swaps that
+/// were made stay.
 pub fn shuffle(stream: &mut GroupStream, items: &mut [usize]) -> u8
     ensures status { let start = groups_at stream.old in
         let shuffle = shuffled by_groups from_itself start items.old in
@@ -226,7 +227,7 @@ pub fn shuffle(stream: &mut GroupStream, items: &mut [usize]) -> u8
     status
 }
 
-/// Shuffles the items as the crate nanorand 0.7.0 did: see `shuffles::shuffle_full`. Returns the
+/// Shuffles the items as the crate `nanorand` 0.7.0 does: see `shuffles::shuffle_full`. Returns the
 /// status 0 or 2, as `shuffle` does.
 pub fn shuffle_full(stream: &mut GroupStream, items: &mut [usize]) -> u8
     ensures status { let start = groups_at stream.old in
@@ -250,8 +251,9 @@ pub fn shuffle_full(stream: &mut GroupStream, items: &mut [usize]) -> u8
     status
 }
 
-/// Samples different numbers below `count`, one for each place, as `samples::sample` does. Returns
-/// the status 0, 1 or 2: 1, with nothing drawn, if there are more places than numbers.
+/// Draws a sample as `samples::sample` does: different numbers below `count`, one into each place.
+/// Returns the status 0, 1 or 2. The status is 1, and nothing is drawn, if there are more places
+/// than numbers.
 pub fn sample(stream: &mut GroupStream, count: usize, places: &mut [usize]) -> u8
     ensures status { let start = groups_at stream.old in
         let sampling = sampling by_groups count start places.old in
@@ -274,9 +276,9 @@ pub fn sample(stream: &mut GroupStream, count: usize, places: &mut [usize]) -> u
     status
 }
 
-/// Goes on with a sample whose first `filled` places stand, as `samples::extend_sample` does, with a
-/// table that the caller lends. Returns the status 0, 1 or 2: 1, with nothing drawn, if there are more
-/// places than numbers, or fewer than `filled`.
+/// Continues a sample as `samples::extend_sample` does: keeps the first `filled` places and fills
+/// the others, by a table that the caller provides. Returns the status 0, 1 or 2. The status is 1,
+/// and nothing is drawn, if there are more places than numbers, or fewer places than `filled`.
 pub fn extend_sample(
     stream: &mut GroupStream,
     count: usize,
@@ -308,7 +310,7 @@ pub fn extend_sample(
 }
 
 /// Moves to the beginning of part `index` of parts of `draws` draws each. Returns the status 0, or
-/// 3 if the part ends past the period; nothing moves then.
+/// 3 if the part ends past the period; the generator does not move then.
 pub fn part(stream: &mut GroupStream, index: u64, draws: u64) -> u8
     ensures status { let start = groups_at stream.old in
         result ≡ (parting by_groups (2 ^ 67) draws index start).0 }

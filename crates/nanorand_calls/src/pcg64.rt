@@ -1,4 +1,4 @@
-//! The calls of `Pcg64`, whose seed is the caller's memory. Not cryptographically secure.
+//! The calls on `Pcg64`, whose seed is in the caller's memory. Not cryptographically secure.
 ghost use Rattle.std.specs.Prelude.{◌≡◌, ◌≢◌, ◌<◌, ◌≤◌, ◌≤ℤ◌, ◌^◌, ◌*◌, ◌+◌, ◌-◌, All, IsPermutation, length, ℕ, take};
 ghost use Rattle.std.specs.List.{AllPairs};
 ghost use Rattle.nanorand_core.specs.values.Draws.{after_words};
@@ -19,14 +19,14 @@ use crate::wide::{Wide, joined, split};
 use nanorand::laws::pcg64_cycles;
 use nanorand::{Pcg64, Rng};
 
-/// Seeds from a number, as `Pcg64::seed_from_u64` does.
+/// Makes the seed from a number, as `Pcg64::seed_from_u64` does.
 pub fn seed_from_u64(seed: &mut Wide, number: u64)
     ensures { at_seed seed.new ≡ seeded_generator (seed_from 16 number) }
 {
     *seed = split(Pcg64::seed_from_u64(number).seed());
 }
 
-/// Draws a number of 64 bits: the next 8 bytes, little-endian.
+/// Draws a 64-bit number: the next 8 bytes, in little-endian order.
 pub fn number(seed: &mut Wide) -> u64
     ensures value { result ≡ number_of (pcg64_requests.bytes (at_seed seed.old) 8) }
     ensures seed { wide_number seed.new ≡ (pcg64_requests.after (at_seed seed.old) 8).seed }
@@ -48,8 +48,8 @@ pub fn fill_bytes(seed: &mut Wide, buffer: &mut [u8])
     *seed = split(rng.seed());
 }
 
-/// Draws a number from `first..=last`, by words of 32 bits. Returns the status 0, 1 or 2, and
-/// writes `number` only if it is 0.
+/// Draws a number from `first..=last`, by rejection sampling of 32-bit words. Returns the status 0,
+/// 1 or 2, and writes `number` only if the status is 0.
 pub fn range_u32(seed: &mut Wide, first: u32, last: u32, number: &mut u32) -> u8
     ensures status { let draw = between pcg64_requests 32 first last (at_seed seed.old) in
         result ≡ status draw.0 }
@@ -68,7 +68,7 @@ pub fn range_u32(seed: &mut Wide, first: u32, last: u32, number: &mut u32) -> u8
     status
 }
 
-/// Draws a number from `first..=last`, by words of 64 bits, as `range_u32` does.
+/// Draws a number from `first..=last` as `range_u32` does, but by 64-bit words.
 pub fn range_u64(seed: &mut Wide, first: u64, last: u64, number: &mut u64) -> u8
     ensures status { let draw = between pcg64_requests 64 first last (at_seed seed.old) in
         result ≡ status draw.0 }
@@ -87,7 +87,7 @@ pub fn range_u64(seed: &mut Wide, first: u64, last: u64, number: &mut u64) -> u8
     status
 }
 
-/// Draws a signed number from `first..=last`, by words of 64 bits, as `range_u32` does.
+/// Draws a signed number from `first..=last` as `range_u32` does, but by 64-bit words.
 pub fn range_i64(seed: &mut Wide, first: i64, last: i64, number: &mut i64) -> u8
     ensures status { let draw = between_signed pcg64_requests 64 first last (at_seed seed.old) in
         result ≡ status draw.0 }
@@ -106,7 +106,7 @@ pub fn range_i64(seed: &mut Wide, first: i64, last: i64, number: &mut i64) -> u8
     status
 }
 
-/// Draws an index or a length from `first..=last`, by words of 64 bits, as `range_u32` does.
+/// Draws an index or a length from `first..=last` as `range_u32` does, but by 64-bit words.
 pub fn range_usize(seed: &mut Wide, first: usize, last: usize, number: &mut usize) -> u8
     ensures status { let draw = between pcg64_requests 64 first last (at_seed seed.old) in
         result ≡ status draw.0 }
@@ -125,8 +125,8 @@ pub fn range_usize(seed: &mut Wide, first: usize, last: usize, number: &mut usiz
     status
 }
 
-/// Shuffles the items, as `Rng::shuffle` does. Returns the status 0 or 2; after 2, the exchanges
-/// that were made stay.
+/// Shuffles the items as `Rng::shuffle` does. Returns the status 0 or 2; after 2, the swaps that
+/// were made stay.
 pub fn shuffle(seed: &mut Wide, items: &mut [usize]) -> u8
     ensures status { let start = at_seed seed.old in
         let shuffle = shuffled pcg64_requests from_itself start items.old in
@@ -147,7 +147,7 @@ pub fn shuffle(seed: &mut Wide, items: &mut [usize]) -> u8
     status
 }
 
-/// Shuffles the items as the crate nanorand 0.7.0 did: see `shuffles::shuffle_full`. Returns the
+/// Shuffles the items as the crate `nanorand` 0.7.0 does: see `shuffles::shuffle_full`. Returns the
 /// status 0 or 2, as `shuffle` does.
 pub fn shuffle_full(seed: &mut Wide, items: &mut [usize]) -> u8
     ensures status { let shuffle = shuffled pcg64_requests from_all (at_seed seed.old) items.old in
@@ -167,8 +167,9 @@ pub fn shuffle_full(seed: &mut Wide, items: &mut [usize]) -> u8
     status
 }
 
-/// Samples different numbers below `count`, one for each place, as `samples::sample` does. Returns
-/// the status 0, 1 or 2: 1, with nothing drawn, if there are more places than numbers.
+/// Draws a sample as `samples::sample` does: different numbers below `count`, one into each place.
+/// Returns the status 0, 1 or 2. The status is 1, and nothing is drawn, if there are more places
+/// than numbers.
 pub fn sample(seed: &mut Wide, count: usize, places: &mut [usize]) -> u8
     ensures status { let sampling = sampling pcg64_requests count (at_seed seed.old) places.old in
         result ≡ sampling.status }
@@ -188,9 +189,9 @@ pub fn sample(seed: &mut Wide, count: usize, places: &mut [usize]) -> u8
     status
 }
 
-/// Goes on with a sample whose first `filled` places stand, as `samples::extend_sample` does, with a
-/// table that the caller lends. Returns the status 0, 1 or 2: 1, with nothing drawn, if there are more
-/// places than numbers, or fewer than `filled`.
+/// Continues a sample as `samples::extend_sample` does: keeps the first `filled` places and fills
+/// the others, by a table that the caller provides. Returns the status 0, 1 or 2. The status is 1,
+/// and nothing is drawn, if there are more places than numbers, or fewer places than `filled`.
 pub fn extend_sample(
     seed: &mut Wide,
     count: usize,
@@ -220,7 +221,7 @@ pub fn extend_sample(
     status
 }
 
-/// Advances by this many draws, in at most 128 steps and one draw.
+/// Jumps ahead by `draws` draws, in at most 128 steps and one draw.
 pub fn jump(seed: &mut Wide, draws: &Wide)
     ensures { wide_number seed.new ≡ seed_after (wide_number draws.now) (wide_number seed.old) }
 {
@@ -231,7 +232,7 @@ pub fn jump(seed: &mut Wide, draws: &Wide)
 }
 
 /// Moves to the beginning of part `index` of parts of `draws` draws each. Returns the status 0, or
-/// 3 if the part ends past the period; nothing moves then.
+/// 3 if the part ends past the period; the generator does not move then.
 pub fn part(seed: &mut Wide, index: u64, draws: u64) -> u8
     ensures status { let start = at_seed seed.old in
         result ≡ (parting pcg64_requests (2 ^ 126) draws index start).0 }

@@ -1,10 +1,10 @@
-//! How a result is passed to C: as a status, with the number beside it.
+//! How C receives a result: as a status, with the number written separately.
 ghost use Rattle.std.specs.Prelude.{◌≡◌, Ok};
 ghost use Rattle.nanorand_calls.specs.Status.{drawn_or, status};
 
 use nanorand::RangeError;
 
-// 0 on success, 1 if the range is empty, 2 if 128 words in a row were rejected.
+// Returns 0 on success, 1 if the range is empty, and 2 if 128 words in a row were rejected.
 pub(crate) fn status<T>(outcome: &Result<T, RangeError>) -> u8
     ensures { result ≡ status outcome.now }
 {

@@ -1,5 +1,5 @@
-//! The keystream of ChaCha with 20 rounds without a gap: a generator that buffers the bytes that a
-//! request leaves over.
+//! The keystream of ChaCha with 20 rounds as one unbroken stream: a generator that buffers the
+//! bytes that a request leaves over.
 ghost use Rattle.std.specs.Prelude.{◌≡◌, ◌≢◌, ◌<◌, ◌≤◌, ◌≤ℤ◌, ◌*◌, ◌+◌, ◌-◌, All, IsPermutation, length, ℕ, take};
 ghost use Rattle.std.specs.List.{AllPairs};
 ghost use Rattle.nanorand_core.specs.values.Draws.{after_words};
@@ -18,9 +18,10 @@ use crate::calls;
 use crate::chacha::{self, ChaChaState};
 use nanorand::{BufferedRng, ChaCha20, Rng};
 
-/// A stream: its generator, and a block whose last `buffered` bytes are delivered first; the bytes
-/// before them mean nothing. At most 63 bytes are buffered; a greater number counts as 63, and no
-/// call leaves one. With 0, the stream begins at the generator's next block.
+/// A stream: the state of its ChaCha, and a block whose last `buffered` bytes are delivered first.
+/// The bytes before them are ignored. At most 63 bytes are buffered: a greater `buffered` counts as
+/// 63, and no call leaves a greater one. If it is 0, the stream starts at the next block of its
+/// ChaCha.
 #[derive(Clone, Copy)]
 #[repr(C)]
 pub struct Stream {
@@ -48,7 +49,8 @@ fn store(stream: &mut Stream, rng: &BufferedRng<ChaCha20, 64>)
     chacha::store(&mut stream.chacha, rng.inner());
 }
 
-/// Makes key and nonce from a number, as `Keystream::seed_from_u64` does. Nothing is buffered.
+/// Makes the key and the nonce from a number, as `Keystream::seed_from_u64` does. Nothing is
+/// buffered.
 pub fn seed_from_u64(stream: &mut Stream, number: u64)
     ensures state { stream_at stream.new ≡ fresh_stream (seeded_state (seed_from 40 number)) }
     ensures buffered { stream.new.buffered ≡ 0 }
@@ -57,7 +59,7 @@ pub fn seed_from_u64(stream: &mut Stream, number: u64)
     stream.buffered = 0;
 }
 
-/// Draws a number of 64 bits: the next 8 bytes, little-endian.
+/// Draws a 64-bit number: the next 8 bytes, in little-endian order.
 pub fn number(stream: &mut Stream) -> u64
     ensures value { result ≡ number_of (stream_requests.bytes (stream_at stream.old) 8) }
     ensures state { stream_at stream.new ≡ stream_requests.after (stream_at stream.old) 8 }
@@ -81,8 +83,8 @@ pub fn fill_bytes(stream: &mut Stream, buffer: &mut [u8])
     store(stream, &rng);
 }
 
-/// Draws a number from `first..=last`, by words of 32 bits. Returns the status 0, 1 or 2, and
-/// writes `number` only if it is 0.
+/// Draws a number from `first..=last`, by rejection sampling of 32-bit words. Returns the status 0,
+/// 1 or 2, and writes `number` only if the status is 0.
 pub fn range_u32(stream: &mut Stream, first: u32, last: u32, number: &mut u32) -> u8
     ensures status { let draw = between stream_requests 32 first last (stream_at stream.old) in
         result ≡ status draw.0 }
@@ -102,7 +104,7 @@ pub fn range_u32(stream: &mut Stream, first: u32, last: u32, number: &mut u32) -
     status
 }
 
-/// Draws a number from `first..=last`, by words of 64 bits, as `range_u32` does.
+/// Draws a number from `first..=last` as `range_u32` does, but by 64-bit words.
 pub fn range_u64(stream: &mut Stream, first: u64, last: u64, number: &mut u64) -> u8
     ensures status { let draw = between stream_requests 64 first last (stream_at stream.old) in
         result ≡ status draw.0 }
@@ -122,7 +124,7 @@ pub fn range_u64(stream: &mut Stream, first: u64, last: u64, number: &mut u64) -
     status
 }
 
-/// Draws a signed number from `first..=last`, by words of 64 bits, as `range_u32` does.
+/// Draws a signed number from `first..=last` as `range_u32` does, but by 64-bit words.
 pub fn range_i64(stream: &mut Stream, first: i64, last: i64, number: &mut i64) -> u8
     ensures status { let start = stream_at stream.old in
         let draw = between_signed stream_requests 64 first last start in
@@ -145,7 +147,7 @@ pub fn range_i64(stream: &mut Stream, first: i64, last: i64, number: &mut i64) -
     status
 }
 
-/// Draws an index or a length from `first..=last`, by words of 64 bits, as `range_u32` does.
+/// Draws an index or a length from `first..=last` as `range_u32` does, but by 64-bit words.
 pub fn range_usize(stream: &mut Stream, first: usize, last: usize, number: &mut usize) -> u8
     ensures status { let draw = between stream_requests 64 first last (stream_at stream.old) in
         result ≡ status draw.0 }
@@ -165,8 +167,8 @@ pub fn range_usize(stream: &mut Stream, first: usize, last: usize, number: &mut 
     status
 }
 
-/// Shuffles the items, as `Rng::shuffle` does. Returns the status 0 or 2; after 2, the exchanges
-/// that were made stay.
+/// Shuffles the items as `Rng::shuffle` does. Returns the status 0 or 2; after 2, the swaps that
+/// were made stay.
 pub fn shuffle(stream: &mut Stream, items: &mut [usize]) -> u8
     ensures status { let start = stream_at stream.old in
         let shuffle = shuffled stream_requests from_itself start items.old in
@@ -189,7 +191,7 @@ pub fn shuffle(stream: &mut Stream, items: &mut [usize]) -> u8
     status
 }
 
-/// Shuffles the items as the crate nanorand 0.7.0 did: see `shuffles::shuffle_full`. Returns the
+/// Shuffles the items as the crate `nanorand` 0.7.0 does: see `shuffles::shuffle_full`. Returns the
 /// status 0 or 2, as `shuffle` does.
 pub fn shuffle_full(stream: &mut Stream, items: &mut [usize]) -> u8
     ensures status { let start = stream_at stream.old in
@@ -213,8 +215,9 @@ pub fn shuffle_full(stream: &mut Stream, items: &mut [usize]) -> u8
     status
 }
 
-/// Samples different numbers below `count`, one for each place, as `samples::sample` does. Returns
-/// the status 0, 1 or 2: 1, with nothing drawn, if there are more places than numbers.
+/// Draws a sample as `samples::sample` does: different numbers below `count`, one into each place.
+/// Returns the status 0, 1 or 2. The status is 1, and nothing is drawn, if there are more places
+/// than numbers.
 pub fn sample(stream: &mut Stream, count: usize, places: &mut [usize]) -> u8
     ensures status { let start = stream_at stream.old in
         let sampling = sampling stream_requests count start places.old in
@@ -237,9 +240,9 @@ pub fn sample(stream: &mut Stream, count: usize, places: &mut [usize]) -> u8
     status
 }
 
-/// Goes on with a sample whose first `filled` places stand, as `samples::extend_sample` does, with a
-/// table that the caller lends. Returns the status 0, 1 or 2: 1, with nothing drawn, if there are more
-/// places than numbers, or fewer than `filled`.
+/// Continues a sample as `samples::extend_sample` does: keeps the first `filled` places and fills
+/// the others, by a table that the caller provides. Returns the status 0, 1 or 2. The status is 1,
+/// and nothing is drawn, if there are more places than numbers, or fewer places than `filled`.
 pub fn extend_sample(
     stream: &mut Stream,
     count: usize,

@@ -1,8 +1,8 @@
-//! 128-bit numbers, which cannot be passed to C as they are.
+//! 128-bit numbers, which C receives as two halves.
 ghost use Rattle.std.specs.Prelude.{◌≡◌};
 ghost use Rattle.nanorand_calls.specs.WideNumber.{wide_number};
 
-/// A 128-bit number, as its low and its high 64 bits. As a seed of Pcg64 it is the state itself,
+/// A 128-bit number, as its low and its high 64 bits. As the seed of Pcg64, it is the state itself,
 /// and is not mixed: generators with neighbouring seeds draw correlated numbers.
 #[derive(Clone, Copy)]
 #[repr(C)]

@@ -105,7 +105,8 @@ pub fn sample_with<G: Rng<OUTPUT>, const OUTPUT: usize>(
 /// Use it to draw a long sample in pieces. Pass the slice without its end first: the first k slots
 /// of a sample are a sample of k of the numbers below `count - (places.len() - k)`. If `filled` is
 /// 0, this is `sample_with`, which describes the table. The slots that are kept are linked into the
-/// table again, which takes O(k).
+/// table again, which takes O(k). If you keep numbers that agree in their low bits, unlike those of
+/// a sample, they are in one chain, and the time is up to O(k^2).
 ///
 /// If the kept slots hold different numbers below `count - places.len() + filled`, then on success
 /// all slots hold different numbers below `count` (`different`).

@@ -1,4 +1,5 @@
--- What a reader of the contracts must believe, except `support`, which nobody has to believe.
+-- The definitions that a reader of the contracts must trust, except `support`, which needs no
+-- trust.
 pub mod Calls
 pub mod Words
 pub mod support

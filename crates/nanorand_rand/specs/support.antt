@@ -1,2 +1,2 @@
--- Lemmas that the laws of impls cite.
+-- Lemmas that the laws of impls use.
 pub mod WordLemmas

@@ -1,4 +1,4 @@
-//! Generators of `nanorand` for the kit's `rand`, and generators of the kit for `nanorand`.
+//! Adapters between `nanorand` and the kit's `rand`, in both directions.
 //!
 //! `Core` wraps a generator of `nanorand` as one of `rand_core`, so that the distributions, the
 //! weighted indices and the sampling of `rand` draw from it. `FromCore32` and `FromCore64` wrap a

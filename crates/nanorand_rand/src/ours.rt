@@ -1,4 +1,4 @@
-//! A generator of `nanorand`, for what takes a generator of `rand_core`.
+//! Adapts a generator of `nanorand` to `rand_core`.
 ghost use Rattle.std.specs.Prelude.{◌≡◌, length};
 ghost use Rattle.rand_core.specs.Stream.{fill_bytes, next_u32, next_u64};
 ghost use Rattle.nanorand_core.specs.values.Values.{number_of};
@@ -7,26 +7,27 @@ ghost use Rattle.nanorand_rand.specs.Calls.{request_stream};
 use nanorand::Rng;
 use std::marker::Model;
 
-/// A generator of `nanorand` as a generator of `rand_core`: `Core(WyRand::seed_from_u64(42))`.
+/// Adapts a generator of `nanorand` to `rand_core`: `Core(WyRand::seed_from_u64(42))`.
 ///
-/// `OUTPUT` is the size of the generator's blocks, which the compiler finds from its type. The
-/// generator is the field `0`: call its own functions on it, or take it back.
+/// `OUTPUT` is the number of bytes of the generator's blocks. The compiler infers it. The generator
+/// is the field `0`: use it to call the generator's own functions, or to take the generator back.
 ///
-/// Each call is one request. So a plain generator begins a new block at each call, and drops the
-/// bytes of the block that the call does not take: a `u32` of `WyRand` takes a block of 8 bytes,
-/// one of `ChaCha` a block of 64. Wrap a buffer to drop none: `Core(BufferedRng::new(rng))`, or a
-/// stream of ChaCha, which is one.
+/// Each call is one request (one read of n bytes). So a generator without a buffer starts with a
+/// new block at each call, and drops the bytes of the block that the call does not use: a `u32` of
+/// `WyRand` takes a block of 8 bytes, one of `ChaCha` a block of 64. To drop no bytes, wrap a
+/// buffer: `Core(BufferedRng::new(rng))`, or a stream of ChaCha, which is a buffer.
 ///
-/// `rand_core` states a generator as a stream of answers. The one of `Core` is `request_stream` of
-/// the requests of the generator inside (`laws::calls_are_requests`): equal generators have equal
-/// streams. After a call of generic code, as of a distribution, a contract knows the stream that is
-/// left, and not the state.
+/// `rand_core` describes a generator as a stream of answers. The stream of `Core` is
+/// `request_stream` of the requests of the inner generator (`laws::calls_are_requests`), so equal
+/// generators have equal streams. After a call of generic code, such as a distribution, a contract
+/// knows the stream that is left, but not the state.
 ///
-/// None is a `CryptoRng`: for keys, tokens and passwords take a vetted generator.
+/// No generator implements `CryptoRng`: for keys, tokens and passwords, use a vetted cryptographic
+/// generator.
 #[derive(Clone, Debug, PartialEq, Eq, Drop)]
 pub struct Core<G: Rng<OUTPUT>, const OUTPUT: usize>(pub G);
 
-// The view is the generator inside.
+// The view is the inner generator.
 impl<G: Rng<OUTPUT>, const OUTPUT: usize> Model for Core<G, OUTPUT> {
     ghost Value = { G };
 
@@ -40,7 +41,7 @@ impl<G: Rng<OUTPUT>, const OUTPUT: usize> Model for Core<G, OUTPUT> {
 impl<G: Rng<OUTPUT>, const OUTPUT: usize> rand_core::Rng for Core<G, OUTPUT> {
     ghost stream = { request_stream G.requests };
 
-    /// The little-endian number of a request of 4 bytes.
+    /// Returns the little-endian number of a request of 4 bytes.
     #[inline]
     fn next_u32(&mut self) -> u32
         ensures call { (result, request_stream G.requests self.new)
@@ -51,7 +52,7 @@ impl<G: Rng<OUTPUT>, const OUTPUT: usize> rand_core::Rng for Core<G, OUTPUT> {
         self.0.generate::<u32>()
     }
 
-    /// The little-endian number of a request of 8 bytes.
+    /// Returns the little-endian number of a request of 8 bytes.
     #[inline]
     fn next_u64(&mut self) -> u64
         ensures call { (result, request_stream G.requests self.new)

@@ -1,8 +1,8 @@
-//! Wrapped generators made from a seed, by the `SeedableRng` of `rand_core`.
+//! Wrapped generators that are made from a seed, by the `SeedableRng` of `rand_core`.
 //!
-//! `seed_from_u64` is the generator's own: it mixes the number by SplitMix64, where the default of
-//! `rand_core` expands it by PCG32. So it makes the generator that the library makes of the number,
-//! which is not the one of `Self::from_seed(Seed::from_u64(number))`.
+//! `seed_from_u64` is the function of the generator, which mixes the number by SplitMix64, and not
+//! the one that `rand_core` provides, which expands it by PCG32. So it returns the generator that
+//! the library makes from the number, which is not `Self::from_seed(Seed::from_u64(number))`.
 ghost use Rattle.std.specs.Prelude.{◌≡◌, ℕ, ◌%◌, List, [], take};
 ghost use Rattle.nanorand_core.specs.values.Values.{number_of};
 ghost use Rattle.nanorand_replay.specs.generators.Buffered.{buffer_of};
@@ -18,8 +18,8 @@ use nanorand::{
 use rand_core::{Seed, TryRng};
 use std::marker::Model;
 
-/// The seed of a ChaCha: 32 bytes of key, then 8 of nonce. The kit has seeds of 8, 16, 32 and 64
-/// bytes of its own. It has no `Debug`, which would show the key.
+/// The seed of a ChaCha: 32 bytes of key followed by 8 bytes of nonce. The kit itself has only
+/// seeds of 8, 16, 32 and 64 bytes. There is no `Debug`, which would show the key.
 #[derive(Clone, Copy)]
 pub struct ChaChaSeed(pub [u8; 40]);
 
@@ -37,8 +37,8 @@ impl Seed for ChaChaSeed {
 
     ghost bytes = { λ seed. seed };
 
-    /// The first 40 bytes that the kit expands a number to, by PCG32. `seed_from_u64` of a ChaCha
-    /// does not take them: it has SplitMix64's.
+    /// Returns the first 40 bytes of the seed to which the kit expands a number, by PCG32.
+    /// `seed_from_u64` of a ChaCha does not use them: it uses SplitMix64.
     fn from_u64(state: u64) -> Self {
         ChaChaSeed(first_40(&Seed::from_u64(state)))
     }
@@ -56,8 +56,8 @@ impl Seed for ChaChaSeed {
     }
 }
 
-/// The bytes of a seed are the state itself, little-endian, and are not mixed: generators with
-/// neighbouring seeds draw correlated numbers.
+/// The bytes of a seed are the state itself, in little-endian order, and are not mixed: generators
+/// with neighbouring seeds draw correlated numbers.
 impl rand_core::SeedableRng for Core<WyRand, 8> {
     type Seed = [u8; 8];
 
@@ -80,7 +80,8 @@ impl rand_core::SeedableRng for Core<WyRand, 8> {
     }
 }
 
-/// The bytes of a seed are the state itself, little-endian, and are not mixed, as for `WyRand`.
+/// The bytes of a seed are the state itself, in little-endian order, and are not mixed, as for
+/// `WyRand`.
 impl rand_core::SeedableRng for Core<Pcg64, 8> {
     type Seed = [u8; 16];
 
@@ -166,7 +167,7 @@ impl rand_core::SeedableRng for Core<ChaCha20, 64> {
     }
 }
 
-/// A new stream is at its byte 0.
+/// A new stream starts at its byte 0.
 impl rand_core::SeedableRng for Core<ChaCha8Stream, 512> {
     type Seed = ChaChaSeed;
 
@@ -187,7 +188,7 @@ impl rand_core::SeedableRng for Core<ChaCha8Stream, 512> {
     }
 }
 
-/// A new stream is at its byte 0.
+/// A new stream starts at its byte 0.
 impl rand_core::SeedableRng for Core<ChaCha12Stream, 512> {
     type Seed = ChaChaSeed;
 
@@ -208,7 +209,7 @@ impl rand_core::SeedableRng for Core<ChaCha12Stream, 512> {
     }
 }
 
-/// A new stream is at its byte 0.
+/// A new stream starts at its byte 0.
 impl rand_core::SeedableRng for Core<ChaCha20Stream, 512> {
     type Seed = ChaChaSeed;
 
@@ -229,7 +230,7 @@ impl rand_core::SeedableRng for Core<ChaCha20Stream, 512> {
     }
 }
 
-// The first 40 bytes of a longer seed.
+// Returns the first 40 bytes of a longer seed.
 fn first_40(longer: &[u8; 64]) -> [u8; 40]
     ensures { result ≡ take 40 longer.now }
 {
@@ -238,7 +239,7 @@ fn first_40(longer: &[u8; 64]) -> [u8; 40]
     seed
 }
 
-// The generator of a seed.
+// Returns the generator with this seed.
 fn seeded_chacha<const ROUNDS: u8>(seed: ChaChaSeed) -> ChaCha<ROUNDS>
     requires { ROUNDS % 2 ≡ 0 }
     ensures { result ≡ seeded_state seed }
@@ -248,7 +249,7 @@ fn seeded_chacha<const ROUNDS: u8>(seed: ChaChaSeed) -> ChaCha<ROUNDS>
     chacha
 }
 
-// The stream of a seed.
+// Returns the stream with this seed.
 fn seeded_stream<const ROUNDS: u8>(seed: ChaChaSeed) -> ChaChaStream<ROUNDS>
     requires { ROUNDS % 2 ≡ 0 }
     ensures { result ≡ buffer_of [] (seeded_state seed) }

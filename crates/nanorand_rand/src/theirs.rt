@@ -1,4 +1,4 @@
-//! A generator of `rand_core`, for what takes a generator of `nanorand`.
+//! Adapts a generator of `rand_core` to `nanorand`.
 ghost use Rattle.std.specs.Prelude.{refl};
 ghost use Rattle.nanorand_rand.specs.Words.{words32, words64};
 ghost use Rattle.nanorand_rand.specs.support.WordLemmas.{length-block32, length-block64, delivers32, delivers64, after_nothing32, after_nothing64};
@@ -9,25 +9,25 @@ use rand_core::utils::{NextWord, fill_bytes_via_u32, fill_bytes_via_u64};
 use std::alloc::AllocError;
 use std::marker::Model;
 
-/// A generator of `rand_core` that draws words of 32 bits, as a generator of `nanorand`:
+/// Adapts a generator of `rand_core` that draws words of 32 bits to `nanorand`:
 /// `FromCore32(ChaCha20Rng::seed_from_u64(42))`. The generator is the field `0`.
 ///
-/// A block is two words, 8 bytes, little-endian. A request of n bytes takes `ceil(n / 4)` words,
-/// and drops the bytes that the last word has over.
+/// A block is two words, which are 8 bytes in little-endian order. A request of n bytes takes
+/// `ceil(n / 4)` words, and drops the unused bytes of the last word.
 ///
-/// For words below 2^32 the values are those of the generator's own calls: `generate::<u32>` is its
-/// `next_u32`, `generate::<u64>` its `next_u64` with the low half first, and `fill_bytes` its
+/// If the words are below 2^32, `generate::<u32>` is the generator's own `next_u32`, and
+/// `generate::<u64>` is its own `next_u64`, with the low half first. `fill_bytes` is its own
 /// `fill_bytes` (`laws::requests_are_calls_32`).
 ///
-/// `rand_core`'s `Rng` states what a generator will answer, and not the state that a call leaves,
-/// on which all calls of `nanorand` are stated. So the bound is its `NextWord<u32>`, which states
-/// both: the generators of the kit's `rand_chacha`, `Pcg32` of `rand_pcg` and those of 32 bits of
-/// `rand_xoshiro` have it, and `StdRng` and `SmallRng` of `rand` do not. A generator of your own
-/// needs an impl of `NextWord<u32>` and one of `Clone`.
+/// The contracts of `rand_core`'s `Rng` state what a generator will return, but not the state that
+/// a call leaves, which all contracts of `nanorand` need. So the bound is `NextWord<u32>` of
+/// `rand_core`, which states both. The generators of the kit's `rand_chacha`, `Pcg32` of `rand_pcg`
+/// and the 32-bit generators of `rand_xoshiro` implement it; `StdRng` and `SmallRng` of `rand` do
+/// not. A generator of your own must implement `NextWord<u32>` and `Clone`.
 #[derive(Debug, PartialEq, Eq, Drop)]
 pub struct FromCore32<R: NextWord<u32>>(pub R);
 
-// The view is the generator inside.
+// The view is the inner generator.
 impl<R: NextWord<u32>> Model for FromCore32<R> {
     ghost Value = { R };
 
@@ -38,7 +38,7 @@ impl<R: NextWord<u32>> Model for FromCore32<R> {
     ghost inverse = { λ r. record { 0 = r } };
 }
 
-/// The clone of the generator inside. It fails if that clone does.
+/// The clone wraps a clone of the inner generator. It fails if that clone fails.
 impl<R: NextWord<u32> + Clone> Clone for FromCore32<R> {
     ghost is_clone = { R.is_clone };
 
@@ -84,22 +84,22 @@ impl<R: NextWord<u32> + Clone> Rng<8> for FromCore32<R> {
     ghost after_block = { λ _. refl };
 }
 
-/// A generator of `rand_core` that draws words of 64 bits, as a generator of `nanorand`:
+/// Adapts a generator of `rand_core` that draws words of 64 bits to `nanorand`:
 /// `FromCore64(rand_pcg::Pcg64::new(42, 54))`. The generator is the field `0`.
 ///
-/// A block is one word, 8 bytes, little-endian. A request of n bytes takes `ceil(n / 8)` words,
-/// and drops the bytes that the last word has over.
+/// A block is one word, which is 8 bytes in little-endian order. A request of n bytes takes `ceil(n
+/// / 8)` words, and drops the unused bytes of the last word.
 ///
-/// For words below 2^64 `generate::<u64>` is the generator's own `next_u64`, and `fill_bytes` its
-/// `fill_bytes`. `generate::<u32>` is the low half of a word, where some generators' own `next_u32`
-/// is the high half (`laws::requests_are_calls_64`).
+/// If the word is below 2^64, `generate::<u64>` is the generator's own `next_u64`. `fill_bytes` is
+/// the generator's own `fill_bytes`. `generate::<u32>` is the low half of a word, whereas
+/// `next_u32` of some generators is the high half (`laws::requests_are_calls_64`).
 ///
-/// The bound is `NextWord<u64>` of `rand_core`, as for `FromCore32`: `Pcg64` of the kit's
-/// `rand_pcg` and the generators of 64 bits of `rand_xoshiro` have it.
+/// The bound is `NextWord<u64>` of `rand_core`, for the same reason as in `FromCore32`. `Pcg64` of
+/// the kit's `rand_pcg` and the 64-bit generators of `rand_xoshiro` implement it.
 #[derive(Debug, PartialEq, Eq, Drop)]
 pub struct FromCore64<R: NextWord<u64>>(pub R);
 
-// The view is the generator inside.
+// The view is the inner generator.
 impl<R: NextWord<u64>> Model for FromCore64<R> {
     ghost Value = { R };
 
@@ -110,7 +110,7 @@ impl<R: NextWord<u64>> Model for FromCore64<R> {
     ghost inverse = { λ r. record { 0 = r } };
 }
 
-/// The clone of the generator inside. It fails if that clone does.
+/// The clone wraps a clone of the inner generator. It fails if that clone fails.
 impl<R: NextWord<u64> + Clone> Clone for FromCore64<R> {
     ghost is_clone = { R.is_clone };
 

@@ -1,4 +1,4 @@
-//! The kit's `rand` over generators of `nanorand`.
+//! The kit's `rand` with generators of `nanorand`.
 ghost use Rattle.std.specs.Prelude.{◌≡◌, ◌≤◌, ◌<◌, ◌+◌, ◌^◌, ◌↔◌, [], Contains, IfOk, IfSome, IsNone};
 ghost use Rattle.rand.specs.Uniform.{lemire};
 ghost use Rattle.rand_core.specs.Stream.{next_u32};
@@ -20,7 +20,7 @@ use rand::distr::weighted::{Error, WeightedIndex};
 use rand::seq::{IndexedRandom, IteratorRandom};
 use std::alloc::Allocator;
 
-/// A `u64` of WyRand, by the kit's `random`: the number of its next 8 bytes.
+/// Draws a `u64` from `WyRand` by the kit's `random`: the number of the next 8 bytes.
 pub fn ticket(rng: &mut Core<WyRand, 8>) -> u64
     ensures { result ≡ number_of (wyrand_requests.bytes rng.old 8) }
 {
@@ -28,7 +28,7 @@ pub fn ticket(rng: &mut Core<WyRand, 8>) -> u64
     rng.random()
 }
 
-/// A throw of a die, by the kit's `Uniform`. It is never refused.
+/// Throws a die by the kit's `Uniform`, which never returns an error.
 pub fn throw<G: Rng<OUTPUT>, const OUTPUT: usize>(rng: &mut Core<G, OUTPUT>) -> u8
     ensures face { (1 ≤ result) × (result ≤ 6) }
     ensures value { let stream = request_stream G.requests rng.old in
@@ -37,7 +37,7 @@ pub fn throw<G: Rng<OUTPUT>, const OUTPUT: usize>(rng: &mut Core<G, OUTPUT>) -> 
     Uniform::new_inclusive(1, 6).unwrap().sample(rng)
 }
 
-/// The kind of a tile, 0, 1 or 2, by the weights 6, 3 and 1.
+/// Draws the kind of a tile, 0, 1 or 2, by the weights 6, 3 and 1.
 #[tactic(auto, using(rand::proofs::WeightLemmas::cumulated_len))]
 pub fn tile<G: Rng<OUTPUT>, A: Allocator, const OUTPUT: usize>(
     alloc: A,
@@ -49,7 +49,7 @@ pub fn tile<G: Rng<OUTPUT>, A: Allocator, const OUTPUT: usize>(
     Ok(kinds.sample(rng))
 }
 
-/// One of the numbers below `count`, by `IteratorRandom`.
+/// Draws one of the numbers below `count`, by `IteratorRandom`.
 pub fn place<G: Rng<OUTPUT>, const OUTPUT: usize>(
     rng: &mut Core<G, OUTPUT>,
     count: usize,
@@ -59,7 +59,7 @@ pub fn place<G: Rng<OUTPUT>, const OUTPUT: usize>(
     (0..count).choose(rng)
 }
 
-/// A server of the list, and none only of an empty list.
+/// Draws a server of the list. Returns `None` only if the list is empty.
 pub fn server<'a, G: Rng<OUTPUT>, const OUTPUT: usize>(
     rng: &mut Core<G, OUTPUT>,
     servers: &'a [u32],
@@ -70,7 +70,7 @@ pub fn server<'a, G: Rng<OUTPUT>, const OUTPUT: usize>(
     servers.choose(rng)
 }
 
-/// A throw, a tile and one of ten places: by WyRand, from one number.
+/// Draws a throw, a tile and one of ten places with a `WyRand` that is seeded from a number.
 pub fn drawn_by_wyrand<A: Allocator>(
     alloc: A,
     number: u64,
@@ -87,7 +87,7 @@ pub fn drawn_by_wyrand<A: Allocator>(
     Ok((pips, kind, place(&mut rng, 10)))
 }
 
-/// The same by a stream of ChaCha with 20 rounds.
+/// Does the same with a stream of ChaCha with 20 rounds.
 pub fn drawn_by_chacha<A: Allocator>(
     alloc: A,
     number: u64,

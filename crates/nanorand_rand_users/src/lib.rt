@@ -1,5 +1,6 @@
-//! Callers of `nanorand_rand`, proved through its public contracts: the kit's `rand` over the
-//! generators of `nanorand`, and `nanorand` over the kit's `ChaCha20Rng`. CALLING quotes them.
+//! Callers of `nanorand_rand`, proved through its public contracts: the kit's `rand` with the
+//! generators of `nanorand`, and `nanorand` with the kit's `ChaCha20Rng` and `Pcg64`. `TASKS.md` of
+//! `nanorand` shows them.
 #![tactic(auto)]
 
 #[cfg(test)]

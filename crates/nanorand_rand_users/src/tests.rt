@@ -1,6 +1,6 @@
-//! What no clause says: values of other implementations. The numbers of the library are those that
-//! `tests/answers/definitions.py` computes, the bytes of the kit's ChaCha20 the published keystream of the key of zeros,
-//! and the words of its Pcg64 those of the Rust crate's tests.
+//! What no clause states: the values of other implementations. The numbers of the library are those
+//! that `tests/answers/definitions.py` computes. The bytes of the kit's ChaCha20 are the published
+//! keystream of the zero key. The words of its Pcg64 are those in the tests of the Rust crate.
 use crate::comparing::equal;
 use crate::kit_draws::{drawn_by_chacha, drawn_by_wyrand, place, server, ticket};
 use crate::our_draws::{answers_of, deal, kits_number, roll};
@@ -12,7 +12,7 @@ use rand_core::{Rng as CoreRng, Seed, SeedableRng};
 use std::ops::Bound;
 use std::test::Fail;
 
-// Each call of `rand_core` is one request, of 8, 4, 3 and 8 bytes.
+// Each call of `rand_core` is one request, here of 8, 4, 3 and 8 bytes.
 #[test]
 fn calls_are_requests(rt: HostRuntime) {
     let mut rng = Core(WyRand::seed_from_u64(42));
@@ -24,7 +24,7 @@ fn calls_are_requests(rt: HostRuntime) {
     equal(&rt, CoreRng::next_u64(&mut rng), 924_416_832_212_057_682);
 }
 
-// A throw, a tile and a place of one number, twice.
+// A throw, a tile and a place from one seed, twice.
 #[test]
 fn one_number_one_game(rt: HostRuntime) {
     for _ in 0..2 {
@@ -53,7 +53,8 @@ fn seeds(rt: HostRuntime) {
     equal(&rt, stream == Core(chacha_stream([7; 32], [9; 8])), true);
 }
 
-// The bytes that the kit makes of 0 for a seed of 8, and those that a generator fills.
+// The bytes to which the kit expands the number 0 for a seed of 8 bytes, and those that a generator
+// fills a seed with.
 #[test]
 fn seeds_of_forty_bytes(rt: HostRuntime) {
     let seed: ChaChaSeed = Seed::from_u64(0);
@@ -68,7 +69,7 @@ fn seeds_of_forty_bytes(rt: HostRuntime) {
     );
 }
 
-// Requests of 8, 4, 3 and 8 bytes are 2, 1, 1 and 2 words.
+// Requests of 8, 4, 3 and 8 bytes take 2, 1, 1 and 2 words.
 #[test]
 fn requests_are_calls(rt: HostRuntime) {
     let mut ours = FromCore32(ChaCha20Rng::from_seed([0; 32]));

@@ -1,19 +1,19 @@
-//! Comparisons of tests, as functions: a test is then proved safe by one call for each of them, in less
-//! than half the time of `assert_eq!`.
+//! Comparisons for tests, as functions. A test is then proved safe by one call for each comparison,
+//! in less than half the time that `assert_eq!` takes.
 ghost use Rattle.std.specs.Prelude.{IsTrue};
 
 use std::alloc::AllocError;
 use std::fmt::{Debug, Display};
 use std::process::Abort;
 
-/// Ends the test unless the values are equal.
+/// Fails the test unless the values are equal.
 pub fn equal<T: PartialEq + Debug + Drop>(rt: &impl Abort, left: T, right: T)
     ensures { IsTrue (T.eq left right) }
 {
     assert_eq!(rt; left, right);
 }
 
-/// The same, with a note that says which case it is.
+/// Does the same, with a note that identifies the case.
 pub fn equal_at<T: PartialEq + Debug + Drop>(
     rt: &impl Abort,
     left: T,
@@ -25,7 +25,7 @@ pub fn equal_at<T: PartialEq + Debug + Drop>(
     assert_eq!(rt; left, right, "{note}");
 }
 
-/// Ends the test unless this is the `Display` text of the value.
+/// Fails the test unless the `Display` text of the value is this one.
 pub fn display_is(
     rt: &(impl Abort + AllocGlobal),
     value: &impl Display,
@@ -36,7 +36,7 @@ pub fn display_is(
     Ok(())
 }
 
-/// Ends the test unless this is the `Debug` text of the value.
+/// Fails the test unless the `Debug` text of the value is this one.
 pub fn debug_is(
     rt: &(impl Abort + AllocGlobal),
     value: &impl Debug,

@@ -1,6 +1,6 @@
-//! Tests of `nanorand`: what no clause says and only a run of the library shows, and published values. They
-//! are a crate of their own, so that nothing but tests is proved a second time. What can be seen in Rust
-//! too, in the same bodies, is tested in `rust/nanorand-proved/tests/`.
+//! Tests of `nanorand`: what no clause states and only a run of the library shows, and published
+//! values. They are a crate of their own, so that only tests are proved a second time. What can
+//! also be seen in Rust, in the same bodies, is tested in `rust/nanorand-proved/tests/`.
 #![tactic(auto)]
 
 #[cfg(test)]

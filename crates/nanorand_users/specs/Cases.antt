@@ -1,4 +1,4 @@
--- Cases of a property test, known by their numbers.
+-- Cases of a property test, identified by their numbers.
 use Rattle.std.specs.Prelude.{ℕ}
 use Rattle.nanorand_core.specs.generators.Blocks.{taken}
 use Rattle.nanorand_core.specs.values.Values.{number_of}

@@ -11,13 +11,13 @@ IsServerOf addresses strengths address =
     (i : ℕ) × (i < length addresses) × (slice_index addresses i ≡ address)
     × (0 < slice_index strengths i)
 
--- How many words of `bits` bits choose server i.
+-- The number of words of `bits` bits that choose server i.
 abbrev pub words_for : ℕ → List ℕ → ℕ → ℕ
 words_for bits strengths i =
     words_that bits (λ word. passes (λ j. j == i) (item_named bits strengths word))
 
--- A server of n times the strength of another is chosen by n times as many words, at every width
--- and for all strengths whose sum is from 1 to 2^bits.
+-- A server of n times the strength of another is chosen by n times as many words, for words of
+-- every width and for all strengths whose sum is from 1 to 2^bits.
 abbrev pub WordsFollowStrengths : Type 0
 WordsFollowStrengths =
     (bits : ℕ) (strengths : List ℕ) (i j n : ℕ) → IsWordWidth bits → 1 ≤ sum strengths

@@ -1,4 +1,4 @@
--- Retry delays, exponential backoff with equal jitter: each delay is drawn from half a ceiling to
+-- Retry delays (exponential backoff with equal jitter): each delay is drawn from half a ceiling to
 -- the ceiling, which doubles up to a cap.
 use Rattle.std.specs.Prelude.{ℕ, zero, suc, ◌+◌, ◌*◌, ◌/◌, ◌^◌, List, [], ◌∷◌, Result, min}
 use Rattle.std.specs.Result.{result_unwrap_or}
@@ -18,7 +18,7 @@ module _ {G : Type 0} (requests : Requests G) where
   delay_drawn ceiling g = unsigned_outcome requests 64 g (Included (ceiling / 2)) (Included ceiling)
 
   module _ (first cap : ℕ) where
-    -- The n delays from delay k on. If a draw is refused, the delay is its ceiling.
+    -- The n delays from delay k on. If a draw fails, the delay is its ceiling.
     abbrev pub delays_after : ℕ → ℕ → G → List ℕ
     delays_after k zero g = []
     delays_after k (suc n) g =

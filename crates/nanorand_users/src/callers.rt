@@ -1,5 +1,5 @@
-//! Proved callers of the library, one for each use; they need no proof of their own. `CALLING.md`
-//! quotes them. Larger callers have a module each.
+//! Short callers of the library, one for each use. They need no proofs of their own. `TASKS.md` of
+//! `nanorand` shows them. Larger callers have modules of their own.
 ghost use Rattle.std.specs.Prelude.{◌≡◌, ◌≢◌, ◌≤◌, ◌<◌, ◌+◌, ◌==◌, ◌++◌, [], All, count_by, length, Contains, OnOk, IfOk, IfErr, MatchResult, IsPermutation};
 ghost use Rattle.std.specs.List.{AllPairs};
 ghost use Rattle.std.specs.declared.ops.Bound.TheVariants.{Included};
@@ -32,7 +32,7 @@ use nanorand::shuffles::{identity, partial_shuffle};
 use nanorand::{BufferedRng, ChaCha20, Pcg64, RangeError, Rng, WyRand};
 use std::ops::Bound;
 
-/// The first `u64` of a seed of WyRand.
+/// Returns the first `u64` that a `WyRand` with this seed draws.
 pub fn ticket(seed: u64) -> u64
     ensures { result ≡ number_of (wyrand_requests.bytes seed 8) }
 {
@@ -40,7 +40,7 @@ pub fn ticket(seed: u64) -> u64
     rng.generate::<u64>()
 }
 
-/// A throw of a die, from any generator: a number from 1 to 6, and 1 if the draw is refused.
+/// Throws a die, with any generator: a number from 1 to 6, which is 1 if the draw returns an error.
 pub fn throw<G: Rng<OUTPUT>, const OUTPUT: usize>(rng: &mut G) -> u8
     ensures face { (1 ≤ result) × (result ≤ 6) }
     ensures thrown { let outcome = unsigned_outcome G.requests 8 rng.old in
@@ -53,7 +53,8 @@ pub fn throw<G: Rng<OUTPUT>, const OUTPUT: usize>(rng: &mut G) -> u8
     }
 }
 
-/// An item of the slice. The index is always within it, and only an empty slice is `Empty`.
+/// Draws an item of the slice. The index is always within the slice. The error is `Empty` only if
+/// the slice is empty.
 pub fn pick<G: Rng<OUTPUT>, const OUTPUT: usize>(
     rng: &mut G,
     items: &[u32],
@@ -64,7 +65,7 @@ pub fn pick<G: Rng<OUTPUT>, const OUTPUT: usize>(
     Ok(items[index])
 }
 
-/// The same of a slice that is not empty.
+/// Does the same for a slice that is not empty.
 pub fn pick_below<G: Rng<OUTPUT>, const OUTPUT: usize>(
     rng: &mut G,
     items: &[u32],
@@ -76,7 +77,7 @@ pub fn pick_below<G: Rng<OUTPUT>, const OUTPUT: usize>(
     Ok(items[index])
 }
 
-/// A throw that may be refused, but never as `Empty`.
+/// Throws a die. The only error is `Exhausted`.
 pub fn roll(rng: &mut WyRand) -> Result<u8, RangeError>
     ensures face { IfOk result (λ pips. (1 ≤ pips) × (pips ≤ 6)) }
     ensures refusal { IfErr result (λ refusal. refusal ≡ RangeError.Exhausted) }
@@ -84,8 +85,8 @@ pub fn roll(rng: &mut WyRand) -> Result<u8, RangeError>
     between(rng, 1, 6)
 }
 
-/// The toss of a coin. 2 is a power of two, so no word is rejected, and there is no refusal. The
-/// shortest coin is `rng.generate::<bool>()`.
+/// Tosses a coin. 2 is a power of two, so no word is rejected, and there is no error. The shortest
+/// coin is `rng.generate::<bool>()`.
 pub fn coin<G: Rng<OUTPUT>, const OUTPUT: usize>(rng: &mut G) -> bool {
     match ratio(rng, 1, 2) {
         Ok(heads) => heads,
@@ -93,7 +94,7 @@ pub fn coin<G: Rng<OUTPUT>, const OUTPUT: usize>(rng: &mut G) -> bool {
     }
 }
 
-/// One of eight directions. 8 is a power of two, so there is no refusal.
+/// Draws one of eight directions. 8 is a power of two, so there is no error.
 pub fn direction<G: Rng<OUTPUT>, const OUTPUT: usize>(rng: &mut G, directions: &[u8; 8]) -> u8
     ensures { Contains directions.now result }
 {
@@ -103,14 +104,14 @@ pub fn direction<G: Rng<OUTPUT>, const OUTPUT: usize>(rng: &mut G, directions: &
     }
 }
 
-/// A hexadecimal digit: four bits, which no draw refuses.
+/// Draws a hexadecimal digit: four bits, which are never rejected.
 pub fn digit(rng: &mut WyRand) -> u8
     ensures { result < 16 }
 {
     bits(rng, 4)
 }
 
-/// A server of the list, each by equally many words.
+/// Draws a server of the list. Each server is chosen by the same number of words.
 pub fn server<G: Rng<OUTPUT>, const OUTPUT: usize>(
     rng: &mut G,
     servers: &[u32],
@@ -120,14 +121,14 @@ pub fn server<G: Rng<OUTPUT>, const OUTPUT: usize>(
     Ok(*choose(rng, servers)?)
 }
 
-/// Whether a request is sampled: one of a hundred is.
+/// Returns whether a request is sampled: true with probability 1/100.
 pub fn is_sampled(rng: &mut WyRand) -> Result<bool, RangeError>
     ensures { IfErr result (λ refusal. refusal ≡ RangeError.Exhausted) }
 {
     ratio(rng, 1, 100)
 }
 
-/// Adds 1 to one of the counters. Only an empty list is `Empty`.
+/// Adds 1 to one of the counters. The error is `Empty` only if the list is empty.
 pub fn count_one(rng: &mut WyRand, counters: &mut [u32]) -> Result<(), RangeError>
     ensures { 0 < length counters.old → IfErr result (λ refusal. refusal ≡ RangeError.Exhausted) }
 {
@@ -136,21 +137,21 @@ pub fn count_one(rng: &mut WyRand, counters: &mut [u32]) -> Result<(), RangeErro
     Ok(())
 }
 
-/// 32 bytes of a keystream, by one request.
+/// Returns 32 bytes of a keystream, by one request.
 pub fn bytes_of_stream(rng: &mut ChaCha20) -> [u8; 32]
     ensures { result ≡ (chacha_requests 20).bytes rng.old 32 }
 {
     rng.generate()
 }
 
-/// The kind of a tile, 0, 1 or 2, by the weights 6, 3 and 1.
+/// Draws the kind of a tile, 0, 1 or 2, by the weights 6, 3 and 1.
 pub fn tile(rng: &mut WyRand) -> Result<usize, WeightError>
     ensures { IfOk result (λ kind. kind < 3) }
 {
     choose_weighted(rng, &[6, 3, 1])
 }
 
-/// Different winners of the entrants 0, 1, .., one for each slot.
+/// Draws different winners among the entrants 0, 1, .., one for each slot.
 pub fn draw_winners(
     rng: &mut WyRand,
     entrants: usize,
@@ -163,8 +164,8 @@ pub fn draw_winners(
     sample(rng, entrants, winners)
 }
 
-/// Lines of a log that is read once, as many as there are slots; all lines of a short log. It
-/// returns how many.
+/// Picks lines of a log that is read once: as many as there are slots, or all lines of a short log.
+/// Returns their number.
 pub fn pick_lines<'a>(
     rng: &mut WyRand,
     log: &'a str,
@@ -178,14 +179,14 @@ pub fn pick_lines<'a>(
     reservoir(rng, log.lines(), lines)
 }
 
-/// Shuffles a hand to the front of a pack. No card is lost, also if the shuffle fails.
+/// Shuffles a hand to the front of a pack. No card is lost, even if the shuffle fails.
 pub fn deal_hand(rng: &mut WyRand, pack: &mut [u8], cards: usize) -> Result<(), RangeError>
     ensures { IsPermutation pack.old pack.new }
 {
     partial_shuffle(rng, pack, cards)
 }
 
-/// A known answer: the first number of a seed, as a clause.
+/// A known answer as a clause: the first number that a seed draws.
 pub fn known_number() -> u64
     ensures { result ≡ 16646288086500911322 }
 {
@@ -193,7 +194,7 @@ pub fn known_number() -> u64
     WyRand::new_seed(0x5f89e29b87429bd2).generate()
 }
 
-/// Shuffles a pack of cards. The result is a permutation of the cards, also if the shuffle fails.
+/// Shuffles a pack of cards. The result is a permutation of the cards, even if the shuffle fails.
 pub fn shuffle_cards(seed: u64, cards: &mut [u8]) -> Result<(), RangeError>
     ensures pack { IsPermutation cards.old cards.new }
     ensures answer { result ≡ (shuffled wyrand_requests from_itself seed cards.old).answer }
@@ -202,7 +203,7 @@ pub fn shuffle_cards(seed: u64, cards: &mut [u8]) -> Result<(), RangeError>
     rng.shuffle(cards)
 }
 
-/// Deals a whole deck: each of the cards 0, 1, .. is in it once, also if the shuffle fails.
+/// Deals a whole deck: it holds each of the cards 0, 1, .. once, even if the shuffle fails.
 pub fn deal_deck(rng: &mut WyRand, deck: &mut [usize]) -> Result<(), RangeError>
     ensures { IsPermutation (rising (length deck.old)) deck.new }
 {
@@ -210,7 +211,7 @@ pub fn deal_deck(rng: &mut WyRand, deck: &mut [usize]) -> Result<(), RangeError>
     rng.shuffle(deck)
 }
 
-/// The same, as it is told of cards: each is one of the deck, and no two are equal.
+/// The same, stated about cards: each is one of the deck, and no two are equal.
 pub fn deal_cards(rng: &mut WyRand, deck: &mut [usize]) -> Result<(), RangeError>
     ensures cards { All (λ card. card < length deck.old) deck.new }
     ensures different { AllPairs (λ card other. card ≢ other) deck.new }
@@ -220,7 +221,7 @@ pub fn deal_cards(rng: &mut WyRand, deck: &mut [usize]) -> Result<(), RangeError
     rng.shuffle(deck)
 }
 
-/// Fills two slices from a buffer. Together they hold what one request of both lengths gives.
+/// Fills two slices from a buffer. Together they hold what one request of both lengths returns.
 pub fn fill_two<G: Rng<OUTPUT>, const OUTPUT: usize>(
     rng: &mut BufferedRng<G, OUTPUT>,
     first: &mut [u8],
@@ -247,7 +248,7 @@ pub fn play_twice(seed: u64, calls: &[Call], first: &mut [Answer], second: &mut 
     replay(&mut rng, calls, &mut [], second);
 }
 
-/// Jumps twice, with the result of one jump by the sum.
+/// Jumps twice. The result is that of one jump by the sum.
 pub fn skip_twice(rng: &mut Pcg64, first: u64, second: u64)
     ensures { rng.new ≡ pcg64_after (first + second) rng.old }
 {
@@ -256,7 +257,7 @@ pub fn skip_twice(rng: &mut Pcg64, first: u64, second: u64)
     rng.jump(u128::from(second));
 }
 
-/// Advances a generator to the seed of another.
+/// Jumps ahead to the state of another generator.
 pub fn catch_up(rng: &mut WyRand, other: &WyRand)
     ensures { rng.new ≡ other.now }
 {

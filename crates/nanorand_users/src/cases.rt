@@ -1,8 +1,9 @@
-//! Property tests: a property is checked on many generated values, and the first failing case has
-//! to be found, named by its number, and checked again alone.
+//! Property tests: a property is checked on many generated values. The first failing case must be
+//! found, identified by its number, and checked again on its own.
 //!
 //! Cases are numbered from 0. Case n draws its value from a generator of its own, whose seed is
-//! word n (counted from 0) of the `WyRand` stream of the run's seed.
+//! word n (counted from 0) of the `WyRand` stream of the run's seed. A word is a random number of
+//! 64 bits.
 ghost use Rattle.std.specs.Prelude.{◌≡◌, ◌<◌, ℕ, Bool, true, false, MatchOption};
 ghost use Rattle.nanorand_users.specs.Cases.{case_seed};
 
@@ -11,10 +12,10 @@ use nanorand::{RandomGen, Rng, WyRand};
 
 /// A property that every value of a type should have.
 pub trait Property<T> {
-    // Whether the property holds of a value.
+    // Whether the property holds for a value.
     ghost holds: { Self → T → Bool };
 
-    /// Checks the property on a value.
+    /// Checks the property for a value.
     fn check(&self, value: &T) -> bool
         ensures { result ≡ holds self.now value.now };
 }
@@ -43,7 +44,7 @@ pub fn first_failure<P: Property<T>, T: RandomGen<WyRand, 8> + Drop>(
     None
 }
 
-/// Returns the value of a case, from the run's seed and the case's number alone.
+/// Returns the value of a case, which depends only on the run's seed and the case's number.
 pub fn value_of_case<T: RandomGen<WyRand, 8>>(seed: u64, number: u64) -> T
     ensures { result ≡ T.value (case_seed seed number) }
 {
@@ -53,7 +54,7 @@ pub fn value_of_case<T: RandomGen<WyRand, 8>>(seed: u64, number: u64) -> T
     case.generate()
 }
 
-/// Checks one case again: returns whether the property holds of its value.
+/// Checks one case again. Returns whether the property holds for its value.
 pub fn check_again<P: Property<T>, T: RandomGen<WyRand, 8> + Drop>(
     property: &P,
     seed: u64,
@@ -81,8 +82,8 @@ pub fn failing_value<P: Property<T>, T: RandomGen<WyRand, 8> + Drop>(
     Some((number, value_of_case(seed, number)))
 }
 
-/// Finds the first failing case and checks it again: it fails again (`Some(false)`). `None` if the
-/// property holds in all cases.
+/// Finds the first failing case and checks it again. Returns `Some(false)`, since it fails again,
+/// or `None` if the property holds in all cases.
 pub fn failure_again<P: Property<T>, T: RandomGen<WyRand, 8> + Drop>(
     property: &P,
     seed: u64,

@@ -32,7 +32,8 @@ pub fn server_for<G: Rng<OUTPUT>, const OUTPUT: usize>(
     Ok(addresses[index])
 }
 
-/// A server of n times the strength of another is chosen by n times as many words.
+/// A server of n times the strength of another is chosen by n times as many words, if the sum of
+/// the strengths is not 0 and not greater than the number of words.
 pub fn requests_follow_strengths()
     ensures { WordsFollowStrengths }
 {

@@ -1,5 +1,5 @@
-//! Card deals: no card may be lost, doubled or held by two players, and a stored deal can be dealt
-//! again.
+//! Card deals: no card may be lost, duplicated or held by two players, and a stored deal can be
+//! dealt again.
 //!
 //! The cards of a deck of n cards are the numbers 0, 1, .., n - 1.
 ghost use Rattle.std.specs.Prelude.{◌≡◌, ◌+◌, ◌*◌, ◌≤◌, ◌++◌, ℕ, List, length, drop, OnOk, IfErr};
@@ -14,7 +14,7 @@ use nanorand::{RangeError, Rng};
 
 /// Writes the full deck in order, and shuffles it.
 ///
-/// Returns `Exhausted` if all 128 words for one card were rejected. The deck is then still a
+/// Returns `Exhausted` if 128 words in a row were rejected for one card. The deck is then still a
 /// permutation of all cards, shuffled up to that card.
 pub fn shuffle_deck<G: Rng<OUTPUT>, const OUTPUT: usize>(
     rng: &mut G,
@@ -38,10 +38,10 @@ pub fn shuffle_deck<G: Rng<OUTPUT>, const OUTPUT: usize>(
     rng.shuffle(deck)
 }
 
-/// Writes the full deck in order, shuffles it, and stores it as choices: on success, the choices
-/// that were drawn.
+/// Writes the full deck in order, shuffles it, and stores it as choices: on success, these are the
+/// choices that were drawn.
 ///
-/// After a refusal the stored choices make the deck as the refusal left it.
+/// After an error, the stored choices produce the deck as the failed shuffle left it.
 pub fn shuffle_and_store<G: Rng<OUTPUT>, const OUTPUT: usize>(
     rng: &mut G,
     deck: &mut [usize],
@@ -61,7 +61,7 @@ pub fn shuffle_and_store<G: Rng<OUTPUT>, const OUTPUT: usize>(
     shuffle_and_record(rng, deck, choices)
 }
 
-/// Stores as choices a deck that holds each card once, however it was shuffled.
+/// Stores as choices a deck that holds each card once, no matter how it was shuffled.
 ///
 /// `scratch` is working memory; its contents afterwards are unspecified.
 pub fn store_deck(deck: &[usize], choices: &mut [usize], scratch: &mut [usize])
@@ -72,11 +72,11 @@ pub fn store_deck(deck: &[usize], choices: &mut [usize], scratch: &mut [usize])
     ensures stored { arranged choices.new (rising (length deck.now)) ≡ deck.now }
 {
     permutations_by_counting();
-    // Such a deck is a permutation, so this is never refused.
+    // Such a deck is a permutation, so this never returns an error.
     let _ = choices_of(deck, choices, scratch);
 }
 
-/// Deals a stored deck again: writes the deck that the choices make.
+/// Deals a stored deck again: writes the deck that the choices produce.
 pub fn deal_again(choices: &[usize], deck: &mut [usize])
     requires lengths { length choices.now ≡ length deck.old }
     requires valid { IsValid choices.now }
@@ -97,7 +97,7 @@ pub fn hand(deck: &[usize], size: usize, player: usize) -> &[usize]
     &deck[player * size..][..size]
 }
 
-/// Returns the cards left after the hands of all players.
+/// Returns the cards that are left after the hands of all players.
 pub fn rest(deck: &[usize], size: usize, players: usize) -> &[usize]
     requires { players * size ≤ length deck.now }
     ensures { result.now ≡ drop (players * size) deck.now }
@@ -105,7 +105,7 @@ pub fn rest(deck: &[usize], size: usize, players: usize) -> &[usize]
     &deck[players * size..]
 }
 
-/// The hands, one after another, and then the rest are the whole deck.
+/// The hands, one after another, followed by the rest are the whole deck.
 pub fn hands_and_rest_are_the_deck()
     ensures { (size players : ℕ) (deck : List ℕ)
         → hands size players deck ++ drop (players * size) deck ≡ deck }

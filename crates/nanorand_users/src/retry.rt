@@ -13,8 +13,8 @@ ghost use Rattle.nanorand_users.specs.Retry.{ceiling_after, delay_drawn, delays_
 use nanorand::choices::between;
 use nanorand::{RangeError, Rng};
 
-/// Draws a delay from `ceiling / 2..=ceiling`. It can be refused only as `Exhausted`, after 128
-/// words.
+/// Draws a delay from `ceiling / 2..=ceiling`. The only error is `Exhausted`, after 128 rejected
+/// words (random numbers of 64 bits).
 pub fn try_delay<G: Rng<OUTPUT>, const OUTPUT: usize>(
     rng: &mut G,
     ceiling: u64,
@@ -46,8 +46,8 @@ pub fn delay<G: Rng<OUTPUT>, const OUTPUT: usize>(rng: &mut G, ceiling: u64) -> 
 
 /// Draws a delay for each retry, from at most 128 words each.
 ///
-/// The first ceiling is `first`. Each next one is twice the one before, and none exceeds `cap`.
-/// Delays have the unit of `first` and `cap`.
+/// The first ceiling is `first`. Each later ceiling is twice the one before, and none exceeds
+/// `cap`. Delays have the unit of `first` and `cap`.
 pub fn schedule<G: Rng<OUTPUT>, const OUTPUT: usize>(
     rng: &mut G,
     first: u64,

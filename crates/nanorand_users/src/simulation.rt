@@ -42,8 +42,8 @@ pub fn replay_twice<G: Rng<OUTPUT>, const OUTPUT: usize>(
 /// Runs the calls on the generator and on a copy made before, and returns the copy as its run left
 /// it.
 ///
-/// That a clone equals its original is a precondition; it holds for the library's generators. If
-/// `clone` fails (a user's generator may allocate), nothing runs and nothing changes.
+/// Precondition: a clone equals its original, as it does for the library's generators. If `clone`
+/// fails (a user's generator may allocate), nothing runs and nothing changes.
 pub fn replay_copy<G: Rng<OUTPUT> + Drop, const OUTPUT: usize>(
     rng: &mut G,
     calls: &[Call],
@@ -84,7 +84,7 @@ pub fn replay_copy<G: Rng<OUTPUT> + Drop, const OUTPUT: usize>(
     Ok(copy)
 }
 
-/// Runs the calls twice from one seed. Both runs give the same answers and items.
+/// Runs the calls twice from one seed. Both runs return the same answers and items.
 pub fn replay_seed(
     seed: u64,
     calls: &[Call],

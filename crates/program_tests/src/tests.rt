@@ -1,4 +1,4 @@
-//! What each program returns and writes, also where memory, a reader or a writer fails.
+//! What each program returns and writes, including when memory, a reader or a writer fails.
 
 mod callers;
 mod draw;

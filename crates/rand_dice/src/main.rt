@@ -1,4 +1,4 @@
-//! Throws a die ten times, by the kit's `rand` over a `Pcg64`.
+//! Throws a die ten times, by the kit's `rand` with a `Pcg64`.
 #![tactic(auto)]
 
 ghost use Rattle.std.specs.Prelude.{◌≤◌};
@@ -9,7 +9,7 @@ use rand::distr::Distribution;
 use rand::distr::uniform::Uniform;
 use std::io;
 
-/// A number from 1 to 6.
+/// Draws a number from 1 to 6.
 fn throw(rng: &mut Core<Pcg64, 8>) -> u8
     ensures { (1 ≤ result) × (result ≤ 6) }
 {

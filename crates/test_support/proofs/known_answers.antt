@@ -29,7 +29,7 @@ steps_of_the_greatest = refl
 count_after_the_greatest : next_count (2 ^ 64 - 1) ≡ 0
 count_after_the_greatest = refl
 
--- `Waste` wastes a block at a request of one byte, and none at a request of a whole block.
+-- `Waste` drops a block at a request of one byte, and none at a request of a whole block.
 wasted_replay : replayed waste_requests 0 [] (Gen kinds.U8 ∷ Gen kinds.U64 ∷ Gen kinds.U8 ∷ [])
     ≡ record { answers = Unsigned 0 ∷ Unsigned 0x1716151413121110 ∷ Unsigned 24 ∷ []; items = []; state = 5 }
 unfolding taken
@@ -38,13 +38,13 @@ wasted_replay = refl
 nothing_wasted : waste_after 7 0 ≡ 7
 nothing_wasted = refl
 
--- A buffer around it requests whole blocks, so that none is wasted.
+-- A buffer around it requests whole blocks, so that none is dropped.
 kept_replay : replayed (buffered steps_block next_count 8) (buffer_of [] 0) [] (Gen kinds.U8 ∷ Gen kinds.U8 ∷ [])
     ≡ record { answers = Unsigned 0 ∷ Unsigned 1 ∷ []; items = []; state = buffer_of (range_with_len 2 6) 1 }
 unfolding taken buffered_taken buffered_after
 kept_replay = refl
 
--- A script of 128 zeros and a one. The range draw fails.
+-- A script of 128 zeros and a one. The draw from the range fails.
 abbrev late_one : List ℕ
 late_one = replicate 128 0 ++ 1 ∷ []
 
@@ -53,7 +53,7 @@ byte_of_block_129 : replayed (plain script_block script_step 8) (late_one, 0) []
 unfolding named range_within words_from value_drawn left_by left_after taken
 byte_of_block_129 = refl
 
--- A script one block before its list begins: a word of 0, the list, and 0 again.
+-- A script that starts one block before its list: a word of 0, the list, and 0 again.
 words_of_a_script : taken script_block script_step (7 ∷ 9 ∷ [], 2 ^ 64 - 1) 32
     ≡ replicate 8 0 ++ 7 ∷ replicate 7 0 ++ 9 ∷ replicate 15 0
 unfolding taken

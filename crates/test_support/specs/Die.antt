@@ -6,13 +6,13 @@ use Rattle.nanorand_core.specs.generators.Blocks.{Requests}
 use Rattle.nanorand_core.specs.values.Draws.{unsigned_outcome}
 use Rattle.nanorand_core.specs.declared.values.range.RangeError.{RangeError}
 
--- The number drawn, or 1 after a failed draw.
+-- The number drawn, or 1 if the draw failed.
 abbrev pub number_or_one : Result ℕ RangeError → ℕ
 number_or_one (Ok number) = number
 number_or_one (Err refusal) = 1
 
 module _ {G : Type 0} (requests : Requests G) where
-  -- A draw of the byte range 1..=6.
+  -- A draw from the range 1..=6 by words of 8 bits.
   abbrev pub die_drawn : G → Result ℕ RangeError × G
   die_drawn g = unsigned_outcome requests 8 g (Included 1) (Included 6)
 
@@ -23,7 +23,7 @@ module _ {G : Type 0} (requests : Requests G) where
   abbrev pub die_after : G → G
   die_after g = (die_drawn g).1
 
--- The bounds in numbers. A range without an end begins at 1 or ends at 6.
+-- The bounds as numbers. A missing low bound is 1, and a missing high bound is 6.
 abbrev pub die_low : Bound ℕ → Bound ℕ
 die_low (Included number) = Included number
 die_low (Excluded number) = Excluded number

@@ -12,6 +12,6 @@ forking_block g =
 abbrev pub forking_step : Forking → Forking
 forking_step g = record { stream = g.stream; drawn = next_count g.drawn }
 
--- A clone: the next stream, at the same block. After stream 255 there is none.
+-- A clone: the next stream, at the same block. After stream 255 there is no next stream.
 abbrev pub forked : Forking → Forking
 forked g = record { stream = g.stream + 1; drawn = g.drawn }

@@ -1,10 +1,10 @@
-//! An allocator for tests, which counts the allocations requested and refuses chosen ones.
+//! An allocator for tests, which counts the allocations requested and fails at chosen ones.
 ghost use Rattle.std.specs.Prelude.{◌≡◌, ◌-◌, ◌^◌};
 
 use std::alloc::{AllocError, Allocator};
 use std::cell::Cell;
 
-// Counts the requests. Those numbered `first` to `last`, counted from 1, are refused.
+// Counts the requests. Those with the numbers `first` to `last`, counted from 1, are refused.
 #[derive(Drop)]
 struct Turns {
     counted: Cell<u64>,
@@ -31,7 +31,8 @@ impl Turns {
     }
 }
 
-/// An allocator that passes requests on to an inner one, except for those that it refuses.
+/// An allocator that passes requests on to an inner allocator, except for those that it refuses:
+/// these fail.
 ///
 /// A test refuses the first request, then the second, and so on, until a run meets no refusal.
 /// Which requests are refused is tested, not proved, since a cell has no contract.
@@ -42,7 +43,8 @@ pub struct Refusing<B: Allocator> {
 }
 
 impl<B: Allocator> Refusing<B> {
-    /// Refuses only request `number`, counted from 1. With 0 it refuses none.
+    /// Creates an allocator that refuses only request `number`, counted from 1. If `number` is 0,
+    /// it refuses none.
     pub fn nth(inner: B, number: u64) -> Refusing<B>
         ensures inner { result.inner ≡ inner }
         ensures turns { (result.turns.first ≡ number) × (result.turns.last ≡ number) }
@@ -53,7 +55,7 @@ impl<B: Allocator> Refusing<B> {
         }
     }
 
-    /// Refuses request `number`, counted from 1, and all later ones.
+    /// Creates an allocator that refuses request `number`, counted from 1, and all later ones.
     pub fn from_nth(inner: B, number: u64) -> Refusing<B>
         ensures inner { result.inner ≡ inner }
         ensures turns { (result.turns.first ≡ number) × (result.turns.last ≡ 2 ^ 64 - 1) }
@@ -64,13 +66,13 @@ impl<B: Allocator> Refusing<B> {
         }
     }
 
-    /// The number of requests so far, refused ones included.
+    /// Returns the number of requests so far, including the refused ones.
     pub fn requests(&self) -> u64 {
         self.turns.counted.get()
     }
 }
 
-// A block is given back with the inner allocator's right to do so.
+// A block is freed with the inner allocator's right to free it.
 unsafe impl<B: Allocator> Allocator for Refusing<B> {
     ghost dealloc_token = { λ heap ty ptr. B.dealloc_token heap.inner ty ptr };
 

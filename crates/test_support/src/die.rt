@@ -1,4 +1,4 @@
-//! A value type of a user's own, with ranges of its own.
+//! A user's own value type, with ranges of its own.
 ghost use Rattle.std.specs.Prelude.{◌≡◌};
 ghost use Rattle.nanorand_core.specs.values.Draws.{unsigned_outcome};
 ghost use Rattle.test_support.specs.Die.{die_after, die_high, die_low, die_value};
@@ -7,7 +7,7 @@ use nanorand::{RandomGen, RandomRange, RangeError, Rng};
 use std::marker::Model;
 use std::ops::Bound;
 
-/// What a throw of a die shows: a number from 1 to 6.
+/// The result of a throw of a die: a number from 1 to 6.
 #[derive(Clone, Copy, Debug, PartialEq, Eq, Drop)]
 pub struct Die {
     pub pips: u8,
@@ -23,7 +23,7 @@ impl Model for Die {
     ghost inverse = { λ pips. record { pips = pips } };
 }
 
-/// A throw. A value type cannot refuse: after 128 rejected words it shows 1.
+/// Throws the die. A value type cannot return an error: after 128 rejected words, it shows 1.
 impl<G: Rng<OUTPUT>, const OUTPUT: usize> RandomGen<G, OUTPUT> for Die {
     ghost value = { die_value G.requests };
 
@@ -37,7 +37,7 @@ impl<G: Rng<OUTPUT>, const OUTPUT: usize> RandomGen<G, OUTPUT> for Die {
     }
 }
 
-/// A throw within the numbers of the bounds. An end without a bound is 1 or 6.
+/// Throws the die within the numbers of the bounds. A missing bound is 1 or 6.
 impl<G: Rng<OUTPUT>, const OUTPUT: usize> RandomRange<G, OUTPUT> for Die {
     ghost outcome = { λ g low high. unsigned_outcome G.requests 8 g (die_low low) (die_high high) };
 

@@ -1,5 +1,5 @@
-//! Generators whose bytes are known. Each keeps the contract of `Rng`, and none of them is known to
-//! the library.
+//! Generators whose bytes are known. Each satisfies the contract of `Rng`, and the library knows
+//! none of them.
 
 pub mod forking;
 pub mod script;

@@ -1,5 +1,5 @@
-//! What the tests use: generators and readers whose bytes are known, a value type of a user's own, and an
-//! allocator that fails at chosen requests.
+//! What the tests use: generators and readers whose bytes are known, a user's own value type, and
+//! an allocator that fails at chosen requests.
 #![tactic(auto)]
 
 pub mod allocator;

@@ -1,4 +1,5 @@
-//! A reader of known bytes, which gives them in pieces, ends early, or fails; and the kinds of errors.
+//! A reader of known bytes, which delivers them in pieces, ends early, or fails; and the kinds of
+//! errors.
 
 use std::io;
 use std::io::{ErrorKind, Read};
@@ -49,7 +50,7 @@ pub const ERROR_KINDS: [ErrorKind; 42] = [
     ErrorKind::Uncategorized,
 ];
 
-/// A reader that gives its bytes, at most `piece` of them at a read, and then 0 bytes.
+/// A reader that delivers its bytes, at most `piece` of them for each read, and then 0 bytes.
 ///
 /// `fault` is the number of a read that fails, counted from 0, and the kind of its error.
 #[derive(Drop)]
@@ -61,7 +62,7 @@ pub struct Pieces<'a> {
 }
 
 impl<'a> Pieces<'a> {
-    /// A reader of these bytes, at most `piece` at a read.
+    /// Creates a reader of these bytes that delivers at most `piece` of them for each read.
     pub fn of(bytes: &'a [u8], piece: usize) -> Pieces<'a> {
         Pieces {
             bytes,
@@ -71,7 +72,7 @@ impl<'a> Pieces<'a> {
         }
     }
 
-    /// A reader of these bytes whose read of that number, counted from 0, fails.
+    /// Creates a reader of these bytes whose read number `read`, counted from 0, fails.
     pub fn failing(bytes: &'a [u8], piece: usize, read: u64, kind: ErrorKind) -> Pieces<'a> {
         Pieces {
             bytes,
@@ -81,12 +82,12 @@ impl<'a> Pieces<'a> {
         }
     }
 
-    /// The number of bytes not yet read.
+    /// Returns the number of bytes that have not been read yet.
     pub fn left(&self) -> usize {
         self.bytes.len()
     }
 
-    /// The number of reads so far.
+    /// Returns the number of reads so far.
     pub fn reads(&self) -> u64 {
         self.reads
     }

@@ -1,4 +1,4 @@
-//! A run whose memory is refused at any request ends with `Memory`, and writes nothing.
+//! A run returns `Memory` and writes nothing, whichever of its allocations fails.
 
 #[path = "../../nanorand-program/tests/common/refusing.rs"]
 mod refusing;
@@ -7,8 +7,9 @@ use draw::run::run;
 use draw::DrawError;
 use refusing::{refused_above, refused_after, refused_once};
 
-/// The outcome where memory is refused after so many requests, once or from there on, and how much was written.
-/// `words` are the requests of the program, each of which is made 300 times.
+/// The outcome if an allocation fails after `requests` successful ones, and how much was written.
+/// Either one allocation fails or all later ones. `words` are requests to the program, each of
+/// which is made 300 times.
 fn run_after(
     requests: usize,
     once: bool,
@@ -30,7 +31,7 @@ fn run_after(
     (outcome, 100_000 - left)
 }
 
-/// How many requests are refused one by one until there is a text.
+/// The number of allocations that fail, in one run after another, until a run writes its text.
 fn refusals(once: bool, count: &str, words: &[&str]) -> usize {
     let outcomes = (0..).map(|requests| run_after(requests, once, count, words));
     let mut refused = 0;
@@ -43,7 +44,7 @@ fn refusals(once: bool, count: &str, words: &[&str]) -> usize {
 
 #[test]
 fn each_request_may_be_refused() {
-    // A list of calls, one of answers, one of items, and a text grow.
+    // What grows is a list of calls, a list of answers, a list of items and a text.
     for (count, words, least) in [
         (
             "1000",
@@ -71,7 +72,7 @@ fn the_first_four_arguments_take_no_memory() {
     assert_eq!(run_after(0, false, "0", &[]), (Ok(()), 0));
 }
 
-/// 1000 items are of eight bytes each, and each list and text may double its room.
+/// 1000 items have eight bytes each. Each list and text may double its capacity.
 #[test]
 fn no_request_is_for_much_more_than_is_needed() {
     for (count, most) in [("0", 1000), ("10", 1000), ("1000", 16_000)] {

@@ -1,4 +1,4 @@
-//! The program as a process: its arguments, its streams, and its status.
+//! The program as a process: its arguments, its streams and its exit status.
 #![cfg(target_os = "linux")]
 
 #[path = "../../nanorand-program/tests/common/process.rs"]
@@ -6,7 +6,7 @@ mod process;
 
 use process::{by_each_name, shell};
 
-/// Ends with the status of the commands and what they wrote to each stream. `$draw` draws a number.
+/// Asserts the status of the commands and what they write to each stream. `$draw` draws a number.
 fn ends(commands: &str, status: i32, out: &str, err: &str) {
     let program = env!("CARGO_BIN_EXE_draw");
     let commands = commands.replace("$draw", "\"$0\" wyrand d29b42879be2895f plain 0 u64");

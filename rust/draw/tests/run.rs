@@ -1,4 +1,4 @@
-//! A whole run: what arguments ask for, which are refused, and writers that fail.
+//! A whole run: what arguments mean, which arguments are errors, and writers that fail.
 
 #[path = "../../nanorand-proved/tests/common/formats.rs"]
 mod formats;
@@ -27,12 +27,12 @@ fn text_of(arguments: &[&str]) -> Result<String, DrawError> {
     outcome.map(|()| String::from_utf8(out.taken).unwrap())
 }
 
-/// The same for arguments that stand in one line.
+/// The same for arguments in one line.
 fn text_of_line(line: &str) -> Result<String, DrawError> {
     text_of(&line.split(' ').collect::<Vec<_>>())
 }
 
-/// Whether a request, the fifth argument, is read.
+/// Whether the program accepts a request, which is the fifth argument.
 fn is_request(text: &str) -> bool {
     let found = text_of(&["wyrand", SEED, "plain", "0", text]);
     assert!(
@@ -42,7 +42,8 @@ fn is_request(text: &str) -> bool {
     found.is_ok()
 }
 
-/// Numbers are of the repository's `tests/answers/definitions.py`, those of `ChaCha` are published.
+/// The numbers are from the repository's `tests/answers/definitions.py`. Those of `ChaCha` are
+/// published.
 #[test]
 fn generators_modes_and_requests() {
     let zeros = "0".repeat(80);
@@ -113,7 +114,8 @@ fn the_first_argument_that_cannot_be_read_is_named() {
     }
 }
 
-/// What may stand beside an argument: ends of lines, a NUL, marks and letters past ASCII, and nothing.
+/// What may come before or after an argument: line ends, a NUL, non-ASCII marks and letters, and
+/// nothing.
 const STRANGE: [&str; 13] = [
     "",
     " ",
@@ -130,8 +132,8 @@ const STRANGE: [&str; 13] = [
     "\u{10ffff}",
 ];
 
-/// In the place of each argument, something strange alone, before it or after it, and again in the last place, by each
-/// generator in each mode.
+/// Something strange in place of each argument, before it or after it, and again for the last
+/// argument, with each generator and mode.
 #[test]
 fn strange_arguments_are_refused() {
     let seeds = [8, 16, 40, 40, 40].map(|bytes| "5a".repeat(bytes));
@@ -235,7 +237,7 @@ fn counts_are_digits_up_to_a_thousand() {
     }
 }
 
-/// A type with ranges has all from its least to its greatest number, and no other.
+/// The bounds of a type with ranges are exactly its minimum to its maximum.
 #[test]
 fn bounds_are_numbers_of_the_type() {
     for (name, low, high) in [
@@ -306,7 +308,7 @@ fn other_requests() {
     }
 }
 
-/// A bound that the text gives is the one that is drawn within, included or not.
+/// Numbers are drawn within the bounds in the text, which are inclusive or exclusive as it says.
 #[test]
 fn ranges_are_those_of_their_text() {
     for (request, text) in [
@@ -385,7 +387,7 @@ fn errors_are_reported_in_one_line() {
         let mut line = Vec::new();
         assert_eq!(report(Err(error), &mut line), status);
         assert_eq!(line, format!("draw: {text}\n").as_bytes());
-        // Where the line cannot be written the status is the same.
+        // The status is the same if the line cannot be written.
         assert_eq!(report(Err(error), &mut [].as_mut_slice()), status);
         let boxed: Box<dyn std::error::Error> = error.into();
         assert_eq!(boxed.to_string(), text);
@@ -393,7 +395,7 @@ fn errors_are_reported_in_one_line() {
     }
 }
 
-/// A seed has the digits of its generator's seed: 16, 32 or 80, and no other number, however great.
+/// A seed has exactly as many digits as its generator needs: 16, 32 or 80.
 #[test]
 fn lengths_of_seeds() {
     let lengths = (0..=700).chain([4112, 65_536, 65_552, 65_568, 65_616, 1 << 20]);

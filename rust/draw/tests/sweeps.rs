@@ -1,4 +1,4 @@
-//! Commands of every size: none fails where nothing is wrong. No clause of the proved source says so.
+//! Commands of every size: none fails without a cause. No clause of the proved source states this.
 
 #[path = "../../nanorand-program/tests/common/sizes.rs"]
 mod sizes;
@@ -15,7 +15,7 @@ use std::io::ErrorKind;
 use std::ops::Bound::{Excluded, Included, Unbounded};
 use writer::{Does, Writer};
 
-/// Requests of all kinds, and the calls that they are.
+/// Requests of all kinds, and the calls that they stand for.
 const REQUESTS: [(&str, Call); 24] = [
     ("i8", Call::Gen(Kind::I8)),
     ("i16", Call::Gen(Kind::I16)),
@@ -82,7 +82,7 @@ fn text_of(answers: &[Answer], items: &[u64]) -> String {
     text
 }
 
-/// What a command asks for.
+/// What a command has to draw.
 struct Asked<'a> {
     is_buffered: bool,
     calls: &'a [Call],
@@ -90,7 +90,7 @@ struct Asked<'a> {
 }
 
 impl Asked<'_> {
-    /// The text, by the library's `replay`.
+    /// The text that the library's `replay` produces.
     fn text_by<G: Rng<OUTPUT>, const OUTPUT: usize>(&self, rng: G) -> String {
         if self.is_buffered {
             self.replayed(BufferedRng::new(rng))
@@ -107,10 +107,11 @@ impl Asked<'_> {
     }
 }
 
-/// Those that draw no block of ChaCha for each number.
+/// The generators and modes that do not compute a ChaCha block for each number.
 const FAST: [u64; 7] = [0, 1, 2, 3, 5, 7, 9];
 
-/// Which of the ten generators and modes answer so many requests or items: all of few, and a fast one of many.
+/// The generators and modes, of ten, to test with this many requests or items: all with few, a fast
+/// one with many.
 fn generators_for(size: usize, rng: &mut WyRand) -> Vec<u64> {
     if size < 100 {
         (0..10).collect()
@@ -119,7 +120,8 @@ fn generators_for(size: usize, rng: &mut WyRand) -> Vec<u64> {
     }
 }
 
-/// A generator and a mode, by number, with this seed: the first three arguments, and the text of these calls.
+/// For a generator and a mode, by number, and a seed: the first three arguments, and the text of
+/// these calls.
 fn command_of(number: u64, seed: u64, calls: &[Call], count: u64) -> (String, String) {
     let is_buffered = number % 2 == 1;
     let asked = Asked {
@@ -156,7 +158,8 @@ fn words_of(line: &str) -> Vec<String> {
     line.split_whitespace().map(String::from).collect()
 }
 
-/// The text of these arguments is written at once and then flushed, and a flush that fails is an error.
+/// Asserts that the text for these arguments is written in one call and then flushed, and that a
+/// failed flush is an error.
 fn writes(arguments: &[String], text: &str) {
     let fails = Does::Fails(ErrorKind::BrokenPipe.into());
     for (flush, outcome) in [(Does::Takes(0), Ok(())), (fails, Err(DrawError::Write))] {
@@ -168,15 +171,15 @@ fn writes(arguments: &[String], text: &str) {
     }
 }
 
-/// The argument of this number, counted from 1, cannot be read, and nothing is written.
+/// Asserts that the argument with this number, from 1, is an error, and that nothing is written.
 fn is_refused(arguments: &[String], number: usize) {
     let mut out = Writer::willing();
     assert_eq!(run(arguments, &mut out), Err(DrawError::BadWord(number)));
     assert_eq!(out.calls, []);
 }
 
-/// Commands of every number of requests are answered; the more requests, the fewer items. A bad one after them, and one
-/// among them, is named by its number.
+/// Commands with every number of requests are answered. The more requests, the fewer items. The
+/// error for a bad request after them, or among them, has its number.
 #[test]
 fn all_numbers_of_requests() {
     let mut rng = WyRand::new_seed(1);
@@ -198,7 +201,7 @@ fn all_numbers_of_requests() {
     }
 }
 
-/// Every number of items is shuffled, before and after up to three other requests.
+/// Every number of items is shuffled, with up to three other requests before and after.
 #[test]
 fn all_numbers_of_items() {
     let mut rng = WyRand::new_seed(2);
@@ -220,7 +223,7 @@ fn all_numbers_of_items() {
     }
 }
 
-/// Each generator and mode has any seed, whose digits may be capitals, and shuffles many items.
+/// Each generator and mode accepts any seed, also with upper-case digits, and shuffles many items.
 #[test]
 fn all_generators() {
     let calls = [Call::Gen(Kind::U64), Call::Shuffle];
@@ -237,7 +240,7 @@ fn all_generators() {
     }
 }
 
-/// Arguments of every length are read, and so are bad ones.
+/// Good and bad arguments of every length.
 #[test]
 fn all_lengths_of_arguments() {
     for length in sizes(65_537) {
@@ -255,7 +258,7 @@ fn all_lengths_of_arguments() {
     }
 }
 
-/// Texts of every length are written at once.
+/// Texts of every length are written in one call.
 #[test]
 fn all_lengths_of_texts() {
     for length in sizes(131_073).into_iter().filter(|length| *length > 1) {
@@ -269,7 +272,7 @@ fn all_lengths_of_texts() {
     }
 }
 
-/// A bad argument of every number is reported by its number. Nothing is flushed.
+/// A bad argument is reported with its number, whatever that is. Nothing is flushed.
 #[test]
 fn all_numbers_are_reported() {
     for number in sizes(usize::MAX) {

@@ -11,8 +11,9 @@ fn words_of(seed: &str) -> BufferedRng<ChaCha20, 64> {
     BufferedRng::new(ChaCha20::new_key(sha256::digest(seed.as_bytes()), [0; 8]))
 }
 
-/// Draws `count` of the entrants with the seed. The first `count` items are then the entrants
-/// drawn, in the order in which they were drawn, and the others follow. Nothing is allocated.
+/// Draws `count` of the entrants, as the seed determines. The first `count` items are then the
+/// entrants drawn, in the order in which they were drawn, and the others follow. Nothing is
+/// allocated.
 ///
 /// # Errors
 ///

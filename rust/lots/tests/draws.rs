@@ -1,4 +1,4 @@
-//! The draw without its program: places and entrants, the lines of a list, and errors.
+//! The draw without the program: places and entrants, the lines of a list, and errors.
 
 #[path = "../../nanorand-proved/tests/common/formats.rs"]
 mod formats;
@@ -6,7 +6,8 @@ mod formats;
 use formats::is_displayed;
 use lots::{count_entrants, draw, draw_places, LotsError};
 
-/// What the seed "a seed" draws of ten, by the Python code of the repository's `docs/LOTS.md`.
+/// The places that the seed "a seed" draws from ten, by the Python code in the repository's
+/// `docs/LOTS.md`.
 const DRAWN: [usize; 10] = [7, 0, 4, 9, 1, 5, 3, 8, 2, 6];
 
 const LETTERS: [&str; 10] = ["a", "b", "c", "d", "e", "f", "g", "h", "i", "j"];
@@ -133,7 +134,7 @@ fn errors_are_reported_in_one_line() {
         line.clear();
         assert_eq!(lots::run::report(Err(error), &mut line), status);
         assert_eq!(line, format!("lots: {text}\n").as_bytes());
-        // Where the line cannot be written the status is the same.
+        // The status is the same if the line cannot be written.
         assert_eq!(
             lots::run::report(Err(error), &mut [].as_mut_slice()),
             status

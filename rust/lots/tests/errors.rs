@@ -1,4 +1,4 @@
-//! The status after a read of standard input that fails by any number of the system.
+//! The status after a read of standard input that fails with any error number of the system.
 #![cfg(target_os = "linux")]
 
 #[path = "../../nanorand-program/tests/common/failing.rs"]
@@ -21,7 +21,8 @@ fn ended(answers: &[Answer]) -> (u8, bool) {
     (report(outcome, &mut sink()), !out.is_empty())
 }
 
-/// No error is the end of the list, whatever part of it was read before. After an interruption it goes on.
+/// No error counts as the end of the list, whatever was read before. After an interruption, reading
+/// continues.
 #[test]
 fn a_read_that_fails_by_every_number() {
     for number in 1..134 {

@@ -1,4 +1,4 @@
-//! A run whose memory is refused at any request ends with `Memory`, and writes nothing.
+//! A run returns `Memory` and writes nothing, whichever of its allocations fails.
 
 #[path = "../../nanorand-program/tests/common/refusing.rs"]
 mod refusing;
@@ -8,7 +8,7 @@ use lots::{draw_places, LotsError};
 use refusing::{refused_above, refused_after, refused_once};
 use std::io::{Read, Result};
 
-/// Gives at most this many bytes at each read.
+/// A reader that returns at most this many bytes at each read.
 struct Slow<'a>(&'a [u8], usize);
 
 impl Read for Slow<'_> {
@@ -18,8 +18,8 @@ impl Read for Slow<'_> {
     }
 }
 
-/// The outcome where memory is refused after this many requests, once or from there on, of a list that comes in
-/// pieces, and how much was written.
+/// The outcome for a list that comes in pieces if an allocation fails after `requests` successful
+/// ones, and how much was written. Either one allocation fails or all later ones.
 fn run_after(
     requests: usize,
     once: bool,
@@ -55,7 +55,7 @@ fn each_request_may_be_refused() {
             assert_eq!(outcome, (Err(LotsError::Memory), 0), "{piece}");
             count += 1;
         }
-        // Two lists and a text grow.
+        // What grows is two lists and a text.
         assert!(count > 20, "{count}");
         assert_eq!(run_after(count, once, piece), (Ok(()), 23890));
     }
@@ -70,7 +70,7 @@ fn a_draw_of_places_takes_no_memory() {
     );
 }
 
-/// An entrant is of 16 bytes beside its text, and each list and text may double its room.
+/// An entrant has 16 bytes besides its text. Each list and text may double its capacity.
 #[test]
 fn no_request_is_for_much_more_than_is_needed() {
     let arguments = ["seed", "all"].map(String::from);

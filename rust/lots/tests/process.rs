@@ -1,4 +1,4 @@
-//! The program as a process: its arguments, its streams, and its status.
+//! The program as a process: its arguments, its streams and its exit status.
 #![cfg(target_os = "linux")]
 
 #[path = "../../nanorand-program/tests/common/process.rs"]
@@ -10,7 +10,7 @@ use std::os::unix::io::OwnedFd;
 use std::os::unix::net::UnixStream;
 use std::process::Command;
 
-/// Ends with the status of the commands and what they wrote to each stream.
+/// Asserts the status of the commands and what they write to each stream.
 fn ends(commands: &str, status: i32, out: &str, err: &str) {
     let program = env!("CARGO_BIN_EXE_lots");
     let wanted = (status, out.into(), err.into());
@@ -68,7 +68,7 @@ fn standard_input_that_cannot_be_read() {
             ends(&format!("\"$0\" seed {count} {input}"), 6, "", failed);
         }
     }
-    // Nothing is read where the arguments are refused.
+    // Nothing is read if the arguments are bad.
     ends(
         "\"$0\" seed <&-",
         2,
@@ -77,7 +77,8 @@ fn standard_input_that_cannot_be_read() {
     );
 }
 
-/// The far end of a socket is gone before it has read all of its own bytes: the list may go on.
+/// The other end of a socket closes before it has read all bytes sent to it. This is not the end of
+/// the list, which may be incomplete.
 #[test]
 fn standard_input_that_is_reset() {
     let (mut near, mut far) = UnixStream::pair().unwrap();
@@ -109,6 +110,7 @@ fn standard_output_that_cannot_be_written() {
     }
     ends("\"$0\" seed all <&- >&-", 6, "", "lots: read failed\n");
     ends("\"$0\" seed all <&- >&- 2>&-", 6, "", "");
-    // `/dev/null` that is open both ways, as std opens it in place of a closed stream, is no closed stream.
+    // std opens `/dev/null` for reading and writing in place of a closed stream. A stream that the
+    // user has opened like this does not count as closed.
     ends("\"$0\" seed all <>/dev/null 1<>/dev/null", 0, "", "");
 }

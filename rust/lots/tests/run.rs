@@ -1,4 +1,4 @@
-//! A whole run over readers and writers whose bytes and failures are known.
+//! A whole run with readers and writers whose bytes and failures are known.
 
 #[path = "../../nanorand-program/tests/common/writer.rs"]
 mod writer;
@@ -10,7 +10,7 @@ use std::io::{ErrorKind, Read, Result};
 use writer::kinds::{faults, Fault};
 use writer::{fails_with_its_writer, reports_without_its_writer, Does, Writer};
 
-/// A reader that gives these pieces and errors, one each time, and then no byte.
+/// A reader that returns these pieces and errors, one at each read, and then no byte.
 struct Pieces(VecDeque<std::result::Result<Vec<u8>, Fault>>);
 
 impl Read for Pieces {
@@ -29,7 +29,7 @@ impl Read for Pieces {
     }
 }
 
-/// A reader that is not to be read.
+/// A reader that must not be read.
 struct Unread;
 
 impl Read for Unread {
@@ -45,7 +45,7 @@ fn arguments(count: &str) -> [String; 2] {
     ["a seed".into(), count.into()]
 }
 
-/// What a run of all of this list returns, and the writer after it.
+/// What a run that draws all of this list returns, and the writer after it.
 fn run_of(
     pieces: &[std::result::Result<&[u8], Fault>],
     mut out: Writer,
@@ -80,7 +80,7 @@ fn a_reader_may_be_interrupted_and_give_any_pieces() {
     }
 }
 
-/// It is read again however often it was interrupted in a row.
+/// The reader is read again after any number of interruptions in a row.
 #[test]
 fn a_reader_may_be_interrupted_many_times() {
     let interrupted = vec![Err(ErrorKind::Interrupted.into()); 10_000];
@@ -99,7 +99,7 @@ fn a_reader_may_be_interrupted_many_times() {
     }
 }
 
-/// So is one that gives many bytes before, of which each piece is a read.
+/// The same for a reader that returned many bytes before, in many reads.
 #[test]
 fn a_reader_may_be_interrupted_after_many_bytes() {
     let entrant = vec![b'x'; 9_000_001];
@@ -111,7 +111,7 @@ fn a_reader_may_be_interrupted_after_many_bytes() {
     assert_eq!((outcome, out.taken.len()), (Ok(()), entrant.len() + 1));
 }
 
-/// Each power of two to 2^22 with its neighbours, and one size far above.
+/// Each power of two up to 2^22 with its neighbours, and one much larger size.
 #[test]
 fn lists_of_every_size_around_that_of_a_piece() {
     let powers = (12..=22).map(|bit| 1 << bit);
@@ -128,8 +128,8 @@ fn lists_of_every_size_around_that_of_a_piece() {
     }
 }
 
-/// A reader that gives a byte a read fails at any of them, also where it would end, by an error of any kind. Only a
-/// read that was interrupted is made again.
+/// A reader that returns one byte at a time fails at any read, also where it would end, with an
+/// error of any kind. Only an interrupted read is repeated.
 #[test]
 fn a_read_that_fails_by_any_kind_of_error() {
     for fault in faults() {
@@ -201,7 +201,7 @@ fn other_arguments_are_refused_before_anything_is_read() {
     }
 }
 
-/// What may stand beside a word: ends of lines, a NUL, marks and letters past ASCII.
+/// What may come before or after an argument: line ends, a NUL, non-ASCII marks and letters.
 const STRANGE: [&str; 12] = [
     " ",
     "\t",
@@ -217,15 +217,15 @@ const STRANGE: [&str; 12] = [
     "\u{10ffff}",
 ];
 
-/// Something strange alone, before a word and after it.
+/// Something strange in place of an argument, before it and after it.
 fn strange_words(word: &str) -> Vec<String> {
     let beside = |strange: &&str| [format!("{strange}{word}"), format!("{word}{strange}")];
     let alone = STRANGE.iter().map(|strange| (*strange).to_string());
     STRANGE.iter().flat_map(beside).chain(alone).collect()
 }
 
-/// They are refused as a count, whatever the seed, and nothing is read. As a seed, each draws another order, and has the
-/// errors of any seed.
+/// As a count they are errors, whatever the seed is, and nothing is read. As a seed, each draws
+/// another order, and has the same errors as any seed.
 #[test]
 fn strange_seeds_and_counts() {
     let list: Vec<u8> = (b'a'..=b'z').flat_map(|letter| [letter, b'\n']).collect();
@@ -250,7 +250,7 @@ fn strange_seeds_and_counts() {
     }
 }
 
-/// Lines keep each byte but the line feed, whatever stands beside them.
+/// Lines keep each byte but the line feed, whatever comes before or after them.
 #[test]
 fn strange_lines() {
     let mut beside: Vec<Vec<u8>> = vec![vec![0xff], vec![0xfe, 0xff], vec![0xc3]];

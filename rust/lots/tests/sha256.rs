@@ -1,4 +1,4 @@
-//! SHA-256 beside published digests, and beside Python's `hashlib` at every length to 300.
+//! SHA-256 compared with published digests, and with Python's `hashlib` for every length up to 300.
 
 use lots::sha256::digest;
 
@@ -8,7 +8,7 @@ fn hex(bytes: &[u8]) -> String {
         .fold(String::new(), |text, byte| text + &format!("{byte:02x}"))
 }
 
-/// The examples that NIST gives with FIPS 180-4, and the empty text.
+/// NIST's examples for FIPS 180-4, and the empty text.
 #[test]
 fn published_digests() {
     let million = "a".repeat(1_000_000);
@@ -44,7 +44,7 @@ fn published_digests() {
     }
 }
 
-/// Each text begins with the digest before it, so that the last one tells of all. In Python:
+/// Each text begins with the digest before it, so that the last digest depends on all. In Python:
 /// `d = b""`, and for each n `d = sha256(d + bytes((7 * k + n) & 255 for k in range(n))).digest()`.
 #[test]
 fn every_length() {

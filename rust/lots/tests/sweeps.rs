@@ -1,4 +1,5 @@
-//! Lists and arguments of every size: no run fails where nothing is wrong. No clause of the proved source says so.
+//! Lists and arguments of every size: no run fails without a cause. No clause of the proved source
+//! states this.
 
 #[path = "../../nanorand-program/tests/common/sizes.rs"]
 mod sizes;
@@ -12,7 +13,7 @@ use sizes::sizes;
 use std::io::ErrorKind;
 use writer::{Does, Writer};
 
-/// A line for each entrant.
+/// The list with a line for each entrant.
 fn lines_of(entrants: &[String]) -> String {
     let mut lines = entrants.join("\n");
     if !entrants.is_empty() {
@@ -21,7 +22,7 @@ fn lines_of(entrants: &[String]) -> String {
     lines
 }
 
-/// The text of the first entrants drawn, at the places that the library draws.
+/// The text of the first `count` entrants drawn, at the places that the library draws.
 fn text_drawn(entrants: &[String], count: usize) -> String {
     let mut places = vec![0; entrants.len()];
     assert_eq!(draw_places("seed", &mut places, count), Ok(()));
@@ -33,7 +34,8 @@ fn text_drawn(entrants: &[String], count: usize) -> String {
     )
 }
 
-/// A run draws this text, writes it at once and then flushes. A flush that fails is an error.
+/// Asserts that a run draws this text, writes it in one call and then flushes, and that a failed
+/// flush is an error.
 fn draws(seed: &str, count: &str, list: &str, text: &str) {
     let arguments = [seed, count].map(String::from);
     let fails = Does::Fails(ErrorKind::BrokenPipe.into());
@@ -47,7 +49,7 @@ fn draws(seed: &str, count: &str, list: &str, text: &str) {
     }
 }
 
-/// A run fails so, and writes nothing.
+/// Asserts that a run returns this error and writes nothing.
 fn is_refused(count: &str, list: &str, error: LotsError) {
     let arguments = ["seed", count].map(String::from);
     let mut out = Writer::willing();
@@ -55,8 +57,9 @@ fn is_refused(count: &str, list: &str, error: LotsError) {
     assert_eq!((ended, out.calls), (Err(error), vec![]));
 }
 
-/// Lists of every number of entrants, each of one to twenty digits, are drawn: all, by `all` and by their number; of
-/// many, the first. One more than there are is refused, and so is an empty line, by its number.
+/// Lists with every number of entrants, each of one to twenty digits. All entrants are drawn, by
+/// `all` and by their number; from long lists, the first ones. To draw one more than there are is
+/// an error, and so is an empty line, with its number.
 #[test]
 fn all_numbers_of_entrants() {
     let mut rng = WyRand::new_seed(1);
@@ -83,7 +86,7 @@ fn all_numbers_of_entrants() {
     }
 }
 
-/// An empty line in each place of a list.
+/// An empty line at each place of a list.
 #[test]
 fn all_places_of_an_empty_line() {
     for place in 0..=1025 {
@@ -110,7 +113,7 @@ fn all_lengths() {
     }
 }
 
-/// The line that is written of an error, and the status. Nothing is flushed.
+/// Asserts the line that is written for an error, and the status. Nothing is flushed.
 fn reports(error: LotsError, status: u8, text: &str) {
     let mut line = Writer::willing();
     assert_eq!(report(Err(error), &mut line), status);
@@ -118,7 +121,7 @@ fn reports(error: LotsError, status: u8, text: &str) {
     assert!(!line.calls.contains(&None));
 }
 
-/// An empty line of every number, and every number of entrants and of what is asked for, are reported.
+/// Errors are reported for every line number, number of entrants and count.
 #[test]
 fn all_numbers_are_reported() {
     for count in sizes(usize::MAX) {

@@ -1,11 +1,11 @@
-//! Reads of a buffer over blocks of sizes that none of the generators has.
+//! Reads from buffers with block sizes that none of the generators has.
 #![cfg(feature = "std")]
 
 use nanorand::{BufferedRng, Rng};
 use std::io::Read;
 use std::ops::Range;
 
-/// The bytes of [`stream`], from a place on.
+/// A generator of the bytes of [`stream`], from a position on.
 struct Rising<const SIZE: usize>(usize);
 
 impl<const SIZE: usize> Rng<SIZE> for Rising<SIZE> {
@@ -23,13 +23,13 @@ impl<const SIZE: usize> Clone for Rising<SIZE> {
     }
 }
 
-/// The bytes 0, 1, 2, .. modulo 251, which no block's size is a multiple of.
+/// The bytes 0, 1, 2, .. modulo 251. No block size is a multiple of 251.
 fn stream(places: Range<usize>) -> Vec<u8> {
     let byte = |place| u8::try_from(place % 251).expect("a byte");
     places.map(byte).collect()
 }
 
-/// What is left of a block is delivered whole, and nothing is drawn for it.
+/// The rest of a block is delivered completely, and nothing is drawn for it.
 fn ends<const SIZE: usize>(taken: usize) {
     let mut rng = BufferedRng::new(Rising::<SIZE>(0));
     let mut bytes = vec![0; taken];
@@ -48,7 +48,7 @@ fn ends<const SIZE: usize>(taken: usize) {
     assert_eq!(rng.into_inner().0, drawn);
 }
 
-/// Each read fills its slice, and goes on where the one before ended.
+/// Each read fills its slice, and continues where the one before ended.
 fn reads<const SIZE: usize>() {
     let mut rng = BufferedRng::new(Rising::<SIZE>(0));
     let mut place = 0;

@@ -1,9 +1,9 @@
-//! Clones of each generator, and fills by ChaCha of any rounds.
+//! Clones of each generator, and fills by ChaCha with any number of rounds.
 #![cfg(all(feature = "wyrand", feature = "pcg64", feature = "chacha"))]
 
 use nanorand::{BufferedRng, ChaCha, Pcg64, Rng, WyRand};
 
-/// After any draw a clone shows what its original shows, and draws what that draws.
+/// After any draw a clone has the same text as its original, and draws the same.
 fn check<R: Rng<OUTPUT>, const OUTPUT: usize>(mut rng: R, text: fn(&R) -> String) {
     for length in [0, 1, 5, 64, 255, 256, 257, 600] {
         rng.fill_bytes(vec![0; length]);
@@ -26,7 +26,7 @@ fn check<R: Rng<OUTPUT>, const OUTPUT: usize>(mut rng: R, text: fn(&R) -> String
     }
 }
 
-/// A fill makes the bytes of the blocks, at once and by pieces of whole blocks.
+/// A fill writes the bytes of the blocks, in one piece and in pieces of whole blocks.
 fn fills<const ROUNDS: u8>() {
     let fresh = ChaCha::<ROUNDS>::new_key([1; 32], [2; 8]);
     for length in [64, 255, 256, 257, 511, 512, 513, 1024, 4097] {

@@ -1,20 +1,21 @@
-//! Bytes of the system without the features `std` and `getrandom`, by a `getrandom` that stands for the system's.
+//! Bytes from the system without the features `std` and `getrandom`. A `getrandom` of the test
+//! replaces the system's.
 #![cfg(all(target_os = "linux", not(any(feature = "std", feature = "getrandom"))))]
 
 use nanorand::entropy;
 use std::cell::Cell;
 
 thread_local! {
-    /// How many requests are still filled, and what the next one returns.
+    /// How many requests will still be filled, and what the one after them returns.
     static NEXT: Cell<(usize, isize)> = const { Cell::new((usize::MAX, 0)) };
     /// Whether each request was for at most 256 bytes, and without flags.
     static PLAIN: Cell<bool> = const { Cell::new(true) };
-    /// What each byte is.
+    /// The value of each byte.
     static BYTE: Cell<u8> = const { Cell::new(1) };
 }
 
-/// Fills the bytes with one byte. A request past those that are filled writes nothing. std calls it too, in other
-/// threads.
+/// Fills the buffer with equal bytes. Requests after those to be filled write nothing. std calls
+/// this function as well, in other threads.
 #[no_mangle]
 unsafe extern "C" fn getrandom(bytes: *mut u8, size: usize, flags: u32) -> isize {
     PLAIN.with(|plain| plain.set(plain.get() && size <= 256 && flags == 0));
@@ -27,7 +28,8 @@ unsafe extern "C" fn getrandom(bytes: *mut u8, size: usize, flags: u32) -> isize
     size.try_into().unwrap_or(-1)
 }
 
-/// Whether this many bytes are had, where requests are filled and then one returns an answer.
+/// Whether `length` bytes are delivered, if `requests` requests are filled and the next one returns
+/// `answer`.
 fn is_filled(length: usize, requests: usize, answer: isize) -> bool {
     NEXT.with(|next| next.set((requests, answer)));
     let mut bytes = vec![0; length];
@@ -41,7 +43,7 @@ fn is_filled(length: usize, requests: usize, answer: isize) -> bool {
     filled
 }
 
-/// An error, or fewer bytes than were asked for, at any request, is no success.
+/// An error, or fewer bytes than requested, at any request, is a failure.
 #[test]
 fn requests_that_fail() {
     for length in [1, 8, 16, 40, 255, 256, 257, 600, 5000] {
@@ -58,7 +60,7 @@ fn requests_that_fail() {
     }
 }
 
-/// No bytes of the system are refused: all of them equal, and zeros too, are a seed.
+/// All bytes of the system are accepted as a seed, even if they are all equal or all zeros.
 #[test]
 #[cfg(all(feature = "wyrand", feature = "pcg64", feature = "chacha"))]
 fn bytes_of_every_value() {

@@ -1,4 +1,4 @@
-//! Errors of the system with the feature `std`, by a `getrandom` that stands for the system's.
+//! Errors of the system with the feature `std`. A `getrandom` of the test replaces the system's.
 #![cfg(all(
     target_os = "linux",
     all(feature = "tls", feature = "pcg64", feature = "chacha"),
@@ -11,7 +11,7 @@ use std::collections::VecDeque;
 use std::os::raw::{c_int, c_uint};
 use std::panic::catch_unwind;
 
-/// A count of bytes, or the number of an error.
+/// A number of bytes, or an error number.
 type Answer = Result<usize, c_int>;
 
 const EINTR: c_int = 4;
@@ -21,11 +21,11 @@ extern "C" {
 }
 
 thread_local! {
-    /// The answers to come. After them each request is filled.
+    /// The next answers. After them each request is filled.
     static ANSWERS: RefCell<VecDeque<Answer>> = RefCell::default();
 }
 
-/// std calls it too, where a table is hashed. None is here.
+/// std calls this function as well, for hash tables. The tests have none.
 #[no_mangle]
 unsafe extern "C" fn getrandom(bytes: *mut u8, size: usize, _: c_uint) -> isize {
     let answer = ANSWERS.with(|answers| answers.borrow_mut().pop_front());
@@ -41,7 +41,7 @@ unsafe extern "C" fn getrandom(bytes: *mut u8, size: usize, _: c_uint) -> isize 
     }
 }
 
-/// The outcome of a call to which the system gives these answers.
+/// The outcome of a call if the system gives these answers.
 fn answered<T>(answers: &[Answer], call: impl FnOnce() -> T) -> T {
     ANSWERS.with(|left| left.replace(answers.iter().copied().collect()));
     let outcome = call();
@@ -49,7 +49,7 @@ fn answered<T>(answers: &[Answer], call: impl FnOnce() -> T) -> T {
     outcome
 }
 
-/// Whether a generator is refused for want of a source.
+/// Whether making a generator panics because there is no source of entropy.
 fn is_refused<T>(answers: &[Answer], new: fn() -> T) -> bool {
     let made = answered(answers, || catch_unwind(new));
     made.err().map_or(false, |panic| {
@@ -63,7 +63,8 @@ fn is_thread_refused(answers: &[Answer]) -> bool {
     thread.join().expect("no panic")
 }
 
-/// Any error but an interruption, and an answer of no bytes, at the first request and after a part of the bytes.
+/// Any error but an interruption, and an answer of no bytes, are errors, at the first request and
+/// after a part of the bytes.
 #[test]
 fn errors_of_the_system() {
     let errors = (1..134).filter(|number| *number != EINTR).map(Err);
@@ -88,7 +89,7 @@ fn errors_of_the_system() {
     }
 }
 
-/// Bytes in parts, and interruptions, are no errors.
+/// Bytes in parts, and interruptions, are not errors.
 #[test]
 fn parts_and_interruptions() {
     for answers in [

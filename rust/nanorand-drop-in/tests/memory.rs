@@ -1,8 +1,8 @@
-//! Memory that is refused to `read_to_end` of a buffer is an error that says so, and changes nothing.
+//! If an allocation fails, a buffer's `read_to_end` returns an error for that, and changes nothing.
 #![cfg(all(feature = "std", feature = "wyrand", feature = "chacha"))]
 
 #[path = "../../nanorand-program/tests/common/refusing.rs"]
-#[allow(dead_code)] // its other calls are those of the programs' tests
+#[allow(dead_code)] // the programs' tests use its other functions
 mod refusing;
 
 use nanorand::{BufferedRng, ChaCha20, Rng, WyRand};

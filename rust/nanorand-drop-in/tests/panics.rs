@@ -15,7 +15,7 @@ fn text<T>(call: impl FnOnce() -> T + UnwindSafe) -> String {
         .expect("a text")
 }
 
-/// Zeros alone.
+/// A generator of zeros only.
 #[derive(Clone)]
 struct Stuck;
 

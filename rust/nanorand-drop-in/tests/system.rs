@@ -1,9 +1,9 @@
-//! What comes from the system: seeds, bytes, and the generator of a thread.
+//! What comes from the system: seeds, bytes, and a thread's generator.
 
 use nanorand::{entropy, BufferedRng, ChaCha, ChaCha20, Rng, WyRand};
 use std::fmt::Debug;
 
-/// Two generators of the system differ, also in each half of their seeds.
+/// Two generators seeded by the system differ, even in each half of their seeds.
 fn differ<R: Rng<OUTPUT> + Debug, const OUTPUT: usize>(new: [fn() -> R; 2]) {
     let mut words: Vec<u64> = new
         .iter()
@@ -22,14 +22,15 @@ fn seeds() {
     differ([nanorand::Pcg64::new, nanorand::Pcg64::default]);
     differ([ChaCha20::new, ChaCha20::default]);
     assert_ne!(BufferedRng::<WyRand, 8>::default().rand(), [0; 8]);
-    // A block of no rounds is twice the state, which begins with the constants and has a counter of zeros.
+    // A block of no rounds is the state with each word doubled. The state begins with the
+    // constants, and its counter is 0.
     let states: Vec<_> = (0..20).map(|_| ChaCha::<0>::new().rand()).collect();
     for place in (16..48).chain(56..64) {
         assert!(states.iter().any(|state| state[place] != states[0][place]));
     }
 }
 
-/// Each byte of a slice of any length is filled, and no other.
+/// Exactly the bytes of the slice are filled, whatever its length.
 #[test]
 fn bytes() {
     for length in [0, 1, 31, 32, 33, 64, 255, 256, 257, 600] {
@@ -51,7 +52,7 @@ fn bytes() {
     assert_eq!((entropy::rdseed(&mut bytes), bytes), (None, [7; 3]));
 }
 
-/// A read fills a slice of any length whole.
+/// A read fills the whole slice, whatever its length.
 #[cfg(feature = "std")]
 #[test]
 fn reads() {
@@ -103,7 +104,7 @@ fn wiped() {
         format!("{:?}", WyRand::new_seed(0))
     );
     assert_eq!(format!("{:?}", rngs.1), format!("{:?}", Pcg64::new_seed(0)));
-    assert_eq!(rngs.2.rand(), [0; 64]); // of a state of zeros, the constants too
+    assert_eq!(rngs.2.rand(), [0; 64]); // of a state of zeros, even for the constants
     assert!(std::mem::needs_drop::<(WyRand,)>() && std::mem::needs_drop::<ChaCha20>());
     assert!(std::mem::needs_drop::<Pcg64>());
 }

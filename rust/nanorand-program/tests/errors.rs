@@ -1,4 +1,4 @@
-//! Errors of the system by every number: a stream returns each, and takes none for an end.
+//! Every error number of the system: a stream returns each error, and takes none for the end.
 #![cfg(target_os = "linux")]
 
 #[path = "common/failing.rs"]

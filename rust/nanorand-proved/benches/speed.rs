@@ -1,8 +1,9 @@
-//! Times the library alone: `cargo bench`. The repository's `bench/rust/run.sh` times it beside the old crate.
+//! Measures the speed of the library alone: `cargo bench`. The repository's `bench/rust/run.sh`
+//! compares it with the old crate, nanorand 0.7.0.
 //!
 //! Both compile with `opt-level = 3`, `lto = "fat"`, `codegen-units = 1` and the default processor.
 
-// `black_box` is newer than the compiler that the library asks for.
+// `black_box` is newer than the oldest compiler that the library supports.
 #![allow(clippy::incompatible_msrv)]
 
 #[path = "parts/mixing.rs"]
@@ -23,7 +24,7 @@ mod here {
         0
     }
 
-    /// A part of a stream is none of the old crate's calls.
+    /// The old crate has no parts of a stream.
     pub fn parts() -> [Work; 4] {
         [
             work("WyRand, a part", 1.05, DRAWS, || parts_of(&wyrand())),
@@ -44,7 +45,7 @@ mod here {
 use row::Row;
 
 fn main() {
-    // `cargo test --all-targets` starts benches too, without this argument.
+    // `cargo test --all-targets` starts benchmarks as well, without this argument.
     if !std::env::args().any(|argument| argument == "--bench") {
         return;
     }

@@ -5,7 +5,8 @@ use nanorand_proved::{Parts, Pcg64, Rng, WyRand};
 use std::sync::Mutex;
 use std::thread;
 
-const SHARE: usize = 1000;
+/// How many numbers each worker draws, and so the length of a part: an odd number.
+const SHARE: usize = 1001;
 
 static SHARED: Mutex<WyRand> = Mutex::new(WyRand::new_seed(0x243f_6a88_85a3_08d3));
 

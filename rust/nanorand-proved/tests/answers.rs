@@ -1,5 +1,6 @@
-//! The table of answers that every language has to agree with: `tests/answers/README.md` of the repository
-//! explains its columns. The rows of `lots` are left out, as the crate has no SHA-256.
+//! The table of known answers, with which every language has to agree. `tests/answers/README.md` in
+//! the repository explains its columns. The rows of `lots` are left out, as the crate has no
+//! SHA-256.
 
 use nanorand_proved::samples::sample;
 use nanorand_proved::shuffles::shuffle_full;
@@ -11,7 +12,7 @@ use std::collections::BTreeSet;
 use std::fmt::{Debug, Display};
 use std::str::FromStr;
 
-/// The table, in the repository and in the unpacked archive.
+/// The table, in the repository or in the unpacked archive.
 fn table() -> &'static str {
     let places = [
         "../../tests/answers/answers.tsv",
@@ -34,7 +35,7 @@ struct Row<'a> {
     after: &'a str,
 }
 
-/// A status and a result, as the table has them.
+/// A status and a result, as the table writes them.
 type Answer = (&'static str, String);
 
 fn rows() -> impl Iterator<Item = Row<'static>> {
@@ -56,9 +57,9 @@ fn rows() -> impl Iterator<Item = Row<'static>> {
     })
 }
 
-/// A generator whose state the table has as bytes.
+/// A generator whose state the table writes as bytes.
 trait Stored: Sized {
-    /// Whether its stream can be cut into parts.
+    /// Whether its stream can be divided into parts.
     const PARTS: bool = true;
 
     fn restored(state: &[u8]) -> Self;
@@ -159,7 +160,8 @@ impl Stored for BufferedRng<ChaCha20, 64> {
     }
 }
 
-/// The same stream by groups of eight blocks. The whole blocks that it has buffered are not yet drawn.
+/// The same stream, in groups of eight blocks. Whole blocks that it has buffered count as not
+/// drawn.
 impl Stored for ChaCha20Stream {
     fn restored(state: &[u8]) -> Self {
         let (inner, rest) = state.split_at(48);
@@ -251,7 +253,7 @@ fn shuffled<E: Debug>(length: u64, shuffle: impl FnOnce(&mut [usize]) -> Result<
     ("0", listed(&items))
 }
 
-/// The crate requires at most `count` places, and the C interface has status 1 for more.
+/// The precondition of the crate is at most `count` places. For more, the C interface returns 1.
 fn sampled<G: Rng<OUTPUT>, const OUTPUT: usize>(rng: &mut G, arguments: &str) -> Answer {
     let sizes = numbers::<usize>(arguments);
     if sizes[1] > sizes[0] {
@@ -261,7 +263,7 @@ fn sampled<G: Rng<OUTPUT>, const OUTPUT: usize>(rng: &mut G, arguments: &str) ->
     answer(sample(rng, sizes[0], &mut places).map(|()| listed(&places)))
 }
 
-/// The generator moves to the beginning of the part, as in C.
+/// Moves the generator to the beginning of the part, as C does.
 fn parted<G: Parts<OUTPUT>, const OUTPUT: usize>(
     rng: &mut G,
     call: &str,
@@ -303,7 +305,7 @@ where
     }
 }
 
-/// Runs the rows of one generator that it has calls for. Each of them counts.
+/// Runs the rows of one generator. `calls` is the number of different calls in them.
 fn check<G: Rng<OUTPUT> + Stored, const OUTPUT: usize>(generator: &str, calls: usize) {
     let mut tried = BTreeSet::new();
     let its_rows = rows().filter(|row| row.generator == generator && row.before != "-");

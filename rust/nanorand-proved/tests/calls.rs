@@ -1,7 +1,7 @@
 //! What the crate does around the proved functions: ranges as Rust writes them, borrowed generators,
 //! readers, constants, texts that keep secrets, and preconditions that panic.
 #![cfg(feature = "std")]
-#![allow(clippy::mut_mut)] // a lent generator is lent again
+#![allow(clippy::mut_mut)] // a borrowed generator is borrowed again
 
 mod common;
 
@@ -27,7 +27,7 @@ use std::ops::Bound::{Excluded, Included, Unbounded};
 use std::panic::{catch_unwind, AssertUnwindSafe};
 use std::sync::Mutex;
 
-/// Every way to write a range of a type, between two numbers beside each other and at both ends.
+/// Every way to write a range of a type, between two adjacent numbers and at both ends of the type.
 macro_rules! check_forms {
     ($($number:ty),+) => { $({
         let (least, greatest): ($number, $number) = (<$number>::MIN, <$number>::MAX);
@@ -61,7 +61,7 @@ macro_rules! check_forms {
             assert_eq!(rng.generate_range(empty), Err(RangeError::Empty));
         }
         assert_eq!(rng.generate_range(..least), Err(RangeError::Empty));
-        // A range that an iterator used up has no number left.
+        // A range that was used up as an iterator is empty.
         let mut used = low..=low;
         assert_eq!(used.next(), Some(low));
         assert_eq!(rng.generate_range(used), Err(RangeError::Empty));
@@ -74,7 +74,7 @@ fn every_form_of_bounds_of_every_type() {
     check_forms!(u8, u16, u32, u64, u128, usize, i8, i16, i32, i64, i128, isize);
 }
 
-/// A word of one range is that of the range of bounds, from each generator.
+/// `generate_range` draws the same with a range and with a pair of bounds, from each generator.
 fn check_ranges<G: Rng<OUTPUT> + Clone + PartialEq + Debug, const OUTPUT: usize>(mut rng: G) {
     for size in 1..300_u64 {
         let mut same = rng.clone();
@@ -99,7 +99,7 @@ fn ranges_of_every_generator() {
     check_ranges(BufferedRng::new(BufferedRng::new(Pcg64::new_seed(3))));
 }
 
-/// A call gives the same, and leaves the same generator, if the generator is lent by `&mut`.
+/// A call returns the same, and leaves the same state, if the generator is borrowed with `&mut`.
 macro_rules! check_lent {
     ($rng:ident, $call:expr) => {{
         let mut own = WyRand::new_seed(7);
@@ -119,7 +119,7 @@ macro_rules! check_lent {
     }};
 }
 
-/// What a call leaves of a buffer, with the call's result.
+/// The buffer after a call, and the call's result.
 macro_rules! left_in {
     ($buffer:expr, $call:expr) => {{
         let mut buffer = $buffer;
@@ -128,7 +128,7 @@ macro_rules! left_in {
     }};
 }
 
-/// Shuffles items and fills bytes by whatever generator it takes.
+/// Shuffles items and fills bytes with any generator.
 fn shuffled_and_filled<R: Rng<N>, const N: usize>(
     mut rng: R,
     length: usize,
@@ -139,7 +139,7 @@ fn shuffled_and_filled<R: Rng<N>, const N: usize>(
     (items, bytes)
 }
 
-/// Slices of any length, also of no item and of one, leave the same generator if it is lent.
+/// Slices of any length, even 0 and 1, leave the same state if the generator is borrowed.
 fn check_lengths<G: Rng<N> + Clone + PartialEq + Debug, const N: usize>(fresh: &G) {
     for length in 0..140 {
         let (mut lent, mut borrowed) = (fresh.clone(), fresh.clone());
@@ -265,7 +265,7 @@ fn fills_and_buffers_over_a_lent_generator() {
     assert_eq!(lent, own);
 }
 
-/// A generic function takes a generator by value or lent, also lent twice.
+/// A generic function takes a generator by value, borrowed, or borrowed twice.
 #[test]
 fn generators_are_passed_down() {
     fn two<R: Rng<8>>(mut rng: R) -> [u64; 2] {
@@ -281,7 +281,7 @@ fn generators_are_passed_down() {
     assert_eq!(one(&mut rng), 14_652_274_819_296_609_082);
 }
 
-/// A lent generator makes requests as its own `fill_bytes` does.
+/// A borrowed generator makes the same requests as its own `fill_bytes`.
 #[test]
 fn a_lent_generator_keeps_its_requests() {
     let (mut own, mut lent) = (Waste::new(), Waste::new());
@@ -315,7 +315,7 @@ fn words_are_values() {
     assert_eq!(Steps::new().next_u64(), 0x0706_0504_0302_0100);
 }
 
-/// A generator of a seed's bytes is the one that a reseed leaves.
+/// A generator made from a seed's bytes equals one that is reseeded with them.
 #[test]
 fn seeds() {
     let mut bytes = [0; 40];
@@ -345,7 +345,7 @@ fn seeds() {
     );
 }
 
-/// Equal bytes, and zeros and ones with one other bit.
+/// Seeds of equal bytes, and zeros and ones with one different bit.
 fn plain_seeds<const SIZE: usize>() -> Vec<[u8; SIZE]> {
     let mut seeds: Vec<_> = (0..=255).map(|byte| [byte; SIZE]).collect();
     for place in 0..8 * SIZE {
@@ -358,7 +358,7 @@ fn plain_seeds<const SIZE: usize>() -> Vec<[u8; SIZE]> {
     seeds
 }
 
-/// No seed is taken for another.
+/// Seeds are not changed, not even those of equal bytes.
 #[test]
 fn plain_seeds_of_numbers() {
     for seed in plain_seeds() {
@@ -422,7 +422,7 @@ const STATE: [u32; 16] = nanorand_proved::crypto::chacha::chacha_init([0; 32], [
 
 const SEEDS: (u64, u128) = (WyRand::new_seed(42).seed(), Pcg64::new_seed(43).seed());
 
-/// Lists of calls and their answers are copied and compared, as plain values are.
+/// Lists of calls and their answers are copied and compared like plain values.
 #[test]
 fn calls_are_plain_values() {
     fn check<T: Copy + Eq + Debug>() {}
@@ -446,14 +446,14 @@ fn constants_and_statics() {
     );
 }
 
-/// A buffer around `Steps` that has given five bytes.
+/// A buffer around `Steps` that has delivered five bytes.
 fn after_five() -> BufferedRng<Steps, 8> {
     let mut rng = BufferedRng::new(Steps::new());
     rng.fill(&mut [0_u8; 5]);
     rng
 }
 
-/// The whole of a reader, as a function over any reader takes it.
+/// All bytes of a reader, read by a function that takes any reader.
 fn all_of(reader: &mut dyn Read) -> io::Result<Vec<u8>> {
     let mut bytes = vec![99];
     let count = reader.read_to_end(&mut bytes)?;
@@ -494,7 +494,7 @@ fn a_buffer_is_no_text() {
     assert_eq!(rng.rest(), [5, 6, 7]);
 }
 
-/// The text of a key, a nonce or buffered bytes is the same whatever they are.
+/// Texts do not depend on a key, a nonce or buffered bytes.
 #[test]
 fn texts_keep_secrets() {
     fn texts<const ROUNDS: u8>(byte: u8) -> [String; 4] {
@@ -541,7 +541,7 @@ fn clones_are_apart() {
     assert_eq!(second, WyRand::new_seed(1));
 }
 
-/// Errors pass through `?` into a box, as an owned and shared value of any thread.
+/// `?` turns errors into a boxed error that threads can share.
 #[test]
 fn errors_are_passed_on() {
     type Boxed = Box<dyn std::error::Error + Send + Sync>;
@@ -571,7 +571,7 @@ fn seeds_from_the_system() {
     let keys: Vec<[u8; 32]> = made.iter().map(ChaCha20::key).collect();
     let nonces: Vec<[u8; 8]> = made.iter().map(ChaCha20::nonce).collect();
     assert!(made.iter().all(|rng| rng.counter() == 0));
-    // A byte that never changes would be one that is not the system's.
+    // A byte that never changes would not be from the system.
     let words: Vec<[u8; 8]> = (0..64)
         .map(|_| {
             WyRand::from_entropy()
@@ -612,7 +612,7 @@ fn preconditions_of_words() {
     assert_eq!(rng, WyRand::new_seed(1));
 }
 
-/// `below` the least number of a type is an empty range.
+/// `below` with a type's minimum is an empty range.
 #[test]
 fn nothing_below_the_least() {
     let mut rng = WyRand::new_seed(1);
@@ -681,7 +681,7 @@ fn preconditions_of_lists() {
     assert_eq!(rng, WyRand::new_seed(1));
 }
 
-/// A number and its rank, from 0 for the least.
+/// A number and its rank, which is 0 for the minimum.
 #[test]
 fn ranks_of_numbers() {
     macro_rules! check {
@@ -696,7 +696,7 @@ fn ranks_of_numbers() {
     check!(u8, u16, u32, u64, usize, i8, i16, i32, i64, isize);
 }
 
-/// A lent generator is reseeded, too.
+/// A borrowed generator can be reseeded.
 #[test]
 fn a_lent_generator_is_reseeded() {
     fn seed<R: SeedableRng<SIZE, OUTPUT>, const SIZE: usize, const OUTPUT: usize>(mut rng: R) {
@@ -715,7 +715,7 @@ fn a_lent_generator_is_reseeded() {
     assert_eq!(rng.key()[0], 42);
 }
 
-/// A generator that panics in the middle of a shuffle leaves a permutation of the items.
+/// If a generator panics in the middle of a shuffle, a permutation of the items remains.
 #[test]
 fn a_panic_in_a_shuffle_loses_nothing() {
     struct Panicking(Script);

@@ -1,6 +1,7 @@
-//! `ChaCha` by vectors beside `ChaCha` by plain words, which is written here from the cipher's description:
-//! single blocks, four side by side, as fills of 256 bytes and more make them, and eight, as those of 512
-//! bytes and more do where the processor has AVX2 and the crate its feature std.
+//! `ChaCha` with vectors, compared with `ChaCha` on plain 32-bit words, which is written here from
+//! the cipher's description: single blocks; four blocks side by side, as in fills of 256 bytes and
+//! more; and eight, as in fills of 512 bytes and more if the processor has AVX2 and the crate its
+//! feature std.
 
 use nanorand_proved::crypto::chacha::{chacha_block, chacha_rounds, chacha_unrounds};
 use nanorand_proved::{ChaCha, Rng};
@@ -9,10 +10,10 @@ use nanorand_proved::{ChaCha, Rng};
 const SINGLE: usize = 400_000;
 const FILLED: usize = 600_000;
 
-// The rounds of the three generators, and more seldom others: 0, 2 and the most.
+// The numbers of rounds of the three generators. Rarer ones are 0, 2 and the maximum.
 const COMMON: [u8; 3] = [8, 12, 20];
 
-// Random words for the cases alone: xorshift, which is nothing of this library.
+// Random numbers that choose the cases: xorshift, which is not part of this library.
 struct Words(u64);
 
 impl Words {
@@ -27,7 +28,7 @@ impl Words {
         u32::try_from(self.0 >> 32).unwrap()
     }
 
-    // Some words are those where carries and bits get lost.
+    // Some words are ones for which a bug would lose carries or bits.
     fn word(&mut self) -> u32 {
         match self.next() % 16 {
             0 => 0,
@@ -45,7 +46,7 @@ impl Words {
         state
     }
 
-    // Many counters are such that a carry goes into the high half, or that the counter wraps.
+    // With many counters a carry goes into the high half, or the counter wraps.
     fn counter(&mut self) -> u64 {
         let near = u64::from(self.next() % 16).wrapping_sub(8);
         match self.next() % 4 {
@@ -56,7 +57,7 @@ impl Words {
     }
 }
 
-#[allow(clippy::many_single_char_names)] // They are the cipher's own.
+#[allow(clippy::many_single_char_names)] // the cipher's own names
 fn quarter_round(x: &mut [u32; 16], [a, b, c, d]: [usize; 4]) {
     x[a] = x[a].wrapping_add(x[b]);
     x[d] = (x[d] ^ x[a]).rotate_left(16);
@@ -112,7 +113,7 @@ fn words_of(bytes: &[u8]) -> Vec<u32> {
     bytes.chunks_exact(4).map(word).collect()
 }
 
-// The state of a generator's next block, by what it tells.
+// The state for a generator's next block, from its public methods.
 fn state_of<const ROUNDS: u8>(rng: &ChaCha<ROUNDS>, counter: u64) -> [u32; 16] {
     let mut bytes = b"expand 32-byte k".to_vec();
     bytes.extend(rng.key());
@@ -146,7 +147,7 @@ fn check_fill<const ROUNDS: u8>(mut rng: ChaCha<ROUNDS>, length: usize) -> usize
     bytes.chunks(64).count()
 }
 
-// Fills of all lengths up to 32 blocks, most of them of whole groups of four.
+// Fills of all lengths up to 32 blocks, most of them whole groups of four.
 fn check_fills<const ROUNDS: u8>(words: &mut Words, blocks: usize) {
     let mut checked = 0;
     while checked < blocks {
@@ -238,7 +239,7 @@ fn fills_of_every_length() {
     }
 }
 
-// Each counter at which a carry, or the wrap to 0, falls inside a group or at one of its ends.
+// Each counter with which a carry, or the wrap to 0, is inside a group or at one of its ends.
 #[test]
 fn counters_that_wrap_inside_a_group() {
     let carries = (1 << 32) - 9..=1_u64 << 32;

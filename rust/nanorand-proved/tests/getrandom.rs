@@ -1,4 +1,5 @@
-//! Seeds by a `getrandom` that stands for the system's: what it is asked for, and what becomes of what it answers.
+//! Seeds from a `getrandom` that replaces the system's: what it is asked for, and what the library
+//! does with its answers.
 #![cfg(all(target_os = "linux", feature = "std"))]
 
 use nanorand_proved::rand::ChaChaGroups;
@@ -15,15 +16,15 @@ extern "C" {
 }
 
 thread_local! {
-    /// The answers to come: a count of bytes, or the number of an error. After them each request is filled.
+    /// The next answers: a number of bytes, or an error number. After them each request is filled.
     static ANSWERS: RefCell<VecDeque<Result<usize, c_int>>> = RefCell::default();
-    /// The sizes and the flags that were asked for.
+    /// The size and the flags of each request.
     static ASKED: RefCell<Vec<(usize, c_uint)>> = RefCell::default();
-    /// The next byte, and what the one after it has more.
+    /// The next byte, and the difference of the byte after it.
     static BYTES: Cell<(u8, u8)> = const { Cell::new((7, 0)) };
 }
 
-/// std calls it too, where a table is hashed. None is here.
+/// std calls this function as well, for hash tables. The tests have none.
 #[no_mangle]
 unsafe extern "C" fn getrandom(bytes: *mut c_void, size: usize, flags: c_uint) -> isize {
     ASKED.with(|asked| asked.borrow_mut().push((size, flags)));
@@ -45,7 +46,7 @@ unsafe extern "C" fn getrandom(bytes: *mut c_void, size: usize, flags: c_uint) -
     }
 }
 
-/// The outcome of a call to which the system gives these answers, and what was asked for.
+/// The outcome of a call if the system gives these answers, and the requests.
 fn answered<T>(
     answers: &[Result<usize, c_int>],
     call: impl FnOnce() -> T,
@@ -56,7 +57,7 @@ fn answered<T>(
     (outcome, ASKED.with(RefCell::take))
 }
 
-/// No flag is set: the call waits until the system has gathered enough.
+/// No flag is set, so the call waits until the system has gathered enough entropy.
 #[test]
 fn seeds_are_asked_for_without_flags() {
     let (rng, asked) = answered(&[], WyRand::from_entropy);
@@ -79,7 +80,7 @@ fn seeds_are_asked_for_without_flags() {
     assert_eq!(asked, [(8, 0), (5, 0), (5, 0), (1, 0)]);
 }
 
-/// Any error but an interruption is returned, whenever it comes.
+/// Any error but an interruption is returned, at whichever request it occurs.
 #[test]
 fn errors_of_the_system_are_returned() {
     for number in (1..134).filter(|number| *number != EINTR) {
@@ -93,7 +94,8 @@ fn errors_of_the_system_are_returned() {
     }
 }
 
-/// A generator is made of the system's bytes in their order, whatever they are: all of zeros or of ones, too.
+/// A generator is made from the system's bytes in their order, whatever they are, even if all are
+/// zeros or ones.
 #[test]
 fn seeds_are_the_bytes_of_the_system() {
     for (first, step) in [(0_u8, 0), (255, 0), (7, 0), (1, 1), (200, 77)] {
@@ -127,7 +129,7 @@ fn seeds_are_the_bytes_of_the_system() {
     }
 }
 
-/// A slice of any size is filled whole, by one request where the system answers it whole.
+/// A slice of any size is filled completely, by one request if the system answers it completely.
 #[test]
 fn slices_of_any_size_are_filled() {
     for size in [0, 1, 255, 256, 257, 4097, 65_537, 1 << 20] {

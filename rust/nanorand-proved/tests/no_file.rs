@@ -1,4 +1,4 @@
-//! Seeds from the system in a process that can open no file more.
+//! Seeds from the system in a process that cannot open any more files.
 #![cfg(all(unix, feature = "std"))]
 
 use nanorand_proved::{ChaCha20, ChaCha20Stream, Pcg64, WyRand};
@@ -8,7 +8,7 @@ use std::process::Command;
 
 const FEW_FILES: &str = "NANORAND_FEW_FILES";
 
-/// The process starts itself once more, with fewer files that it may open.
+/// The process starts itself again, with a lower limit of open files.
 #[test]
 fn no_file_is_opened() {
     if env::var_os(FEW_FILES).is_some() {

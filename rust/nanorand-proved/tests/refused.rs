@@ -1,5 +1,5 @@
-//! Allocations that are refused. Two calls allocate. A refusal is an error of `read_to_end`, and changes neither
-//! the vector nor the buffer; `sample` does without.
+//! Allocations that fail. Two calls allocate. If the allocation fails, `read_to_end` returns an
+//! error and changes neither the vector nor the buffer, and `sample` works without the memory.
 #![cfg(feature = "std")]
 
 mod common;
@@ -13,9 +13,9 @@ use std::cell::Cell;
 use std::io::{ErrorKind, Read};
 
 thread_local! {
-    /// The greatest request of this thread that is granted, in bytes.
+    /// The size in bytes of this thread's largest allocation that succeeds.
     static MOST: Cell<usize> = const { Cell::new(usize::MAX) };
-    /// How many bytes this thread holds more than it gave back.
+    /// How many more bytes this thread has allocated than freed.
     static HELD: Cell<isize> = const { Cell::new(0) };
 }
 
@@ -23,15 +23,15 @@ fn hold(bytes: isize) {
     HELD.with(|held| held.set(held.get() + bytes));
 }
 
-/// No place in memory is longer than this type's greatest number.
+/// No allocation is larger than this type's maximum.
 fn signed(size: usize) -> isize {
     isize::try_from(size).expect("a size")
 }
 
-/// The system's allocator, which refuses a thread's greater requests.
+/// The system's allocator, except that allocations above a thread's limit fail.
 struct Refusing;
 
-// SAFETY: each call is passed on to the system's allocator, or answered by null, which is a refusal.
+// SAFETY: each call is passed on to the system's allocator, or returns null, which means failure.
 unsafe impl GlobalAlloc for Refusing {
     unsafe fn alloc(&self, layout: Layout) -> *mut u8 {
         if layout.size() > MOST.with(Cell::get) {
@@ -51,7 +51,7 @@ unsafe impl GlobalAlloc for Refusing {
 #[global_allocator]
 static HEAP: Refusing = Refusing;
 
-/// The result of a call when every request for more than `most` bytes fails.
+/// The result of a call if every allocation of more than `most` bytes fails.
 fn with_memory<T>(most: usize, call: impl FnOnce() -> T) -> T {
     MOST.with(|granted| granted.set(most));
     let result = call();
@@ -59,12 +59,13 @@ fn with_memory<T>(most: usize, call: impl FnOnce() -> T) -> T {
     result
 }
 
-/// The result of a call when every request for memory fails.
+/// The result of a call if every allocation fails.
 fn without_memory<T>(call: impl FnOnce() -> T) -> T {
     with_memory(0, call)
 }
 
-/// The rest of a block does not fit in a full vector when no memory is granted. It does when twice the size is.
+/// The rest of a block cannot be appended to a full vector if every allocation fails. It can if a
+/// vector of twice the size can be allocated.
 fn is_refused<G: Rng<OUTPUT> + Clone, const OUTPUT: usize>(fresh: &G, taken: usize, held: usize) {
     let mut rng = BufferedRng::new(fresh.clone());
     rng.fill_bytes(&mut vec![0; taken]);
@@ -140,7 +141,7 @@ fn read_to_end_without_an_allocation() {
     assert_eq!(count, 0);
 }
 
-/// No other call needs memory.
+/// No other call allocates.
 #[test]
 fn calls_without_memory() -> Result<(), RangeError> {
     let mut items = rising(100);
@@ -162,7 +163,8 @@ fn calls_without_memory() -> Result<(), RangeError> {
     Ok(())
 }
 
-/// The method has a table where memory for all of it is granted, and draws the same numbers without.
+/// The method uses a table if all memory for it can be allocated, and draws the same numbers
+/// without it.
 #[test]
 fn samples_with_any_memory() {
     for slots in [16, 17, 100, 1000] {
@@ -179,7 +181,7 @@ fn samples_with_any_memory() {
     }
 }
 
-/// What a call allocates for itself it gives back.
+/// A call frees what it allocates for itself.
 #[test]
 fn nothing_is_left_behind() {
     let mut rng = WyRand::new_seed(42);

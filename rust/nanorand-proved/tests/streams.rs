@@ -1,4 +1,4 @@
-//! Streams of ChaCha deliver what buffered generators deliver, and can be sought.
+//! ChaCha streams deliver the same bytes as buffered generators, and can seek.
 
 use nanorand_proved::{
     chacha_stream, chacha_stream_at, BufferedRng, ChaCha, ChaCha12Stream, ChaCha20, ChaCha20Stream,
@@ -59,7 +59,7 @@ fn streams_deliver_what_buffers_deliver() {
     }
 }
 
-/// Ends of blocks and of groups, a carry of the counter, and the end of the stream.
+/// Positions at ends of blocks and groups, a carry of the counter, and the end of the stream.
 const PLACES: [u128; 16] = [
     0,
     1,
@@ -79,7 +79,7 @@ const PLACES: [u128; 16] = [
     u128::MAX,
 ];
 
-/// From each place on come the bytes of the blocks.
+/// After a seek to each position, the bytes of the blocks follow.
 fn is_sought<const ROUNDS: u8>() {
     let mut stream: ChaChaStream<ROUNDS> = chacha_stream_at(KEY, NONCE, 3);
     assert_eq!(stream.position(), 192);
@@ -139,7 +139,7 @@ fn a_sought_stream_goes_on_from_that_byte() {
     }
 }
 
-/// Whatever was buffered before, and of whichever stream, a seek leaves the one state of its byte.
+/// Whatever was buffered before, even of another stream, a seek to a byte leaves the same state.
 #[test]
 fn a_seek_forgets_what_was_buffered() {
     let at = |index| ChaCha8Stream::at_block(KEY, NONCE, index);

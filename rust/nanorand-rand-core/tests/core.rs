@@ -1,11 +1,12 @@
-//! `Core` gives what the generator inside it gives, and seeds it as `rand_core` says.
+//! `Core` returns what the generator inside it returns, and seeds it as `rand_core` specifies.
 
 use nanorand_proved::{BufferedRng, ChaCha, ChaCha12, ChaCha20, ChaCha8, Pcg64, Rng, WyRand};
 use nanorand_proved_rand_core::{ChaChaSeed, Core};
 use rand_core::{CryptoRng, RngCore, SeedableRng};
 use std::fmt::{Debug, Display, LowerHex, UpperHex};
 
-/// Does not compile if the type has the trait: two implementations of `Without` are its then.
+/// Does not compile if the type implements the trait: it would have two implementations of
+/// `Without`.
 macro_rules! lacks {
     ($kind:ty: $($name:path),+) => { $({
         trait Without<Mark> {
@@ -18,7 +19,7 @@ macro_rules! lacks {
     })+ };
 }
 
-/// No generator is a `CryptoRng`, and the text of a seed would be its key.
+/// No generator is a `CryptoRng`. A `ChaChaSeed` has no text, because that would show its key.
 #[test]
 fn what_is_not_implemented() {
     lacks!(Core<WyRand, 8>: CryptoRng);
@@ -30,7 +31,8 @@ fn what_is_not_implemented() {
     lacks!(ChaChaSeed: Debug, Display, LowerHex, UpperHex);
 }
 
-/// The four functions of `RngCore` give what the functions of `Rng` give, and leave the same.
+/// The four functions of `RngCore` return what the functions of `Rng` return, and leave the same
+/// state.
 fn check<G: Rng<OUTPUT> + Clone + PartialEq + Debug, const OUTPUT: usize>(fresh: &G) {
     let (mut core, mut own) = (Core(fresh.clone()), fresh.clone());
     let long = [65_535, 65_536, 65_537, 1_000_003];
@@ -48,7 +50,8 @@ fn check<G: Rng<OUTPUT> + Clone + PartialEq + Debug, const OUTPUT: usize>(fresh:
     }
 }
 
-/// A generator with blocks of any size: no byte of a block is as the one before, nor as in the block before.
+/// A generator with blocks of any size. Each byte of a block differs from the byte before it, and
+/// from that in the block before.
 #[derive(Clone, Debug, PartialEq)]
 struct Blocks<const SIZE: usize>(u8);
 
@@ -63,7 +66,7 @@ impl<const SIZE: usize> Rng<SIZE> for Blocks<SIZE> {
     }
 }
 
-/// A generator of a user's own, and what holds or borrows another.
+/// A user's own generator, and generators that own or borrow another one.
 #[test]
 fn generators() {
     #[derive(Clone, Debug, PartialEq)]
@@ -97,7 +100,7 @@ fn generators() {
     assert_ne!(lent, WyRand::new_seed(42));
 }
 
-/// The generators serve where a trait object of `rand_core` is asked for.
+/// The generators can be used as trait objects of `rand_core`.
 #[test]
 fn trait_objects() {
     let rngs: [(Box<dyn RngCore>, u64); 4] = [
@@ -120,7 +123,7 @@ fn trait_objects() {
     }
 }
 
-/// The seed of `ChaCha` is the key and then the nonce.
+/// The seed of `ChaCha` is the key followed by the nonce.
 fn chacha_of<const ROUNDS: u8>() {
     let mut seed = ChaChaSeed::default();
     assert_eq!(seed.as_mut(), [0; 40]);
@@ -145,7 +148,7 @@ fn seeds() {
     chacha_of::<20>();
 }
 
-/// Equal bytes, and zeros and ones with one other bit.
+/// Seeds of equal bytes, and zeros and ones with one different bit.
 fn plain_seeds<const SIZE: usize>() -> Vec<[u8; SIZE]> {
     let mut seeds: Vec<_> = (0..=255).map(|byte| [byte; SIZE]).collect();
     for place in 0..8 * SIZE {
@@ -166,7 +169,7 @@ fn plain_keys_of<const ROUNDS: u8>() {
     }
 }
 
-/// No seed is taken for another.
+/// Seeds are not changed, not even those of equal bytes.
 #[test]
 fn plain_seeds_are_the_state() {
     for seed in plain_seeds() {
@@ -183,7 +186,7 @@ fn plain_seeds_are_the_state() {
     plain_keys_of::<20>();
 }
 
-/// A number gives the generator that it gives without the adapter.
+/// A number as seed makes the same generator as without the adapter.
 #[test]
 fn seeds_of_a_number() {
     for number in [0, 1, 42, u64::MAX] {
@@ -206,7 +209,7 @@ fn seeds_of_a_number() {
     }
 }
 
-/// A generator seeded by another takes that many of its bytes.
+/// A generator seeded by another takes as many of its bytes as a seed has.
 #[test]
 fn seeds_from_a_generator() {
     let mut source = WyRand::new_seed(42);

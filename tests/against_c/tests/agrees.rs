@@ -1,5 +1,8 @@
-//! The crate and a library of `c/include/nanorand.h` give the same results, and leave the same states, on calls that a
-//! seed chooses: `tests/against_c.sh`. No seed is known that has 128 rejected words in a row.
+//! The Rust crate and a library with the functions of `c/include/nanorand.h` return the same
+//! results and leave the same states, on pseudorandom calls: `tests/against_c.sh`.
+//!
+//! A word is a random number of 32 or 64 bits. The error after 128 rejected words in a row is not
+//! tested, because no seed with such words is known.
 
 mod common;
 
@@ -10,7 +13,7 @@ use nanorand_proved::{
 };
 use std::fmt::{Debug, Display};
 
-/// What a status of the library says.
+/// The result of the crate that corresponds to a status of the library.
 fn answer<T>(status: u8, value: T) -> Result<T, RangeError> {
     match status {
         0 => Ok(value),
@@ -19,7 +22,7 @@ fn answer<T>(status: u8, value: T) -> Result<T, RangeError> {
     }
 }
 
-/// A generator of the crate, and the library's state of it.
+/// A generator of the crate, and the library's state for it.
 struct Pair<G, S, const N: usize> {
     rng: G,
     state: S,
@@ -28,7 +31,7 @@ struct Pair<G, S, const N: usize> {
 }
 
 impl<G: Rng<N>, S: PartialEq + Debug, const N: usize> Pair<G, S, N> {
-    /// After a call both are the same.
+    /// Asserts that both states are the same after a call.
     fn same(&self, call: impl Display) {
         assert_eq!((self.state_of)(&self.rng), self.state, "{call}");
     }
@@ -92,7 +95,7 @@ impl<G: Rng<N>, S: PartialEq + Debug, const N: usize> Pair<G, S, N> {
     }
 }
 
-/// Moves both to the beginning of parts of numbers that `seed` chooses.
+/// Moves both to the beginning of parts that `seed` chooses.
 fn parts<G: Parts<N>, S: PartialEq + Debug, const N: usize>(pair: &mut Pair<G, S, N>, seed: u32) {
     let mut chooser = Chooser(u64::from(seed));
     let part = pair.calls.part.expect("a call of parts");
@@ -106,8 +109,8 @@ fn parts<G: Parts<N>, S: PartialEq + Debug, const N: usize>(pair: &mut Pair<G, S
     }
 }
 
-/// Makes the same calls of a generator of the crate, made by `new`, and of the library's state of it. Then come the
-/// moves, by a power of two.
+/// Makes the same calls on generators of the crate, made by `new`, and on the library's states for
+/// them. Then come jumps, by powers of two.
 fn compare<G: Rng<N>, S: PartialEq + Debug, const N: usize>(
     calls: fn() -> Calls<S>,
     new: fn(&mut Chooser) -> G,
@@ -167,7 +170,7 @@ fn pcg64() {
     );
 }
 
-/// Half of them begin near a carry or the end of the counter.
+/// A generator. Half of them begin near a carry or the end of the counter.
 fn chacha<const ROUNDS: u8>(chooser: &mut Chooser) -> ChaCha<ROUNDS> {
     let counter = chooser.end().wrapping_sub(chooser.number() % 8);
     ChaCha::at(chooser.bytes(), chooser.bytes(), counter)
@@ -239,7 +242,7 @@ fn keystream_state(rng: &ChaCha20Stream) -> GroupStream {
     }
 }
 
-/// Half of them begin near a carry or the end of the counter.
+/// A generator. Half of them begin near a carry or the end of the counter.
 fn groups(chooser: &mut Chooser) -> ChaChaGroups<20> {
     let rng = chacha::<20>(chooser);
     ChaChaGroups::at(rng.key(), rng.nonce(), rng.counter())

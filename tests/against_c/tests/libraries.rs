@@ -1,5 +1,6 @@
-//! Two libraries of `c/include/nanorand.h`, the proved one and that by cargo, give the same results and leave the same
-//! states and memory, in each function, on calls and states that a seed chooses: `tests/against_c.sh`.
+//! The proved library and the library that cargo builds, both with `c/include/nanorand.h`, return
+//! the same results and leave the same states and memory, for each function, on pseudorandom calls
+//! and states: `tests/against_c.sh`.
 
 #[macro_use]
 mod common;
@@ -9,12 +10,12 @@ use common::{
 };
 use std::fmt::Debug;
 
-/// The second archive that `build.rs` links, whose symbols `tests/against_c.sh` has renamed.
+/// The second archive that `build.rs` links. `tests/against_c.sh` has renamed its symbols.
 fn other_library() -> Library {
     library!("other_")
 }
 
-/// A length: often one beside a word, a block, a group of blocks or two.
+/// A length in bytes, often near that of a word, a block, or one or two groups of blocks.
 fn length(chooser: &mut Chooser) -> usize {
     let ends = [0, 1, 8, 16, 64, 128, 256, 512, 1024];
     match chooser.below(3) {
@@ -24,12 +25,12 @@ fn length(chooser: &mut Chooser) -> usize {
     }
 }
 
-/// A number of items or places, often none.
+/// A number of items or places, often 0.
 fn count(chooser: &mut Chooser) -> usize {
     chooser.below(70).saturating_sub(5)
 }
 
-/// A number that is beside another, or any.
+/// A number that is often close to another.
 fn beside(chooser: &mut Chooser, number: usize) -> usize {
     match chooser.below(4) {
         0 => number,
@@ -39,7 +40,7 @@ fn beside(chooser: &mut Chooser, number: usize) -> usize {
     }
 }
 
-/// One call, of ten or eleven, makes the same of both states, and of all memory around what it writes.
+/// Makes one of ten or eleven calls. The result also has the memory around what the call writes.
 fn call<S>(library: &Calls<S>, state: &mut S, mut chooser: Chooser) -> (u8, Vec<u8>, Vec<usize>) {
     let (mut bytes, mut items) = (vec![0xee; 2100], (0..80).collect::<Vec<_>>());
     let [first, last] = [chooser.end(), chooser.end()];
@@ -81,7 +82,7 @@ fn call<S>(library: &Calls<S>, state: &mut S, mut chooser: Chooser) -> (u8, Vec<
     (status, bytes, items)
 }
 
-/// Makes chosen calls of chosen states in both libraries.
+/// Makes pseudorandom calls on pseudorandom states in both libraries.
 fn compare<S: Clone + PartialEq + Debug>(
     calls: fn(Library) -> Calls<S>,
     new: fn(&mut Chooser) -> S,
@@ -121,7 +122,7 @@ fn wide(chooser: &mut Chooser) -> Wide {
     Wide { low, high }
 }
 
-/// Half of them begin near a carry or the end of the counter.
+/// A state. Half of them begin near a carry or the end of the counter.
 fn chacha(chooser: &mut Chooser) -> ChaChaState {
     let counter = chooser.end().wrapping_sub(chooser.number() % 8);
     let (key, nonce) = (chooser.bytes(), chooser.bytes());
@@ -132,7 +133,7 @@ fn chacha(chooser: &mut Chooser) -> ChaChaState {
     }
 }
 
-/// A number of buffered bytes, also more than a block has.
+/// A number of buffered bytes, sometimes more than a block has.
 fn buffered(chooser: &mut Chooser, block: usize) -> u64 {
     match chooser.below(4) {
         0 => chooser.end(),
@@ -186,7 +187,7 @@ fn the_calls_of_keystream() {
     compare(|library| library.keystream, group_stream);
 }
 
-/// Makes a call of both libraries, by so many choosers.
+/// Makes the call in both libraries, with a chooser for each of `seeds` seeds.
 fn both<T: PartialEq + Debug>(seeds: u64, call: impl Fn(&Library, Chooser) -> T) {
     let libraries = [one_library(), other_library()];
     for seed in 0..seeds {
@@ -249,7 +250,7 @@ fn digests() {
     });
 }
 
-/// A text of the bytes, of any length and at any address.
+/// A text of these bytes, of varying length and alignment.
 fn text(chooser: &mut Chooser, bytes: &[u8]) -> Vec<u8> {
     (0..chooser.below(20))
         .map(|_| bytes[chooser.below(bytes.len())])
@@ -265,7 +266,8 @@ fn lists() {
     });
 }
 
-/// Counts lists of 0 to 65,537 entrants, with and without an empty line at the end, and draws their places.
+/// Counts lists of 0 to 65,537 entrants, with and without an empty line at the end, and draws their
+/// places.
 #[test]
 fn lists_of_many() {
     for entrants in (0..=1025).chain([4095, 4096, 4097, 65_535, 65_536, 65_537]) {
@@ -286,7 +288,7 @@ fn lists_of_many() {
 #[test]
 fn draws() {
     both(20_000, |library, mut chooser| {
-        // Characters of one byte and of more, whole or in parts.
+        // Characters of one and of several bytes, and incomplete ones.
         let letters: [&[u8]; 3] = [b"abc 0", "aé😀".as_bytes(), b"\xff\xc0\0"];
         let kind = chooser.below(3);
         let seed = text(&mut chooser, letters[kind]);

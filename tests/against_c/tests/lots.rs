@@ -1,5 +1,5 @@
-//! The package `lots` and the proved static library give the same digests, count the same entrants, and draw the same
-//! places.
+//! The package `lots` and the static library (the proved one, or without the kit cargo's) return
+//! the same digests, count the same entrants, and draw the same places.
 
 use lots::{count_entrants, draw_places, sha256, LotsError};
 use nanorand_proved::{Rng, WyRand};
@@ -16,7 +16,7 @@ extern "C" {
     ) -> u8;
 }
 
-/// The digest of the text by both.
+/// Asserts that both compute the same digest of the text.
 fn assert_same_digest(text: &[u8]) {
     let mut digest = [0; 32];
     // SAFETY: the pointer and the length are those of the text.
@@ -24,7 +24,7 @@ fn assert_same_digest(text: &[u8]) {
     assert_eq!(sha256::digest(text), digest, "{text:?}");
 }
 
-/// More than a million texts: each length to 300 equally often.
+/// More than a million texts, with each length up to 300 equally often.
 #[test]
 fn digests_of_short_texts() {
     let mut rng = WyRand::new_seed(1);
@@ -37,7 +37,7 @@ fn digests_of_short_texts() {
     }
 }
 
-/// Lengths around whole blocks and powers of two, and texts of one byte alone.
+/// Lengths around whole blocks and powers of two, and texts of one repeated byte.
 #[test]
 fn digests_of_long_texts() {
     let mut rng = WyRand::new_seed(2);
@@ -56,7 +56,7 @@ fn digests_of_long_texts() {
     }
 }
 
-/// Lists of a few bytes, of which many are line feeds.
+/// Lists of a few bytes, many of which are line feeds.
 #[test]
 fn counts_of_entrants() {
     let mut rng = WyRand::new_seed(3);

@@ -11,7 +11,7 @@ use Rattle.std.specs.declared.ops.Bound.TheVariants.{Included, Excluded, Unbound
 use Rattle.draw_core.specs.Numbers.{IsPlain}
 use Rattle.draw_core.specs.Requests.{IsLow, IsHigh, IsRange}
 
--- What `split_once("..")` returns.
+-- The result of `split_once("..")`.
 abbrev pub IsSplit : List ℕ → Option (Bor (List ℕ) × Bor (List ℕ)) → Type 0
 IsSplit text r = MatchOption r (FindsText (codes "..") text None)
     (λ x. (i : ℕ) × (j : ℕ) × FindsText (codes "..") text (Some (i, j)) × (x.0.now ≡ take i text)
@@ -27,7 +27,7 @@ module _ (text before after : List ℕ) (whole : text ≡ before ++ codes ".." +
   within : length before < length text
   within = omega (arith, ap length joined, length-append before (codes ".." ++ after))
 
-  -- The bytes in front of the dots are those of `before`.
+  -- The bytes before the dots are those of `before`.
   byte_before : (i : ℕ) → i < length before → get_or text i 0 ≡ get_or before i 0
   byte_before i h = ap (λ l. get_or l i 0) joined ∙ get_or-append before (codes ".." ++ after) 0 i h
 
@@ -62,7 +62,7 @@ low_no_dot is_text plain before (Included n) said = (plain before n said).no_dot
 low_no_dot is_text plain before (Excluded n) said = absurd said
 low_no_dot is_text plain before Unbounded said = λ index within. absurd (omega (arith, ap length said))
 
--- The bounds of a range are those that the two parts give.
+-- The bounds of a range are those that its two parts give.
 pub parts_of_range : {N : Type 0} (is_text : List ℕ → N → Type 0)
     → ((text : List ℕ) (n : N) → is_text text n → IsPlain text)
     → (text : List ℕ) (r : Option (Bor (List ℕ) × Bor (List ℕ))) → IsSplit text r → (low high : Bound N)
@@ -73,7 +73,7 @@ parts_of_range is_text plain text (Some x) split low high said =
     let cut = split_at_dots text said.before said.after (Some x) split said.whole (low_no_dot is_text plain said.before low said.is_low) in
     (subst (λ l. IsLow is_text l low) (sym cut.0) said.is_low, subst (λ l. IsHigh is_text l high) (sym cut.1) said.is_high)
 
--- Two parts that give bounds are together the text of a range.
+-- Two parts that give bounds form the text of a range.
 pub range_from_parts : {N : Type 0} (is_text : List ℕ → N → Type 0)
     → (text : List ℕ) (before after : Bor (List ℕ)) (low high : Bound N) → IsSplit text (Some (before, after))
     → IsLow is_text before.now low → IsHigh is_text after.now high → IsRange is_text text low high

@@ -1,4 +1,4 @@
--- The arguments, read one by one: the requests, and then all of them.
+-- The arguments, read one by one: first the requests, then all arguments.
 use Rattle.std.proofs.Common.{◌≡◌, ℕ, ◌+◌, ◌<◌, ◌≤◌, ◌-◌, take, take_all, length-drop, Some, List, [], ◌∷◌, ◌++◌}
 use Rattle.std.proofs.Common.{length, drop, get_or, sym, ap, subst, ◌∙◌, append_assoc, drop-cons, add-one, arith}
 use Rattle.std.proofs.Common.{append-nil, zero, suc, get_or-drop}
@@ -13,7 +13,7 @@ pub text_at : {A : Type 0} (arguments : List (String A)) (index : ℕ) (argument
     → argument ≡ get_or arguments index argument → argument_at (texts arguments) index ≡ string_bytes argument
 text_at arguments index argument within is = get_or-map string_bytes arguments index argument [] within ∙ ap string_bytes (sym is)
 
--- After the last index nothing is left to read.
+-- After the last index, nothing is left to read.
 pub said_all : (arguments : List (List ℕ)) (calls : List Call) (index : ℕ) → length arguments ≤ index
     → ((rest : List Call) → AreRequests (drop index arguments) rest → AreRequests arguments (calls ++ rest))
     → AreRequests arguments calls
@@ -54,7 +54,7 @@ pub texts_from : {A : Type 0} (n : ℕ) (arguments : List (String A)) → texts 
 texts_from n arguments = ap texts (take_all (length arguments - n) (drop n arguments)
     (omega (arith, length-drop n arguments))) ∙ sym (drop-map string_bytes n arguments)
 
--- Two with equal fields are equal.
+-- Two records with equal fields are equal.
 pub same_asked : (a b : Asked) → a.generator ≡ b.generator → a.mode ≡ b.mode → a.count ≡ b.count → a.calls ≡ b.calls → a ≡ b
 same_asked a b generator mode count calls = λ i. record { generator = generator i; mode = mode i; count = count i; calls = calls i }
 
@@ -87,14 +87,15 @@ first_of_all arguments k one two three four bad = record {
   first = λ index within. before arguments bad.index one two three four bad.first index (omega (arith, bad.number));
 }
 
--- One argument is the first bad one.
+-- Only one argument is the first that cannot be read.
 pub one_first : (arguments : List (List ℕ)) (n k : ℕ) → IsFirstUnreadable arguments n → IsFirstUnreadable arguments k → n ≡ k
 one_first arguments n k one other =
     let below : n < k → ⊥ = λ less. one.unreadable (other.first (n - 1) (omega (arith, one.counted, less))) in
     let above : k < n → ⊥ = λ more. other.unreadable (one.first (k - 1) (omega (arith, other.counted, more))) in
     omega (arith, below, above)
 
--- Of the first four, an argument that cannot be read after those that can is the first bad one.
+-- Among the first four arguments, one that cannot be read after others that can is the first that
+-- cannot be read.
 is_first : (arguments : List (List ℕ)) (n : ℕ) → n < 4 → (IsReadable arguments n → ⊥)
     → ((index : ℕ) → index < n → IsReadable arguments index) → IsFirstUnreadable arguments (suc n)
 is_first arguments n small bad readable = record {
@@ -116,7 +117,7 @@ second_is_bad arguments one bad = is_first arguments 1 (omega arith) bad
 pub third_is_bad : (arguments : List (List ℕ)) → IsReadable arguments 0 → IsReadable arguments 1 → (IsReadable arguments 2 → ⊥) → IsFirstUnreadable arguments 3
 third_is_bad arguments one two bad = is_first arguments 2 (omega arith) bad (readable_two arguments one two)
 
--- If the first four can be read, none of them is bad.
+-- If the first four arguments can be read, none of them is the first that cannot be read.
 pub none_is_bad : (arguments : List (List ℕ)) → IsReadable arguments 0 → IsReadable arguments 1
     → IsReadable arguments 2 → IsReadable arguments 3 → (k : ℕ) → k ≤ 4 → IsFirstUnreadable arguments k → ⊥
 none_is_bad arguments one two three four k small first =

@@ -1,4 +1,5 @@
--- The texts of numbers are plain. Lemmas that laws of impls cite: nobody has to believe them.
+-- The texts of numbers are plain. These are lemmas that the laws of impls use; a reader need not
+-- trust them.
 use Rattle.std.proofs.Common.{◌≡◌, ◌≢◌, ℕ, ◌<◌, Bool, true, false, if◌then◌else◌, eqb-true, refl, zero, suc, List, [], ◌∷◌, length, drop, get_or, arith}
 use Rattle.std.proofs.lemmas.Str.Parse.{digit_at}
 use Rattle.std.specs.Int.{Width}

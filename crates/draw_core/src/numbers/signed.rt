@@ -1,4 +1,4 @@
-//! Signed numbers: decimal digits after at most one minus, with a value that fits the type.
+//! Signed numbers: decimal digits after at most one minus sign, with a value that fits the type.
 
 ghost use Rattle.std.specs.Int.{w8, w16, w32, w64};
 ghost use Rattle.draw_core.specs.Numbers.{IsSigned};

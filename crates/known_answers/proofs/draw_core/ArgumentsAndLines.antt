@@ -55,11 +55,11 @@ bool_of_zero : answers seed_of_zero kinds.Bool ≡ Truth true ∷ []
 unfolding taken
 bool_of_zero = refl
 
--- A line for each answer, and no line of items if there are none.
+-- One line for each answer, and no line of items if there are none.
 lines_of_truths : text_of (record { answers = Truth true ∷ Truth false ∷ []; items = [] }) ≡ codes "true" ++ 10 ∷ codes "false" ++ 10 ∷ []
 lines_of_truths = refl
 
--- Refusals, a shuffle, a negative number, and the items on the last line.
+-- Errors, a shuffle, a negative number, and the items on the last line.
 lines_of_all_kinds : text_of (record { answers = Unsigned 7 ∷ Signed (negsuc 0) ∷ Empty ∷ Exhausted ∷ Shuffled ∷ []; items = 1 ∷ 0 ∷ 2 ∷ [] })
     ≡ codes "7" ++ 10 ∷ codes "-1" ++ 10 ∷ codes "empty" ++ 10 ∷ codes "exhausted" ++ 10 ∷ codes "shuffled" ++ 10 ∷ codes "items: 1 0 2" ++ 10 ∷ []
 lines_of_all_kinds =

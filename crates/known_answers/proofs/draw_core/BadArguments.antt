@@ -53,7 +53,7 @@ short_seed = record {
   first = name_before;
 }
 
--- Three good arguments, and more after them.
+-- Three readable arguments, followed by others.
 abbrev behind_three : List (List ℕ) → List (List ℕ)
 behind_three arguments = codes "wyrand" ∷ codes "d29b42879be2895f" ∷ codes "plain" ∷ arguments
 
@@ -81,7 +81,7 @@ four_before arguments (suc (suc (suc zero))) within = (0, no_items)
 four_before arguments (suc (suc (suc (suc index)))) within = absurd (omega (arith, within))
 four_before arguments index within = three_before (codes "0" ∷ arguments) index (omega (arith, within))
 
--- The first request is bad.
+-- The first request cannot be read.
 bad_request : (argument : List ℕ) → ((call : Call) → IsRequest argument call → ⊥) → IsFirstUnreadable (behind_three (codes "0" ∷ argument ∷ [])) 5
 bad_request argument none = record {
   counted = omega arith;
@@ -99,7 +99,7 @@ bound_missing = bad_request (codes "u8:5..=") no_u8_to_nothing
 range_of_no_range_type : IsFirstUnreadable (behind_three (codes "0" ∷ codes "u128:1..2" ∷ [])) 5
 range_of_no_range_type = bad_request (codes "u128:1..2") no_range_of_u128
 
--- A good request, and then a bad one.
+-- A readable request, followed by one that cannot be read.
 five_before : (index : ℕ) → index + 1 < 6 → IsReadable (behind_three (codes "0" ∷ codes "u8" ∷ codes "u9" ∷ [])) index
 five_before (suc (suc (suc (suc zero)))) before = (Gen kinds.U8, refl)
 five_before (suc (suc (suc (suc (suc index))))) before = absurd (omega (arith, before))

@@ -114,7 +114,7 @@ no_300 (Included n) (digits, text, said) = differ 0 text (omega arith)
 no_300 (Excluded n) said = omega (arith, said.value, said.fits)
 no_300 Unbounded said = differ 0 said (omega arith)
 
--- After the `=` a number is missing.
+-- The number after the `=` is missing.
 no_end : (high : Bound ℕ) → IsHigh (IsUnsigned 8) (codes "=") high → ⊥
 no_end (Included n) (digits, text, said) = let none : []
     ≡ digits = ap (drop 1) text in let some : 0 < length digits = said.digits.0 in omega (arith, some, ap length none)

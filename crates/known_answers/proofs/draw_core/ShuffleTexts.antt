@@ -20,7 +20,7 @@ use Rattle.nanorand_replay.specs.declared.replay.Answer.TheVariants.{Empty}
 use Rattle.draw_core.specs.Text.{text_of, text_asked}
 use Rattle.known_answers.proofs.draw_core.CommandLines.{empty_and_shuffle, shuffle_in_order, shuffle_of_zeros, in_order}
 
--- Past its high bound a range has no numbers, so it is computed without listing all 2^64.
+-- A range has no numbers beyond its high bound, so it is computed without listing all 2^64 numbers.
 none_past : (low end a n : ℕ) → end ≤ a → filter (λ x. nat_le low x && nat_lt x end) (map unsigned_number (range_with_len a n)) ≡ []
 none_past low end a zero past = refl
 none_past low end a (suc n) past = rw (and_right (nat_le low a) (nat_lt a end) (le-ltb a end past)) (none_past low end (a + 1) n (omega arith))
@@ -103,7 +103,7 @@ unfolding digits
 text_of_shuffle_in_order =
     (λ i. text_of (record { answers = shuffle_call_answer (ordered_choices.1 i) ∷ []; items = arranged (ordered_choices.0 i) (0 ∷ 1 ∷ 2 ∷ []) })) ∙ refl
 
--- The zero key and nonce, buffered: one block gives all three choices.
+-- The zero key and nonce, buffered: all three choices come from one block.
 abbrev buffered_requests : Requests (Buffered (List ℕ))
 buffered_requests = buffered (chacha_block 20) next_state 64
 

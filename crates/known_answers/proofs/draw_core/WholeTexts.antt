@@ -35,7 +35,7 @@ text_of_u8 : text_asked (of_one Plain (Gen kinds.U8 ∷ [])) ≡ codes "218" ++ 
 unfolding taken digits
 text_of_u8 = refl
 
--- Another last argument.
+-- The same with another last argument.
 abbrev first_four : List (List ℕ)
 first_four = codes "wyrand" ∷ codes "d29b42879be2895f" ∷ codes "plain" ∷ codes "0" ∷ []
 

@@ -8,7 +8,7 @@ use Rattle.std.specs.Fn.{iterate}
 use Rattle.nanorand_core.specs.generators.Blocks.{taken, plain_after}
 use Rattle.nanorand.specs.support.ChaChaInverse.{unquarter_round}
 
--- the zero key and nonce
+-- The zero key and nonce.
 pub vector_1 : chacha_block 20 (initial_state (replicate 32 0) (replicate 8 0))
     ≡ 0x76 ∷ 0xb8 ∷ 0xe0 ∷ 0xad ∷ 0xa0 ∷ 0xf1 ∷ 0x3d ∷ 0x90 ∷ 0x40 ∷ 0x5d ∷ 0x6a ∷ 0xe5 ∷ 0x53 ∷ 0x86 ∷ 0xbd ∷ 0x28
     ∷ 0xbd ∷ 0xd2 ∷ 0x19 ∷ 0xb8 ∷ 0xa0 ∷ 0x8d ∷ 0xed ∷ 0x1a ∷ 0xa8 ∷ 0x36 ∷ 0xef ∷ 0xcc ∷ 0x8b ∷ 0x77 ∷ 0x0d ∷ 0xc7
@@ -17,7 +17,7 @@ pub vector_1 : chacha_block 20 (initial_state (replicate 32 0) (replicate 8 0))
 unfolding quarter_round on_columns on_diagonals rounds block initial_state
 vector_1 = refl
 
--- the key 0, 1, .., 31 and the nonce 0, 1, .., 7: the first block
+-- The first block of the key 0, 1, .., 31 and the nonce 0, 1, .., 7.
 pub vector_5 : chacha_block 20 (initial_state (range_with_len 0 32) (range_with_len 0 8))
     ≡ 0xf7 ∷ 0x98 ∷ 0xa1 ∷ 0x89 ∷ 0xf1 ∷ 0x95 ∷ 0xe6 ∷ 0x69 ∷ 0x82 ∷ 0x10 ∷ 0x5f ∷ 0xfb ∷ 0x64 ∷ 0x0b ∷ 0xb7 ∷ 0x75
     ∷ 0x7f ∷ 0x57 ∷ 0x9d ∷ 0xa3 ∷ 0x16 ∷ 0x02 ∷ 0xfc ∷ 0x93 ∷ 0xec ∷ 0x01 ∷ 0xac ∷ 0x56 ∷ 0xf8 ∷ 0x5a ∷ 0xc3 ∷ 0xc1
@@ -26,8 +26,9 @@ pub vector_5 : chacha_block 20 (initial_state (range_with_len 0 32) (range_with_
 unfolding quarter_round on_columns on_diagonals rounds block initial_state
 vector_5 = refl
 
--- Columns and diagonals by one formula: a line has slant 0 (a column) or 1 (a diagonal), and index
--- 4 * r + (j + slant * r) % 4 in row r. The word in row r and column c is word r of its line.
+-- Columns and diagonals by one formula. A line has the slant 0 (a column) or 1 (a diagonal), and in
+-- row r the index 4 * r + (j + slant * r) % 4. The word in row r and column c is word r of its
+-- line.
 abbrev place : ℕ → ℕ → ℕ → ℕ
 place slant j r = 4 * r + (j + slant * r) % 4
 
@@ -56,7 +57,8 @@ pub on_diagonals_is : (f : Words → Words) (x : List ℕ) → on_lines 1 f x �
 unfolding on_diagonals
 on_diagonals_is f x = refl
 
--- the low half of the counter carries into its high half, and the greatest counter is followed by 0
+-- The low half of the counter carries into its high half, and the greatest counter is followed by
+-- 0.
 abbrev counting : ℕ → ℕ → List ℕ
 counting low high = replicate 12 5 ++ low ∷ high ∷ 5 ∷ 5 ∷ []
 
@@ -66,23 +68,23 @@ carried = refl
 after_the_greatest : next_state (counting 0xffffffff 0xffffffff) ≡ counting 0 0
 after_the_greatest = refl
 
--- 2^32 draws at once, and a full cycle of 2^64
+-- A jump by 2^32 draws, and one by a full cycle of 2^64 draws.
 jumped : chacha_after (2 ^ 32) (counting 7 0) ≡ counting 7 1
 jumped = refl
 
 all_round : chacha_after (2 ^ 64) (counting 7 9) ≡ counting 7 9
 all_round = refl
 
--- after zero rounds the block is twice the matrix, word by word
+-- After zero rounds, the block is twice the matrix, word by word.
 no_rounds : block 0 (counting 7 0x80000001) ≡ replicate 12 10 ++ 14 ∷ 2 ∷ 10 ∷ 10 ∷ []
 unfolding rounds block
 no_rounds = refl
 
--- the four 32-bit words of the constant
+-- The four 32-bit words of the constant.
 constant_words : words (codes "expand 32-byte k") ≡ 0x61707865 ∷ 0x3320646e ∷ 0x79622d32 ∷ 0x6b206574 ∷ []
 constant_words = refl
 
--- a key of 31 zeros and a one
+-- A key of 31 zeros and a one.
 vector_2 : chacha_block 20 (initial_state (replicate 31 0 ++ 1 ∷ []) (replicate 8 0))
     ≡ 0x45 ∷ 0x40 ∷ 0xf0 ∷ 0x5a ∷ 0x9f ∷ 0x1f ∷ 0xb2 ∷ 0x96 ∷ 0xd7 ∷ 0x73 ∷ 0x6e ∷ 0x7b ∷ 0x20 ∷ 0x8e ∷ 0x3c ∷ 0x96
     ∷ 0xeb ∷ 0x4f ∷ 0xe1 ∷ 0x83 ∷ 0x46 ∷ 0x88 ∷ 0xd2 ∷ 0x60 ∷ 0x4f ∷ 0x45 ∷ 0x09 ∷ 0x52 ∷ 0xed ∷ 0x43 ∷ 0x2d ∷ 0x41
@@ -91,7 +93,7 @@ vector_2 : chacha_block 20 (initial_state (replicate 31 0 ++ 1 ∷ []) (replicat
 unfolding quarter_round on_columns on_diagonals rounds block initial_state
 vector_2 = refl
 
--- a nonce of seven zeros and a one, the first 60 bytes
+-- A nonce of seven zeros and a one, the first 60 bytes.
 vector_3 : take 60 (chacha_block 20 (initial_state (replicate 32 0) (replicate 7 0 ++ 1 ∷ [])))
     ≡ 0xde ∷ 0x9c ∷ 0xba ∷ 0x7b ∷ 0xf3 ∷ 0xd6 ∷ 0x9e ∷ 0xf5 ∷ 0xe7 ∷ 0x86 ∷ 0xdc ∷ 0x63 ∷ 0x97 ∷ 0x3f ∷ 0x65 ∷ 0x3a
     ∷ 0x0b ∷ 0x49 ∷ 0xe0 ∷ 0x15 ∷ 0xad ∷ 0xbf ∷ 0xf7 ∷ 0x13 ∷ 0x4f ∷ 0xcb ∷ 0x7d ∷ 0xf1 ∷ 0x37 ∷ 0x82 ∷ 0x10 ∷ 0x31
@@ -100,7 +102,7 @@ vector_3 : take 60 (chacha_block 20 (initial_state (replicate 32 0) (replicate 7
 unfolding quarter_round on_columns on_diagonals rounds block initial_state
 vector_3 = refl
 
--- a nonce of a one and seven zeros
+-- A nonce of a one and seven zeros.
 vector_4 : chacha_block 20 (initial_state (replicate 32 0) (1 ∷ replicate 7 0))
     ≡ 0xef ∷ 0x3f ∷ 0xdf ∷ 0xd6 ∷ 0xc6 ∷ 0x15 ∷ 0x78 ∷ 0xfb ∷ 0xf5 ∷ 0xcf ∷ 0x35 ∷ 0xbd ∷ 0x3d ∷ 0xd3 ∷ 0x3b ∷ 0x80
     ∷ 0x09 ∷ 0x63 ∷ 0x16 ∷ 0x34 ∷ 0xd2 ∷ 0x1e ∷ 0x42 ∷ 0xac ∷ 0x33 ∷ 0x96 ∷ 0x0b ∷ 0xd1 ∷ 0x38 ∷ 0xe5 ∷ 0x0d ∷ 0x32
@@ -109,7 +111,7 @@ vector_4 : chacha_block 20 (initial_state (replicate 32 0) (1 ∷ replicate 7 0)
 unfolding quarter_round on_columns on_diagonals rounds block initial_state
 vector_4 = refl
 
--- the key 0, 1, .., 31 and the nonce 0, 1, .., 7: the blocks after the first
+-- The later blocks of the key 0, 1, .., 31 and the nonce 0, 1, .., 7.
 abbrev in_order : List ℕ
 in_order = initial_state (range_with_len 0 32) (range_with_len 0 8)
 
@@ -137,7 +139,7 @@ vector_5_fourth : chacha_block 20 (chacha_after 3 in_order)
 unfolding quarter_round on_columns on_diagonals rounds block initial_state
 vector_5_fourth = refl
 
--- a request of 256 bytes takes four blocks and leaves the state after them
+-- A request of 256 bytes takes four blocks and leaves the state after them.
 four_blocks_taken : taken (chacha_block 20) next_state in_order 256
     ≡ chacha_block 20 (chacha_after 0 in_order) ++ chacha_block 20 (chacha_after 1 in_order)
     ++ chacha_block 20 (chacha_after 2 in_order) ++ chacha_block 20 (chacha_after 3 in_order)
@@ -148,12 +150,12 @@ state_after_four : plain_after next_state 64 in_order 256 ≡ chacha_after 4 in_
 unfolding initial_state
 state_after_four = refl
 
--- a 40-byte seed is the key and then the nonce
+-- A seed of 40 bytes is the key followed by the nonce.
 seeded_in_order : seeded_state (range_with_len 0 32 ++ range_with_len 0 8) ≡ in_order
 unfolding initial_state
 seeded_in_order = refl
 
--- zero rounds change nothing, and eight rounds of a zero matrix give zeros
+-- Zero rounds change nothing, and eight rounds of a zero matrix are zeros.
 no_rounds_at_all : (x : List ℕ) → rounds 0 x ≡ x
 unfolding rounds
 no_rounds_at_all x = refl
@@ -166,7 +168,7 @@ eight_rounds_of_zeros : block 8 (replicate 16 0) ≡ replicate 16 0
 unfolding quarter_round on_columns on_diagonals rounds block
 eight_rounds_of_zeros = refl
 
--- twenty rounds, undone by ten inverse double rounds
+-- Ten inverse double rounds undo twenty rounds.
 twenty_rounds_undone : iterate (λ x. on_columns unquarter_round (on_diagonals unquarter_round x)) 10 (rounds 20 in_order) ≡ in_order
 unfolding quarter_round unquarter_round on_columns on_diagonals rounds initial_state
 twenty_rounds_undone = refl

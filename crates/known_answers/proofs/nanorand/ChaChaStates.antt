@@ -9,7 +9,7 @@ use Rattle.nanorand_replay.specs.generators.Buffered.{buffer_of, buffered_taken,
 use Rattle.nanorand.specs.generators.ChaChaRounds.{block, quarter_round, on_columns, on_diagonals, rounds}
 use Rattle.nanorand.specs.generators.ChaChaGroups.{chacha_group, next_group, stream_position, stream_requests, stream_start}
 
--- the ASCII text as four words
+-- The ASCII text as four words.
 the_constants : constants ≡ 0x61707865 ∷ 0x3320646e ∷ 0x79622d32 ∷ 0x6b206574 ∷ []
 the_constants = refl
 
@@ -50,7 +50,7 @@ first_state : of_zeros ≡ counting_from 0 0
 unfolding initial_state
 first_state = refl
 
--- a jump of 2^32 - 1 draws, and then one draw
+-- A jump by 2^32 - 1 draws, and then one draw.
 into_the_high_half : next_state (chacha_after (2 ^ 32 - 1) of_zeros) ≡ counting_from 0 1
 unfolding initial_state
 into_the_high_half = refl
@@ -59,7 +59,7 @@ counter_in_the_high_half : counter (next_state (chacha_after (2 ^ 32 - 1) of_zer
 unfolding initial_state
 counter_in_the_high_half = refl
 
--- a jump of 2^64 - 1 draws reaches the greatest counter, and one more draw the first state
+-- A jump by 2^64 - 1 draws leads to the greatest counter, and one more draw to the first state.
 at_the_greatest : chacha_after (2 ^ 64 - 1) of_zeros ≡ counting_from 0xffffffff 0xffffffff
 unfolding initial_state
 at_the_greatest = refl
@@ -72,11 +72,11 @@ counter_of_the_first : counter (next_state (chacha_after (2 ^ 64 - 1) of_zeros))
 unfolding initial_state
 counter_of_the_first = refl
 
--- so the block after that of the greatest counter is the first block of the zero key and nonce
+-- So the block after that of the greatest counter is the first block of the zero key and nonce.
 second_is_the_first : chacha_block 20 (next_state (chacha_after (2 ^ 64 - 1) of_zeros)) ≡ chacha_block 20 of_zeros
 second_is_the_first = ap (chacha_block 20) round_to_the_first
 
--- and a buffer delivers it after the block of the greatest counter, and buffers nothing
+-- A buffer delivers it after the block of the greatest counter, and buffers nothing.
 behind_the_greatest : drop 64 (buffered_taken (chacha_block 20) next_state 64
     (buffer_of [] (chacha_after (2 ^ 64 - 1) of_zeros)) 128) ≡ chacha_block 20 of_zeros
 unfolding buffered_taken block initial_state
@@ -86,7 +86,7 @@ nothing_kept : buffered_after (chacha_block 20) next_state 64 (buffer_of [] (cha
 unfolding buffered_after block initial_state
 nothing_kept = refl
 
--- the stream of the zero key and nonce
+-- The stream of the zero key and nonce.
 abbrev zeros : Buffered (List ℕ)
 zeros = buffer_of [] (initial_state (replicate 32 0) (replicate 8 0))
 
@@ -95,7 +95,8 @@ first_bytes : (stream_requests 20).bytes zeros 8
 unfolding quarter_round on_columns on_diagonals rounds block initial_state chacha_group next_group buffered_taken
 first_bytes = refl
 
--- a group of eight blocks is drawn, and five bytes of it are gone
+-- After a request of five bytes, a group of eight blocks was drawn, and its first five bytes were
+-- delivered.
 group_drawn : ((stream_requests 20).after zeros 5).inner ≡ with_counter (zeros.inner) 8
 unfolding quarter_round on_columns on_diagonals rounds block initial_state chacha_group next_group buffered_after
 group_drawn = refl
@@ -104,7 +105,7 @@ fifth : stream_position ((stream_requests 20).after zeros 5) ≡ 5
 unfolding quarter_round on_columns on_diagonals rounds block initial_state chacha_group next_group buffered_after
 fifth = refl
 
--- a buffered byte before counter 0 is the last byte of the stream
+-- With one buffered byte and the counter 0, the position is that of the last byte of the stream.
 last : stream_position (buffer_of (7 ∷ []) (with_counter zeros.inner 0)) ≡ 2 ^ 70 - 1
 unfolding initial_state
 last = refl

@@ -25,7 +25,7 @@ use Rattle.known_answers.proofs.nanorand_replay.Replays.{goes_on, whole_shuffle}
 abbrev plain_requests : Requests (List ℕ)
 plain_requests = chacha_requests 20
 
--- the key 0, 1, .., 31 and the nonce 0, 1, .., 7, a block for each partner
+-- The key 0, 1, .., 31 and the nonce 0, 1, .., 7: each partner takes a block.
 abbrev in_order : ℕ → List ℕ
 in_order n = chacha_after n (initial_state (range_with_len 0 32) (range_with_len 0 8))
 
@@ -47,7 +47,7 @@ ordered_key_in_full =
     (between 1 (in_order 1) (omega arith) (omega arith) ∙ refl)
     (between 2 (in_order 2) (omega arith) (omega arith) ∙ refl)
 
--- the zero key and nonce, buffered: one block for all partners
+-- The zero key and nonce, buffered: all partners come from one block.
 abbrev buffered_requests : Requests (Buffered (List ℕ))
 buffered_requests = buffered (chacha_block 20) next_state 64
 
@@ -75,7 +75,7 @@ zero_key_in_full =
     (between 1 (zeros_from 8) (omega arith) (omega arith) ∙ refl)
     (between 2 (zeros_from 16) (omega arith) (omega arith) ∙ refl)
 
--- what these choices make of 0, 1, 2
+-- What these choices make from 0, 1, 2.
 ordered_key_items : arranged (1 ∷ 2 ∷ 2 ∷ []) (rising 3) ≡ 1 ∷ 2 ∷ 0 ∷ []
 ordered_key_items = refl
 
@@ -88,7 +88,7 @@ zero_key_items = refl
 zero_key_items_in_full : arranged (1 ∷ 0 ∷ 0 ∷ []) (rising 3) ≡ 2 ∷ 1 ∷ 0 ∷ []
 zero_key_items_in_full = refl
 
--- the two shuffles as calls
+-- The two shuffles as calls.
 replay_of_ordered_key : replayed plain_requests (in_order 0) (rising 3) (Shuffle ∷ [])
     ≡ record { answers = Shuffled ∷ []; items = 1 ∷ 2 ∷ 0 ∷ []; state = in_order 3 }
 replay_of_ordered_key =
@@ -99,7 +99,7 @@ replay_of_zero_key : replayed buffered_requests (buffer_of [] of_zeros) (rising 
 replay_of_zero_key =
     ap (goes_on buffered_requests [] []) (whole_shuffle buffered_requests (buffer_of [] of_zeros) (zeros_from 24) (1 ∷ 1 ∷ 2 ∷ []) 0 1 2 zero_key)
 
--- one item stays where it is, and one word is drawn
+-- One item stays where it is, and one word is drawn.
 abbrev seed_of_zero : ℕ
 seed_of_zero = 0x5f89e29b87429bd1
 
@@ -120,7 +120,7 @@ one_word_drawn =
     ap (λ choices. state_after_places wyrand_requests from_itself 1 0 (min 1 (length choices + 1)) seed_of_zero) one_choice
     ∙ ap (λ drawn. drawn.1) one_partner
 
--- an empty range and that shuffle
+-- An empty range, and that shuffle.
 empty_and_shuffle : replayed wyrand_requests seed_of_zero (0 ∷ []) (Range (spans.U8 (Included 5) (Excluded 5)) ∷ Shuffle ∷ [])
     ≡ record { answers = Empty ∷ Shuffled ∷ []; items = 0 ∷ []; state = next_seed seed_of_zero }
 unfolding range_within value_drawn left_by

@@ -5,7 +5,7 @@ use Rattle.nanorand_replay.specs.generators.Buffered.{buffer_of, buffered_taken,
 use Rattle.nanorand_core.specs.values.Values.{number_of}
 use Rattle.nanorand.specs.generators.WyRand.{next_seed, word, wyrand_block, wyrand_after}
 
--- the new seed 0, and the new seed equal to the xored constant, give 0
+-- The word of the new seed 0, and of the new seed that equals the xored constant, is 0.
 word_of_zero : wyrand_block 0x5f89e29b87429bd1 ≡ 0 ∷ 0 ∷ 0 ∷ 0 ∷ 0 ∷ 0 ∷ 0 ∷ 0 ∷ []
 word_of_zero = refl
 
@@ -33,16 +33,16 @@ half_way_round = refl
 one_draw_short_of_a_round : wyrand_after (2 ^ 64 - 1) 0 ≡ 0x5f89e29b87429bd1
 one_draw_short_of_a_round = refl
 
--- a thousand draws, one by one and in closed form
+-- A thousand draws, one by one and in closed form.
 thousand_draws : iterate next_seed 1000 0 ≡ wyrand_after 1000 0
 thousand_draws = refl
 
--- five bytes from any seed leave three bytes buffered
+-- After five bytes from any seed, three bytes stay buffered.
 three_kept : (seed : ℕ) → length (buffered_after wyrand_block next_seed 8 (buffer_of [] seed) 5).rest ≡ 3
 unfolding buffered_after
 three_kept seed = refl
 
--- a new seed takes effect after the bytes that are already buffered
+-- A new seed takes effect after the bytes that are already buffered.
 five_bytes : buffered_taken wyrand_block next_seed 8 (buffer_of [] 0x5f89e29b87429bd2) 5 ≡ 218 ∷ 40 ∷ 180 ∷ 160 ∷ 209 ∷ []
 unfolding buffered_taken
 five_bytes = refl

@@ -1,5 +1,5 @@
--- Known answers: where runs begin and how many words they have; ranges decided by their first word, by a
--- word after rejected ones, and by none.
+-- Known answers: where runs begin and how many words they have; ranges that are decided by their
+-- first word, by a word after rejected ones, and by none.
 use Rattle.std.specs.Prelude.{◌≡◌, ◌%◌, ◌==◌, [], ◌∷◌, is_none, map, refl, ℕ, ◌+◌, ◌-◌, ◌^◌, ℤ, List, ◌++◌, Some, None, Result, Ok, Err, replicate, pos, negsuc}
 use Rattle.std.specs.List.{range_with_len}
 use Rattle.nanorand_core.specs.values.Runs.{named, quota, rejected, first_word, words_that}
@@ -15,7 +15,7 @@ use Rattle.nanorand_core.specs.declared.values.range.RangeError.TheVariants.{Emp
 use Rattle.nanorand_core.proofs.lemmas.ranges.RunLemmas.{picks, rejects, names-itself}
 use Rattle.known_answers.proofs.nanorand_core.SmallGenerators.{script}
 
--- for the size 3 each number has 85 bytes, and one byte is rejected
+-- For the size 3, each number is drawn by 85 bytes, and one byte is rejected.
 runs_of_three : map (first_word 8 3) (0 ∷ 1 ∷ 2 ∷ []) ≡ 1 ∷ 86 ∷ 171 ∷ []
 runs_of_three = refl
 
@@ -26,12 +26,12 @@ words_of_three : map (λ k. words_that 8 (λ word. passes (λ j. j == k) (named 
 unfolding named words_that
 words_of_three = refl
 
--- for the size 6, a die, each number has 42 bytes, and four bytes are rejected
+-- For the size 6, a die, each number is drawn by 42 bytes, and four bytes are rejected.
 words_of_six : map (λ k. words_that 8 (λ word. passes (λ j. j == k) (named 8 6 word))) (range_with_len 0 6) ≡ 42 ∷ 42 ∷ 42 ∷ 42 ∷ 42 ∷ 42 ∷ []
 unfolding named words_that
 words_of_six = refl
 
--- for each size up to 16, and for 171, 256 modulo the size bytes are rejected
+-- For each size up to 16, and for 171, the number of rejected bytes is 256 modulo the size.
 rejected_bytes : map (λ size. words_that 8 (λ word. is_none (named 8 size word))) (range_with_len 1 16) ≡ map (λ size. 256 % size) (range_with_len 1 16)
 unfolding named words_that
 rejected_bytes = refl
@@ -40,16 +40,16 @@ rejected_of_171 : words_that 8 (λ word. is_none (named 8 171 word)) ≡ 85
 unfolding named words_that
 rejected_of_171 = refl
 
--- the outcome of a range, drawn from a list of bytes, each a block of eight equal bytes, with zeros
--- after the list; the state is the number of blocks drawn
+-- The outcome of a range with the bytes of a list, each of which is a block of eight equal bytes,
+-- and with zeros after the list. The state is the number of blocks drawn.
 abbrev unsigned_by : ℕ → List ℕ → Bound ℕ → Bound ℕ → Result ℕ RangeError × ℕ
 unsigned_by drawn bytes low high = unsigned_outcome (script bytes) 8 drawn low high
 
 abbrev signed_by : List ℕ → Bound ℤ → Bound ℤ → Result ℤ RangeError × ℕ
 signed_by bytes low high = signed_outcome (script bytes) 8 0 low high
 
--- u8: the greatest number; four numbers by word 0; 10..=12 by the last of 128 words, and by a word
--- that comes too late and decides the next call
+-- u8: the greatest number; four numbers drawn by the word 0; 10..=12 drawn by the last of 128
+-- words; and a word that comes too late and decides the next call.
 greatest_byte : unsigned_by 0 (255 ∷ []) Unbounded Unbounded ≡ (Ok 255, 1)
 unfolding named range_within words_from value_drawn left_by left_after taken
 greatest_byte = refl
@@ -70,7 +70,7 @@ same_call_again : unsigned_by 128 (replicate 128 0 ++ 1 ∷ []) (Included 10) (I
 unfolding named range_within words_from value_drawn left_by left_after taken
 same_call_again = refl
 
--- i8: the whole type, and parts of it
+-- i8: the whole type, and parts of it.
 middle_of_all : signed_by (128 ∷ []) Unbounded Unbounded ≡ (Ok (pos 0), 1)
 unfolding named range_within words_from value_drawn left_by left_after taken
 middle_of_all = refl
@@ -87,12 +87,12 @@ all_but_the_least : signed_by (0 ∷ 1 ∷ []) (Excluded (negsuc 127)) Unbounded
 unfolding named range_within words_from value_drawn left_by left_after taken
 all_but_the_least = refl
 
--- a range of one number accepts every word of 8 bits
+-- A range of one number accepts every word of 8 bits.
 one_by_every_word : map (λ word. signed_by (word ∷ []) (Excluded (pos 5)) (Included (pos 6))) (range_with_len 0 256) ≡ replicate 256 (Ok (pos 6), 1)
 unfolding named range_within words_from value_drawn left_by left_after taken
 one_by_every_word = refl
 
--- empty ranges draw nothing
+-- Empty ranges draw nothing.
 nothing_below_itself : unsigned_by 0 [] (Included 10) (Included 9) ≡ (Err Empty, 0)
 unfolding named range_within words_from value_drawn left_by left_after taken
 nothing_below_itself = refl
@@ -121,8 +121,8 @@ nothing_below_the_least : signed_by [] Unbounded (Excluded (negsuc 127)) ≡ (Er
 unfolding named range_within words_from value_drawn left_by left_after taken
 nothing_below_the_least = refl
 
--- words of 64 bits: for a size of 2^63 + 1 the first words are rejected and accepted by turns, and
--- for 2^64 each word names itself
+-- Words of 64 bits. For the size 2^63 + 1, the first words are rejected and accepted alternately.
+-- For the size 2^64, each word draws itself.
 none_by_zero : named 64 (2 ^ 63 + 1) 0 ≡ None
 none_by_zero = rejects 64 (2 ^ 63 + 1) 0 (omega arith) (omega arith)
 

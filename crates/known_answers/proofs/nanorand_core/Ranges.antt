@@ -1,5 +1,5 @@
--- Known answers: ranges by their bounds, the nine pairs of kinds of bounds and both ends of the types, and
--- draws from them.
+-- Known answers: ranges by their bounds, for the nine pairs of kinds of bounds and both ends of the
+-- types; and draws from them.
 use Rattle.std.specs.Prelude.{◌≡◌, ◌+◌, ◌==◌, [], ◌∷◌, Some, None, Ok, Err, replicate, pos, negsuc, ◌++◌, map, nat_lt, refl}
 use Rattle.std.specs.Ordering.{int_eq}
 use Rattle.std.specs.declared.ops.Bound.TheVariants.{Included, Excluded, Unbounded}
@@ -12,7 +12,7 @@ use Rattle.nanorand_core.specs.declared.values.range.RangeError.TheVariants.{Emp
 use Rattle.known_answers.proofs.nanorand_core.SmallGenerators.{script, steps}
 use Rattle.std.specs.List.{range_with_len}
 
--- the numbers that words of 8 bits name, for the sizes 3, 171 and 256
+-- The numbers that words of 8 bits draw, for the sizes 3, 171 and 256.
 thirds_of_a_byte : map (named 8 3) (0 ∷ 1 ∷ 85 ∷ 86 ∷ 170 ∷ 171 ∷ 255 ∷ []) ≡ None ∷ Some 0 ∷ Some 0 ∷ Some 1 ∷ Some 1 ∷ Some 2 ∷ Some 2 ∷ []
 unfolding named
 thirds_of_a_byte = refl
@@ -25,7 +25,7 @@ every_byte : map (named 8 256) (0 ∷ 255 ∷ []) ≡ Some 0 ∷ Some 255 ∷ []
 unfolding named
 every_byte = refl
 
--- ranges of u8
+-- Ranges of u8.
 closed_range : unsigned_range 8 (Included 10) (Included 12) ≡ 10 ∷ 11 ∷ 12 ∷ []
 unfolding range_within
 closed_range = refl
@@ -42,7 +42,7 @@ range_of_the_greatest : unsigned_range 8 (Excluded 254) Unbounded ≡ 255 ∷ []
 unfolding range_within
 range_of_the_greatest = refl
 
--- ranges of i8
+-- Ranges of i8.
 range_about_zero : signed_range 8 (Excluded (negsuc 1)) (Excluded (pos 2)) ≡ negsuc 0 ∷ pos 0 ∷ pos 1 ∷ []
 unfolding range_within
 range_about_zero = refl
@@ -59,7 +59,7 @@ range_past_the_greatest_signed : signed_range 8 (Excluded (pos 127)) Unbounded �
 unfolding range_within
 range_past_the_greatest_signed = refl
 
--- of 127 zeros and a one, the last word decides; of 128 zeros, none
+-- Of 127 zeros and a one, the last word decides. Of 128 zeros, none does.
 last_word_decides : deciding_place 8 3 (replicate 127 0 ++ 1 ∷ []) ≡ Some 127
 unfolding named
 last_word_decides = refl
@@ -68,13 +68,13 @@ no_word_decides : deciding_place 8 3 (replicate 128 0) ≡ None
 unfolding named
 no_word_decides = refl
 
--- u8 10..=12 from the bytes 0, 1, 2, .. in blocks of eight: word 0 is rejected, and word 8 names
--- rank 0
+-- u8 10..=12 from the bytes 0, 1, 2, .. in blocks of eight: the word 0 is rejected, and the word 8
+-- draws the rank 0.
 second_word_decides : unsigned_outcome steps 8 0 (Included 10) (Included 12) ≡ (Ok 10, 2)
 unfolding named range_within words_from value_drawn left_by left_after taken
 second_word_decides = refl
 
--- the same from zeros: 128 words are rejected
+-- The same from zeros: 128 words are rejected.
 zeros_exhaust : unsigned_outcome (plain (λ n. replicate 8 0) (λ n. n + 1) 8) 8 0 (Included 10) (Included 12) ≡ (Err Exhausted, 128)
 unfolding named range_within words_from value_drawn left_by left_after taken
 zeros_exhaust = refl
@@ -83,12 +83,12 @@ nothing_drawn : unsigned_outcome steps 8 0 (Included 5) (Excluded 5) ≡ (Err Em
 unfolding named range_within words_from value_drawn left_by left_after taken
 nothing_drawn = refl
 
--- i8 -1..=1 by the word 1
+-- i8 -1..=1 by the word 1.
 least_by_one : signed_outcome (script (1 ∷ [])) 8 0 (Included (negsuc 0)) (Included (pos 1)) ≡ (Ok (negsuc 0), 1)
 unfolding named range_within words_from value_drawn left_by left_after taken
 least_by_one = refl
 
--- i8 -1..=1 by the word 8, and the whole of i8 by the word 0
+-- i8 -1..=1 by the word 8, and the whole of i8 by the word 0.
 signed_by_the_word : signed_outcome steps 8 1 (Included (negsuc 0)) (Included (pos 1)) ≡ (Ok (negsuc 0), 2)
 unfolding named range_within words_from value_drawn left_by left_after taken
 signed_by_the_word = refl
@@ -97,7 +97,7 @@ least_of_all : signed_outcome steps 8 0 Unbounded Unbounded ≡ (Ok (negsuc 127)
 unfolding named range_within words_from value_drawn left_by left_after taken
 least_of_all = refl
 
--- u8: each pair of kinds of bounds
+-- u8: each pair of kinds of bounds.
 u8_included_included : unsigned_range 8 (Included 3) (Included 6) ≡ 3 ∷ 4 ∷ 5 ∷ 6 ∷ []
 unfolding range_within
 u8_included_included = refl
@@ -134,7 +134,7 @@ u8_unbounded_unbounded : unsigned_range 8 Unbounded Unbounded ≡ range_with_len
 unfolding range_within
 u8_unbounded_unbounded = refl
 
--- i8: numbers on both sides of 0; the rank of a number is the number plus 128
+-- i8: numbers on both sides of 0; the rank of a number is the number plus 128.
 i8_included_included : signed_range 8 (Included (negsuc 1)) (Included (pos 2)) ≡ negsuc 1 ∷ negsuc 0 ∷ pos 0 ∷ pos 1 ∷ pos 2 ∷ []
 unfolding range_within
 i8_included_included = refl
@@ -171,7 +171,7 @@ i8_unbounded_unbounded : signed_range 8 Unbounded Unbounded ≡ map (signed_numb
 unfolding range_within
 i8_unbounded_unbounded = refl
 
--- 16 bits: from the least number, and to the greatest
+-- 16 bits: from the least number, and to the greatest.
 u16_from_the_least : unsigned_range 16 Unbounded (Excluded 3) ≡ 0 ∷ 1 ∷ 2 ∷ []
 unfolding range_within
 u16_from_the_least = refl
@@ -188,7 +188,7 @@ i16_to_the_greatest : signed_range 16 (Excluded (pos 32765)) Unbounded ≡ pos 3
 unfolding range_within
 i16_to_the_greatest = refl
 
--- of the words of 8 bits, 42 give a 3 of the range 1..=6, and 84 give a number above 4
+-- Of the words of 8 bits, 42 draw a 3 from the range 1..=6, and 84 draw a number above 4.
 words_for_three : words_giving 8 (unsigned_range 8 (Included 1) (Included 6)) (λ y. y == 3) ≡ 42
 unfolding words_that named range_within
 words_for_three = refl
@@ -197,7 +197,7 @@ words_for_five_or_six : words_giving 8 (unsigned_range 8 (Included 1) (Included 
 unfolding words_that named range_within
 words_for_five_or_six = refl
 
--- and 42 give a -1 of the range -3..=2
+-- 42 words draw a -1 from the range -3..=2.
 words_for_minus_one : words_giving 8 (signed_range 8 (Included (negsuc 2)) (Included (pos 2))) (λ y. int_eq y (negsuc 0)) ≡ 42
 unfolding words_that named range_within
 words_for_minus_one = refl

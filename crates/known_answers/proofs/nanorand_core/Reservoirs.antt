@@ -13,8 +13,8 @@ use Rattle.known_answers.proofs.nanorand_core.SmallGenerators.{script}
 items_of_numbers : items_at {A = ℕ} (10 ∷ 20 ∷ 30 ∷ []) (2 ∷ 0 ∷ []) ≡ 30 ∷ 10 ∷ []
 items_of_numbers = refl
 
--- two of four items: 12 sequences of draws, 6 for each item, 2 for each pair, none for a pair with an
--- item that did not come
+-- Two of four items: there are 12 sequences of draws, of which 6 draw each item and 2 draw each
+-- pair. No sequence draws a pair with an item that is not among the four.
 pairs_of_four : reservoirs_that 2 4 (λ chosen. true) ≡ 12
 pairs_of_four = refl
 
@@ -28,7 +28,7 @@ each_pair : map (pair_of 0) (1 ∷ 2 ∷ 3 ∷ 4 ∷ []) ≡ 2 ∷ 2 ∷ 2 ∷ 0
 unfolding pair_of
 each_pair = refl
 
--- three of five items, all of three, and none
+-- Three of five items, all of three items, and none of three items.
 threes_of_five : reservoirs_that 3 5 (list_all (λ item. nat_lt item 3)) ≡ factorial 2
 threes_of_five = refl
 
@@ -38,11 +38,11 @@ all_of_three = refl
 none_of_three : reservoirs_that 0 3 (λ chosen. true) ≡ 6
 none_of_three = refl
 
--- fewer items than slots draw nothing
+-- With fewer items than slots, nothing is drawn.
 two_of_two : (requests : Requests ℕ) (g : ℕ) → reservoir requests 3 2 g ≡ record { answer = Ok 2; chosen = 0 ∷ 1 ∷ []; taken = 2; state = g }
 two_of_two requests g = refl
 
--- two of four items: the words draw 1 of 0, 1, 2 and 0 of 0, 1, 2, 3
+-- Two of four items. The words draw 1 from 0, 1, 2 and then 0 from 0, 1, 2, 3.
 both_replaced : reservoir (script (128 ∷ 1 ∷ [])) 2 4 0 ≡ record { answer = Ok 2; chosen = 3 ∷ 2 ∷ []; taken = 4; state = 2 }
 unfolding named words_from value_drawn left_by left_after taken
 both_replaced =
@@ -50,7 +50,8 @@ both_replaced =
     let second : number_up_to (script (128 ∷ 1 ∷ [])) 3 1 ≡ (Ok 0, 2) = number_from (script (128 ∷ 1 ∷ [])) 3 1 (omega arith) ∙ refl in
     rw (first, second) refl
 
--- two of six: zeros draw 0 below 4, and are refused below 5 after 128 words; the sixth item is not taken
+-- Two of six items. Zeros draw 0 below 4. Below 5 they are rejected, so that the draw fails after
+-- 128 words. The sixth item is not taken.
 fifth_refused : reservoir (script (128 ∷ [])) 2 6 0 ≡ record { answer = Err Exhausted; chosen = 3 ∷ 2 ∷ []; taken = 5; state = 130 }
 unfolding named words_from value_drawn left_by left_after taken
 fifth_refused =

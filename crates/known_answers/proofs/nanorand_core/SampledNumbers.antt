@@ -13,7 +13,8 @@ use Rattle.nanorand_core.specs.declared.values.range.RangeError.TheVariants.{Exh
 use Rattle.nanorand_core.proofs.lemmas.ranges.RangeLemmas.{range-places}
 use Rattle.known_answers.proofs.nanorand_core.SmallGenerators.{script}
 
--- three of ten numbers: a number drawn again gives way to the greatest that could be drawn
+-- Three of ten numbers: a number that is drawn again is replaced by the greatest one that could be
+-- drawn.
 three_different : joined 9 2 (joined 8 1 (joined 7 0 [])) ≡ 0 ∷ 1 ∷ 2 ∷ []
 three_different = refl
 
@@ -23,8 +24,8 @@ three_times_the_same = refl
 the_greatest_again : joined 9 8 (joined 8 7 (joined 7 7 [])) ≡ 7 ∷ 8 ∷ 9 ∷ []
 the_greatest_again = refl
 
--- two of four numbers: 12 sequences of draws, 6 for each number, 2 for each pair, none for a pair
--- with a number past the count
+-- Two of four numbers: there are 12 sequences of draws, of which 6 draw each number and 2 draw each
+-- pair. No sequence draws a pair with a number past the count.
 pairs_of_four : samples_that 2 4 (λ sample. true) ≡ 12
 pairs_of_four = refl
 
@@ -38,7 +39,7 @@ each_pair : map (pair_of 0) (1 ∷ 2 ∷ 3 ∷ 4 ∷ []) ≡ 2 ∷ 2 ∷ 2 ∷ 0
 unfolding pair_of
 each_pair = refl
 
--- three of five numbers, all of three, and none
+-- Three of five numbers, all of three numbers, and none of three numbers.
 threes_of_five : samples_that 3 5 (list_all (λ number. nat_lt number 3)) ≡ factorial 3
 threes_of_five = refl
 
@@ -48,7 +49,7 @@ all_of_three = refl
 none_of_three : samples_that 0 3 (λ sample. true) ≡ 1
 none_of_three = refl
 
--- a draw from 0 to `last`, without a walk through all numbers of 64 bits
+-- A draw from 0 to `last`, computed without listing all numbers of 64 bits.
 pub number_from : (requests : Requests ℕ) (last g : ℕ) → last < 2 ^ 64
     → number_up_to requests last g ≡ range_outcome requests 64 (map unsigned_number (range_with_len 0 (last + 1))) g
 unfolding number_up_to
@@ -59,7 +60,7 @@ number_from requests last g within =
     (λ k. refl) (λ k in_type. grind (arith, nat_tests)) (omega arith) (omega arith))
     ∙ ap (λ (n : ℕ). range_outcome requests 64 (map unsigned_number (range_with_len 0 n)) g) size
 
--- two of three numbers: the words draw 1 of 0, 1 and 1 of 0, 1, 2
+-- Two of three numbers. The words draw 1 from 0, 1 and then 1 from 0, 1, 2.
 drawn_twice : sampled (script (255 ∷ 128 ∷ [])) 2 3 0 ≡ record { answer = Ok tt; numbers = 1 ∷ 2 ∷ []; state = 2 }
 unfolding named words_from value_drawn left_by left_after taken
 drawn_twice =
@@ -67,7 +68,7 @@ drawn_twice =
     let second : number_up_to (script (255 ∷ 128 ∷ [])) 2 1 ≡ (Ok 1, 2) = number_from (script (255 ∷ 128 ∷ [])) 2 1 (omega arith) ∙ refl in
     rw (first, second) refl
 
--- zeros are refused below 3 after 128 words; the first number stays
+-- Below 3, zeros are rejected, so that the draw fails after 128 words. The first number stays.
 second_refused : sampled (script (255 ∷ [])) 2 3 0 ≡ record { answer = Err Exhausted; numbers = 1 ∷ []; state = 129 }
 unfolding named words_from value_drawn left_by left_after taken
 second_refused =

@@ -1,5 +1,5 @@
--- Known answers: shuffles by their partners, of three items from several generators in both
--- versions, and of four.
+-- Known answers: the partners of shuffles of three items, with several generators and both kinds of
+-- shuffle, and of shuffles of four items.
 use Rattle.std.proofs.Common.{◌≡◌, ℕ, ◌+◌, [], ◌∷◌, Ok, Err, refl, ◌∙◌, arith}
 use Rattle.std.specs.Prelude.{codes, replicate}
 use Rattle.nanorand_core.specs.generators.Blocks.{taken}
@@ -10,14 +10,14 @@ use Rattle.nanorand_core.specs.declared.values.range.RangeError.TheVariants.{Exh
 use Rattle.nanorand_core.proofs.lemmas.shuffles.PartnerLemmas.{Makes, partner_between, none_to_shuffle, three_partners, first_refused, second_refused}
 use Rattle.known_answers.proofs.nanorand_core.SmallGenerators.{steps, script}
 
--- a shuffle of no items draws nothing
+-- A shuffle of no items draws nothing.
 none_shuffled : Makes steps from_itself 0 7 (Ok tt) [] 7
 none_shuffled = none_to_shuffle steps from_itself 7
 
 none_shuffled_in_full : Makes steps from_all 0 7 (Ok tt) [] 7
 none_shuffled_in_full = none_to_shuffle steps from_all 7
 
--- words of rising bytes draw the first partner of each range
+-- Words of rising bytes draw the first partner of each range.
 pub rising_bytes_keep : Makes steps from_itself 3 0 (Ok tt) (0 ∷ 1 ∷ 2 ∷ []) 3
 unfolding named words_from value_drawn left_by left_after taken
 rising_bytes_keep =
@@ -40,7 +40,7 @@ kept = refl
 turned : arranged (0 ∷ 0 ∷ 0 ∷ []) (codes "abc") ≡ codes "cab"
 turned = refl
 
--- zeros are refused at index 0 after 128 words, and nothing moves
+-- Zeros are rejected at index 0, so that the shuffle fails after 128 words, and nothing moves.
 zeros_keep : Makes (script []) from_itself 3 0 (Err Exhausted) [] 128
 unfolding named words_from value_drawn left_by left_after taken
 zeros_keep =
@@ -56,8 +56,8 @@ zeros_keep_in_full =
 nothing_moved : arranged [] (codes "abc") ≡ codes "abc"
 nothing_moved = refl
 
--- a word of ones and then zeros: partners from the index itself on are never refused, those from
--- all indices are refused at index 1
+-- A word of ones and then zeros. With partners from the index itself on, the shuffle succeeds. With
+-- partners from all indices, it fails at index 1.
 ones_reverse : Makes (script (255 ∷ [])) from_itself 3 0 (Ok tt) (2 ∷ 1 ∷ 2 ∷ []) 3
 unfolding named words_from value_drawn left_by left_after taken
 ones_reverse =
@@ -79,7 +79,7 @@ ends_swapped = refl
 ends_swapped_at_once : arranged (2 ∷ []) (codes "abc") ≡ codes "cba"
 ends_swapped_at_once = refl
 
--- four items by words of ones: each partner from all indices is the last index
+-- Four items and words of ones: each partner from all indices is the last index.
 abbrev last_of_four : ℕ → ℕ → Type 0
 last_of_four i g = partner_drawn (script (replicate 4 255)) from_all 4 i g ≡ (Ok 3, g + 1)
 

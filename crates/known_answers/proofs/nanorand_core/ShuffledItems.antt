@@ -1,5 +1,6 @@
--- Known answers: lists of three that are valid choices, what choices make of three items, the choices that
--- three words make, and the first two steps of a shuffle, also refused at the second one.
+-- Known answers: the valid lists of three choices, what choices make from three items, the choices
+-- that three words draw, and the first two steps of a shuffle, including one that fails at the
+-- second step.
 use Rattle.std.specs.Prelude.{◌≡◌, ℕ, zero, suc, ◌<◌, ◌≤◌, [], ◌∷◌, refl, codes}
 use Rattle.std.proofs.Common.{arith, Ok, ap, ◌∙◌, ◌+◌, length, min, Err}
 use Rattle.std.proofs.lemmas.List.Sorted.{IsPermutation-refl, sum_by-IsPermutation}
@@ -14,18 +15,19 @@ use Rattle.nanorand_core.proofs.lemmas.shuffles.PartnerLemmas.{Makes, partner_be
 use Rattle.known_answers.proofs.nanorand_core.SmallGenerators.{script}
 use Rattle.nanorand_core.specs.declared.values.range.RangeError.TheVariants.{Exhausted}
 
--- a list of three is valid if its first choice is below 3, its second is 1 or 2, and its last is 2
+-- A list of three choices is valid if the first is below 3, the second is 1 or 2, and the last is
+-- 2.
 valid_three : (a b : ℕ) → a < 3 → 1 ≤ b → b < 3 → IsValid (a ∷ b ∷ 2 ∷ [])
 valid_three a b a_below b_from b_below zero within = (omega arith, omega (arith, a_below))
 valid_three a b a_below b_from b_below (suc zero) within = (b_from, omega (arith, b_below))
 valid_three a b a_below b_from b_below (suc (suc zero)) within = (omega arith, omega arith)
 valid_three a b a_below b_from b_below (suc (suc (suc i))) within = absurd (omega (arith, within))
 
--- the choices 2, 2, 2 are valid and make the order 2, 0, 1
+-- The choices 2, 2, 2 are valid and make the order 2, 0, 1.
 choices_of_last_first : IsValid (2 ∷ 2 ∷ 2 ∷ []) × (arranged (2 ∷ 2 ∷ 2 ∷ []) (rising 3) ≡ 2 ∷ 0 ∷ 1 ∷ [])
 choices_of_last_first = (valid_three 2 2 (omega arith) (omega arith) (omega arith), refl)
 
--- a list with a number twice, or with a number past the indices, is no permutation
+-- A list that holds a number twice, or a number that is not an index, is not a permutation.
 number_twice : IsArrangement (0 ∷ 0 ∷ 1 ∷ []) → ⊥
 number_twice order = let same = sum_by-IsPermutation (λ (n : ℕ). n) (rising 3) (0 ∷ 0 ∷ 1 ∷ []) order in omega (arith, same)
 
@@ -38,7 +40,7 @@ nothing_in_order = IsPermutation-refl []
 nothing_chosen : IsValid []
 nothing_chosen i within = absurd (omega (arith, within))
 
--- the six valid lists of three choices, and the permutations that they make
+-- The six valid lists of three choices, and the permutations that they make.
 nothing_moved : arranged (0 ∷ 1 ∷ 2 ∷ []) (rising 3) ≡ 0 ∷ 1 ∷ 2 ∷ []
 nothing_moved = refl
 
@@ -57,11 +59,11 @@ reversed = refl
 last_goes_first : arranged (2 ∷ 2 ∷ 2 ∷ []) (rising 3) ≡ 2 ∷ 0 ∷ 1 ∷ []
 last_goes_first = refl
 
--- a generator of three blocks: eight bytes 128, eight bytes 1 and eight bytes 255
+-- A generator of three blocks: eight bytes 128, eight bytes 1 and eight bytes 255.
 abbrev three_blocks : Requests ℕ
 three_blocks = script (128 ∷ 1 ∷ 255 ∷ [])
 
--- partners from the index itself on: index 1 of 0..3, 1 of 1..3 and 2 of 2..3
+-- Partners from the index itself on: index 1 from 0..3, 1 from 1..3 and 2 from 2..3.
 three_drawn : Makes three_blocks from_itself 3 0 (Ok tt) (1 ∷ 1 ∷ 2 ∷ []) 3
 unfolding named words_from value_drawn left_by left_after taken
 three_drawn =
@@ -74,7 +76,7 @@ three_drawn =
 shuffled : arranged (shuffle_choices three_blocks from_itself 3 0) (codes "abc") ≡ codes "bac"
 shuffled = ap (λ choices. arranged choices (codes "abc")) three_drawn.chosen
 
--- partners from all indices: 1, 0 and 2 of 0..3
+-- Partners from all indices: 1, 0 and 2 from 0..3.
 three_drawn_from_all : Makes three_blocks from_all 3 0 (Ok tt) (1 ∷ 0 ∷ 2 ∷ []) 3
 unfolding named words_from value_drawn left_by left_after taken
 three_drawn_from_all =
@@ -87,16 +89,16 @@ three_drawn_from_all =
 shuffled_in_full : arranged (shuffle_choices three_blocks from_all 3 0) (codes "abc") ≡ codes "abc"
 shuffled_in_full = ap (λ choices. arranged choices (codes "abc")) three_drawn_from_all.chosen
 
--- no steps draw nothing and move nothing
+-- A shuffle of no steps draws nothing and moves nothing.
 no_steps : partly_shuffled (script []) from_itself 0 7 (codes "abc") ≡ record { answer = Ok tt; choices = []; items = codes "abc"; state = 7 }
 unfolding choices_from state_after_places
 no_steps = refl
 
--- three blocks: eight bytes 255, eight bytes 0 and eight bytes 255
+-- Three blocks: eight bytes 255, eight bytes 0 and eight bytes 255.
 abbrev other_blocks : Requests ℕ
 other_blocks = script (255 ∷ 0 ∷ 255 ∷ [])
 
--- two steps of three items: index 2 of 0..3, and 1 of 1..3
+-- Two steps with three items: index 2 from 0..3, and 1 from 1..3.
 first_partner : partner_drawn other_blocks from_itself 3 0 0 ≡ (Ok 2, 1)
 unfolding named words_from value_drawn left_by left_after taken
 first_partner = partner_between other_blocks from_itself 3 0 0 (omega arith) (omega arith) ∙ refl
@@ -125,7 +127,8 @@ ends_swapped = refl
 whole_record : completed 3 (2 ∷ 1 ∷ []) ≡ 2 ∷ 1 ∷ 2 ∷ []
 whole_record = refl
 
--- of four items, a word of ones and then zeros: the second partner is refused after 128 words
+-- Four items, a word of ones and then zeros: the draw of the second partner fails after 128
+-- rejected words.
 first_of_four : partner_drawn (script (255 ∷ [])) from_itself 4 0 0 ≡ (Ok 3, 1)
 unfolding named words_from value_drawn left_by left_after taken
 first_of_four = partner_between (script (255 ∷ [])) from_itself 4 0 0 (omega arith) (omega arith) ∙ refl

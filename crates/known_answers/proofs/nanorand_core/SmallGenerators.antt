@@ -7,21 +7,21 @@ use Rattle.nanorand_replay.specs.generators.Buffered.{Buffered, buffered}
 abbrev pub next_count : ℕ → ℕ
 next_count n = n + 1
 
--- the bytes 0, 1, 2, .. in blocks of `size` bytes
+-- The bytes 0, 1, 2, .. in blocks of `size` bytes.
 abbrev pub rising_block : ℕ → ℕ → List ℕ
 rising_block size n = map (λ i. (size * n + i) % 256) (range_with_len 0 size)
 
 abbrev pub steps : Requests ℕ
 steps = plain (rising_block 8) next_count 8
 
--- the bytes of a list, each a block of eight equal bytes, and zeros after the list
+-- The bytes of a list, each as a block of eight equal bytes, and zeros after the list.
 abbrev pub script_block : List ℕ → ℕ → List ℕ
 script_block bytes n = replicate 8 (slice_index_or bytes n 0)
 
 abbrev pub script : List ℕ → Requests ℕ
 script bytes = plain (script_block bytes) next_count 8
 
--- the same, buffered
+-- The same with a buffer.
 abbrev pub steps_buffered : Requests (Buffered ℕ)
 steps_buffered = buffered (rising_block 8) next_count 8
 

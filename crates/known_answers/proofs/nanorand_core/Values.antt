@@ -16,11 +16,11 @@ use Rattle.nanorand_core.specs.support.NumberOrderLemmas.{int_le-signed, int_lt-
 use Rattle.nanorand_core.specs.values.Draws.{unsigned_outcome, range_outcome, words_from, value_drawn, left_by, left_after}
 use Rattle.nanorand_core.proofs.lemmas.ranges.RangeLemmas.{range-empty, range-places}
 
--- sixteen bytes take two blocks
+-- Sixteen bytes take two blocks.
 two_blocks_drawn : steps.after 0 16 ≡ 2
 two_blocks_drawn = refl
 
--- nine bytes take two blocks, and zero bytes take none
+-- Nine bytes take two blocks, and zero bytes take none.
 nine_bytes : steps.bytes 0 9 ≡ 0 ∷ 1 ∷ 2 ∷ 3 ∷ 4 ∷ 5 ∷ 6 ∷ 7 ∷ 8 ∷ []
 unfolding taken
 nine_bytes = refl
@@ -31,7 +31,7 @@ blocks_of_nine_bytes = refl
 blocks_of_nothing : steps.after 0 0 ≡ 0
 blocks_of_nothing = refl
 
--- numbers and truth values from bytes
+-- Numbers and truth values from bytes.
 signed_byte : signed_number_of w8 (218 ∷ []) ≡ negsuc 37
 signed_byte = refl
 
@@ -50,7 +50,7 @@ truth_below_half = refl
 no_truth_from_half : truth_of (128 ∷ []) ≡ false
 no_truth_from_half = refl
 
--- the unsigned and the signed type of `bits` bits have 2^bits numbers, in order of rank
+-- The unsigned and the signed type of `bits` bits have 2^bits numbers, in the order of their ranks.
 all_unsigned : (bits : ℕ) → unsigned_range bits Unbounded Unbounded ≡ map unsigned_number (range_with_len 0 (2 ^ bits))
 all_unsigned bits =
     let whole : 2 ^ bits - 0 ≡ 2 ^ bits = omega arith in
@@ -71,7 +71,7 @@ count_of_unsigned bits = ap length (all_unsigned bits) ∙ length-map-range_with
 count_of_signed : (bits : ℕ) → length (signed_range bits Unbounded Unbounded) ≡ 2 ^ bits
 count_of_signed bits = ap length (all_signed bits) ∙ length-map-range_with_len (signed_number bits) 0 (2 ^ bits)
 
--- a range from the greatest number on, or up to the least, has that number alone
+-- A range from the greatest number up, or from the least number down, has only that number.
 module _ (bits : ℕ) where
   last : 2 ^ bits - (2 ^ bits - 1) ≡ 1
   last = omega (arith, pow_pos bits)
@@ -98,7 +98,7 @@ module _ (bits : ℕ) where
       range-places int_le int_lt bits (signed_number bits) Unbounded (Excluded (signed_number bits 1)) 0 1
       (λ k. sym (le-leb 0 k (omega arith))) (λ k in_type. int_lt-signed bits k 1) (pow_pos bits) (omega arith)
 
--- the numbers of the first and the last rank
+-- The numbers of the first and the last rank.
 least_and_greatest_of_8 : map (signed_number 8) (0 ∷ (2 ^ 8 - 1) ∷ []) ≡ negsuc 127 ∷ pos 127 ∷ []
 least_and_greatest_of_8 = refl
 
@@ -111,7 +111,7 @@ least_and_greatest_of_32 = refl
 least_and_greatest_of_64 : map (signed_number 64) (0 ∷ (2 ^ 64 - 1) ∷ []) ≡ negsuc 9223372036854775807 ∷ pos 9223372036854775807 ∷ []
 least_and_greatest_of_64 = refl
 
--- u64 7..=7 by a word of zeros and by a word of ones
+-- u64 7..=7, drawn by a word of zeros and by a word of ones.
 up_to_seven : (k : ℕ) → nat_le k 7 ≡ nat_lt k 8
 up_to_seven k =
     elim (cases_lt k 8) [
@@ -130,7 +130,7 @@ seven_by_ones : unsigned_outcome (script (255 ∷ [])) 64 0 (Included 7) (Includ
 unfolding named words_from value_drawn left_by left_after taken
 seven_by_ones = ap (λ numbers. range_outcome (script (255 ∷ [])) 64 numbers 0) just_seven ∙ refl
 
--- i32 10..=5 is empty, shown without a walk through the type
+-- i32 10..=5 is empty, which is shown without listing the type.
 up_to_five : (k : ℕ) → nat_le k (2 ^ 31 + 5) ≡ nat_lt k (2 ^ 31 + 6)
 up_to_five k =
     elim (cases_lt k (2 ^ 31 + 6)) [

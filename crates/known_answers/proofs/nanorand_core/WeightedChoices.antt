@@ -1,4 +1,4 @@
--- Known answers: shares of weights, sums that are refused, and choices by words of 64 bits.
+-- Known answers: shares of weights, sums that are errors, and choices by words of 64 bits.
 use Rattle.std.specs.Prelude.{◌≡◌, ◌-◌, ◌^◌, ◌==◌, [], ◌∷◌, ◌++◌, Ok, Err, map, replicate, refl}
 use Rattle.nanorand_core.specs.generators.Blocks.{taken}
 use Rattle.nanorand_core.specs.values.Runs.{named, words_that}
@@ -9,11 +9,11 @@ use Rattle.nanorand_core.specs.choices.Weighted.{item_at, item_named, total_of, 
 use Rattle.nanorand_core.specs.declared.choices.weighted.WeightError.TheVariants.{NoWeight, TooHeavy, Exhausted}
 use Rattle.known_answers.proofs.nanorand_core.SmallGenerators.{script}
 
--- the items of the numbers below 10, for the weights 0, 3, 0, 2 and 5
+-- The items that the numbers below 10 choose, for the weights 0, 3, 0, 2 and 5.
 shares_of_ten : map (item_at (0 ∷ 3 ∷ 0 ∷ 2 ∷ 5 ∷ [])) (rising 10) ≡ 1 ∷ 1 ∷ 1 ∷ 3 ∷ 3 ∷ 4 ∷ 4 ∷ 4 ∷ 4 ∷ 4 ∷ []
 shares_of_ten = refl
 
--- sums
+-- Sums.
 no_weights : total_of [] ≡ Err NoWeight
 no_weights = refl
 
@@ -26,8 +26,8 @@ greatest_sum = refl
 sum_too_great : total_of ((2 ^ 63) ∷ (2 ^ 63) ∷ []) ≡ Err TooHeavy
 sum_too_great = refl
 
--- words of one byte, eight times, of the weights 0, 1, 0 and 3: the first quarter of all words chooses
--- item 1, and the others item 3
+-- Words of eight equal bytes, and the weights 0, 1, 0 and 3: the first quarter of all words chooses
+-- item 1, and the others choose item 3.
 end_of_the_first_quarter : choice_answer (script (63 ∷ [])) (0 ∷ 1 ∷ 0 ∷ 3 ∷ []) 0 ≡ Ok 1
 unfolding named words_from left_after taken
 end_of_the_first_quarter = refl
@@ -40,7 +40,7 @@ one_word_drawn : choice_state (script (64 ∷ [])) (0 ∷ 1 ∷ 0 ∷ 3 ∷ []) 
 unfolding named words_from left_after taken
 one_word_drawn = refl
 
--- word 0 is rejected for a sum of 3: the last of 128 words may decide
+-- The word 0 is rejected for a sum of 3. The last of 128 words can still decide.
 last_of_128 : choice_answer (script (replicate 127 0 ++ 255 ∷ [])) (1 ∷ 0 ∷ 2 ∷ []) 0 ≡ Ok 2
 unfolding named words_from left_after taken
 last_of_128 = refl
@@ -53,12 +53,12 @@ all_128_drawn : choice_state (script (replicate 128 0 ++ 255 ∷ [])) (1 ∷ 0 �
 unfolding named words_from left_after taken
 all_128_drawn = refl
 
--- a refused sum draws nothing
+-- If the sum is an error, nothing is drawn.
 nothing_drawn : choice_state (script []) (0 ∷ (2 ^ 64) ∷ []) 7 ≡ 7
 nothing_drawn = refl
 
--- of the weights 1, 0 and 2 and words of 8 bits: a number has 85 words, so the items have 85, none
--- and 170
+-- The weights 1, 0 and 2 and words of 8 bits: a number is drawn by 85 words, so the items are
+-- chosen by 85, 0 and 170 words.
 words_of_each : map (λ i. words_that 8 (λ word. passes (λ j. j == i) (item_named 8 (1 ∷ 0 ∷ 2 ∷ []) word))) (rising 3) ≡ 85 ∷ 0 ∷ 170 ∷ []
 unfolding named words_that
 words_of_each = refl

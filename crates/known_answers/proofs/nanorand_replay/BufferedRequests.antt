@@ -27,8 +27,7 @@ kept_after size = buffered_after (rising_block size) next_count size
 abbrev bytes_and : ℕ → ℕ → ℕ → Buffered ℕ
 bytes_and from count drawn = buffer_of (range_with_len from count) drawn
 
--- three values of one byte each start a block each, and three bytes of one request come from one
--- block
+-- Three values of one byte each start a block each. Three bytes of one request come from one block.
 three_values : values_from (λ g. number_of (steps.bytes g 1)) (λ g. steps.after g 1) 3 0 ≡ 0 ∷ 8 ∷ 16 ∷ []
 unfolding taken
 three_values = refl
@@ -41,7 +40,7 @@ byte_after_nine : steps.bytes (steps.after 0 9) 1 ≡ 16 ∷ []
 unfolding taken
 byte_after_nine = refl
 
--- five bytes take one block and leave three bytes buffered, and a whole block leaves none
+-- Five bytes take one block and leave three bytes buffered. A whole block leaves none.
 five_to_seven_kept : kept_after 8 (buffer_of [] 0) 5 ≡ buffer_of (5 ∷ 6 ∷ 7 ∷ []) 1
 unfolding buffered_after
 five_to_seven_kept = refl
@@ -50,7 +49,7 @@ none_kept : kept_after 8 (buffer_of [] 0) 8 ≡ buffer_of [] 1
 unfolding buffered_after
 none_kept = refl
 
--- four buffered bytes come before those of the next block
+-- Four buffered bytes come before those of the next block.
 wide_value_goes_on : number_of (kept_taken 8 (bytes_and 4 4 1) 8) ≡ 0x0b0a090807060504
 unfolding buffered_taken
 wide_value_goes_on = refl
@@ -59,7 +58,7 @@ four_kept_again : kept_after 8 (bytes_and 4 4 1) 8 ≡ bytes_and 12 4 2
 unfolding buffered_after
 four_kept_again = refl
 
--- requests of one byte, of twenty, of one, and of none
+-- Requests of one byte, of twenty bytes, of one byte, and of none.
 first_byte : kept_taken 8 (buffer_of [] 0) 1 ≡ 0 ∷ []
 unfolding buffered_taken
 first_byte = refl
@@ -88,7 +87,7 @@ nothing_asked : kept_after 8 (bytes_and 22 2 3) 0 ≡ bytes_and 22 2 3
 unfolding buffered_after
 nothing_asked = refl
 
--- a buffer around a buffer with seven buffered bytes draws one block from it: eight bytes
+-- A buffer around a buffer with seven buffered bytes draws one block of eight bytes from it.
 abbrev inner_block : Buffered ℕ → List ℕ
 inner_block = buffered_block (rising_block 8) next_count 8
 
@@ -103,7 +102,7 @@ seven_kept_twice : buffered_after inner_block inner_step 8 (buffer_of [] (bytes_
 unfolding buffered_taken buffered_after
 seven_kept_twice = refl
 
--- blocks of one byte, plain and buffered
+-- Blocks of one byte, plain and buffered.
 two_blocks_of_one : number_of (taken (rising_block 1) next_count 0 2) ≡ 0x0100
 unfolding taken
 two_blocks_of_one = refl
@@ -116,7 +115,7 @@ none_kept_of_one : kept_after 1 (buffer_of [] 0) 2 ≡ buffer_of [] 2
 unfolding buffered_after
 none_kept_of_one = refl
 
--- blocks of 64 bytes, plain and buffered
+-- Blocks of 64 bytes, plain and buffered.
 second_of_64 : taken (rising_block 64) next_count (plain_after next_count 64 0 1) 1 ≡ 64 ∷ []
 unfolding taken
 second_of_64 = refl
@@ -129,8 +128,8 @@ rest_of_64 : kept_after 64 (kept_after 64 (buffer_of [] 0) 1) 1 ≡ bytes_and 2 
 unfolding buffered_after
 rest_of_64 = refl
 
--- a value asks for its size, a range for its words up to the deciding one or for all 128, and an
--- empty range for nothing
+-- A value asks for its size, a range for its words up to the deciding one or for all 128, and an
+-- empty range for nothing.
 values_ask : asked steps 0 [] (Gen kinds.U8 ∷ Gen kinds.I128 ∷ Gen kinds.Bool ∷ []) ≡ 18
 values_ask = refl
 
@@ -146,7 +145,7 @@ nothing_asks : asked steps 0 [] (Range (spans.U8 (Included 5) (Excluded 5)) ∷ 
 unfolding named range_within words_from words_drawn taken
 nothing_asks = refl
 
--- a shuffle of three items by rising bytes asks for one word of eight bytes for each index
+-- A shuffle of three items with rising bytes asks for one word of eight bytes for each index.
 word_asks : (g i : ℕ) → i < 3
     → asked_by_range steps 64 (unsigned_range 64 (Included i) (Excluded 3)) g
     ≡ asked_by_range steps 64 (map unsigned_number (range_with_len i (3 - i))) g
@@ -182,7 +181,7 @@ shuffle_asks =
     ∙ ap (λ drawn. 8 + (8 + asked_by_places steps from_itself 3 2 1 drawn.1)) after_second
     ∙ ap (λ n. 8 + (8 + (n + 0))) third_asks
 
--- a byte, a range decided by its first word, a shuffle of three items and a truth value
+-- A byte, a range that is decided by its first word, a shuffle of three items and a truth value.
 four_calls_ask : asked steps 0 items_7_to_9 four_calls ≡ 27
 unfolding named range_within words_from words_drawn value_drawn left_by left_after taken
 four_calls_ask = ap (λ n. 1 + (1 + (n + (1 + 0)))) shuffle_asks

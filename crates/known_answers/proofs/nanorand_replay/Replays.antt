@@ -1,5 +1,5 @@
--- Known answers: values, ranges and whole replays, plain and buffered, also after refusals; 128 words of
--- zeros are drawn first.
+-- Known answers: values, ranges and whole replays, plain and buffered, also after errors. 128 words
+-- of zeros are drawn first.
 use Rattle.std.specs.Prelude.{◌≡◌, ℕ, List, [], ◌∷◌, true, refl, replicate}
 use Rattle.std.specs.declared.ops.Bound.TheVariants.{Included, Excluded}
 use Rattle.nanorand_core.specs.generators.Blocks.{taken, Requests}
@@ -21,7 +21,7 @@ use Rattle.nanorand_replay.specs.declared.replay.Kind.TheVariants as kinds
 use Rattle.nanorand_replay.specs.declared.replay.Span.TheVariants as spans
 use Rattle.nanorand_core.specs.declared.values.range.RangeError.TheVariants as refusals
 
--- a plain generator starts each request on a new block: u8, u8, u16
+-- A plain generator starts each request with a new block: u8, u8, u16.
 two_bytes_and_a_word : (replayed steps 0 [] (Gen kinds.U8 ∷ Gen kinds.U8 ∷ Gen kinds.U16 ∷ [])).answers ≡ Unsigned 0 ∷ Unsigned 8 ∷ Unsigned 0x1110 ∷ []
 unfolding taken
 two_bytes_and_a_word = refl
@@ -30,8 +30,8 @@ one_wide_value : (replayed steps 0 [] (Gen kinds.U128 ∷ [])).answers ≡ Unsig
 unfolding taken
 one_wide_value = refl
 
--- a buffered generator continues where the last request ended: u8, u8, u16, and four bytes of the
--- one block stay buffered
+-- A buffered generator continues where the last request ended: u8, u8, u16. Four bytes of the one
+-- block stay buffered.
 abbrev buffered_replay : List Call → Replay (Buffered ℕ)
 buffered_replay calls =
     replayed steps_buffered (buffer_of [] 0) [] calls
@@ -44,7 +44,7 @@ four_bytes_left : (buffered_replay (Gen kinds.U8 ∷ Gen kinds.U8 ∷ Gen kinds.
 unfolding taken buffered_taken buffered_after
 four_bytes_left = refl
 
--- a refused call does not end a replay
+-- A call that fails does not end a replay.
 refused_call_goes_on : (replayed steps 0 []
     (Gen kinds.U8 ∷ Range (spans.U8 (Included 5) (Excluded 5)) ∷ Range (spans.U8 (Included 10) (Included 12))
     ∷ Gen kinds.Bool ∷ [])).answers
@@ -52,7 +52,7 @@ refused_call_goes_on : (replayed steps 0 []
 unfolding named range_within words_from value_drawn left_by left_after taken
 refused_call_goes_on = refl
 
--- how a replay continues after a shuffle whose outcome is known
+-- How a replay continues after a shuffle whose outcome is known.
 module _ {G : Type 0} (requests : Requests G) where
   abbrev pub goes_on : List Answer → List Call → Outcome G → Replay G
   goes_on before calls shuffled =
@@ -75,11 +75,11 @@ four_calls = Gen kinds.U8 ∷ Range (spans.U8 (Included 10) (Included 12)) ∷ S
 abbrev pub items_7_to_9 : List ℕ
 items_7_to_9 = 7 ∷ 8 ∷ 9 ∷ []
 
--- no calls leave everything as it is
+-- A replay of no calls leaves everything as it is.
 no_calls : replayed steps 5 items_7_to_9 [] ≡ record { answers = []; items = items_7_to_9; state = 5 }
 no_calls = refl
 
--- a byte, a range, a shuffle and a truth value, from rising bytes: six blocks
+-- A byte, a range, a shuffle and a truth value, from rising bytes: six blocks.
 pub third_block_on : Makes steps from_itself 3 2 (Ok tt) (0 ∷ 1 ∷ 2 ∷ []) 5
 unfolding named words_from value_drawn left_by left_after taken
 third_block_on =
@@ -116,7 +116,7 @@ twenty_seven_bytes : steps_buffered.after (buffer_of [] 0) 27 ≡ buffer_of (27 
 unfolding taken buffered_after
 twenty_seven_bytes = refl
 
--- with partners from all indices, the items rotate
+-- With partners from all indices, the items rotate.
 third_block_turns : Makes steps from_all 3 2 (Ok tt) (0 ∷ 0 ∷ 0 ∷ []) 5
 unfolding named words_from value_drawn left_by left_after taken
 third_block_turns =
@@ -134,8 +134,8 @@ range_and_byte = Range (spans.U8 (Included 10) (Included 12)) ∷ Gen kinds.U8 �
 abbrev late_one : List ℕ
 late_one = replicate 128 0 ++ 1 ∷ []
 
--- the byte after 128 rejected words is in block 129 if each word takes a block, and in block 17 if
--- bytes are buffered
+-- The byte after 128 rejected words is in block 129 if each word takes a block, and in block 17 if
+-- bytes are buffered.
 byte_of_block_129 : replayed (script late_one) 0 [] range_and_byte ≡ record { answers = Exhausted ∷ Unsigned 1 ∷ []; items = []; state = 129 }
 unfolding named range_within words_from value_drawn left_by left_after taken
 byte_of_block_129 = refl
@@ -145,7 +145,7 @@ byte_of_block_17 : replayed (script_buffered late_one) (buffer_of [] 0) [] range
 unfolding named range_within words_from value_drawn left_by left_after taken buffered_taken buffered_after
 byte_of_block_17 = refl
 
--- a refused shuffle of three items, and the truth value after it
+-- A shuffle of three items that fails, and the truth value after it.
 abbrev shuffle_and_truth : List Call
 shuffle_and_truth = Shuffle ∷ Gen kinds.Bool ∷ []
 

@@ -1,4 +1,4 @@
--- A draw moves entrants, whatever they are: it commutes with every map of them.
+-- A draw moves entrants without regard to their values: it commutes with every map over them.
 use Rattle.std.proofs.Common.{◌≡◌, ℕ, List, [], ◌∷◌, length, map, take, fold, swap, ap, refl, sym, ◌∙◌}
 use Rattle.std.proofs.Common.{slice_index_or, slice_set, min}
 use Rattle.std.specs.List.{enumerate_from}
@@ -7,7 +7,7 @@ use Rattle.std.proofs.Math.ListN.{get_or-map}
 use Rattle.nanorand_core.specs.shuffles.Shuffles.{arranged, partial_choices, from_itself}
 use Rattle.lots_core.specs.Draws.{drawn, requests, start_of}
 
--- A swap of mapped items is the map of a swap.
+-- A swap of mapped items is the map of the swapped items.
 swap-map : {T U : Type 0} (f : T → U) (items : List T) (i j : ℕ) → swap (map f items) i j ≡ map f (swap items i j)
 swap-map f [] i j = refl
 swap-map f (x ∷ xs) i j =
@@ -19,7 +19,7 @@ swap-map f (x ∷ xs) i j =
     ∙ ap (λ ys. slice_set ys j (f first)) (sym (map-set f items i second))
     ∙ sym (map-set f (slice_set items i second) j first)
 
--- So are swaps one after another.
+-- The same holds for several swaps in a row.
 swaps-map : {T U : Type 0} (f : T → U) (moves : List (ℕ × ℕ)) (items : List T)
     → fold (λ xs move. swap xs move.0 move.1) (map f items) moves
     ≡ map f (fold (λ xs move. swap xs move.0 move.1) items moves)
@@ -32,7 +32,7 @@ pub arranged-map : {T U : Type 0} (f : T → U) (choices : List ℕ) (items : Li
     → arranged choices (map f items) ≡ map f (arranged choices items)
 arranged-map f choices items = swaps-map f (enumerate_from 0 choices) items
 
--- The entrants drawn from a mapped list are the drawn ones, mapped.
+-- The entrants drawn from a mapped list are the entrants drawn from the list, mapped.
 pub drawn-map : {T U : Type 0} (f : T → U) (seed : List ℕ) (count : ℕ) (entrants : List T)
     → drawn seed count (map f entrants) ≡ map f (drawn seed count entrants)
 drawn-map f seed count entrants =

@@ -4,15 +4,15 @@ use Rattle.std.proofs.Common.{arith, ◌∙◌}
 use Rattle.std.specs.List.{onto_first}
 use Rattle.lots_core.specs.Lists.{HasNoLineFeed, lines_of}
 
--- Without its first byte, a text without line feeds is one.
+-- A text without line feeds has none after its first byte either.
 tail_has_none : (byte : ℕ) (bytes : List ℕ) → HasNoLineFeed (byte ∷ bytes) → HasNoLineFeed bytes
 tail_has_none byte bytes none = λ k d within. none (suc k) d (omega (arith, within))
 
--- A byte that is no line feed begins the first line.
+-- A byte that is not a line feed is added to the front of the first line.
 pub byte_joins : (byte : ℕ) (bytes : List ℕ) → byte ≢ 10 → lines_of (byte ∷ bytes) ≡ onto_first byte (lines_of bytes)
 byte_joins byte bytes other = search (arith, other)
 
--- The text up to a first line feed is the first line.
+-- The text before the first line feed is the first line.
 pub line_before : (text : List ℕ) (end : ℕ) → end < length text → slice_index text end ≡ 10
     → HasNoLineFeed (take end text) → lines_of text ≡ take end text ∷ lines_of (drop (end + 1) text)
 line_before [] end within feed none = absurd (omega (arith, within))

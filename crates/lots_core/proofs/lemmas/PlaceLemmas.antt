@@ -10,7 +10,7 @@ use Rattle.nanorand_fairness.specs.Deals.{IsDeal}
 use Rattle.lots_core.specs.Draws.{drawn, places_drawn}
 use Rattle.lots_core.proofs.lemmas.DrawLemmas.{drawn-map}
 
--- The front of a permutation of 0, 1, .. is a deal.
+-- The first `count` numbers of a permutation of 0, 1, .. are a deal.
 pub front-deal : ((order : List ℕ) → IsArrangement order
     → All (λ number. number < length order) order × AllPairs (λ number other. number ≢ other) order)
     → (count n : ℕ) (order : List ℕ) → count ≤ n → IsPermutation (rising n) order → IsDeal count n (take count order)
@@ -28,7 +28,7 @@ front-deal numbers count n order within h =
           (known.1 j k d less (omega arith));
     }
 
--- A list is the map of its indices to its items.
+-- A list is its indices, mapped to its items.
 by-index : {T : Type 0} (items : List T) (other : T)
     → items ≡ map (λ place. slice_index_or items place other) (rising (length items))
 by-index items other =

@@ -1,4 +1,4 @@
--- The requests of a generator of words keep the laws of `Rng`.
+-- The requests of a word generator satisfy the laws of `Rng`.
 use Rattle.std.specs.Prelude.{◌≡◌, ℕ, zero, suc, ◌+◌, ◌-◌, ◌*◌, ◌/◌, ◌≤◌, List, ◌++◌, length, take}
 use Rattle.std.proofs.Common.{refl, sym, ap, ◌∙◌, arith, append_assoc, append-nil, length-append, add-zero, add-suc, mul-zero, mul-suc, add-sub_of_le}
 use Rattle.std.proofs.lemmas.List.{take-append-le}
@@ -8,7 +8,7 @@ use Rattle.nanorand_core.specs.generators.Blocks.{blocks, taken}
 use Rattle.nanorand_rand.specs.Words.{words32, words64}
 
 module _ {R : Type 0} (bytes : ℕ → List ℕ) (step : R → ℕ × R) where
-  -- words drawn in two parts
+  -- Words that are drawn in two parts.
   pub word_bytes-add : (j k : ℕ) (r : R) → word_bytes bytes step (j + k) r
       ≡ (
         (word_bytes bytes step j r).0 ++ (word_bytes bytes step k (word_bytes bytes step j r).1).0,
@@ -21,7 +21,7 @@ module _ {R : Type 0} (bytes : ℕ → List ℕ) (step : R → ℕ × R) where
       rw add-suc (ap (λ (p : List ℕ × R). (p.0 ++ bytes (step p.1).0, (step p.1).1)) (word_bytes-add j k r)
       ∙ ap (λ (xs : List ℕ). (xs, (step (word_bytes bytes step k middle).1).1)) (append_assoc (word_bytes bytes step j r).0 _ _))
 
-  -- k words have k times the bytes of one
+  -- k words have k times as many bytes as one.
   pub length-word_bytes : (size : ℕ) → ((w : ℕ) → length (bytes w) ≡ size) → (k : ℕ) (r : R)
       → length (word_bytes bytes step k r).0 ≡ k * size
   unfolding word_bytes
@@ -31,13 +31,13 @@ module _ {R : Type 0} (bytes : ℕ → List ℕ) (step : R → ℕ × R) where
       length-append before.0 (bytes (step before.1).0)
       ∙ (omega (arith, length-word_bytes size each k r, each (step before.1).0))
 
-  -- further words do not change the first bytes
+  -- Further words do not change the first bytes.
   pub front-more : (j k n : ℕ) (r : R) → n ≤ length (word_bytes bytes step j r).0
       → take n (word_bytes bytes step (j + k) r).0 ≡ take n (word_bytes bytes step j r).0
   front-more j k n r fits =
       ap (λ (p : List ℕ × R). take n p.0) (word_bytes-add j k r) ∙ take-append-le n (word_bytes bytes step j r).0 _ fits
 
-  -- blocks of c words each are words in a row
+  -- Blocks of c words each are consecutive words.
   pub blocks-of_words : (c m : ℕ) (r : R)
       → blocks (λ s. (word_bytes bytes step c s).0) (λ s. (word_bytes bytes step c s).1) r m
       ≡ (word_bytes bytes step (c * m) r).0
@@ -50,7 +50,7 @@ module _ {R : Type 0} (bytes : ℕ → List ℕ) (step : R → ℕ × R) where
       ∙ sym (ap (λ (p : List ℕ × R). p.0) (word_bytes-add c (c * m) r))
       ∙ ap (λ (k : ℕ). (word_bytes bytes step k r).0) one_more
 
-  -- so the first n bytes of these blocks are those of any k words that have so many
+  -- So the first n bytes of these blocks are those of any k words that have at least n bytes.
   pub front-of_blocks : (c k n : ℕ) (r : R) → n ≤ length (word_bytes bytes step k r).0 → k ≤ c * n
       → take n (word_bytes bytes step k r).0
       ≡ take n (blocks (λ s. (word_bytes bytes step c s).0) (λ s. (word_bytes bytes step c s).1) r n)

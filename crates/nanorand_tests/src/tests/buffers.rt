@@ -1,4 +1,4 @@
-//! Buffers around several generators: reseeded, around a buffer, and cloned.
+//! Buffers around several generators: reseeded, around another buffer, and cloned.
 
 use crate::comparing::equal;
 use crate::draw_helpers::{buffered_byte, buffered_bytes, each_byte};
@@ -8,7 +8,7 @@ use std::process::Abort;
 use std::test::Fail;
 use test_support::Steps;
 
-// Of a buffer around `WyRand`. The buffered bytes stay, and come first.
+// A buffer around `WyRand` keeps its buffered bytes and delivers them first.
 #[test]
 fn reseeded_behind_the_buffer(rt: HostRuntime) {
     let mut rng = BufferedRng::new(WyRand::new_seed(0x5f89e29b87429bd2));
@@ -18,7 +18,7 @@ fn reseeded_behind_the_buffer(rt: HostRuntime) {
     equal(&rt, buffered_bytes(&mut rng), [126, 3, 231, 179]);
 }
 
-// The outer buffer takes a whole block of the inner one, from its second byte on.
+// The outer buffer takes a whole block of the inner buffer, starting with its second byte.
 fn goes_on_from_the_second_byte<G: Rng<8> + Drop>(
     rt: &impl Abort,
     mut twice: BufferedRng<BufferedRng<G, 8>, 8>,
@@ -36,7 +36,7 @@ fn a_buffer_in_a_buffer(rt: HostRuntime) {
     goes_on_from_the_second_byte(&rt, BufferedRng::new(once));
 }
 
-// After five bytes a clone gives the next 20 bytes of its original.
+// After five bytes, a clone delivers the same 20 bytes as its original.
 fn is_cloned<G: Rng<OUTPUT> + Drop, const OUTPUT: usize>(
     rt: &impl Abort,
     mut original: BufferedRng<G, OUTPUT>,

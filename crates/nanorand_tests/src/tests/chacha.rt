@@ -1,4 +1,5 @@
-//! ChaCha's blocks: the published ones, the ends of the counter, and a body word by word.
+//! The blocks of ChaCha: the published ones, the ends of the counter, and a body that works word by
+//! word.
 ghost use Rattle.std.specs.Prelude.{◌≡◌, ◌%◌};
 
 use crate::comparing::{equal, equal_at};
@@ -12,7 +13,7 @@ use std::alloc::AllocError;
 use std::process::Abort;
 use std::test::Fail;
 
-// Keys, nonces, and the first blocks of 20 rounds, one of them without its last four bytes.
+// Keys, nonces, and the first blocks of 20 rounds. One block lacks its last four bytes.
 const PUBLISHED: [(&str, &str, &[&str]); 5] = [
     (
         "0000000000000000000000000000000000000000000000000000000000000000",
@@ -54,7 +55,7 @@ const PUBLISHED: [(&str, &str, &[&str]); 5] = [
     ),
 ];
 
-// The bytes of 32-bit words, least significant first.
+// Returns the bytes of 32-bit words, in little-endian order.
 fn bytes_of(words: &[u32; 16]) -> [u8; 64] {
     let mut bytes = [0; 64];
     for i in 0..64 {
@@ -63,7 +64,7 @@ fn bytes_of(words: &[u32; 16]) -> [u8; 64] {
     bytes
 }
 
-// The text is of this block, or of the bytes at its beginning.
+// The text is that of this block, or of the bytes at its beginning.
 fn is_published(
     rt: &(impl Abort + AllocGlobal),
     block: [u8; 64],
@@ -94,7 +95,8 @@ fn published_blocks(rt: HostRuntime) -> Result<(), Fail> {
     Ok(())
 }
 
-// After a jump to this counter come the blocks of the counters with these halves, also from a buffer.
+// After a jump to this counter, the generator and a buffer around it deliver the blocks of the
+// counters with these halves.
 fn ends_at(
     rt: &(impl Abort + AllocGlobal),
     counter: u64,
@@ -116,8 +118,9 @@ fn ends_at(
     Ok(())
 }
 
-// When the low half of the counter overflows, the high half grows by one. After the greatest counter
-// the stream starts again, but `chacha_increment_counter` refuses and changes nothing.
+// When the low half of the counter overflows, the high half grows by one. After the greatest
+// counter the stream starts again, but `chacha_increment_counter` returns false and changes
+// nothing.
 #[test]
 fn ends_of_the_counter(rt: HostRuntime) -> Result<(), Fail> {
     ends_at(&rt, 0xffff_ffff, [[0xffff_ffff, 0], [0, 1]], (1 << 32) + 1)?;
@@ -163,7 +166,7 @@ fn mix(words: [u32; 4], first: u32, second: u32) -> [u32; 4] {
     [a, (b ^ c).rotate_left(second), c, d]
 }
 
-// The rounds one word at a time, as ChaCha is published.
+// The rounds, one word at a time, as ChaCha was published.
 fn rounds_by_words(rounds: u8, input: [u32; 16]) -> [u32; 16] {
     let mut x = input;
     for _pair in 0..rounds / 2 {
@@ -178,7 +181,8 @@ fn rounds_by_words(rounds: u8, input: [u32; 16]) -> [u32; 16] {
     x
 }
 
-// The rounds and the block equal those by words, and the inverse of the rounds gives the state back.
+// The rounds and the block equal those computed word by word, and the inverse of the rounds
+// restores the state.
 fn agree<const ROUNDS: u8>(rt: &impl Abort, state: [u32; 16])
     requires { ROUNDS % 2 ≡ 0 }
 {
@@ -192,7 +196,7 @@ fn agree<const ROUNDS: u8>(rt: &impl Abort, state: [u32; 16])
     equal_at(rt, chacha_block::<ROUNDS>(state), sum, ROUNDS);
 }
 
-// Without rounds a block is twice its input, and zeros stay zeros by any rounds.
+// Without rounds, a block is twice its input. Zeros stay zeros after any number of rounds.
 #[test]
 fn blocks_of_equal_words(rt: HostRuntime) {
     equal(&rt, chacha_rounds::<0>([1; 16]), [1; 16]);

@@ -1,4 +1,4 @@
-//! `choose_mut`: which items are written. No clause says it. And the short calls, as they run.
+//! Which items `choose_mut` writes, which no clause states; and the short calls, as they run.
 
 use crate::comparing::{equal, equal_at};
 use nanorand::choices::{below, between, bits, choose, choose_mut};
@@ -7,7 +7,7 @@ use nanorand::{RangeError, WyRand};
 use std::process::Abort;
 use test_support::Script;
 
-// Words, and which of five items each names.
+// Words, and the index that each of them chooses among five items.
 const WORDS: [(u64, usize); 5] = [
     (1, 0),
     (1 << 62, 1),
@@ -18,7 +18,7 @@ const WORDS: [(u64, usize); 5] = [
 
 const ITEMS: [u32; 5] = [10, 20, 30, 40, 50];
 
-// Of the items alone the chosen one is written.
+// Only the chosen item is written.
 fn lends_the_item(rt: &impl Abort, words: &[u64], index: usize) -> Result<(), RangeError> {
     let (mut items, mut expected) = (ITEMS, ITEMS);
     *choose_mut(&mut Script::new(words), &mut items)? = 99;
@@ -37,7 +37,7 @@ fn the_chosen_item_alone_is_written(rt: HostRuntime) -> Result<(), RangeError> {
     Ok(())
 }
 
-// Of a thousand items too it is the one that `choose` lends, and no item moves.
+// Among a thousand items, too, it is the one that `choose` chooses, and no item moves.
 #[test]
 fn one_of_a_thousand(rt: HostRuntime) -> Result<(), RangeError> {
     let mut numbered = [0usize; 1000];
@@ -57,7 +57,7 @@ fn one_of_a_thousand(rt: HostRuntime) -> Result<(), RangeError> {
     Ok(())
 }
 
-// A refusal lends nothing, and leaves every item where it was.
+// An error chooses no item, and leaves every item where it was.
 #[test]
 fn a_refused_choice_leaves_the_items(rt: HostRuntime) {
     let mut zeros = Script::new(&[]);
@@ -67,7 +67,7 @@ fn a_refused_choice_leaves_the_items(rt: HostRuntime) {
     equal(&rt, zeros.drawn(), 128);
 }
 
-// Words, and the number of 1 to 6, below 16 and of four bits that each names.
+// Words, and for each the number that it draws from 1 to 6, below 16, and of four bits.
 const NAMED: [(u64, u64, u64); 4] = [
     (1, 1, 0),
     (1 << 62, 2, 4),

@@ -1,4 +1,5 @@
-//! The derived `Clone`, `Copy`, `PartialEq` and `Debug` of the small types, and the texts of errors.
+//! The derived `Clone`, `Copy`, `PartialEq` and `Debug` of the small types, and the texts of
+//! errors.
 
 use crate::comparing::{debug_is, equal, equal_at};
 use crate::tests::texts::has_texts;
@@ -14,7 +15,7 @@ use std::fmt::{Debug, Display};
 use std::process::Abort;
 use std::test::Fail;
 
-// Each variant of `Kind`, with its text.
+// Each variant of `Kind` and its text.
 const KINDS: [(Kind, &str); 13] = [
     (Kind::I8, "I8"),
     (Kind::I16, "I16"),
@@ -51,7 +52,7 @@ const ANSWERS: [(Answer, &str); 11] = [
     (Answer::Shuffled, "Shuffled"),
 ];
 
-// Of each error the `Debug` and the `Display` text.
+// The `Debug` and the `Display` text of each error.
 const RANGE_ERRORS: [(RangeError, &str, &str); 2] = [
     (RangeError::Empty, "Empty", "the range contains no number"),
     (
@@ -113,8 +114,8 @@ const PAST_PERIOD: [(PastPeriod, &str, &str); 1] = [(
     "the part ends past the period of the generator",
 )];
 
-// A copy and a clone equal the value, its `Debug` text is this, and it equals the value of another case
-// only where `same` says so.
+// A copy and a clone equal the value, and its `Debug` text is this one. The value equals the value
+// of another case only if `same` says so.
 fn check<T: Copy + Eq + Debug + Drop>(
     rt: &(impl Abort + AllocGlobal),
     value: T,
@@ -130,7 +131,7 @@ fn check<T: Copy + Eq + Debug + Drop>(
     Ok(())
 }
 
-// Each two cases, the value of the first with its text.
+// Checks each pair of cases: the value of the first with its text, against the value of the second.
 fn check_values<T: Copy + Eq + Debug + Drop>(
     rt: &(impl Abort + AllocGlobal),
     cases: &[(T, &str)],

@@ -1,4 +1,4 @@
-//! A value type of a user's own, by the generator's own methods.
+//! A user's own value type, with the generator's own methods.
 
 use crate::comparing::equal;
 use nanorand::RangeError::{self, Empty};
@@ -10,7 +10,7 @@ fn throw<G: Rng<OUTPUT>, const OUTPUT: usize>(rng: &mut G) -> u8 {
     rng.generate::<Die>().pips
 }
 
-// A throw within bounds.
+// Throws a die within bounds.
 fn within<G: Rng<OUTPUT>, const OUTPUT: usize>(
     rng: &mut G,
     low: Bound<Die>,
@@ -19,7 +19,7 @@ fn within<G: Rng<OUTPUT>, const OUTPUT: usize>(
     rng.generate_range(low, high).map(|die| die.pips)
 }
 
-// Each block is one word of a byte.
+// Each block holds one word of one byte.
 #[test]
 fn throws(rt: HostRuntime) {
     let mut zeros = Script::new(&[]);

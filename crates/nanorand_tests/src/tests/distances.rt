@@ -1,4 +1,4 @@
-//! Jumps, and distances. A body of single draws would never end on most of them.
+//! Jumps and distances. With a body that draws one by one, most of these tests would never end.
 
 use crate::comparing::{equal, equal_at};
 use nanorand::{Blocks, ChaCha8, Pcg64, WyRand};
@@ -41,8 +41,8 @@ fn of_pcg64(rt: HostRuntime) {
     }
 }
 
-// Draws lead from a seed to those that are equal modulo 8, by an even number, and to those that make 7 with it, by an
-// odd number, and to no other.
+// An even number of draws leads from a seed to those that are equal to it modulo 8, an odd number
+// of draws to those whose sum with it is 7 modulo 8, and no number of draws to any other.
 #[test]
 fn of_small_seeds(rt: HostRuntime) {
     for start in 0..8u64 {

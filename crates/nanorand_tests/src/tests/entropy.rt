@@ -1,4 +1,5 @@
-//! The entropy readers, and a generator made from one, by a reader whose bytes no contract names.
+//! The entropy readers, and generators that are made from one, with a reader whose bytes no
+//! contract states.
 
 use crate::comparing::{debug_is, equal, equal_at};
 use nanorand::entropy::{EntropyError, backup, rdseed, system};
@@ -15,13 +16,13 @@ const KEY: [u8; 32] = [
 
 const NONCE: [u8; 8] = [32, 33, 34, 35, 36, 37, 38, 39];
 
-// The key, the nonce and a byte more.
+// The key, the nonce and one more byte.
 const BYTES: [u8; 41] = [
     0x2a, 0, 0, 0, 0, 0, 0, 0, 0, 0, 0, 0, 0, 0, 0, 0, 16, 17, 18, 19, 20, 21, 22, 23, 24, 25, 26,
     27, 28, 29, 30, 31, 32, 33, 34, 35, 36, 37, 38, 39, 99,
 ];
 
-// What is made of a reader's bytes.
+// What is made from the bytes of a reader.
 #[derive(Clone, Copy)]
 enum Made {
     Slice,
@@ -30,7 +31,7 @@ enum Made {
     ChaCha,
 }
 
-// Each, with the number of bytes that it takes.
+// Each of them, with the number of bytes that it takes.
 const MADE: [(Made, u64); 4] = [
     (Made::Slice, 11),
     (Made::WyRand, 8),
@@ -47,7 +48,8 @@ fn make(made: Made, source: &mut Pieces<'_>) -> Result<(), EntropyError> {
     }
 }
 
-// Exactly the bytes that are needed are taken, in pieces of any size: of ChaCha first the key and then the nonce.
+// Exactly the needed bytes are taken, in pieces of any size. For ChaCha, the key comes first and
+// then the nonce.
 #[test]
 fn the_next_bytes(rt: HostRuntime) -> Result<(), Fail> {
     for piece in [1, 7, 50] {
@@ -67,7 +69,7 @@ fn the_next_bytes(rt: HostRuntime) -> Result<(), Fail> {
     Ok(())
 }
 
-// The call has this outcome, after this many reads.
+// The call has this outcome after this many reads.
 fn ends(
     rt: &impl Abort,
     made: Made,
@@ -79,9 +81,9 @@ fn ends(
     equal_at(rt, source.reads(), reads, reads);
 }
 
-// A reader that ends after any number of bytes that is too small, and one that fails at one of its reads, with any
-// kind of error, an interruption too. Nothing is read after the end or a failure, nor after the last byte that is
-// needed, not even no bytes.
+// Readers that end after too few bytes, and readers one of whose reads fails, with any kind of
+// error including an interruption. Nothing is read after the end, after a failure or after the last
+// needed byte, not even with an empty slice.
 #[test]
 fn too_few_bytes(rt: HostRuntime) {
     for (made, size) in MADE {
@@ -99,7 +101,7 @@ fn too_few_bytes(rt: HostRuntime) {
     }
 }
 
-// An empty slice asks no reader.
+// An empty slice does not read from the reader.
 #[test]
 fn no_source_and_no_bytes(rt: HostRuntime) {
     let mut out = [9, 9];

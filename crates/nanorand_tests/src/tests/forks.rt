@@ -1,4 +1,4 @@
-//! Clones that are not equal to their original, and a buffer around such a generator.
+//! Clones that are not equal to their originals, and a buffer around such a generator.
 
 use crate::comparing::{equal, equal_at};
 use crate::draw_helpers::buffered_byte;

@@ -1,4 +1,5 @@
-//! The last parts of streams, and parts that are refused. That parts follow each other is tested in Rust.
+//! The last parts of streams, and parts past the period, which are errors. That parts follow each
+//! other is tested in Rust.
 
 use crate::comparing::equal;
 use nanorand::{
@@ -6,8 +7,8 @@ use nanorand::{
 };
 use std::process::Abort;
 
-// Parts of `draws` draws with all indices make the period, and `last` is where the last of them begins. A longer
-// one is refused, and so is one with an index too great for longer parts.
+// The parts of `draws` draws with all indices make up the period, and the last of them begins at
+// `last`. A longer part is an error. So is a part with an index that is too great for longer parts.
 fn end_with_the_period<R, const N: usize>(rt: &impl Abort, rng: &R, draws: u64, last: R)
 where
     R: Parts<N> + PartialEq + Drop,

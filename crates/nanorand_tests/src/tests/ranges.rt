@@ -1,4 +1,4 @@
-//! Bounds of each pair of kinds at both ends of the ten types, and the numbers that words name.
+//! Each pair of kinds of bounds at both ends of the ten types, and the numbers that words draw.
 
 use crate::comparing::{equal, equal_at};
 use nanorand::replay::{Answer, Call, Span, replay};
@@ -6,7 +6,8 @@ use nanorand::values::pick_word;
 use std::ops::Bound::{Excluded, Included, Unbounded};
 use test_support::Script;
 
-// Ranges at the least two numbers of a type and at the greatest two: the nine pairs of kinds of bounds.
+// Ranges at the two least and the two greatest numbers of a type: the nine pairs of kinds of
+// bounds.
 macro_rules! ranges {
     ($type:ident, $least:literal, $second:literal, $before:literal, $last:literal) => {
         [
@@ -50,7 +51,7 @@ const RANGES: [[Call; 11]; 10] = [
     ),
 ];
 
-// The least and the greatest number of each type, and the number before that.
+// For each type: the least number, the greatest number, and the number before the greatest.
 const ENDS: [[Answer; 3]; 10] = [
     [
         Answer::Unsigned(0),
@@ -104,7 +105,7 @@ const ENDS: [[Answer; 3]; 10] = [
     ],
 ];
 
-// The answers by words of 0, or by these.
+// The answers that these words draw. After the words, all words are 0.
 fn answers_by(words: &[u64], calls: &[Call; 11]) -> [Answer; 11] {
     let mut answers = [Answer::Shuffled; 11];
     replay(&mut Script::new(words), calls, &mut [], &mut answers);
@@ -127,7 +128,8 @@ fn bounds_at_both_ends(rt: HostRuntime) {
     }
 }
 
-// Sizes of ranges of 64 bits, words, and the number that each names. Those of 8 bits are in `runs`.
+// Sizes of ranges of 64 bits, words, and the number that each word draws. Those of 8 bits are in
+// `runs`.
 const NAMED: [(u128, u64, Option<u64>); 6] = [
     ((1 << 63) + 1, 0, None),
     ((1 << 63) + 1, 1, Some(0)),

@@ -1,4 +1,4 @@
-//! `read_to_end` with each request for memory refused in turn.
+//! `read_to_end`, where each allocation in turn fails.
 
 use crate::comparing::equal;
 use crate::draw_helpers::buffered_bytes;
@@ -8,7 +8,7 @@ use std::process::Abort;
 use std::test::Fail;
 use test_support::{Refusing, Steps};
 
-// The call returns this, and leaves these items and so many buffered bytes.
+// The call returns this outcome, and leaves these items and this many buffered bytes.
 fn reads<G: Rng<OUTPUT>, const OUTPUT: usize, A: Allocator>(
     rt: &impl Abort,
     rng: &mut BufferedRng<G, OUTPUT>,
@@ -20,8 +20,9 @@ fn reads<G: Rng<OUTPUT>, const OUTPUT: usize, A: Allocator>(
     equal(rt, (out.as_slice(), rng.buffered()), (items, buffered));
 }
 
-// A buffer with the bytes 5, 6 and 7, and a vector of so many sevens without room for them. The first allocation
-// is refused: neither changes, and the next call succeeds. There is no second allocation.
+// A buffer with the bytes 5, 6 and 7, and a vector of `count` sevens without room for them. The
+// first allocation fails: neither changes, and the next call succeeds. There is no second
+// allocation.
 fn is_refused_once(rt: &(impl Abort + AllocGlobal), count: usize) -> Result<(), AllocError> {
     let sevens = vec![in rt.alloc(); 7; count]?;
     let mut all = sevens.clone()?;
@@ -35,7 +36,7 @@ fn is_refused_once(rt: &(impl Abort + AllocGlobal), count: usize) -> Result<(), 
     reads(rt, &mut rng, &mut out, Err(AllocError), (&sevens, 3));
     equal(rt, out.capacity(), room);
     reads(rt, &mut rng, &mut out, Ok(3), (&all, 0));
-    // There is nothing to append.
+    // Nothing is left to append.
     reads(rt, &mut rng, &mut out, Ok(0), (&all, 0));
     Ok(())
 }
@@ -48,7 +49,7 @@ fn read_to_end(rt: HostRuntime) -> Result<(), Fail> {
     Ok(())
 }
 
-// With enough spare capacity there is no allocation to refuse.
+// With enough spare capacity, nothing is allocated, so nothing can fail.
 #[test]
 fn read_to_end_without_allocation(rt: HostRuntime) -> Result<(), Fail> {
     let heap = Refusing::from_nth(rt.alloc(), 2);

@@ -1,5 +1,5 @@
-//! Calls on generators whose blocks are known: what each call answers, and what all of them leave. Each case is a
-//! replay, and again the generator's own methods in turn.
+//! Calls on generators whose blocks are known: the answer to each call, and what all calls leave.
+//! Each case is run twice: as a replay, and by the generator's own methods in turn.
 
 use crate::comparing::equal_at;
 use nanorand::replay::Answer::{self, Empty, Exhausted, Shuffled, Signed, Truth, Unsigned};
@@ -15,11 +15,11 @@ use std::process::Abort;
 use std::test::Fail;
 use test_support::{Script, Steps, Waste};
 
-// The generator of a case, always a new one.
+// The generator of a case, which is always a new one.
 enum Source {
     Steps,
     Waste,
-    // So many words of 0, then these, and then words of 0 again.
+    // This many words of 0, then these words, and then words of 0 again.
     Words(u64, &'static [u64]),
 }
 
@@ -29,9 +29,10 @@ struct Case {
     source: Source,
     calls: &'static [Call],
     answers: &'static [Answer],
-    // What is left of the items 7, 8, 9 and so on.
+    // What becomes of the items 7, 8, 9, ..
     items: &'static [u64],
-    // The blocks drawn, and of a buffer around the generator the bytes that it holds.
+    // The number of blocks drawn, and for a buffer around the generator the number of bytes that it
+    // holds.
     drawn: u64,
     buffered: Option<usize>,
 }
@@ -428,7 +429,7 @@ fn signed<T: Into<i128>>(drawn: Result<T, RangeError>) -> Answer {
     drawn.map_or_else(refusal, |number| Signed(number.into()))
 }
 
-// The call by the generator's own method.
+// Makes the call by the generator's own method.
 fn by_method<G: Rng<OUTPUT>, const OUTPUT: usize>(
     rng: &mut G,
     call: &Call,
@@ -472,7 +473,7 @@ fn by_method<G: Rng<OUTPUT>, const OUTPUT: usize>(
     }
 }
 
-// The calls answer so, and leave these items.
+// The calls have these answers and leave these items.
 fn answers_so<G: Rng<OUTPUT>, const OUTPUT: usize>(
     rt: &(impl Abort + AllocGlobal),
     rng: &mut G,
@@ -495,7 +496,8 @@ fn answers_so<G: Rng<OUTPUT>, const OUTPUT: usize>(
     Ok(())
 }
 
-// The same of a new buffer, or of the generator in it. Returns the generator as the calls leave it.
+// Does the same for a new buffer, or for the generator in it. Returns the generator as the calls
+// leave it.
 fn leaves<G: Rng<OUTPUT> + Drop, const OUTPUT: usize>(
     rt: &(impl Abort + AllocGlobal),
     mut buffer: BufferedRng<G, OUTPUT>,
@@ -512,7 +514,7 @@ fn leaves<G: Rng<OUTPUT> + Drop, const OUTPUT: usize>(
     Ok(buffer.into_inner())
 }
 
-// The number of blocks that the calls draw.
+// Returns the number of blocks that the calls draw.
 fn drawn(
     rt: &(impl Abort + AllocGlobal),
     case: &Case,
@@ -544,7 +546,7 @@ fn calls(rt: HostRuntime) -> Result<(), Fail> {
     Ok(())
 }
 
-// Ranges, and the least and the greatest number of each. Those of a list are drawn in turn.
+// Ranges, each with its least and greatest number. The ranges of a list are drawn in turn.
 const RANGES: [&[(Call, i128, i128)]; 3] = [
     &[
         (Range(Span::U64(Included(10), Included(20))), 10, 20),

@@ -1,4 +1,5 @@
-//! Requests for bytes, of a plain generator and of a buffer around it, one after another.
+//! Requests for bytes, one after another, to a generator without a buffer and to a buffer around
+//! it.
 
 use crate::comparing::equal_at;
 use nanorand::buffer::TextRefused;
@@ -16,19 +17,21 @@ enum Request {
     Bytes,
     // `fill`: a request for each byte.
     Each,
-    // `rand`: a block.
+    // `rand`: one block.
     Block,
-    // Of a buffer alone: `read`.
+    // `read`, which only a buffer has.
     Read,
-    // Of a buffer alone: `read_to_end`.
+    // `read_to_end`, which only a buffer has.
     Rest,
-    // Of a buffer alone: `read_to_string`, which is refused and leaves the string.
+    // `read_to_string`, which only a buffer has. It returns an error and leaves the string
+    // unchanged.
     Text,
 }
 
 use Request::{Block, Bytes, Each, Read as ReadSome, Rest, Text};
 
-// A request, the bytes that it gives, and after it the number of blocks drawn and of bytes buffered.
+// A request, the bytes that it returns, and the number of blocks drawn and of bytes buffered after
+// it.
 type Row = (Request, &'static [u8], u64, usize);
 
 const PLAIN: [&[Row]; 5] = [
@@ -78,7 +81,7 @@ const BUFFERED: [&[Row]; 5] = [
     ],
 ];
 
-// The bytes that a generator gives for a request.
+// Returns the bytes that a generator returns for a request.
 fn given<G: Rng<8>>(
     rt: &impl AllocGlobal,
     rng: &mut G,

@@ -1,5 +1,5 @@
-//! Reservoirs: which items stay in the slots, how far an iterator is taken, and how many words are
-//! drawn.
+//! Reservoirs: which items stay in the slots, how far an iterator is consumed, and how many words
+//! are drawn.
 
 use crate::comparing::{equal, equal_at};
 use nanorand::choices::between;
@@ -8,7 +8,8 @@ use nanorand::{ChaCha20, ChaCha20Stream, Pcg64, RangeError, Rng, WyRand, chacha_
 use std::process::Abort;
 use test_support::{Script, Steps};
 
-// The items 0, 1, .. below `count`, and what the slots hold that begin with nines.
+// Samples the items 0, 1, .. below `count` into slots that hold 99 before. Returns the result and
+// the slots.
 fn of_numbers<const K: usize, G: Rng<OUTPUT>, const OUTPUT: usize>(
     rng: &mut G,
     count: u32,
@@ -24,7 +25,7 @@ fn five_of_twenty(rt: HostRuntime) {
     equal(&rt, sample, (Ok(5), [0, 17, 8, 7, 4]));
 }
 
-// So many items fill so many of three slots, by so many words.
+// This many items fill `filled` of three slots, and draw this many words.
 fn fills(rt: &impl Abort, count: u32, filled: usize, slots: [u32; 3], words: u64) {
     let mut rng = Steps::new();
     equal_at(rt, of_numbers(&mut rng, count), (Ok(filled), slots), count);
@@ -42,7 +43,7 @@ fn few_items(rt: HostRuntime) {
     fills(&rt, 5, 3, [4, 1, 2], 2);
 }
 
-// Without slots, each item draws all the same.
+// If there are no slots, each item draws a word all the same.
 #[test]
 fn no_slots(rt: HostRuntime) {
     for count in 0..6 {
@@ -52,8 +53,8 @@ fn no_slots(rt: HostRuntime) {
     }
 }
 
-// The draws of the last items, a word each, and the slots at the end. The greatest word draws the
-// item's own number, which is no slot.
+// The words for the last items, and the slots at the end. The greatest word draws the item's own
+// number, for which there is no slot.
 const ENDS: [([u64; 2], [u32; 2]); 5] = [
     ([u64::MAX, u64::MAX], [0, 1]),
     ([1, u64::MAX], [2, 1]),
@@ -70,9 +71,9 @@ fn words_draw_slots(rt: HostRuntime) {
     }
 }
 
-// Two of eight items. The greatest word draws no slot. The zeros after these words draw slot 0 for
-// the items 3 and 7, and are rejected for the others. This is returned, the slots hold these items,
-// and this item is the next.
+// A sample of two of eight items. The greatest word draws no slot. The zeros after these words draw
+// slot 0 for the items 3 and 7, and are rejected for the others. The call returns `returned`, the
+// slots hold these items, and `next` is the next item.
 fn stops(
     rt: &impl Abort,
     words: &[u64],
@@ -102,7 +103,7 @@ fn a_refusal_at_each_draw(rt: HostRuntime) {
     stops(&rt, &[u64::MAX; 6], Ok(2), [0, 1], None, 6);
 }
 
-// The same as draws one by one from an equal generator.
+// The result is that of draws one by one from an equal generator.
 fn draws_in_turn<G: Rng<OUTPUT>, const OUTPUT: usize>(
     rt: &impl Abort,
     rng: &mut G,
@@ -141,7 +142,7 @@ fn blocks_of_every_size(rt: HostRuntime) -> Result<(), RangeError> {
     draws_in_turn(&rt, &mut stream, &mut chacha_stream(key, nonce))
 }
 
-// Items that are no numbers: lines of a text.
+// Items that are not numbers: the lines of a text.
 #[test]
 fn lines(rt: HostRuntime) {
     let mut chosen = ["none"; 3];

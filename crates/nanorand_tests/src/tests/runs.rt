@@ -1,5 +1,5 @@
-//! The runs of every size that a byte can draw, handed out by counting: nothing is divided. And the old body of
-//! `pick_word`, which divides for each word.
+//! The runs of bytes that draw the same number, for every size from 1 to 256, found by counting,
+//! without division. `pick_word` is compared with them, and with a body that divides for each word.
 ghost use Rattle.std.specs.Prelude.{◌≤◌};
 
 use crate::comparing::equal_at;
@@ -10,7 +10,7 @@ use std::ops::Bound::Included;
 use std::process::Abort;
 use test_support::Script;
 
-// How often the size fits in 256: the length of a run.
+// Returns how often the size fits in 256, which is the length of a run.
 fn length_of_run(size: u32) -> u32 {
     let mut length = 0u32;
     for count in 1..=256u32 {
@@ -29,9 +29,10 @@ fn pick_by_remainder(size: u32, byte: u8) -> Option<u64>
     (product % 256 >= 256 % size).then_some(number)
 }
 
-// The number that each byte names, if the greatest number is `last`. Each byte brings as many parts as there
-// are numbers, and a number is made of 256 parts. From the last byte down, a number is given to as many bytes
-// as a run is long; what is left of the bytes that make it names none.
+// Returns the number that each byte draws, if the greatest number is `last`. Each byte brings as
+// many parts as there are numbers, and a number is made of 256 parts. From the last byte down, a
+// number is given to as many bytes as a run is long. The remaining bytes that contribute to it draw
+// no number.
 fn handed_out(last: u8) -> [Option<u8>; 256] {
     let size = u32::from(last) + 1;
     let length = length_of_run(size);
@@ -52,7 +53,7 @@ fn handed_out(last: u8) -> [Option<u8>; 256] {
     named
 }
 
-// A byte that names none is rejected, and so are the bytes of 0 that follow it.
+// A byte that draws no number is rejected, and so are the bytes of 0 that follow it.
 fn check_runs(rt: &impl Abort, last: u8) {
     let named = handed_out(last);
     let size = u32::from(last) + 1;

@@ -1,4 +1,4 @@
-//! Samples by tables of every length, whole and in pieces; and refused samples.
+//! Samples with tables of every length, as a whole and in pieces; and samples that return an error.
 
 ghost use Rattle.std.specs.Prelude.{◌≤◌};
 
@@ -13,7 +13,7 @@ const SLOTS: usize = 20;
 
 const ROOM: usize = 70;
 
-// The first numbers of the seed 42, as nanorand's users have them in every language.
+// The first numbers of the seed 42, as users of `nanorand` see them in every language.
 const KNOWN: [usize; 4] = [341, 812, 641, 50];
 
 #[test]
@@ -41,7 +41,7 @@ fn of_a_thousand(rt: HostRuntime) {
     equal(&rt, extended, KNOWN);
 }
 
-// By a table of each length, over what the table held, as without one; and in two pieces.
+// A table of any length, whatever it held, gives the same result as none; and so do two pieces.
 fn by_tables<G: Rng<OUTPUT> + Clone, const OUTPUT: usize>(
     rt: &impl Abort,
     start: &G,
@@ -89,7 +89,8 @@ fn tables_of_each_length(rt: HostRuntime) -> Result<(), AllocError> {
     Ok(())
 }
 
-// Three of 7 draw below 5, 6 and 7. A number that is too small for each of them is rejected 128 times.
+// A sample of three of 7 draws below 5, 6 and 7. The word 0 is too small for each of these, and is
+// rejected 128 times.
 #[test]
 fn refused_at_each_draw(rt: HostRuntime) {
     let words = [76 << 56, 192 << 56, 18 << 56];

@@ -1,4 +1,4 @@
-//! The first blocks of seeds, and the texts of generators that were drawn from, moved and seeded again.
+//! The first blocks of seeds, and the texts of generators after draws, jumps and reseeding.
 
 use crate::comparing::{debug_is, equal, equal_at};
 use nanorand::{
@@ -6,7 +6,7 @@ use nanorand::{
 };
 use std::test::Fail;
 
-// Seeds, the first block of each, and the text of the generator after it.
+// Seeds, the first block of each, and the text of the generator after that block.
 const WYRAND: [(u64, [u8; 8], &str); 5] = [
     (0x5f89e29b87429bd1, [0; 8], "WyRand { seed: 0x0 }"),
     (
@@ -62,7 +62,7 @@ fn first_blocks(rt: HostRuntime) -> Result<(), Fail> {
     Ok(())
 }
 
-// A new seed leaves the other two numbers.
+// A new seed leaves `state` and `inc` unchanged.
 #[test]
 fn reseeded(rt: HostRuntime) -> Result<(), Fail> {
     let mut pcg64 = Pcg64::new_seed(0);
@@ -73,15 +73,16 @@ fn reseeded(rt: HostRuntime) -> Result<(), Fail> {
     Ok(())
 }
 
-// Draws from the seed 0, and the text after a jump over them.
+// Numbers of draws from the seed 0, and the text after a jump by them.
 const JUMPS_OF_WYRAND: [(u64, &str); 3] = [
     (1, "WyRand { seed: 0xa0761d6478bd642f }"),
     (1 << 63, "WyRand { seed: 0x8000000000000000 }"),
     (u64::MAX, "WyRand { seed: 0x5f89e29b87429bd1 }"),
 ];
 
-// Seeds, draws, and the text after a jump over them. After a quarter of all seeds the first one comes again, and
-// after half of these it differs in its highest bit.
+// Seeds, numbers of draws, and the text after a jump by them. After 2^126 draws, a quarter of the
+// number of seeds, the first seed comes again. After half as many draws, the seed differs from it
+// in its highest bit.
 const JUMPS_OF_PCG64: [(u128, u128, &str); 5] = [
     (0, 1, AFTER_ONE_DRAW),
     (1, 0, "Pcg64 { seed: 0x1, state: 0x0, inc: 0x0 }"),
@@ -98,7 +99,7 @@ const JUMPS_OF_PCG64: [(u128, u128, &str); 5] = [
     ),
 ];
 
-// Draws of `ChaCha8`, and the text after a jump over them and one draw more.
+// Numbers of draws of `ChaCha8`, and the text after a jump by them and one more draw.
 const JUMPS_OF_CHACHA: [(u64, &str); 2] = [
     (0xffff_ffff, "ChaCha20 { rounds: 8, counter: 4294967296 }"),
     (u64::MAX, "ChaCha20 { rounds: 8, counter: 0 }"),
@@ -125,7 +126,7 @@ fn jumps(rt: HostRuntime) -> Result<(), Fail> {
     Ok(())
 }
 
-// Two jumps are one over all their draws.
+// Two jumps equal one jump by the sum of their draws.
 #[test]
 fn jumps_join(rt: HostRuntime) {
     let draws = [0, 1, 2, 999, (1 << 63) - 1];
@@ -145,7 +146,8 @@ fn jumps_join(rt: HostRuntime) {
     }
 }
 
-// The words of splitmix64.c from 1234567: they are the seed, or the key and then the nonce.
+// The words that splitmix64.c draws from 1234567. They make up the seed, or the key followed by the
+// nonce.
 const NUMBER: u64 = 1234567;
 
 const WORDS: [u64; 5] = [

@@ -1,4 +1,5 @@
-//! Shuffles by all places and by a generator's own method, shuffles of a vector, and choices.
+//! Shuffles with partners from all places, shuffles by a generator's own method, shuffles of a
+//! vector, and choices.
 
 use crate::comparing::{equal, equal_at};
 use crate::draw_helpers::byte;
@@ -37,7 +38,8 @@ fn of_a_vector(rt: HostRuntime) -> Result<(), Fail> {
     Ok(())
 }
 
-// Words, items, what `shuffle_full` returns, the items that it leaves, and the words drawn.
+// Words, items, the result of `shuffle_full`, the items that it leaves, and the number of words
+// drawn.
 type Full = (
     &'static [u64],
     &'static [char],
@@ -100,7 +102,7 @@ fn by_all_places(rt: HostRuntime) -> Result<(), Fail> {
     Ok(())
 }
 
-// Between other calls.
+// A shuffle between other calls.
 fn goes_on<G: Rng<8>>(rt: &impl Abort, rng: &mut G) {
     equal(rt, byte(rng), 0);
     equal(rt, rng.generate_range(Included(10u8), Included(12)), Ok(10));
@@ -120,7 +122,7 @@ fn by_all_places_between_other_calls(rt: HostRuntime) {
     equal(&rt, (buffer.inner().drawn(), buffer.buffered()), (4, 5));
 }
 
-// Each valid list of three choices, and the arrangement that it makes.
+// Each valid list of three choices, and the permutation that it makes.
 const CHOICES: [([usize; 3], [usize; 3]); 6] = [
     ([0, 1, 2], [0, 1, 2]),
     ([0, 2, 2], [0, 2, 1]),
@@ -130,7 +132,7 @@ const CHOICES: [([usize; 3], [usize; 3]); 6] = [
     ([2, 2, 2], [2, 0, 1]),
 ];
 
-// The choices of an arrangement, which make it.
+// Returns the choices of a permutation, and checks that they make it.
 fn choices_that_make<const N: usize>(
     rt: &impl Abort,
     order: [usize; N],
@@ -145,7 +147,8 @@ fn choices_that_make<const N: usize>(
     Ok(choices)
 }
 
-// How many of the lists of numbers from 0 to 5 with the length of this one are arrangements. There are `lists` of them.
+// Returns how many of the lists of numbers from 0 to 5, of the same length as `order`, are
+// permutations of 0, 1, .. There are `lists` such lists.
 fn arrangements<const N: usize>(rt: &impl Abort, mut order: [usize; N], lists: u32) -> u64 {
     let mut count = 0u64;
     for code in 0..lists {

@@ -1,4 +1,4 @@
-//! Streams of ChaCha, compared with buffered generators and with blocks, and sought.
+//! Streams of ChaCha, compared with buffered generators and with blocks, and after seeks.
 
 use crate::comparing::{equal, equal_at};
 use nanorand::{BufferedRng, ChaCha20, ChaCha20Stream, Keystream, Rng, chacha_stream_at};
@@ -11,7 +11,7 @@ const NONCE: [u8; 8] = [2; 8];
 // Counters from which a group has no carry, a carry into the high half, or an overflow.
 const COUNTERS: [u64; 4] = [0, 0xffff_fffb, u64::MAX - 2, u64::MAX];
 
-// Ends of blocks and of groups, a carry of the counter, and the end of the stream.
+// Positions: ends of blocks and of groups, a carry of the counter, and the end of the stream.
 const PLACES: [u128; 16] = [
     0,
     1,
@@ -31,7 +31,7 @@ const PLACES: [u128; 16] = [
     u128::MAX,
 ];
 
-// Requests of 0 to 1100 bytes take the same bytes of a stream and of a buffered generator.
+// Requests of 0 to 1100 bytes return the same bytes from a stream and from a buffered generator.
 #[test]
 fn requests_of_many_sizes(rt: HostRuntime) -> Result<(), Fail> {
     for counter in COUNTERS {
@@ -48,7 +48,7 @@ fn requests_of_many_sizes(rt: HostRuntime) -> Result<(), Fail> {
     Ok(())
 }
 
-// From a sought byte on come the bytes of the blocks.
+// After a seek, the bytes are those of the blocks at that position.
 #[test]
 fn seeks(rt: HostRuntime) {
     let mut stream: ChaCha20Stream = chacha_stream_at(KEY, NONCE, 3);

@@ -1,5 +1,5 @@
-//! The `Debug` and `Display` texts of generators. A clause says the plain ones; that no format option
-//! changes them is tested.
+//! The `Debug` and `Display` texts of generators. A clause states the plain texts; these tests
+//! check that no format option changes them.
 
 use crate::comparing::display_is;
 use nanorand::{Blocks, ChaCha, ChaCha8, ChaCha12, ChaCha20, ChaChaGroups, Pcg64, WyRand};
@@ -8,8 +8,8 @@ use std::fmt::{Debug, Display};
 use std::process::Abort;
 use std::test::Fail;
 
-// The value has this text, also in alternate form, with zeros in front and a precision, and with a fill, an
-// alignment, a sign and all of these.
+// The value has this text, also in alternate form, with leading zeros and a precision, and with a
+// fill, an alignment, a sign and all of these.
 fn has_debug_text<T: Debug>(
     rt: &(impl Abort + AllocGlobal),
     value: &T,

@@ -12,7 +12,7 @@ hands-rest size (suc players) deck =
     ∙ sym (drop-drop size (players * size) deck) in
     rw (next, append_assoc, take-append-drop) (hands-rest size players deck)
 
--- a card of a hand is a card of the deck
+-- A card of a hand is a card of the deck.
 hand-card : (size player place : ℕ) (deck : List ℕ) → place < size
     → get_or (hand_of size player deck) place 0 ≡ get_or deck (player * size + place) 0
 hand-card size player place deck within =

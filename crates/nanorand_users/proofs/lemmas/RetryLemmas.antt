@@ -6,7 +6,7 @@ use Rattle.std.specs.Result.{result_unwrap_or}
 use Rattle.nanorand_core.specs.generators.Blocks.{Requests}
 use Rattle.nanorand_users.specs.Retry.{ceiling_after, delay_drawn, delays_after, state_after_delays}
 
--- the ceiling doubles up to the cap; a product past 64 bits is past the cap
+-- The ceiling doubles up to the cap; a product of more than 64 bits is above the cap.
 pub next_ceiling : (first cap k ceiling doubled : ℕ) → cap < 2 ^ 64 → ceiling ≡ ceiling_after first cap k
     → doubled ≡ min (ceiling * 2) (2 ^ 64 - 1) → min doubled cap ≡ ceiling_after first cap (k + 1)
 next_ceiling first cap k ceiling doubled fits is twice =

@@ -1,9 +1,9 @@
--- The seeds that draws of SplitMix64 leave come again after its period, and not before.
+-- The seeds after draws of SplitMix64 repeat after its period, and not before.
 use Rattle.std.proofs.Common.{◌≡◌, ℕ, zero, suc, ◌+◌, ◌*◌, ◌%◌, ◌^◌, ◌<◌, ◌∙◌, sym, arith}
 use Rattle.nanorand.specs.generators.Parts.{ComesAgain, NothingTwice, after_draws}
 use Rattle.nanorand_users.specs.SplitMix.{increment, next_seed, split_mix_period, split_mix_requests}
 
--- what n draws leave of a seed
+-- The seed after n draws.
 pub seed_after : (n s : ℕ) → s < 2 ^ 64 → after_draws split_mix_requests n s ≡ (s + n * increment) % 2 ^ 64
 unfolding after_draws
 seed_after zero s fits = let none : s ≡ (s + 0 * increment) % 2 ^ 64 = omega arith in none

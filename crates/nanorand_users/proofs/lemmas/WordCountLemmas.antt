@@ -1,4 +1,4 @@
--- How many words several draws take.
+-- The number of words that several draws take.
 use Rattle.std.proofs.Common.{◌≡◌, ℕ, zero, suc, ◌+◌, ◌*◌, ◌≤◌, ◌∙◌, ap, arith}
 use Rattle.std.specs.Fn.{iterate}
 
@@ -7,7 +7,7 @@ iterate-add step zero n g = ap (λ (k : ℕ). iterate step k g) (let e : n ≡ 0
 iterate-add step (suc m) n g =
     iterate-add step m n (step g) ∙ ap (λ (k : ℕ). iterate step k g) (let e : suc (m + n) ≡ suc m + n = omega arith in e)
 
--- after one draw more
+-- After one more draw.
 pub words_more : {A : Type 0} (h : A → A) (limit i : ℕ) (x y z : A)
     → (n : ℕ) × (n ≤ limit * i) × (y ≡ iterate h n x) → (n : ℕ) × (n ≤ limit) × (z ≡ iterate h n y)
     → (n : ℕ) × (n ≤ limit * (i + 1)) × (z ≡ iterate h n x)

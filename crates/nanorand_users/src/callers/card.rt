@@ -27,7 +27,7 @@ impl Model for Card {
 }
 
 impl Card {
-    /// The card of a suit, from 0 to 3, and a rank, from 0 to 12.
+    /// Returns the card of a suit, from 0 to 3, and a rank, from 0 to 12.
     pub fn new(suit: u8, rank: u8) -> Self
         requires suit { suit < 4 }
         requires rank { rank < 13 }
@@ -38,14 +38,14 @@ impl Card {
         }
     }
 
-    /// The suit, from 0 to 3.
+    /// Returns the suit, from 0 to 3.
     pub fn suit(&self) -> u8
         ensures { result < 4 }
     {
         self.number / 13
     }
 
-    /// The rank, from 0 to 12.
+    /// Returns the rank, from 0 to 12.
     pub fn rank(&self) -> u8
         ensures { result < 13 }
     {
@@ -53,7 +53,8 @@ impl Card {
     }
 }
 
-/// A card of the pack. A value type cannot refuse: after 128 rejected words it is the first card.
+/// Draws a card of the pack. A value type cannot return an error: after 128 rejected words, the
+/// card is the first one.
 impl<G: Rng<OUTPUT>, const OUTPUT: usize> RandomGen<G, OUTPUT> for Card {
     ghost value = { card_value G.requests };
 
@@ -67,7 +68,7 @@ impl<G: Rng<OUTPUT>, const OUTPUT: usize> RandomGen<G, OUTPUT> for Card {
     }
 }
 
-/// A card whose number is within the numbers of the bounds.
+/// Draws a card whose number is within the numbers of the bounds.
 impl<G: Rng<OUTPUT>, const OUTPUT: usize> RandomRange<G, OUTPUT> for Card {
     ghost outcome = { λ g low high. unsigned_outcome G.requests 8 g low (card_end high) };
 
@@ -80,7 +81,7 @@ impl<G: Rng<OUTPUT>, const OUTPUT: usize> RandomRange<G, OUTPUT> for Card {
     }
 }
 
-// The number of a low bound.
+// Returns a low bound as a number.
 fn number_of(bound: Bound<Card>) -> Bound<u8>
     ensures { result ≡ bound }
 {
@@ -91,7 +92,7 @@ fn number_of(bound: Bound<Card>) -> Bound<u8>
     }
 }
 
-// The number of a high bound, which ends the pack if there is none.
+// Returns a high bound as a number. Without a bound, the range ends with the pack.
 fn end_of(bound: Bound<Card>) -> Bound<u8>
     ensures value { result ≡ card_end bound }
     ensures pack { EndsInPack result }

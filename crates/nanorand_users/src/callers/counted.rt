@@ -1,4 +1,4 @@
-//! What the laws of whole draws say of a die, tiles, a hand of cards and winners.
+//! What the laws of whole draws say about a die, tiles, a hand of cards and winners.
 ghost use Rattle.std.specs.Prelude.{◌≡◌, ℕ, ◌*◌, ◌<◌, ◌^◌, ◌==◌, Bool, List, [], ◌∷◌, length, is_none, option_map, count_by, OnOk};
 ghost use Rattle.std.specs.List.{list_all, list_any, range_with_len};
 ghost use Rattle.std.specs.Cmp.Lexicographic.{pointwise};
@@ -23,7 +23,7 @@ use nanorand::samples::sample;
 use nanorand::shuffles::shuffle_and_record;
 use nanorand::{RangeError, WyRand};
 
-/// A throw of a die is undecided after three bytes for 64 of the 2^24 lists: 4 of 256 bytes are
+/// Of the 2^24 lists of three bytes, 64 leave a throw of a die undecided: 4 of the 256 bytes are
 /// rejected.
 pub fn throws_that_wait()
     ensures { lists_that 8 3 (λ words. is_none (number_by_words 8 6 words)) ≡ 64 }
@@ -42,7 +42,7 @@ pub fn tiles_by_weight()
     fairness_with_rejections();
 }
 
-/// Any two hands of five cards of a deck are dealt by equally many lists of five words.
+/// Any two hands of five cards of a deck are dealt by the same number of lists of five words.
 pub fn hands_are_alike()
     ensures { (hand other : List ℕ) → IsDeal 5 52 hand → IsDeal 5 52 other
         → let deals = word_lists_that 64 5 (deal_sizes 5 52) in
@@ -52,7 +52,7 @@ pub fn hands_are_alike()
     shuffles_are_fair();
 }
 
-/// Any two cards are in a hand of five cards of a deck by equally many lists of n words.
+/// Any two cards are in a hand of five cards of a deck for the same number of lists of n words.
 pub fn cards_are_alike()
     ensures { (n card other : ℕ) → card < 52 → other < 52
         → let deals = word_lists_that 64 n (deal_sizes 5 52) in
@@ -62,8 +62,8 @@ pub fn cards_are_alike()
     shuffles_are_fair();
 }
 
-/// If each of three cards changes places with any of the three, fewer lists of three words leave the
-/// cards in order than exchange the first two.
+/// If each of three cards is swapped with any of the three, fewer lists of three words leave the
+/// cards in order than swap the first two.
 pub fn orders_are_not_alike()
     ensures { let makes = λ (order : List ℕ). word_lists_that 64 3 (3 ∷ 3 ∷ 3 ∷ [])
         (λ choices. pointwise ◌==◌ (arranged choices (rising 3)) order) in
@@ -72,7 +72,7 @@ pub fn orders_are_not_alike()
     full_shuffles_prefer_orders();
 }
 
-/// Any three of ten entrants win by equally many lists of three words.
+/// Any three of ten entrants win by the same number of lists of three words.
 pub fn winners_are_alike()
     ensures { (three others : ℕ → Bool)
         → count_by three (range_with_len 0 10) ≡ 3 → count_by others (range_with_len 0 10) ≡ 3
@@ -83,7 +83,7 @@ pub fn winners_are_alike()
     sampled_sets_are_fair();
 }
 
-/// Any three of ten lines are kept by a reservoir by equally many lists of seven words.
+/// A reservoir keeps any three of ten lines by the same number of lists of seven words.
 pub fn lines_are_alike()
     ensures { (three others : ℕ → Bool)
         → count_by three (range_with_len 0 10) ≡ 3 → count_by others (range_with_len 0 10) ≡ 3
@@ -94,8 +94,8 @@ pub fn lines_are_alike()
     reservoir_words_are_fair();
 }
 
-/// Three of ten entrants: the winners are those by the numbers that the next words of the generator
-/// draw in turn.
+/// Draws three of ten entrants. The winners are determined by the numbers that the next words of
+/// the generator draw in turn.
 pub fn winners_by_words(rng: &mut WyRand, winners: &mut [usize; 3]) -> Result<(), RangeError>
     ensures { let requests = wyrand.wyrand_requests in
         let words = words_from (next_word requests 64) (after_word requests 64) 384 rng.old in
@@ -105,8 +105,8 @@ pub fn winners_by_words(rng: &mut WyRand, winners: &mut [usize; 3]) -> Result<()
     sample(rng, 10, winners)
 }
 
-/// A shuffle of five cards, recorded: the choices are those by the numbers that the next words draw
-/// in turn.
+/// Shuffles five cards and records the choices. The choices are determined by the numbers that the
+/// next words of the generator draw in turn.
 pub fn choices_by_words(
     rng: &mut WyRand,
     cards: &mut [u8; 5],
@@ -121,7 +121,7 @@ pub fn choices_by_words(
     shuffle_and_record(rng, cards, choices)
 }
 
-/// Who waits for every 64-bit word of a `WyRand` waits in vain.
+/// If you wait until a `WyRand` has drawn every 64-bit word, you wait in vain.
 pub fn waits_in_vain()
     ensures { (seed : ℕ)
         → ¬ ((w : ℕ) → w < 2 ^ 64 → (n : ℕ) × (wyrand.word (wyrand.seed_after n seed) ≡ w)) }

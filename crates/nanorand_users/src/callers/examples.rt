@@ -1,4 +1,4 @@
-//! The shortest calls.
+//! The shortest callers.
 
 use nanorand::choices::between;
 use nanorand::entropy::EntropyError;

@@ -1,4 +1,4 @@
-//! Callers that fill slices by a closure.
+//! Callers that fill slices with a closure.
 ghost use Rattle.std.specs.Prelude.{◌≡◌, ◌≤◌, All, length};
 ghost use Rattle.std.specs.Fn.{iterate};
 ghost use Rattle.nanorand_core.specs.values.Values.{number_of, values_from};
@@ -7,7 +7,7 @@ use super::throw;
 use nanorand::Rng;
 use nanorand::values::fill_with;
 
-/// Fills the slice with bytes by a closure. The bytes are those that `Rng::fill` writes.
+/// Fills the slice with bytes from a closure. The bytes are those that `Rng::fill` writes.
 pub fn fill_bytes_by_closure<G: Rng<OUTPUT>, const OUTPUT: usize>(rng: &mut G, target: &mut [u8])
     ensures values { let byte = λ (g : G). number_of (G.requests.bytes g 1) in
         let after = λ (g : G). G.requests.after g 1 in
@@ -25,7 +25,7 @@ pub fn fill_bytes_by_closure<G: Rng<OUTPUT>, const OUTPUT: usize>(rng: &mut G, t
     );
 }
 
-/// Throws a die for each item, from any generator: each item is from 1 to 6.
+/// Throws a die for each item, with any generator: each item is from 1 to 6.
 pub fn throw_dice<G: Rng<OUTPUT>, const OUTPUT: usize>(rng: &mut G, faces: &mut [u8])
     ensures { All (λ pips. (1 ≤ pips) × (pips ≤ 6)) faces.new }
 {

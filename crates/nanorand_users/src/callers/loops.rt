@@ -4,7 +4,7 @@ ghost use Rattle.std.specs.Prelude.{All, Contains, IfOk, OnOk};
 use nanorand::choices::choose;
 use nanorand::{ChaCha20, RangeError};
 
-/// Fills the slice with letters of an alphabet. A refusal is passed on at once.
+/// Fills the slice with letters of an alphabet. Returns the first error at once.
 pub fn letters(rng: &mut ChaCha20, alphabet: &[u8], out: &mut [u8]) -> Result<(), RangeError>
     ensures { OnOk result (All (λ letter. Contains alphabet.now letter) out.new) }
 {
@@ -14,7 +14,7 @@ pub fn letters(rng: &mut ChaCha20, alphabet: &[u8], out: &mut [u8]) -> Result<()
     Ok(())
 }
 
-// A letter of the alphabet.
+// Draws a letter of the alphabet.
 fn letter(rng: &mut ChaCha20, alphabet: &[u8]) -> Result<u8, RangeError>
     ensures { IfOk result (λ letter. Contains alphabet.now letter) }
 {

@@ -1,5 +1,5 @@
 //! A user's own generator: SplitMix64, after Guy Steele, Doug Lea and Christine Flood, "Fast
-//! Splittable Pseudorandom Number Generators" (2014), in Sebastiano Vigna's constants.
+//! Splittable Pseudorandom Number Generators" (2014), with the constants of Sebastiano Vigna.
 ghost use Rattle.std.specs.Prelude.{◌≡◌, ◌↔◌, ◌+◌, ◌*◌, ◌^◌, ◌≤◌, ⊤, refl, IfOk, IsOk};
 ghost use Rattle.std.proofs.Common.{rules};
 ghost use Rattle.nanorand.specs.support.OnwardLemmas.{onward_8};
@@ -11,7 +11,7 @@ use nanorand::{Blocks, Parts, PastPeriod, Rng};
 use std::alloc::AllocError;
 use std::marker::Model;
 
-// What a draw adds to the seed.
+// The number that a draw adds to the seed.
 const INCREMENT: u64 = 0x9e37_79b9_7f4a_7c15;
 
 /// A generator of 64-bit words.
@@ -30,7 +30,7 @@ impl Model for SplitMix64 {
 }
 
 impl SplitMix64 {
-    /// A generator with this seed.
+    /// Creates a generator with this seed.
     pub fn new(seed: u64) -> Self
         ensures { result ≡ seed }
     {

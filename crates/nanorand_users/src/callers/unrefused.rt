@@ -1,5 +1,5 @@
-//! Draws that are never refused, since as many numbers as divide the count of the words are drawn
-//! from: of each width, and without a line of proof.
+//! Draws that never return an error, since the number of possible results divides the number of
+//! words: for words of each width, and without a line of proof.
 ghost use Rattle.std.specs.Prelude.{◌≡◌, ◌≤◌, ◌<◌, ◌^◌, ◌%◌, length, IsOk};
 
 use nanorand::choices::{below, between, choose, choose_mut, ratio};
@@ -94,4 +94,106 @@ pub fn counters<'a, G: Rng<OUTPUT>, const OUTPUT: usize>(
     ensures { IsOk result }
 {
     choose_mut(rng, counters)
+}
+
+pub fn range_u8<G: Rng<OUTPUT>, const OUTPUT: usize>(rng: &mut G) -> Result<u8, RangeError>
+    ensures { IsOk result }
+{
+    rng.generate_range(Bound::Included(0), Bound::Excluded(8))
+}
+
+pub fn range_u16<G: Rng<OUTPUT>, const OUTPUT: usize>(rng: &mut G) -> Result<u16, RangeError>
+    ensures { IsOk result }
+{
+    rng.generate_range(Bound::Included(100), Bound::Excluded(356))
+}
+
+pub fn range_u64<G: Rng<OUTPUT>, const OUTPUT: usize>(rng: &mut G) -> Result<u64, RangeError>
+    ensures { IsOk result }
+{
+    rng.generate_range(Bound::Included(1), Bound::Included(1024))
+}
+
+pub fn range_usize<G: Rng<OUTPUT>, const OUTPUT: usize>(rng: &mut G) -> Result<usize, RangeError>
+    ensures { IsOk result }
+{
+    rng.generate_range(Bound::Unbounded, Bound::Excluded(64))
+}
+
+pub fn range_i8<G: Rng<OUTPUT>, const OUTPUT: usize>(rng: &mut G) -> Result<i8, RangeError>
+    ensures { IsOk result }
+{
+    rng.generate_range(Bound::Included(-4), Bound::Excluded(4))
+}
+
+pub fn range_i16<G: Rng<OUTPUT>, const OUTPUT: usize>(rng: &mut G) -> Result<i16, RangeError>
+    ensures { IsOk result }
+{
+    rng.generate_range(Bound::Included(-400), Bound::Excluded(-144))
+}
+
+pub fn range_i32<G: Rng<OUTPUT>, const OUTPUT: usize>(rng: &mut G) -> Result<i32, RangeError>
+    ensures { IsOk result }
+{
+    rng.generate_range(Bound::Included(-8), Bound::Included(7))
+}
+
+pub fn range_i64<G: Rng<OUTPUT>, const OUTPUT: usize>(rng: &mut G) -> Result<i64, RangeError>
+    ensures { IsOk result }
+{
+    rng.generate_range(Bound::Included(-8), Bound::Included(7))
+}
+
+pub fn range_isize<G: Rng<OUTPUT>, const OUTPUT: usize>(rng: &mut G) -> Result<isize, RangeError>
+    ensures { IsOk result }
+{
+    rng.generate_range(Bound::Included(-8), Bound::Included(7))
+}
+
+pub fn between_u8<G: Rng<OUTPUT>, const OUTPUT: usize>(rng: &mut G) -> Result<u8, RangeError>
+    ensures { IsOk result }
+{
+    between(rng, 0, 7)
+}
+
+pub fn between_u32<G: Rng<OUTPUT>, const OUTPUT: usize>(rng: &mut G) -> Result<u32, RangeError>
+    ensures { IsOk result }
+{
+    between(rng, 1, 32)
+}
+
+pub fn between_u64<G: Rng<OUTPUT>, const OUTPUT: usize>(rng: &mut G) -> Result<u64, RangeError>
+    ensures { IsOk result }
+{
+    between(rng, 1, 32)
+}
+
+pub fn between_usize<G: Rng<OUTPUT>, const OUTPUT: usize>(rng: &mut G) -> Result<usize, RangeError>
+    ensures { IsOk result }
+{
+    between(rng, 1, 32)
+}
+
+pub fn between_i8<G: Rng<OUTPUT>, const OUTPUT: usize>(rng: &mut G) -> Result<i8, RangeError>
+    ensures { IsOk result }
+{
+    between(rng, -1, 2)
+}
+
+pub fn between_i16<G: Rng<OUTPUT>, const OUTPUT: usize>(rng: &mut G) -> Result<i16, RangeError>
+    ensures { IsOk result }
+{
+    between(rng, -1, 2)
+}
+
+pub fn between_i32<G: Rng<OUTPUT>, const OUTPUT: usize>(rng: &mut G) -> Result<i32, RangeError>
+    ensures { IsOk result }
+{
+    between(rng, -1, 2)
+}
+
+pub fn between_isize<G: Rng<OUTPUT>, const OUTPUT: usize>(rng: &mut G) -> Result<isize, RangeError>
+    ensures { IsOk result }
+{
+    between(rng, -1, 2)
 }

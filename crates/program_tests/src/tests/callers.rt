@@ -1,4 +1,4 @@
-//! The callers of `nanorand_users`: what no clause says of them.
+//! The callers of `nanorand_users`: what no clause states about them.
 
 use crate::comparing::equal;
 use nanorand::{ChaCha20, RandomGen, RandomRange, RangeError, Rng, WyRand};
@@ -10,12 +10,13 @@ use nanorand_users::callers::split_mix::SplitMix64;
 use std::ops::Bound;
 use std::test::Fail;
 
-// The next value. A provided method of `Rng` is proved here once, and not again at the type of each generator.
+// Draws the next value. The provided method of `Rng` is proved only once, here, and not again for
+// the type of each generator.
 fn value<T: RandomGen<G, OUTPUT>, G: Rng<OUTPUT>, const OUTPUT: usize>(rng: &mut G) -> T {
     rng.generate()
 }
 
-// A value between two bounds.
+// Draws a value between two bounds.
 fn between<T: RandomRange<G, OUTPUT>, G: Rng<OUTPUT>, const OUTPUT: usize>(
     rng: &mut G,
     low: Bound<T>,
@@ -24,7 +25,7 @@ fn between<T: RandomRange<G, OUTPUT>, G: Rng<OUTPUT>, const OUTPUT: usize>(
     rng.generate_range(low, high)
 }
 
-// The generator and the value type of a user.
+// A user's own generator and value type.
 #[test]
 fn of_a_user(rt: HostRuntime) {
     let mut rng = SplitMix64::new(1_234_567);
@@ -55,7 +56,7 @@ fn examples(rt: HostRuntime) -> Result<(), Fail> {
     Ok(())
 }
 
-// The lines of a log: item 17 of the sample is its line 17.
+// The lines of a log: item 17 of the sample is line 17 of the log.
 #[test]
 fn lines_of_a_log(rt: HostRuntime) {
     let log = "0\n1\n2\n3\n4\n5\n6\n7\n8\n9\n10\n11\n12\n13\n14\n15\n16\n17\n18\n19\n";

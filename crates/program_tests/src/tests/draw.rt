@@ -31,8 +31,9 @@ fn draw_of(alloc: Global, line: &str) -> Result<Draw, AllocError> {
     })
 }
 
-// Lines, and their texts or what is said of a line that is refused; `|` ends a line. The texts of numbers
-// without a range are of tests/answers/definitions.py; the first bytes of ChaCha are published.
+// Command lines, and for each the text that it writes, or the error message. `|` ends a line. The
+// texts of numbers without a range are those of tests/answers/definitions.py. The first bytes of
+// ChaCha are published.
 const ENDS: &str = "\
 wyrand d29b42879be2895f plain 0 > \n\
 wyrand d29b42879be2895f plain 0002 > items: 0 1|\n\
@@ -94,7 +95,7 @@ wyrand d29b42879be2895f plain 0 u8 u9 > draw: bad word 6|\n\
 wyrand d29b42879be2895f plain 0 i8:-129..2 > draw: bad word 5|\n\
 wyrand d29b42879be2895f plain 0 u8 u8 u8 u8 u8 u8 u8 u9 u9 > draw: bad word 12|";
 
-// The longest line, and its text.
+// The longest command line, and its text.
 const LONGEST: &str =
     "chacha20 00000000000000000000000000000000000000000000000000000000000000000000000000000000 buffered 0 u8 u8:10..=12 u16 bool";
 
@@ -118,7 +119,7 @@ fn ends(rt: HostRuntime) -> Result<(), Fail> {
     Ok(())
 }
 
-// The first word that is bad is named, however many stand before it.
+// The error names the first argument that cannot be read, no matter how many arguments precede it.
 #[test]
 fn a_bad_word_behind_many(rt: HostRuntime) -> Result<(), Fail> {
     for good in [0, 7, 8, 9, 60, 251, 252, 1000] {
@@ -139,12 +140,12 @@ fn failures_of_writers(rt: HostRuntime) -> Result<(), Fail> {
     Ok(())
 }
 
-// Its items and its text grow several times.
+// A command line whose items and text grow several times.
 const FORTY_ITEMS: &str =
     "items: 0 1 2 3 4 5 6 7 8 9 10 11 12 13 14 15 16 17 18 19 20 21 22 23 24 25 26 27 28 29 30 31 32 33 34 35 36 37 38 39\n";
 
-// Lines, the status and the text of each, and how often it asks for memory at least. The first four arguments
-// are read without.
+// Command lines, and for each the status, the text, and the least number of allocations. The first
+// four arguments are read without allocating.
 const WITH_MEMORY: [(&str, u8, &str, u64); 5] = [
     (LONGEST, 0, LONGEST_TEXT, 1),
     ("wyrand d29b42879be2895f plain 40", 0, FORTY_ITEMS, 10),
@@ -167,7 +168,7 @@ fn memory(rt: HostRuntime) -> Result<(), Fail> {
     Ok(())
 }
 
-// Outcomes.
+// The outcomes of a run.
 const OUTCOMES: [Result<(), DrawError>; 5] = [
     Ok(()),
     Err(DrawError::BadWord(42)),
@@ -176,7 +177,7 @@ const OUTCOMES: [Result<(), DrawError>; 5] = [
     Err(DrawError::Write),
 ];
 
-// Of each its `Debug` text, its status and its line.
+// For each outcome: its `Debug` text, its status and its line.
 const REPORTS: &str = r#"Ok(()) 0 ""
 Err(BadWord(42)) 2 "draw: bad word 42\n"
 Err(BadWord(18446744073709551615)) 2 "draw: bad word 18446744073709551615\n"

@@ -14,7 +14,7 @@ use std::process::Abort;
 use std::test::Fail;
 use test_support::ERROR_KINDS;
 
-// The program with its arguments, and a list to read.
+// The program with its arguments and the list that it reads.
 #[derive(Drop)]
 struct Lots<'a> {
     arguments: Vec<String>,
@@ -42,12 +42,12 @@ const THROWS: &str = "4 1 6 3 3 2 5 6 1 4 2 6 5 3 1 1 6 2 4 5";
 const NAMES: &str =
     "Ada\nBarbara\nChidi\nDmitri\nElif\nFarid\nGrace\nHedy\nInes\nJun\nKatherine\nLise\n";
 
-// All of them, in the order drawn.
+// All entrants of the list, in the order in which they are drawn.
 const DRAWN: &str =
     "Katherine\nJun\nChidi\nFarid\nGrace\nAda\nLise\nDmitri\nElif\nBarbara\nInes\nHedy\n";
 
-// Arguments, separated by commas, a list, the status, and what is drawn or what is said: of several refusals
-// the first that is found. `/` ends a line.
+// Arguments, separated by commas, a list, the status, and the text that is written, or the message
+// of the first error that is found. `/` ends a line.
 const ENDS: &str = "\
 4 1 6 3 3 2 5 6 1 4 2 6 5 3 1 1 6 2 4 5,all> \
 Ada/Barbara/Chidi/Dmitri/Elif/Farid/Grace/Hedy/Ines/Jun/Katherine/Lise/> \
@@ -102,8 +102,8 @@ fn failures_of_writers(rt: HostRuntime) -> Result<(), Fail> {
     Ok(())
 }
 
-// Arguments, a list, the status and the text of each, and how often it asks for memory at least: lists and a text
-// grow several times. Arguments are read without.
+// Arguments, a list, the status, the text, and the least number of allocations: lists and a text
+// grow several times. Arguments are read without allocating.
 const WITH_MEMORY: [(&[&str], &str, u8, &str, u64); 4] = [
     (&[THROWS, "all"], NAMES, 0, DRAWN, 8),
     (&["seed", "9"], "Ada\nLise\n\n", 4, "", 1),
@@ -125,7 +125,8 @@ fn memory(rt: HostRuntime) -> Result<(), Fail> {
     Ok(())
 }
 
-// A run of the example on this reader ends so. If it fails, the writer is not called.
+// A run of the example with this reader ends with this result. If it fails, the writer is not
+// called.
 fn check_read(
     rt: &impl Abort,
     alloc: Global,
@@ -141,7 +142,7 @@ fn check_read(
     Ok(())
 }
 
-// A list in pieces, and the same if each second read is interrupted.
+// A list that is read in pieces, and the same list if every second read is interrupted.
 #[test]
 fn interrupted_reads(rt: HostRuntime) -> Result<(), Fail> {
     for piece in [1, 7, 4096, usize::MAX] {
@@ -155,8 +156,9 @@ fn interrupted_reads(rt: HostRuntime) -> Result<(), Fail> {
     Ok(())
 }
 
-// Each read fails in turn, that which would find the end too, with each kind of error but an interruption, after
-// which it is read again. Nothing is read after it. A reader can be out of memory.
+// Each read fails in turn, including the one that would find the end, with each kind of error
+// except an interruption, after which the program reads again. Nothing is read after the failure. A
+// reader can run out of memory.
 #[test]
 fn failed_reads(rt: HostRuntime) -> Result<(), Fail> {
     for kind in ERROR_KINDS {
@@ -178,7 +180,7 @@ fn failed_reads(rt: HostRuntime) -> Result<(), Fail> {
     Ok(())
 }
 
-// Outcomes.
+// The outcomes of a run.
 const OUTCOMES: [Result<(), LotsError>; 8] = [
     Ok(()),
     Err(LotsError::Usage),
@@ -193,7 +195,7 @@ const OUTCOMES: [Result<(), LotsError>; 8] = [
     Err(LotsError::Exhausted),
 ];
 
-// Of each its `Debug` text, its status and its line.
+// For each outcome: its `Debug` text, its status and its line.
 const REPORTS: &str = r#"Ok(()) 0 ""
 Err(Usage) 2 "lots: usage: lots SEED COUNT|all < entrants\n"
 Err(TooFew { entrants: 12, count: 18446744073709551615 }) 3 "lots: 12 entrants, 18446744073709551615 asked for\n"
@@ -221,8 +223,8 @@ fn reports(rt: HostRuntime) -> Result<(), Fail> {
     Ok(())
 }
 
-// A seed, and the order in which it draws the places of twelve. The program refuses an empty seed, the
-// draw does not.
+// Seeds, and the order in which each draws the places of twelve. An empty seed is an error in the
+// program, but not in the draw.
 const ORDERS: [(&str, [usize; 12]); 3] = [
     (THROWS, [10, 9, 2, 5, 6, 0, 11, 3, 4, 1, 8, 7]),
     (

@@ -1,5 +1,5 @@
-//! What is tested of `draw` and of `lots` alike: a run in pieces, and each write, flush and allocation
-//! that fails.
+//! What is tested in the same way for `draw` and `lots`: a run in pieces, and each write, flush and
+//! allocation that fails.
 
 use super::writers::Pieces;
 use crate::comparing::{equal_at, holds};
@@ -12,7 +12,8 @@ use test_support::{ERROR_KINDS, Refusing};
 
 /// A program with its arguments and its input.
 pub trait Program {
-    /// Runs it. Returns its exit status, and appends to `err` what it writes to standard error.
+    /// Runs the program. Returns its exit status, and appends to `err` what it writes to standard
+    /// error.
     fn run<A: Allocator, W: Write>(&self, alloc: A, out: &mut W, err: &mut Vec<u8>) -> u8;
 }
 
@@ -24,7 +25,7 @@ pub struct End<'a> {
     pub err: &'a str,
 }
 
-/// The run of a text.
+/// The end of a run that writes a text.
 pub fn writes(text: &str) -> End<'_> {
     End {
         status: 0,
@@ -33,7 +34,7 @@ pub fn writes(text: &str) -> End<'_> {
     }
 }
 
-/// A run that is refused.
+/// The end of a run that fails.
 pub fn refused(status: u8, line: &str) -> End<'_> {
     End {
         status,
@@ -42,7 +43,7 @@ pub fn refused(status: u8, line: &str) -> End<'_> {
     }
 }
 
-/// The arguments of a command line.
+/// Returns the arguments of a command line.
 pub fn strings(alloc: Global, arguments: &[&str]) -> Result<Vec<String>, AllocError> {
     let mut strings = Vec::new(alloc);
     for argument in arguments {
@@ -51,11 +52,11 @@ pub fn strings(alloc: Global, arguments: &[&str]) -> Result<Vec<String>, AllocEr
     Ok(strings)
 }
 
-// The bytes at a time that a writer takes.
+// The greatest number of bytes that a writer accepts at a time.
 const PIECES: [usize; 4] = [1, 7, 4096, usize::MAX];
 
-/// The program ends so. Its text is written in as few writes as the writer's pieces allow, since it
-/// is written at once, and then flushed once; after a refusal the writer is not called.
+/// Checks that the program ends like this. Its text is written all at once, in as few writes as the
+/// pieces of the writer allow, and then flushed once. After an error, the writer is not called.
 pub fn check_end(rt: &impl Abort, alloc: Global, program: &impl Program, end: End<'_>) {
     let flushes = u64::from(end.status == 0);
     for piece in PIECES {
@@ -75,8 +76,9 @@ pub fn check_end(rt: &impl Abort, alloc: Global, program: &impl Program, end: En
     }
 }
 
-/// Each write of the text fails in turn, with each kind of error: after it, the program neither writes nor
-/// flushes, and ends with the status `failed`. A write that is interrupted is tried again.
+/// Fails each write of the text in turn, with each kind of error. After the failure, the program
+/// neither writes nor flushes, and ends with the status `failed`. A write that is interrupted is
+/// tried again.
 pub fn check_writes(
     rt: &impl Abort,
     alloc: Global,
@@ -106,9 +108,9 @@ pub fn check_writes(
     }
 }
 
-/// If only the flush fails, with any kind of error, the whole text was written before it. A writer that takes
-/// no bytes is asked once. An error of memory is the writer's own, and counts as a failed write, and a flush that
-/// is interrupted as any other.
+/// Fails only the flush, with each kind of error. The whole text was written before it. An
+/// interrupted flush counts as failed, and so does an error of the writer that says that memory ran
+/// out. A writer that accepts no bytes fails before the flush.
 pub fn check_flush(rt: &impl Abort, alloc: Global, program: &impl Program, text: &str, failed: u8) {
     for error in ERROR_KINDS {
         for (piece, kept, flushes) in [
@@ -126,11 +128,11 @@ pub fn check_flush(rt: &impl Abort, alloc: Global, program: &impl Program, text:
     }
 }
 
-// The bytes of the heap of these runs, more than any of them takes.
+// The number of bytes of the heap for these runs, which is more than any of them uses.
 const ROOM: usize = 1 << 22;
 
-// A run on a heap that refuses request `number` writes nothing and ends with the status `no_memory`,
-// unless it makes fewer requests: then it ends with this status and text.
+// A run on a heap where allocation `number` fails writes nothing and ends with the status
+// `no_memory`. If the run makes fewer allocations, it ends with this status and text.
 fn check_on_heap(
     rt: &impl Abort,
     alloc: Global,
@@ -151,9 +153,9 @@ fn check_on_heap(
     }
 }
 
-/// Refuses the first allocation, alone and with all later ones, then the second, and so on, until a
-/// run meets no refusal and ends with this status and text. After each run all memory is free again.
-/// Returns the number of allocations of a run.
+/// Fails the first allocation, alone and with all later ones, then the second, and so on, until a
+/// run succeeds without a failure and ends with this status and text. After each run all memory is
+/// free again. Returns the number of allocations of a run.
 pub fn check_memory(
     rt: &impl Abort,
     alloc: Global,

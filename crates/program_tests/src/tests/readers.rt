@@ -1,17 +1,17 @@
-//! A reader that gives a few bytes at a time, is interrupted, or fails.
+//! A reader that delivers a few bytes at a time, is interrupted, or fails.
 
 use std::io;
 use std::io::{ErrorKind, Read};
 
-/// A reader of a list. It gives at most `piece` bytes at a time, and counts its calls.
+/// A reader of a list. It delivers at most `piece` bytes at a time, and counts its calls.
 #[derive(Drop)]
 pub struct Feed<'a> {
     rest: &'a [u8],
     pub reads: u64,
-    // The reads that found no byte left.
+    // The number of reads that found no bytes left.
     pub ends: u64,
     piece: usize,
-    // Whether each read of an even number, counted from 0, is interrupted.
+    // Whether each read with an even number, counted from 0, is interrupted.
     is_interrupted: bool,
     // The number of the read that fails, and its error.
     failing: u64,
@@ -21,12 +21,12 @@ pub struct Feed<'a> {
 const NEVER: u64 = u64::MAX;
 
 impl<'a> Feed<'a> {
-    /// Gives at most `piece` bytes at a time, and never fails.
+    /// Creates a reader that delivers at most `piece` bytes at a time and never fails.
     pub fn honest(list: &'a [u8], piece: usize) -> Feed<'a> {
         Feed::failing(list, piece, NEVER, ErrorKind::Other)
     }
 
-    /// Read number `failing`, counted from 0, fails with this error.
+    /// Creates a reader whose read number `failing`, counted from 0, fails with this error.
     pub fn failing(list: &'a [u8], piece: usize, failing: u64, error: ErrorKind) -> Feed<'a> {
         Feed {
             rest: list,
@@ -39,7 +39,7 @@ impl<'a> Feed<'a> {
         }
     }
 
-    /// Each second read is interrupted, from the first on.
+    /// Creates a reader whose every second read is interrupted, starting with the first.
     pub fn interrupted(list: &'a [u8], piece: usize) -> Feed<'a> {
         let mut feed = Feed::honest(list, piece);
         feed.is_interrupted = true;

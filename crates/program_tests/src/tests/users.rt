@@ -1,4 +1,4 @@
-//! The programs of `nanorand_users`, each once.
+//! The programs of `nanorand_users`, each run once.
 ghost use Rattle.std.specs.Prelude.{nat_lt};
 
 use crate::comparing::{equal, equal_at};
@@ -143,8 +143,8 @@ fn stopped_run(rt: HostRuntime) {
     }
 }
 
-// The number of a worker, and its two words of WyRand and of Pcg64 from seed 0, and of ChaCha20 with
-// a zero key and nonce.
+// The number of a worker, and its two words from `WyRand` and `Pcg64` with the seed 0, and from
+// ChaCha20 with a zero key and nonce.
 const PARTS: [(u64, [u64; 2], [u64; 2], [u64; 2]); 2] = [
     (
         1,

@@ -1,18 +1,18 @@
-//! A writer that takes a few bytes at a time, fails, and counts its calls.
+//! A writer that accepts a few bytes at a time, fails, and counts its calls.
 
 use std::alloc::Global;
 use std::io;
 use std::io::{ErrorKind, Write};
 
-/// A writer that takes at most `piece` bytes at a time, keeps them, and counts its calls. Write
+/// A writer that accepts at most `piece` bytes at a time, keeps them, and counts its calls. Write
 /// number `failing`, counted from 0, fails with this error, and so does each flush unless
-/// `can_flush`.
+/// `can_flush` is set.
 #[derive(Drop)]
 pub struct Pieces {
     pub kept: Vec<u8>,
     pub writes: u64,
     pub flushes: u64,
-    // The writes since the last flush.
+    // The number of writes since the last flush.
     pub writes_since_flush: u64,
     piece: usize,
     failing: u64,
@@ -23,12 +23,12 @@ pub struct Pieces {
 const NEVER: u64 = u64::MAX;
 
 impl Pieces {
-    /// Takes at most `piece` bytes at a time, and never fails.
+    /// Creates a writer that accepts at most `piece` bytes at a time and never fails.
     pub fn honest(alloc: Global, piece: usize) -> Pieces {
         Pieces::failing(alloc, piece, NEVER, ErrorKind::BrokenPipe)
     }
 
-    /// Write number `failing`, counted from 0, fails with this error.
+    /// Creates a writer whose write number `failing`, counted from 0, fails with this error.
     pub fn failing(alloc: Global, piece: usize, failing: u64, error: ErrorKind) -> Pieces {
         Pieces {
             kept: Vec::new(alloc),
@@ -42,7 +42,7 @@ impl Pieces {
         }
     }
 
-    /// Takes at most `piece` bytes at a time, and fails at each flush.
+    /// Creates a writer that accepts at most `piece` bytes at a time and fails at each flush.
     pub fn unflushed(alloc: Global, piece: usize, error: ErrorKind) -> Pieces {
         let mut pieces = Pieces::failing(alloc, piece, NEVER, error);
         pieces.can_flush = false;

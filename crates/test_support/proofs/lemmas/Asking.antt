@@ -39,7 +39,7 @@ module _ {M : Type 1} {𝓤 : Ura M} (𝓛 : Logic 𝓤) (mem : Memory → SProp
         -- [the parameter; the token]
         nothing ! $ move ! (2 ∷ 0 ∷ []) $ join ! $ join ! $ nothing ! $ move ! (1 ∷ 0 ∷ []) $ join ! $ done !
 
-    -- The result is a `bool`, and the token comes back.
+    -- The result is a `bool`, and the token is returned.
     pub answered : (v : Val) → ent 𝓤 (Asks.post (asked κ q p t) v) (H.⇛ (ex 𝓤 (λ (yes : Bool). guard 𝓤 (v ≡ vbool yes) (A.lft κ q))))
     answered v =
         let Answer = λ (yes : Bool). guard 𝓤 (v ≡ vbool yes) (A.lft κ q) in

@@ -1,4 +1,4 @@
--- The shuffles of `Waste` are those of `Steps`: a request of eight bytes wastes no block.
+-- The shuffles of `Waste` are those of `Steps`: a request of eight bytes drops no block.
 use Rattle.std.proofs.Common.{◌≡◌, ℕ, zero, suc, ◌+◌, refl}
 use Rattle.nanorand_core.specs.generators.Blocks.{Requests, plain}
 use Rattle.nanorand_core.specs.shuffles.Shuffles.{from_itself, partner_drawn, choices_from, state_after_places}

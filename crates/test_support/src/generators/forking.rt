@@ -12,8 +12,8 @@ use std::alloc::AllocError;
 /// A generator whose blocks hold, alternating, the number of the stream and the number of the block
 /// modulo 256.
 ///
-/// A clone is not equal to its original: it is the next stream, at the same block. After stream 255
-/// there is none, and `clone` fails.
+/// A clone does not equal its original: it is the next stream, at the same block. After stream 255
+/// there is no next stream, and `clone` fails.
 #[derive(Drop)]
 pub struct Forking {
     pub stream: u8,
@@ -21,7 +21,7 @@ pub struct Forking {
 }
 
 impl Forking {
-    /// A new generator of this stream.
+    /// Creates a new generator of this stream.
     pub fn new(stream: u8) -> Self
         ensures { result ≡ record { stream = stream; drawn = 0 } }
     {
@@ -76,8 +76,8 @@ impl Rng<8> for Forking {
     ghost after_block = { λ _. refl };
 }
 
-/// The parts of a clone of a buffer: the number of its buffered bytes, which is the original's, and
-/// its inner generator, which is a clone of the original's.
+/// Returns the parts of a clone of a buffer: the number of its buffered bytes, which is the
+/// original's, and its inner generator, which is a clone of the original's.
 pub fn parts_of_clone<G: Rng<OUTPUT> + Drop, const OUTPUT: usize>(
     rng: &BufferedRng<G, OUTPUT>,
 ) -> Result<(usize, G), AllocError>
@@ -90,8 +90,8 @@ pub fn parts_of_clone<G: Rng<OUTPUT> + Drop, const OUTPUT: usize>(
     Ok((buffered, copy.into_inner()))
 }
 
-/// Fills the slice from a clone of the buffer: first the buffered bytes, then those of the next
-/// stream. Fails if the inner generator is stream 255.
+/// Fills the slice from a clone of the buffer: first with the buffered bytes, then with those of
+/// the next stream. Fails if the inner generator is stream 255.
 pub fn fill_from_clone(rng: &BufferedRng<Forking, 8>, out: &mut [u8]) -> Result<(), AllocError>
     ensures bytes { OnOk result (out.new ≡ buffered_taken forking_block forking_step 8
         (buffer_of rng.now.rest (forked rng.now.inner)) (length out.old)) }

@@ -1,4 +1,4 @@
-//! A generator of the words of a list.
+//! A generator whose words are given as a list.
 ghost use Rattle.std.specs.Prelude.{◌≡◌, ⊤, refl};
 ghost use Rattle.std.proofs.Common.{rules};
 ghost use Rattle.nanorand_core.specs.generators.Blocks.{plain};
@@ -9,8 +9,8 @@ use nanorand::{Blocks, Rng};
 use std::alloc::AllocError;
 use std::marker::Model;
 
-/// A generator whose block n is word n of a list. After the list its blocks are zeros, which every
-/// range rejects whose size is no power of two.
+/// A generator whose block n is word n of a list. After the list, its blocks are zeros, which are
+/// rejected for every range whose size is not a power of two.
 #[derive(Drop)]
 pub struct Script<'a> {
     words: &'a [u64],
@@ -27,22 +27,22 @@ impl<'a> Model for Script<'a> {
 }
 
 impl<'a> Script<'a> {
-    /// A new generator of these words.
+    /// Creates a new generator of these words.
     pub fn new(words: &'a [u64]) -> Self
         ensures { result ≡ (words.now, 0) }
     {
         Script { words, drawn: 0 }
     }
 
-    /// The same from block number `drawn` on. Block numbers wrap, so 2^64 - n puts n words of 0 before
-    /// the list.
+    /// Creates a generator of these words at block number `drawn`. Block numbers wrap, so 2^64 - n
+    /// puts n words of 0 before the list.
     pub fn from_block(words: &'a [u64], drawn: u64) -> Self
         ensures { result ≡ (words.now, drawn) }
     {
         Script { words, drawn }
     }
 
-    /// The number of the next block, modulo 2^64.
+    /// Returns the number of the next block, modulo 2^64.
     pub fn drawn(&self) -> u64
         ensures { result ≡ self.now.1 }
     {

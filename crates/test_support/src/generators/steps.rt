@@ -25,14 +25,14 @@ impl Model for Steps {
 }
 
 impl Steps {
-    /// A new generator.
+    /// Creates a new generator.
     pub fn new() -> Self
         ensures { result ≡ 0 }
     {
         Steps { drawn: 0 }
     }
 
-    /// The number of blocks drawn so far, modulo 2^64.
+    /// Returns the number of blocks drawn so far, modulo 2^64.
     pub fn drawn(&self) -> u64
         ensures { result ≡ self.now }
     {

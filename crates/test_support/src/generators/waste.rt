@@ -10,8 +10,8 @@ use nanorand::{Blocks, RandomGen, RangeError, Rng};
 use std::alloc::AllocError;
 use std::marker::Model;
 
-/// A generator with the blocks of `Steps`. A request of any number of bytes but 0 and 8 draws one
-/// block more than a plain generator does, and drops it.
+/// A generator with the blocks of `Steps`. A request of any number of bytes other than 0 and 8
+/// draws one block more than a generator without a buffer does, and drops it.
 #[derive(Drop)]
 pub struct Waste {
     steps: Steps,
@@ -27,7 +27,7 @@ impl Model for Waste {
 }
 
 impl Waste {
-    /// A new generator.
+    /// Creates a new generator.
     pub fn new() -> Self
         ensures { result ≡ 0 }
     {
@@ -36,7 +36,7 @@ impl Waste {
         }
     }
 
-    /// The number of blocks drawn so far, modulo 2^64.
+    /// Returns the number of blocks drawn so far, modulo 2^64.
     pub fn drawn(&self) -> u64
         ensures { result ≡ self.now }
     {
@@ -83,12 +83,12 @@ impl Rng<8> for Waste {
         }
     }
 
-    // An override of a provided method has to keep the trait's clauses.
+    // An override of a provided method must satisfy the clauses of the trait.
     fn generate<T: RandomGen<Waste, 8>>(&mut self) -> T {
         T::random(self)
     }
 
-    // A shuffle requests words of eight bytes alone, and none of these requests drops a block.
+    // A shuffle only requests words of eight bytes, and none of these requests drops a block.
     fn shuffle<T>(&mut self, target: &mut [T]) -> Result<(), RangeError> {
         self.steps.shuffle(target)
     }

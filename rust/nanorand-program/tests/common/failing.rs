@@ -1,13 +1,13 @@
-//! A `read` and a `write` that stand for the system's, and fail by any number.
+//! A `read` and a `write` that replace the system's, and fail with any error number.
 
 use std::cell::RefCell;
 use std::collections::VecDeque;
 use std::os::raw::{c_int, c_void};
 
-/// The bytes that a read gives or as many as a write takes, or the number of an error.
+/// The bytes that a read returns, or as many as a write takes, or an error number.
 pub type Answer<'a> = Result<&'a [u8], c_int>;
 
-/// Where bytes are, and how many.
+/// The address of bytes, and their number.
 #[repr(C)]
 struct Part(*mut c_void, usize);
 
@@ -18,11 +18,11 @@ extern "C" {
 }
 
 thread_local! {
-    /// The answers to come in this thread. After them the system's own calls are made.
+    /// The next answers in this thread. After them the system's own calls are made.
     static ANSWERS: RefCell<VecDeque<Result<Vec<u8>, c_int>>> = RefCell::default();
 }
 
-/// The outcome of a call whose reads and writes have these answers.
+/// The outcome of a call whose reads and writes get these answers.
 pub fn answered<T>(answers: &[Answer], call: impl FnOnce() -> T) -> T {
     let owned = answers.iter().map(|answer| answer.map(<[u8]>::to_vec));
     ANSWERS.with(|left| left.replace(owned.collect()));

@@ -1,4 +1,5 @@
-//! An allocator that refuses on demand. Memory that is taken without asking ends the test's process then.
+//! An allocator that fails on demand. Code that does not handle a failed allocation then aborts the
+//! test's process.
 
 use std::alloc::{GlobalAlloc, Layout, System};
 use std::cell::Cell;
@@ -10,15 +11,15 @@ struct Refusing;
 static ALLOCATOR: Refusing = Refusing;
 
 thread_local! {
-    /// How many requests of this thread are granted.
+    /// The number of this thread's allocations that succeed.
     static GRANTED: Cell<usize> = const { Cell::new(usize::MAX) };
-    /// How many requests of this thread are refused after those.
+    /// The number of this thread's allocations that fail after those.
     static REFUSED: Cell<usize> = const { Cell::new(usize::MAX) };
-    /// The largest request of this thread that is granted, in bytes.
+    /// The size in bytes of this thread's largest allocation that succeeds.
     static MOST: Cell<usize> = const { Cell::new(usize::MAX) };
 }
 
-/// What the call returns if memory is refused after so many requests.
+/// What the call returns if all allocations fail after `requests` successful ones.
 pub fn refused_after<T>(requests: usize, call: impl FnOnce() -> T) -> T {
     GRANTED.with(|granted| granted.set(requests));
     let result = call();
@@ -26,7 +27,7 @@ pub fn refused_after<T>(requests: usize, call: impl FnOnce() -> T) -> T {
     result
 }
 
-/// What the call returns if one request for memory is refused, after so many.
+/// What the call returns if one allocation fails, after `requests` successful ones.
 pub fn refused_once<T>(requests: usize, call: impl FnOnce() -> T) -> T {
     REFUSED.with(|refused| refused.set(1));
     let result = refused_after(requests, call);
@@ -34,7 +35,7 @@ pub fn refused_once<T>(requests: usize, call: impl FnOnce() -> T) -> T {
     result
 }
 
-/// Returns the call's result when every request for more than `most` bytes fails.
+/// What the call returns if every allocation of more than `most` bytes fails.
 pub fn refused_above<T>(most: usize, call: impl FnOnce() -> T) -> T {
     MOST.with(|granted| granted.set(most));
     let result = call();
@@ -42,19 +43,19 @@ pub fn refused_above<T>(most: usize, call: impl FnOnce() -> T) -> T {
     result
 }
 
-/// Takes one from the count, unless it is 0 already.
+/// Takes one from the count and returns `true`, unless the count is 0.
 fn takes_one(count: &Cell<usize>) -> bool {
     let left = count.get();
     count.set(left.saturating_sub(1));
     left > 0
 }
 
-/// Whether a request for `size` bytes is granted.
+/// Whether an allocation of `size` bytes succeeds.
 fn granted(size: usize) -> bool {
     (GRANTED.with(takes_one) || !REFUSED.with(takes_one)) && size <= MOST.with(Cell::get)
 }
 
-// SAFETY: what is granted is done by the system's allocator, with the same arguments.
+// SAFETY: the system's allocator serves successful allocations, with the same arguments.
 unsafe impl GlobalAlloc for Refusing {
     unsafe fn alloc(&self, layout: Layout) -> *mut u8 {
         if granted(layout.size()) {

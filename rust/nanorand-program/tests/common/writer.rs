@@ -1,5 +1,5 @@
-//! A writer that notes its calls, and fails where it is told to.
-#![allow(dead_code)] // each file of tests uses some of it
+//! A writer that records its calls, and fails when it is told to.
+#![allow(dead_code)] // each test file uses a part
 
 #[path = "../../../nanorand-proved/tests/common/kinds.rs"]
 pub mod kinds;
@@ -11,17 +11,17 @@ use std::io::{ErrorKind, Result, Write};
 /// What a call of the writer does.
 #[derive(Clone, Copy)]
 pub enum Does {
-    /// Takes at most so many bytes.
+    /// Takes at most this many bytes.
     Takes(usize),
     /// Fails.
     Fails(Fault),
 }
 
-/// `calls` are the sizes of what was written, and `None` for each flush.
+/// `calls` has the size of each write, and `None` for each flush.
 pub struct Writer {
     pub write: Does,
     pub flush: Does,
-    /// The call of this number, counted from 0, fails in any case.
+    /// The call with this number, from 0, fails in any case.
     pub fault: Option<(usize, Fault)>,
     pub taken: Vec<u8>,
     pub calls: Vec<Option<usize>>,
@@ -38,12 +38,12 @@ impl Writer {
         }
     }
 
-    /// One that takes all.
+    /// A writer that takes everything.
     pub fn willing() -> Writer {
         Writer::new(Does::Takes(usize::MAX), Does::Takes(0))
     }
 
-    /// One that takes a byte a call, and one of whose calls fails.
+    /// A writer that takes one byte at each call, and whose call with this number fails.
     pub fn failing(call: usize, fault: Fault) -> Writer {
         Writer {
             fault: Some((call, fault)),
@@ -51,7 +51,7 @@ impl Writer {
         }
     }
 
-    /// Notes a call, and returns what it does.
+    /// Records a call, and returns what it does.
     fn does(&mut self, call: Option<usize>, usually: Does) -> Does {
         let number = self.calls.len();
         self.calls.push(call);
@@ -82,8 +82,8 @@ impl Write for Writer {
     }
 }
 
-/// A run returns `failed` if any call of its writer fails, by an error of any kind: a write of one byte of `text`, or
-/// the flush after them. Only an interrupted write is tried again.
+/// Asserts that a run returns `failed` if any call of its writer fails with an error of any kind: a
+/// write of one byte of `text`, or the flush after them. Only an interrupted write is repeated.
 pub fn fails_with_its_writer<E: Copy + Debug + PartialEq>(
     text: &[u8],
     failed: E,
@@ -105,7 +105,7 @@ pub fn fails_with_its_writer<E: Copy + Debug + PartialEq>(
     }
 }
 
-/// A report returns `status` even if its line cannot be written, whatever the error.
+/// Asserts that a report returns `status` even if its line cannot be written, whatever the error.
 pub fn reports_without_its_writer(line: &[u8], status: u8, report: impl Fn(&mut Writer) -> u8) {
     for fault in faults() {
         for call in 0..line.len() {

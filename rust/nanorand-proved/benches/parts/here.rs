@@ -1,4 +1,4 @@
-// What `works.rs` needs of this library, where the old crate differs.
+// What `works.rs` needs from this library where the old crate differs.
 
 use nanorand_proved as library;
 
@@ -6,7 +6,7 @@ use library::shuffles::shuffle_full;
 use library::{ChaChaStream, Keystream};
 use std::fmt::Debug;
 
-// As a program takes a draw's number.
+// Takes the number of a draw, as a program does.
 fn drawn<T, E: Debug>(result: Result<T, E>) -> T {
     result.unwrap()
 }
@@ -15,7 +15,7 @@ fn seeded() -> library::WyRand {
     drawn(library::WyRand::from_entropy())
 }
 
-// The bytes that a stream draws at once.
+// The number of bytes that a stream draws at once.
 const GROUP: usize = 512;
 
 fn stream<const ROUNDS: u8>() -> ChaChaStream<ROUNDS> {

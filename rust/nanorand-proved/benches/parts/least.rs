@@ -1,11 +1,11 @@
-//! The times that files have.
+//! Reads times from files.
 
 use crate::row::Times;
 use std::error::Error;
 use std::fs;
 
 impl Times {
-    /// Keeps the less of both times of each library.
+    /// Keeps the lower of both times for each library.
     pub fn lower(&mut self, other: &Times) {
         self.here = self.here.min(other.here);
         self.original = self.original.min(other.original);
@@ -15,7 +15,8 @@ impl Times {
     }
 }
 
-/// The times of one build: of each row the least of its runs, which the file has one after another.
+/// The times of one build: for each row the lowest of its runs. The file has the runs one after
+/// another.
 pub fn read(path: &str) -> Result<Vec<Times>, Box<dyn Error>> {
     let mut rows: Vec<Times> = Vec::new();
     for line in fs::read_to_string(path)?.lines() {

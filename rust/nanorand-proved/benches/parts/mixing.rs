@@ -1,6 +1,7 @@
-//! Mixes what is drawn into one number, so that no draw can be left out, and results can be compared.
+//! Mixes all draws into one number, so that the compiler cannot omit a draw, and results can be
+//! compared.
 
-// Any number of the value will do, and mixing must cost as little as it can.
+// Any number made from the value will do, and mixing must be cheap.
 #![allow(
     clippy::cast_lossless,
     clippy::cast_possible_truncation,

@@ -1,4 +1,4 @@
-//! One row: its timing by turns, and its line.
+//! One row of the table: its timing and its line.
 
 use std::fmt;
 use std::hint::black_box;
@@ -7,12 +7,12 @@ use std::time::Instant;
 
 const TURNS: usize = 15;
 
-/// What one library does in a row, again and again.
+/// What one library does repeatedly for a row.
 pub struct Work {
     pub name: String,
-    /// How many items one run makes.
+    /// The number of items that one run produces.
     pub items: u32,
-    /// The most that the library's time may be of the old crate's.
+    /// The largest accepted ratio of the library's time to the old crate's.
     pub limit: f64,
     pub run: Box<dyn FnMut() -> u64>,
 }
@@ -20,7 +20,7 @@ pub struct Work {
 pub struct Row {
     here: Work,
     original: Option<Work>,
-    /// The same by other libraries, by whose names these works are called.
+    /// The same work by other libraries, whose names are the names of these works.
     peers: Vec<Work>,
 }
 
@@ -33,7 +33,8 @@ impl Row {
         }
     }
 
-    /// Times all works of the row, which take turns, so that a busy moment of the machine meets all.
+    /// Times all works of the row. They take turns, so that a busy moment of the machine affects
+    /// all.
     pub fn timed(&mut self) -> Times {
         let mut here = Best::new();
         let mut original = Best::new();
@@ -82,12 +83,12 @@ impl Best {
     }
 }
 
-/// Nanoseconds an item, each the least of the turns.
+/// Nanoseconds per item, each the lowest of all turns.
 pub struct Times {
     pub name: String,
     pub limit: f64,
     pub here: f64,
-    /// `f64::MAX` where the old crate has no such call.
+    /// `f64::MAX` if the old crate has no such call.
     pub original: f64,
     /// Whether both libraries' results are the same.
     pub same: bool,

@@ -1,4 +1,4 @@
-// Samples, which the old crate has not.
+// Samples, which the old crate does not have.
 
 const SAMPLES: [(u32, usize); 6] = [
     (10, 1_000_000),
@@ -16,7 +16,7 @@ fn sampled(mut rng: WyRand, slots: u32, count: usize) -> u64 {
     places.iter().map(|&place| place as u64).sum()
 }
 
-/// One sample, its slots made anew, as `rand` makes them.
+/// One sample. Its slots are allocated each time, as `rand` does.
 pub fn samples() -> Vec<(Work, u32, usize)> {
     SAMPLES
         .map(|(slots, count)| {

@@ -1,10 +1,10 @@
-//! The table: of each row the least and the median of the builds.
+//! The table: for each row the lowest time of the builds, and their median.
 
 use crate::least::read;
 use crate::row::Times;
 use std::error::Error;
 
-// The least of the builds' times, and their median.
+// The lowest of the builds' times, and their median.
 fn figures(builds: &[Vec<Times>], time: impl Fn(&Vec<Times>) -> f64) -> [f64; 2] {
     let mut times: Vec<f64> = builds.iter().map(time).collect();
     times.sort_by(f64::total_cmp);
@@ -17,7 +17,7 @@ fn cell([least, median]: [f64; 2]) -> String {
     format!("{least:.2} ({median:.2})")
 }
 
-// The old crate's figures, and what ours are of them.
+// The old crate's figures, and the ratios of ours to them.
 fn beside(ours: [f64; 2], original: [f64; 2]) -> String {
     if original[0] == f64::MAX {
         return "- | -".to_string();
@@ -25,7 +25,7 @@ fn beside(ours: [f64; 2], original: [f64; 2]) -> String {
     format!("{} | {}", cell(original), cell(ratio(ours, original)))
 }
 
-// The peer whose median is the least, with its figures.
+// The peer with the lowest median, and its figures.
 fn best_peer(builds: &[Vec<Times>], place: usize) -> Option<(&str, [f64; 2])> {
     let peers = builds[0][place].peers.iter().enumerate();
     peers
@@ -40,7 +40,7 @@ fn ratio(ours: [f64; 2], theirs: [f64; 2]) -> [f64; 2] {
     [ours[0] / theirs[0], ours[1] / theirs[1]]
 }
 
-/// Prints the table of the builds whose times the files have.
+/// Prints the table for the builds whose times are in the files.
 pub fn print(paths: impl Iterator<Item = String>) -> Result<(), Box<dyn Error>> {
     let builds = paths
         .map(|path| read(&path))

@@ -1,9 +1,9 @@
-// The works. This text is compiled once for each library: the module that includes it names the
-// `library`, and says how a draw's number is taken (`drawn`), a shuffle from all indices is made, ChaCha
-// is buffered (`stream`) and a generator is seeded by the system (`seeded`).
+// The works. This file is compiled once for each library. The module that includes it names the
+// `library`, and defines how to take a draw's number (`drawn`), shuffle with partners from all
+// indices, buffer ChaCha (`stream`) and seed a generator from the system (`seeded`).
 //
-// Each function with a loop is compiled by itself, with its generator in a variable of its own, and
-// counts and seeds are not known to it.
+// Each function with a loop is compiled separately, with its generator in a local variable, and the
+// compiler does not know counts and seeds.
 
 use crate::mixing::{mixed, mixed_items, Mix};
 use crate::row::Work;
@@ -75,7 +75,7 @@ fn chacha20_words(mut rng: ChaCha<20>) -> u64 {
     all
 }
 
-// A range that the compiler knows, and the same range by a number that it does not.
+// A range that the compiler knows, and the same range with a bound that it does not know.
 macro_rules! ranges {
     ($works:ident: $($name:literal $end:ident = $number:expr => $range:expr),+ $(,)?) => { $(
         $works.push(work($name, 1.05, DRAWS, || {
@@ -130,7 +130,7 @@ fn shuffles_from_all(mut rng: WyRand, items: &mut [u64], times: u32) {
     }
 }
 
-// Shuffles the same items again and again.
+// Shuffles the same items repeatedly.
 fn shuffled(length: u32, shuffle: fn(WyRand, &mut [u64], u32)) -> impl FnMut() -> u64 {
     let mut items: Vec<u64> = (0..u64::from(length)).collect();
     move || {
@@ -218,7 +218,7 @@ fn all_bytes_of<const ROUNDS: u8>(works: &mut Vec<Work>) {
     }
 }
 
-// Five bytes again and again, of a length that the compiler knows.
+// Fills five bytes repeatedly. The compiler knows this length.
 #[inline(never)]
 fn fives<R: Rng<OUTPUT>, const OUTPUT: usize>(mut rng: R) -> u64 {
     let mut all = 0;

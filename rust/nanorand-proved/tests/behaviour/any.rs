@@ -1,4 +1,4 @@
-//! Generators behind `AnyRng`: they draw what they draw as an `Rng`.
+//! Generators behind `AnyRng` draw the same as through `Rng`.
 
 use crate::common::{Rising, Waste};
 use nanorand_proved::rand::ChaChaGroups;
@@ -78,7 +78,8 @@ fn check<G: Rng<N> + AnyRng + Clone + PartialEq + Debug, const N: usize>(fresh: 
     assert_eq!(rng, any);
 }
 
-/// Each way to make a request makes one of its whole length, at the beginning and within a block.
+/// Each way to make a request makes one request of the whole length, at the beginning of a block
+/// and within one.
 fn check_lengths<G: Rng<N> + AnyRng + Clone + PartialEq + Debug, const N: usize>(fresh: &G) {
     let calls: [fn(&mut G, &mut [u8]); 7] = [
         |rng, bytes| AnyRng::bytes(rng, bytes),
@@ -145,12 +146,12 @@ fn one_request_a_call() {
     assert_eq!(waste.drawn(), 8);
 }
 
-/// Makes one request of a generator that is passed by value, or by reference.
+/// Makes one request to a generator that is passed by value or by reference.
 fn by_reference<R: Rng<N>, const N: usize>(mut rng: R, bytes: &mut [u8]) {
     rng.fill_bytes(bytes);
 }
 
-/// A large request is passed on whole, also through a borrowed generator.
+/// A large request is passed on as one, even through a borrowed generator.
 #[test]
 fn large_requests_are_one() {
     for size in [9, 63, 64, 65, 511, 512, 513, 4096, 4097, 100_000] {
@@ -170,7 +171,7 @@ fn large_requests_are_one() {
     }
 }
 
-/// Calls of a user's own, which are no requests of one another.
+/// A user's own methods, none of which makes a request through another one.
 struct Own;
 
 impl AnyRng for Own {

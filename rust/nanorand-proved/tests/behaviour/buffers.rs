@@ -10,7 +10,7 @@ use std::fmt::Debug;
 use std::io::{ErrorKind, Read};
 use std::panic::{catch_unwind, AssertUnwindSafe};
 
-/// Runs a check for blocks of 1, 8, 64 and 512 bytes; the generators have the last three.
+/// Runs a check with blocks of 1, 8, 64 and 512 bytes. The generators have the last three sizes.
 macro_rules! for_each_size {
     ($check:ident) => {{
         $check::<1>();
@@ -20,7 +20,7 @@ macro_rules! for_each_size {
     }};
 }
 
-/// The byte of this number of `Rising`.
+/// The byte of `Rising` with this number.
 fn byte(number: usize) -> u8 {
     number.to_le_bytes()[0]
 }
@@ -191,7 +191,8 @@ impl<const SIZE: usize> Rng<SIZE> for Ending<'_, SIZE> {
     }
 }
 
-/// After a request for which so many blocks were left, the stream goes on behind what was drawn for it.
+/// If a request panics because the generator has only `blocks` blocks left, the stream continues
+/// after the blocks that were drawn for it.
 fn goes_on_behind<const SIZE: usize>(taken: usize, length: usize, blocks: usize) {
     let (rising, left) = (Rising::<SIZE>::new(), Cell::new(usize::MAX));
     let mut rng = BufferedRng::new(Ending {
@@ -208,8 +209,8 @@ fn goes_on_behind<const SIZE: usize>(taken: usize, length: usize, blocks: usize)
     assert_eq!(rng.generate::<u8>(), byte(next), "{taken} {length}");
 }
 
-/// Requests of up to five blocks, from every place in the first two and a half. Blocks of 64 and 512 bytes are
-/// sampled.
+/// Requests of up to five blocks, from every position in the first two and a half blocks. For
+/// blocks of 64 and 512 bytes only some of them.
 fn no_byte_comes_again<const SIZE: usize>() {
     let step = (SIZE / 8).max(2) - 1;
     for taken in (0..(5 * SIZE + 1) / 2).step_by(step) {
@@ -244,7 +245,7 @@ fn a_buffer_in_a_buffer() {
     for_each_size!(buffers_a_buffer);
 }
 
-/// A generator whose blocks come by `rand` alone.
+/// A generator that delivers blocks only through `rand`.
 struct ByRand<const SIZE: usize>(Rising<SIZE>);
 
 impl<const SIZE: usize> Rng<SIZE> for ByRand<SIZE> {
@@ -278,7 +279,8 @@ fn blocks_are_drawn_by_rand() {
     for_each_size!(draws_by_rand);
 }
 
-/// Any two requests give what one request of both lengths gives, and the same buffer.
+/// Any two requests return the same bytes as one request of both lengths, and leave the same
+/// buffer.
 fn goes_on<G: Rng<OUTPUT> + Clone + PartialEq + Debug, const OUTPUT: usize>(fresh: &G) {
     for first in 0..2 * OUTPUT + 2 {
         for second in [0, 1, 2, OUTPUT - 1, OUTPUT, OUTPUT + 1, 3 * OUTPUT] {
@@ -387,7 +389,7 @@ fn a_buffer_makes_its_generator_once() {
     assert_eq!(made(), 0);
 }
 
-/// A buffer that is restored from its buffered bytes and its generator gives the same bytes.
+/// A buffer that is restored from its buffered bytes and its generator delivers the same bytes.
 fn is_restored<G: Rng<OUTPUT> + Clone, const OUTPUT: usize>(rng: &BufferedRng<G, OUTPUT>) {
     let mut original = rng.clone();
     let inner = rng.inner().clone();
@@ -426,7 +428,7 @@ fn buffers_are_restored() {
     each_is_restored(ChaCha20::new_key([1; 32], [2; 8]));
 }
 
-/// The first bytes are those that were given, the next one first, and then the generator's.
+/// First come the given bytes, beginning with the next one, and then the generator's.
 fn begins_with_what_is_given<const SIZE: usize>() {
     let given = [101, 102, 103].repeat(SIZE);
     for count in 0..SIZE {

@@ -10,7 +10,7 @@ const KEY: &str = "000102030405060708090a0b0c0d0e0f101112131415161718191a1b1c1d1
 
 const FIRST: &str = "76b8e0ada0f13d90405d6ae55386bd28bdd219b8a08ded1aa836efcc8b770dc7da41597c5157488d7724e03fb8d84a376a43b8f41518a11cc387b669b2ee6586";
 
-/// Published first blocks of the key and the nonce of zeros.
+/// Published first blocks for a key and a nonce of zeros.
 #[test]
 fn published_vectors() {
     let (key, nonce) = ([0; 32], [0; 8]);
@@ -24,7 +24,7 @@ fn published_vectors() {
     }
 }
 
-/// The bytes of 32-bit words, each least byte first.
+/// The bytes of 32-bit words, each little-endian.
 fn bytes(words: [u32; 16]) -> Vec<u8> {
     words.iter().flat_map(|word| word.to_le_bytes()).collect()
 }
@@ -102,8 +102,8 @@ fn jumps() {
     assert_eq!(round.counter(), 6);
 }
 
-/// When the low half of the counter overflows, the high half grows by one. After the greatest
-/// counter the stream starts again, also in a buffer.
+/// When the low half of the counter overflows, the high half grows by one. After the largest
+/// counter the stream starts again, even in a buffer.
 #[test]
 fn ends_of_the_counter() {
     let start = chacha_init([0; 32], [0; 8]);

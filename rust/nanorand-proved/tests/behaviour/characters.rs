@@ -1,4 +1,4 @@
-//! Characters and their ranges. Literal characters come from another implementation of the rule.
+//! Characters and their ranges. Literal characters are from another implementation of the rule.
 
 use crate::common::{zeros, ByteScript, Constant};
 use nanorand_proved::RangeError::{self, Empty, Exhausted};
@@ -22,7 +22,7 @@ fn characters() {
     assert_eq!((rng.generate::<char>(), rng.drawn()), ('\0', 128));
 }
 
-/// The first words that name the characters beside the surrogates.
+/// The first words that select the characters next to the surrogates.
 #[test]
 fn words_beside_the_surrogates() {
     let before_surrogates = (0xd800_u64 << 32) / 0x10_f800;
@@ -75,7 +75,7 @@ fn ends_of_ranges() {
     assert_eq!(Constant::new(255).generate_range::<char>(..), Ok(char::MAX));
 }
 
-/// Zeros give U+0000 as a plain character, but a range of all characters rejects the word 0.
+/// The word 0 selects U+0000 as a plain character, but a range of all characters rejects it.
 #[test]
 fn all_characters_are_a_range() {
     for bounds in [

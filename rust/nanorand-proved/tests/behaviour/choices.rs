@@ -1,4 +1,4 @@
-//! Choices by one drawn number: compared with the number that the word names.
+//! Choices by one drawn number, compared with the number that the word selects.
 
 use crate::common::{zeros, ByteScript, Steps};
 use nanorand_proved::choices::{below, between, bits, choose, choose_mut, ratio};
@@ -16,12 +16,12 @@ const WORDS: [u64; 8] = [
     u64::MAX,
 ];
 
-/// A generator whose first eight bytes are this word.
+/// A generator whose first eight bytes are this 64-bit word.
 fn word_first(word: u64) -> ByteScript {
     ByteScript::new(&word.to_le_bytes())
 }
 
-/// The item of a list that the word names, if it names one.
+/// The item of a list that the word selects, or `None` if the word is rejected.
 fn named(word: u64, items: &[u32]) -> Option<usize> {
     let size = u128::try_from(items.len()).expect("a few items");
     pick_word(size, 64, word).map(|index| usize::try_from(index).expect("a small index"))
@@ -61,7 +61,8 @@ fn below_of_each_type() {
     assert_eq!(below(&mut zeros(), -126_i8), Ok(-128));
 }
 
-/// What `between` draws, `generate_range` does; crossed bounds are `Empty`, and draw nothing.
+/// `between` draws the same as `generate_range`. With crossed bounds it returns `Empty`, and draws
+/// nothing.
 macro_rules! between_both_ends {
     ($($number:ty),+) => { $(
         for low in [<$number>::MIN, 0, 1, 6, <$number>::MAX - 1, <$number>::MAX] {
@@ -85,7 +86,7 @@ fn between_has_both_ends() {
     assert_eq!(between(&mut zeros(), 1, 6_u8), Err(RangeError::Exhausted));
 }
 
-/// As many bits as are asked for are the top ones of one word, and the number that `below` draws.
+/// Random bits are the top bits of one word, and the number that `below` draws.
 macro_rules! bits_of_each_count {
     ($($number:ty),+) => { $(
         for count in 0..=<$number>::BITS {

@@ -1,4 +1,4 @@
-//! Jumps and distances, and the two numbers that `Pcg64` keeps beside its seed.
+//! Jumps and distances, and the two numbers that `Pcg64` keeps besides its seed.
 
 use nanorand_proved::{Pcg64, Rng, SeedableRng, WyRand};
 
@@ -20,7 +20,7 @@ fn a_new_seed_leaves_state_and_inc() {
     assert_eq!(format!("{rng:?}"), AFTER_ONE_DRAW);
 }
 
-/// `state` and `inc` are those of the last draw, too.
+/// `state` and `inc` are those of the last draw as well.
 #[test]
 fn a_jump_is_its_draws() {
     for seed in [0, 42, 1 << 127] {
@@ -34,7 +34,7 @@ fn a_jump_is_its_draws() {
     }
 }
 
-/// A body that tries each number of draws would take too long on most of them.
+/// For most of these, a search through all numbers of draws would take too long.
 #[test]
 fn distances_of_wyrand() {
     for (start, end, draws) in [

@@ -1,11 +1,11 @@
-//! The bounded draw, compared with one that picks each word by itself, and with the formula.
+//! The bounded draw, compared with one that picks from each word separately, and with the formula.
 
 use crate::common::ByteScript;
 use nanorand_proved::values::pick_word;
 use nanorand_proved::values::word::draw_below;
 use nanorand_proved::Rng;
 
-/// The number that a word names, by a remainder for each word.
+/// The number that a word selects, computed with a remainder for each word.
 fn pick_by_remainder(size: u128, bits: u32, word: u64) -> Option<u64> {
     let words = 1_u128 << bits;
     let product = u128::from(word) * size;
@@ -30,8 +30,8 @@ fn draw_by_picks<G: Rng<OUTPUT>, const OUTPUT: usize>(
     (0..128).find_map(|_| pick_word(size, bits, draw_word(rng, bits)))
 }
 
-/// The number that the first accepted word gives, and how many words are drawn: after `zeros` words
-/// of 0 come these two, then 0 again.
+/// The number that the first accepted word selects, and the number of words drawn. The words are
+/// `zeros` times 0, then these two, then 0 again.
 fn draw_by_formula(size: u128, bits: u32, zeros: usize, words: [u64; 2]) -> (Option<u64>, usize) {
     for place in 0..128_usize {
         let word = match place.checked_sub(zeros) {
@@ -51,7 +51,7 @@ fn last_bits(number: u64, bits: u32) -> u64 {
     number & (u64::MAX >> (64 - bits))
 }
 
-/// The draw and both references give the same number and take the same words.
+/// Asserts that the draw and both references return the same number and take the same words.
 fn check_draw(size: u128, bits: u32, zeros: usize, words: [u64; 2]) {
     let words = words.map(|word| last_bits(word, bits));
     let length = usize::try_from(bits / 8).expect("a few bytes");
@@ -76,15 +76,16 @@ fn check_draw(size: u128, bits: u32, zeros: usize, words: [u64; 2]) {
     );
 }
 
-/// The inverse of an odd number modulo 2^64, by Newton's method: each step doubles the right bits.
+/// The inverse of an odd number modulo 2^64, by Newton's method. Each step doubles the number of
+/// correct bits.
 fn inverse_of(odd: u64) -> u64 {
     (0..5).fold(odd, |inverse, _| {
         inverse.wrapping_mul(2_u64.wrapping_sub(odd.wrapping_mul(inverse)))
     })
 }
 
-/// The words whose low parts are the least accepted one and the greatest rejected one. Each odd size
-/// has them.
+/// The words whose low parts are the least accepted one and the greatest rejected one. They exist
+/// for every odd size.
 fn boundary_words(size: u128, bits: u32) -> (u64, u64) {
     let low = |number: u128| u64::try_from(number % (1 << 64)).expect("a low half");
     let inverse = inverse_of(low(size));
@@ -95,8 +96,8 @@ fn boundary_words(size: u128, bits: u32) -> (u64, u64) {
     )
 }
 
-/// Each word is the first, the second, and the last but one and the last of 128; then it comes too
-/// late.
+/// Tests each word as the first and second one, as the last but one and the last of 128, and as the
+/// one after these, which is too late.
 fn check_words(size: u128, bits: u32, words: &[u64]) {
     for word in words {
         for zeros in [0, 1, 126, 127, 128] {

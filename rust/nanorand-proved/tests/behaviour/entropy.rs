@@ -9,7 +9,7 @@ use std::io::ErrorKind;
 
 type Maker = fn(&mut Pieces) -> Result<(), EntropyError>;
 
-/// What is made from a reader, with the number of bytes that it takes.
+/// What is made from a reader, with the number of bytes that this takes.
 const MAKERS: [(Maker, usize); 6] = [
     (|source| system(source, &mut [0; 11]), 11),
     (|source| WyRand::new(source).map(drop), 8),
@@ -62,8 +62,8 @@ fn short_readers() {
     }
 }
 
-/// A reader that fails at one of its reads, by an error of any kind. Nothing is read after a failure, nor after the
-/// last byte that is needed, not even no bytes.
+/// A reader that fails at one of its reads, with an error of any kind. There is no read after a
+/// failure, nor after the last byte that is needed, not even an empty one.
 #[test]
 fn failing_readers() {
     let bytes = counted();
@@ -96,7 +96,7 @@ fn unavailable_sources() {
     assert_eq!(backup(&mut []), Err(EntropyError::Unavailable));
 }
 
-/// A slice of this size is filled with the next bytes, and no more are taken.
+/// Asserts that a slice of this size is filled with the next bytes, and that no more are taken.
 fn fills(bytes: &[u8], size: usize, piece: usize) {
     let mut source = Pieces::of(bytes, piece);
     let mut out = vec![0xee; size];

@@ -1,4 +1,4 @@
-//! Which generators are equal, and the derives of the small types.
+//! Which generators are equal, and the derived traits of the small types.
 
 use nanorand_proved::buffer::{RestTooLong, TextRefused};
 use nanorand_proved::choices::weighted::WeightError;
@@ -16,7 +16,7 @@ const KEY: [u8; 32] = [7; 32];
 
 const NONCE: [u8; 8] = [41, 42, 43, 44, 45, 46, 47, 255];
 
-/// Each value equals itself and a clone, and no other of the list.
+/// Asserts that each value equals itself and a clone, and no other value of the list.
 fn check_equality<T: Eq + Clone + Debug>(values: &[T]) {
     for (index, value) in values.iter().enumerate() {
         assert_eq!(value.clone(), *value);
@@ -28,7 +28,8 @@ fn check_equality<T: Eq + Clone + Debug>(values: &[T]) {
     }
 }
 
-/// The same of values that have hashes: equal ones have equal ones, and here the others have not.
+/// The same for values that have hashes. Equal values have equal hashes, and these different values
+/// have different ones.
 fn check_hashes<T: Eq + Clone + Debug + Hash>(values: &[T]) {
     check_equality(values);
     for value in values {
@@ -52,7 +53,7 @@ fn seeds_of_wyrand() {
     check_hashes(&[0, 1, 1 << 32, 1 << 63, u64::MAX].map(WyRand::new_seed));
 }
 
-/// A hash is that of what determines the coming blocks, also after draws.
+/// A hash depends on what determines the following blocks, even after draws.
 #[test]
 fn hashes_of_states() {
     let mut source = WyRand::new_seed(1);
@@ -77,8 +78,8 @@ fn hashes_of_states() {
     }
 }
 
-/// Three of them differ from the first in the seed, one in `inc` alone. The last two differ from
-/// each other in `state` alone.
+/// Three of them differ from the first in the seed, one only in `inc`. The last two differ from
+/// each other only in `state`.
 #[test]
 fn numbers_of_pcg64() {
     let mut round = Pcg64::new_seed(0);
@@ -153,7 +154,7 @@ fn delivered_bytes_do_not_count() {
     assert_eq!(first, second);
 }
 
-/// Copies equal their value, no two values are equal, and the `Debug` texts are these.
+/// Asserts that copies equal their value, that no two values are equal, and the `Debug` texts.
 fn check_copies<T: Copy + Eq + Debug>(rows: &[(T, &str)]) {
     let values: Vec<T> = rows.iter().map(|(value, _)| *value).collect();
     check_equality(&values);

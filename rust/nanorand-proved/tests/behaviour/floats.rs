@@ -1,6 +1,6 @@
-//! Floating-point numbers and their ranges, by the rule of `RandomRange`. Literal numbers come from
+//! Floating-point numbers and their ranges, by the rule of `RandomRange`. Literal numbers are from
 //! another implementation of the rule.
-#![allow(clippy::float_cmp)] // which number comes is known to the last bit
+#![allow(clippy::float_cmp)] // each number is known to the last bit
 
 use crate::common::{zeros, Constant, Script, Steps};
 use nanorand_proved::RangeError::{Empty, Exhausted};
@@ -49,7 +49,7 @@ fn numbers_of_ranges() {
     }
 }
 
-/// The first numbers of a range whose high end is included, or excluded. The low end may be either.
+/// The first numbers of a range whose high end is included or excluded. The low end may be either.
 macro_rules! check_numbers {
     ($number:ident, $low:literal, $high:literal, $included:expr, $excluded:expr) => {
         for low in [Included($low), Excluded($low)] {
@@ -65,7 +65,7 @@ macro_rules! check_numbers {
     };
 }
 
-/// The second range of each type is wider than its greatest number.
+/// The second range of each type is wider than the type's maximum.
 #[test]
 fn numbers_between_ends() {
     check_numbers!(
@@ -98,7 +98,7 @@ fn numbers_between_ends() {
     );
 }
 
-/// What the least and the greatest word name.
+/// The numbers that the least and the greatest word select.
 macro_rules! check_ends {
     ($number:ident) => {{
         let (least, greatest, ulp) = ($number::MIN, $number::MAX, $number::EPSILON);
@@ -111,7 +111,7 @@ macro_rules! check_ends {
             (Included(-1.0), Included(quarter), -1.0, quarter),
             (Included(-1.0), Included(3.0 * quarter), -1.0, 3.0 * quarter),
             (Included(3.5), Included(3.5), 3.5, 3.5),
-            // The least numbers have no halves.
+            // The smallest positive numbers cannot be halved.
             (Included(first), Included(first), first, first),
             (Included(first), Included(third), first, third),
             (Included(second), Included(third), second, third),
@@ -163,8 +163,9 @@ macro_rules! check_empty {
     }};
 }
 
-/// Numbers of any size, with infinite ones and NaN, and those where something changes. An included end is what the least
-/// or the greatest word names, an excluded one never comes, and no number lies outside.
+/// Bounds of any size, including infinities, NaN and numbers at which the rule changes. The least
+/// or the greatest word selects an included end. An excluded end is never drawn, and no number is
+/// outside the range.
 macro_rules! check_bounds {
     ($number:ident) => {{
         let mut rng = WyRand::new_seed(1);
@@ -210,7 +211,7 @@ macro_rules! check_bounds {
     }};
 }
 
-/// Words that come to an excluded end, of which there are at most 128.
+/// Words that would select an excluded end are rejected, at most 128 times.
 macro_rules! check_rejected {
     ($number:ident) => {{
         let next = 1.0 + $number::EPSILON;
@@ -226,7 +227,7 @@ macro_rules! check_rejected {
                 Ok(next),
             ),
             (Excluded(1.0), Included(next), &only_the_last, Ok(next)),
-            // Zero is excluded whatever its sign, and so is the least number.
+            // Zero is excluded whatever its sign. The least number can be excluded as well.
             (Excluded(-0.0), Included(1.0), &[0, 255], Ok(1.0)),
             (Excluded(0.0), Included(1.0), &[0, 0, 255], Ok(1.0)),
             (

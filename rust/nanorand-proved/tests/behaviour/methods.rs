@@ -1,4 +1,4 @@
-//! The calls of `Rng` that are also functions, those that panic, and the iterator.
+//! The methods of `Rng` that are also functions, the methods that panic, and the iterator.
 
 use crate::common::{rising, zeros, Constant, Steps};
 use nanorand_proved::choices::{self, WeightError};
@@ -10,7 +10,7 @@ use std::cell::RefCell;
 use std::fmt::Debug;
 use std::panic::{catch_unwind, set_hook, take_hook, AssertUnwindSafe};
 
-/// Each method gives what its function gives, and leaves the same state.
+/// Asserts that each method returns the same as its function, and leaves the same state.
 fn check<G: Rng<N> + PartialEq + Debug + Clone, const N: usize>(mut rng: G) {
     let mut same = rng.clone();
     let (items, weights) = (rising(50), [3, 0, 4, 5]);
@@ -49,7 +49,7 @@ fn methods_are_the_functions() {
     check(ChaCha8::new_key([1; 32], [2; 8]));
 }
 
-/// Methods draw as many words as the functions, also where only one result is possible.
+/// Methods draw as many words as the functions, even if only one result is possible.
 #[test]
 fn methods_are_the_functions_of_few_items() {
     let mut rng = WyRand::new_seed(42);
@@ -86,7 +86,7 @@ fn methods_are_the_functions_of_few_items() {
     }
 }
 
-/// The method equals the function for slices and counts of many sizes, also counts above the length.
+/// The method equals the function for many sizes and counts, including counts above the length.
 #[test]
 fn partial_shuffles_are_the_function() {
     let mut rng = WyRand::new_seed(42);
@@ -127,7 +127,7 @@ thread_local! {
     static SAID: RefCell<String> = const { RefCell::new(String::new()) };
 }
 
-/// A call that panics says the error, and the file of the caller.
+/// The message of a panic names the error and the file of the caller.
 #[test]
 fn texts_of_panics() {
     let before = take_hook();
@@ -162,7 +162,7 @@ fn iterators_draw_what_is_asked_for() {
     assert_eq!(steps.drawn(), 2);
 }
 
-/// Values that are passed over are drawn, of each size and by plain and buffered generators.
+/// Skipped values are drawn, for each size, with plain and buffered generators.
 #[test]
 fn iterators_draw_what_is_passed_over() {
     fn passes_over<T, R, const OUTPUT: usize>(fresh: &R)

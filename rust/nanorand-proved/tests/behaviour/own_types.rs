@@ -1,4 +1,4 @@
-//! A value type of a user's own.
+//! A user's own value type.
 
 use crate::common::{zeros, Constant, Steps};
 use nanorand_proved::{RandomGen, RandomRange, RangeError, Rng};
@@ -8,14 +8,14 @@ use std::ops::Bound;
 #[derive(Clone, Copy, Debug, PartialEq, Eq)]
 struct Die(u8);
 
-/// A throw: a byte of the range 1..=6, and 1 if 128 words in a row were rejected.
+/// A roll: a byte in the range 1..=6, or 1 if 128 words in a row were rejected.
 impl<G: Rng<OUTPUT>, const OUTPUT: usize> RandomGen<G, OUTPUT> for Die {
     fn random(rng: &mut G) -> Self {
         Die(rng.generate_range(1..=6).unwrap_or(1))
     }
 }
 
-/// A byte of the range with the numbers of the bounds. An unbounded end is 1 or 6.
+/// A byte in the range with the dice's numbers as bounds. An unbounded end is 1 or 6.
 impl<G: Rng<OUTPUT>, const OUTPUT: usize> RandomRange<G, OUTPUT> for Die {
     fn random_range(rng: &mut G, low: Bound<Die>, high: Bound<Die>) -> Result<Self, RangeError> {
         let range = (pips_of(low, 1), pips_of(high, 6));
@@ -49,7 +49,7 @@ fn throws_of_a_die() {
     assert_eq!(steps.generate_range(beyond), Err(RangeError::Empty));
 }
 
-/// The byte 1 names the least number of each range, and the byte 255 the greatest.
+/// The byte 1 selects the least number of each range, and the byte 255 the greatest.
 #[test]
 fn ranges_of_dice() {
     for low in 1..7 {
@@ -76,7 +76,7 @@ fn fills_of_dice() {
     assert_eq!(dice, [Die(1); 4]);
 }
 
-/// A generator with a shuffle of its own, which needs no word.
+/// A generator with its own `shuffle`, which draws no word.
 struct Reverses(Steps);
 
 impl Rng<8> for Reverses {
@@ -90,7 +90,7 @@ impl Rng<8> for Reverses {
     }
 }
 
-/// Whoever borrows a generator shuffles as its owner does.
+/// A borrowed generator uses its own `shuffle`.
 #[test]
 fn a_shuffle_of_its_own() {
     fn shuffled<R: Rng<8>>(mut rng: R) -> [u8; 4] {

@@ -1,5 +1,5 @@
-//! Parts of a stream, by code over any generator that has them: each begins where the one before it ends, and none
-//! reaches past the period.
+//! Parts of a stream, tested with code for any generator that has them. Each part begins where the
+//! one before it ends, and none extends past the end of the period.
 
 use nanorand_proved::{
     BufferedRng, ChaCha, ChaCha20Stream, ChaChaGroups, ChaChaStream, Keystream, Parts, PastPeriod,
@@ -13,7 +13,7 @@ const NONCE: [u8; 8] = [2; 8];
 
 const LENGTHS: [u64; 9] = [0, 1, 2, 7, 8, 9, 63, 64, 65];
 
-/// For each number of draws.
+/// Tests parts with each of these numbers of draws.
 fn follow_each_other<R, const N: usize>(rng: &R, lengths: &[u64])
 where
     R: Parts<N> + Clone + PartialEq + Debug,
@@ -29,7 +29,7 @@ where
     }
 }
 
-/// With each index, as many draws as there are within the period, and one more.
+/// Tests, for each index, the longest part within the period, and one with one draw more.
 fn end_with_the_period<R, const N: usize>(rng: &R, period: u128)
 where
     R: Parts<N> + PartialEq + Debug,
@@ -46,7 +46,7 @@ where
     }
 }
 
-/// `ahead` moves a generator by so many draws, in another way.
+/// Compares `part` with `ahead`, which moves a generator by a number of draws in another way.
 fn begin_far_away<R, const N: usize>(rng: &R, period: u128, ahead: impl Fn(&mut R, u128))
 where
     R: Parts<N> + Clone + PartialEq + Debug,
@@ -80,7 +80,7 @@ fn of_wyrand() {
     }
 }
 
-/// `state` and `inc` are those of the last draw, too.
+/// `state` and `inc` are those of the last draw as well.
 #[test]
 fn of_pcg64() {
     let mut drawn = Pcg64::new_seed(7);
@@ -108,7 +108,7 @@ fn of_every_chacha() {
     of_chacha::<20>();
 }
 
-/// Groups begin at multiples of eight blocks, as those of a stream that is sought.
+/// Groups begin at multiples of eight blocks, as after a seek.
 fn of_stream<const ROUNDS: u8>() {
     for (index, taken) in [(0, 0), (8, 511), (u64::MAX - 7, 3)] {
         let mut rng = ChaChaStream::<ROUNDS>::at_block(KEY, NONCE, index);
@@ -128,7 +128,7 @@ fn of_every_stream() {
     of_stream::<20>();
 }
 
-/// The buffered bytes may be any, and the group after them may begin at any block.
+/// The buffered bytes can be any, and the group after them can begin at any block.
 #[test]
 fn of_all_numbers_of_buffered_bytes() {
     let mut bytes = [0; 512];

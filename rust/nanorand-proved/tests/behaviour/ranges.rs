@@ -1,4 +1,4 @@
-//! Ranges of unsigned numbers, and the numbers that words name.
+//! Ranges of integers, and the numbers that words select.
 
 use crate::common::{zeros, Constant, Script};
 use nanorand_proved::values::pick_word;
@@ -24,8 +24,8 @@ fn the_last_of_128_words_may_decide() {
     assert_eq!(late.drawn(), 129);
 }
 
-/// The number that a word of 8 bits names, by a search: number k has the `quota` words from
-/// ceil((256 k + rejected) / size) on.
+/// The number that an 8-bit word selects, found by a search: the number k has the `quota` words
+/// from ceil((256 k + rejected) / size) on.
 fn named_by_counting(size: u32, word: u32) -> Option<u32> {
     let (quota, rejected) = (256 / size, 256 % size);
     (0..size).find(|k| {
@@ -34,7 +34,7 @@ fn named_by_counting(size: u32, word: u32) -> Option<u32> {
     })
 }
 
-/// Each size of a byte's range, by each byte.
+/// Each size of a range of bytes, with each byte as the word.
 #[test]
 fn every_size_and_byte() {
     for size in 1..=256_u32 {
@@ -53,7 +53,7 @@ fn every_size_and_byte() {
     }
 }
 
-/// The results of a range by the least word and by the greatest.
+/// Asserts the results of a range for the least word and for the greatest.
 fn gives<T: RandomRange<Constant, 8> + Copy + PartialEq + Debug>(
     low: Bound<T>,
     high: Bound<T>,
@@ -119,8 +119,9 @@ macro_rules! admitted {
     }};
 }
 
-/// Bounds at each power of two and its negative, and beside them. Of a range that has numbers the greatest word names
-/// the last; the least word names the first, or is rejected where not all numbers have equally many words without it.
+/// Bounds at each power of two, at its negative, and next to these. If a range is not empty, the
+/// greatest word selects its last number. The least word selects its first number if the size
+/// divides the number of words; otherwise it is rejected.
 macro_rules! check_bounds {
     ($($number:ident: $unsigned:ident),+) => { $({
         let mut rng = WyRand::new_seed(1);

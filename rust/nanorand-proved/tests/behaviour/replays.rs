@@ -87,7 +87,7 @@ fn a_refusal_does_not_end_a_replay() {
     assert_eq!(steps.drawn(), 3);
 }
 
-/// Two numbers are between the bounds of each span: zeros name the one, and ones the other.
+/// Each span has two numbers. A word of zeros selects the first, a word of ones the other.
 #[test]
 fn spans_of_each_kind() {
     let calls = [
@@ -160,7 +160,7 @@ fn a_refused_shuffle_and_a_bool() {
     assert_eq!(buffered.into_inner().drawn(), 129);
 }
 
-/// One value of each type, by zeros and in order of the bytes.
+/// One value of each type from zeros and from ones, and some values from rising bytes.
 #[test]
 fn values_of_each_kind() {
     let calls = KINDS.map(Call::Gen);
@@ -202,7 +202,7 @@ fn values_of_each_kind() {
 
 const MANY: usize = 20_000;
 
-/// The answer to call `index`, by the generator's own methods.
+/// The answer to the call with this index, from the generator's own methods.
 fn answer<G: Rng<OUTPUT>, const OUTPUT: usize>(
     rng: &mut G,
     index: usize,
@@ -218,7 +218,8 @@ fn answer<G: Rng<OUTPUT>, const OUTPUT: usize>(
     }
 }
 
-/// A replay gives the answers of the single calls, and leaves the same items and generator.
+/// Asserts that a replay returns the answers of the single calls, and leaves the same items and
+/// generator.
 fn check_many<G, const OUTPUT: usize>(mut rng: G)
 where
     G: Rng<OUTPUT> + Clone + PartialEq + Debug,

@@ -1,4 +1,4 @@
-//! Values, and which bytes and blocks a request takes.
+//! Values, and the bytes and blocks that a request takes.
 
 use crate::common::{zeros, Rising, Script, Steps, Waste};
 use nanorand_proved::values::fill_with;
@@ -10,7 +10,7 @@ use std::fmt::Debug;
 use std::io::Read;
 use std::thread;
 
-/// The value of each type by bytes that are all equal: signed types are in two's complement.
+/// The value of each type for bytes that are all equal. Signed types are in two's complement.
 #[test]
 fn ones_and_halves() {
     let mut ones = Script::new(&[255; 14]);
@@ -79,7 +79,7 @@ fn one_call_an_item() {
     assert_eq!(steps.drawn(), 3);
 }
 
-/// Items that are no value of one type: a number of a range, and a pair.
+/// Items that are not a value of one type: a number in a range, and a pair.
 #[test]
 fn ranges_and_pairs() {
     let mut script = Script::new(&[0, 255, 130]);
@@ -152,7 +152,7 @@ where
     assert_eq!(rng, same, "{SIZE}");
 }
 
-/// An array of other values takes what its items take.
+/// An array of other values takes the bytes that its items take.
 fn check_items<G, const OUTPUT: usize, const SIZE: usize>(fresh: &G)
 where
     G: Rng<OUTPUT> + Clone + PartialEq + Debug,
@@ -182,7 +182,7 @@ fn check_arrays<G: Rng<OUTPUT> + Clone + PartialEq + Debug, const OUTPUT: usize>
     check_array::<G, OUTPUT, 65_537>(fresh);
 }
 
-/// Arrays and blocks are moved by value, some of them in each call.
+/// Runs checks with a large stack, because each call moves some arrays and blocks by value.
 fn on_a_large_stack(checks: fn()) {
     let thread = thread::Builder::new().stack_size(1 << 26).spawn(checks);
     thread.expect("a thread").join().expect("all checks pass");
@@ -236,7 +236,8 @@ fn check_length<G: Rng<OUTPUT> + Clone, const OUTPUT: usize>(
     assert_eq!(bytes, stream[2 * length..3 * length], "{length}");
 }
 
-/// A request of any length gives the blocks, and leaves the state after the last one that it began.
+/// A request of any length returns the bytes of the blocks, and leaves the state after the last
+/// block that it began.
 fn check_lengths<G: Rng<OUTPUT> + Clone + PartialEq + Debug, const OUTPUT: usize>(fresh: &G) {
     let stream = stream_of(fresh.clone(), 210_000);
     for length in LENGTHS {
@@ -274,7 +275,7 @@ fn requests_give_the_blocks() {
     }
 }
 
-/// Blocks of more bytes than 16 bits count, of which a request may leave a part.
+/// Blocks of more than 2^16 bytes, of which a request may leave a part.
 #[test]
 fn blocks_of_any_size() {
     fn check<const SIZE: usize>() {

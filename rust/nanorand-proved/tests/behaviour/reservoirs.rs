@@ -1,10 +1,11 @@
-//! Samples of an iterator's items, in one pass: by the rule as it is told.
+//! Samples of an iterator's items in one pass (reservoir sampling), compared with the rule.
 
 use crate::common::{rising, Script, Steps};
 use nanorand_proved::samples::reservoir;
 use nanorand_proved::{ChaCha8, Pcg64, RangeError, Rng, WyRand};
 
-/// The first items fill the slots; later ones draw a number up to their own, which may be a slot's.
+/// The rule: the first items fill the slots. Each later item draws a number from 0 to its own, and
+/// takes the slot with that number, if there is one.
 fn by_the_rule<G: Rng<N>, const N: usize>(rng: &mut G, count: usize, slots: &mut [usize]) -> usize {
     for item in 0..count {
         let slot = if item < slots.len() {
@@ -38,7 +39,7 @@ fn reservoirs_of_every_size() {
     check(&ChaCha8::new_key([5; 32], [0; 8]));
 }
 
-/// Items that cannot be copied, of an iterator that does not know its length.
+/// Items that cannot be copied, from an iterator that does not know its length.
 #[test]
 fn items_of_any_type() {
     let mut chosen = [(); 3].map(|()| String::from("none"));
@@ -52,11 +53,11 @@ fn items_of_any_type() {
     assert_eq!(chosen, numbers.map(|number: usize| letters[number]));
 }
 
-/// The item whose draw is refused is dropped, and those after it are not taken.
+/// The item whose draw returns an error is dropped, and those after it are not taken.
 #[test]
 fn a_reservoir_refused_at_each_draw() {
-    // Two slots. A word of ones draws an item's own number; one of zeros, the number 0 or, if the item draws from
-    // no power of two, nothing.
+    // There are two slots. A word of ones draws an item's own number. A word of zeros draws the
+    // number 0, or is rejected if the size of the item's range is not a power of two.
     let rows = [
         (0, [0, 1], 3),
         (1, [3, 1], 5),
@@ -73,7 +74,8 @@ fn a_reservoir_refused_at_each_draw() {
     }
 }
 
-/// No word is drawn for the items that fill the slots; and one for each item where there is no slot.
+/// No word is drawn for the items that fill the slots. If there are no slots, one word is drawn for
+/// each item.
 #[test]
 fn words_of_a_reservoir() {
     for slots in 0..5_usize {

@@ -1,10 +1,11 @@
-//! Samples: by Floyd's rule as it is told, with tables of every length, whole and in pieces.
+//! Samples, compared with Floyd's algorithm, with tables of every length, whole and in pieces.
 
 use crate::common::{rising, Script};
 use nanorand_proved::samples::{extend_sample, sample, sample_with};
 use nanorand_proved::{ChaCha20Stream, Keystream, Pcg64, RangeError, Rng, WyRand};
 
-/// The last of the numbers 0 to j, for the last `length` values of j: the number drawn, or j if that is there.
+/// Floyd's algorithm: for the last `length` values j below `count`, adds a number drawn from 0 to
+/// j, or j if that number is in the sample already.
 fn by_the_rule<G: Rng<N>, const N: usize>(rng: &mut G, count: usize, length: usize) -> Vec<usize> {
     let mut numbers = Vec::new();
     for last in count - length..count {
@@ -18,7 +19,7 @@ fn by_the_rule<G: Rng<N>, const N: usize>(rng: &mut G, count: usize, length: usi
     numbers
 }
 
-/// Counts that go with a length: all are drawn, all but one, some, few.
+/// Counts for a length, of which all are drawn, all but one, some, or few.
 fn counts(length: usize) -> [usize; 6] {
     let more = [length, length + 1, 2 * length + 3, length * length + 7];
     [more[0], more[1], more[2], more[3], 1 << 31, usize::MAX]
@@ -35,7 +36,7 @@ where
     assert_eq!(rng.sample(count, &mut places), Ok(()));
     assert_eq!((&places, &rng), (&numbers, &after), "{length} of {count}");
     for &room in rooms {
-        // Whatever the table holds before.
+        // The old contents of the table do not matter.
         for item in [0, 1, usize::MAX] {
             let (mut rng, mut places) = (start.clone(), vec![7; length]);
             let mut table = vec![item; room];
@@ -67,7 +68,8 @@ fn samples_of_every_length() {
     }
 }
 
-/// The slots that stand are kept, whatever they hold, and the others are drawn as if they had been drawn too.
+/// Filled slots are kept, whatever they hold. The others are drawn as if the filled ones had been
+/// drawn as well.
 #[test]
 fn pieces_of_every_length() {
     let start = ChaCha20Stream::new_key([5; 32], [0; 8]);
@@ -96,7 +98,7 @@ fn pieces_of_every_length() {
     }
 }
 
-/// Slots that stand may hold any numbers: what is drawn differs from them.
+/// Filled slots may hold any numbers. The drawn numbers differ from them.
 #[test]
 fn slots_that_no_sample_left() {
     for room in [0, 9, 100] {
@@ -130,8 +132,8 @@ fn many_of_many() {
     }
 }
 
-/// A sample of three of 7 draws below 5, 6 and 7, which all reject zeros. The slots from the refused
-/// draw on stay as they were.
+/// A sample of three from 7 draws numbers below 5, 6 and 7, which all reject zeros. The slots from
+/// the failed draw on stay unchanged.
 #[test]
 fn a_sample_refused_at_each_draw() {
     let refused = Err(RangeError::Exhausted);
@@ -157,7 +159,7 @@ fn a_sample_refused_at_each_draw() {
     }
 }
 
-/// Different numbers below the count.
+/// Samples are distinct numbers below the count.
 #[test]
 fn a_sample_holds_no_number_twice() {
     for seed in 0..20 {

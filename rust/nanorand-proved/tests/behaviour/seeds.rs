@@ -1,4 +1,4 @@
-//! Seeds of small numbers: SplitMix64's words, as Sebastiano Vigna's `splitmix64.c` gives them.
+//! Seeds from numbers: SplitMix64's words, as Sebastiano Vigna's `splitmix64.c` computes them.
 
 use nanorand_proved::rand::chacha_stream_from_u64;
 use nanorand_proved::{
@@ -6,7 +6,7 @@ use nanorand_proved::{
 };
 use std::collections::HashSet;
 
-/// The first words of a number.
+/// The first words for a number.
 const KNOWN: [(u64, [u64; 5]); 3] = [
     (
         0,
@@ -63,7 +63,7 @@ fn a_seed_is_the_words_of_its_number() {
     }
 }
 
-/// Each way to a stream of a number gives the stream of ChaCha's key and nonce.
+/// Each way to make a stream from a number makes the stream of `ChaCha`'s key and nonce.
 fn streams_of<const ROUNDS: u8>(number: u64) {
     let inner = ChaCha::<ROUNDS>::seed_from_u64(number);
     let stream: ChaChaStream<ROUNDS> = Keystream::new_key(inner.key(), inner.nonce());
@@ -85,7 +85,7 @@ fn a_stream_is_that_of_its_number() {
     }
 }
 
-/// Numbers side by side, numbers that differ in one bit, and great ones.
+/// Neighbouring numbers, numbers that differ in one bit, and large ones.
 #[test]
 fn different_numbers_give_different_seeds() {
     let bits = (0..64).map(|bit| 1 << bit);
@@ -105,7 +105,8 @@ fn different_numbers_give_different_seeds() {
     assert_eq!(wide.len(), numbers.len());
 }
 
-/// Neighbours draw alike no more often than chance has it: of their first words, half of the bits agree.
+/// Streams of neighbouring seeds agree no more than by chance: in half of the bits of their first
+/// words.
 #[test]
 fn neighbours_share_no_more_than_half_of_their_bits() {
     let agreeing = |first: &dyn Fn(u64) -> u64| -> u64 {
@@ -121,7 +122,7 @@ fn neighbours_share_no_more_than_half_of_their_bits() {
         &|number| ChaCha20Stream::seed_from_u64(number).generate(),
     ];
     for first in firsts {
-        // 320,000 of 640,000 bits, and six standard deviations of 400.
+        // 320,000 of 640,000 bits, plus or minus six standard deviations of 400.
         let shared = agreeing(first);
         assert!((317_600..322_400).contains(&shared), "{shared}");
     }

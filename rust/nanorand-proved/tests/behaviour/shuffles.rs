@@ -24,7 +24,7 @@ fn refused_by_zeros() {
     assert_eq!(rng.drawn(), 128);
 }
 
-/// The swaps before the refused draw stay.
+/// The swaps before the failed draw stay.
 #[test]
 fn refused_at_the_second_draw() {
     let mut script = Script::new(&[255]);
@@ -55,7 +55,7 @@ fn nothing_to_shuffle() {
     assert_eq!(rng.drawn(), 0);
 }
 
-/// 0, 1, .., n - 1, n and the greatest count, of four items.
+/// The counts 0, 1, .., n - 1, n and the maximum, with four items.
 #[test]
 fn each_count() {
     let rows = [
@@ -77,7 +77,7 @@ fn each_count() {
 }
 
 /// Words of ones, each of which draws the last index, and then zeros, which are rejected for 7, 6, 5
-/// and 3 indices. Counts up to the refused index succeed.
+/// and 3 indices. Counts up to the failed index succeed.
 #[test]
 fn refused_at_each_step() {
     let rows = [
@@ -103,7 +103,7 @@ fn refused_at_each_step() {
     }
 }
 
-/// What so many steps answer if each word is this one, and how many words they take.
+/// The result of `count` steps if every word is this one, and how many words they take.
 #[cfg(target_pointer_width = "64")]
 fn by_equal_words(word: u64, items: usize, count: usize) -> (Result<(), RangeError>, usize) {
     let left = |step| u128::try_from(items - step).expect("a number of items");
@@ -113,7 +113,7 @@ fn by_equal_words(word: u64, items: usize, count: usize) -> (Result<(), RangeErr
     }
 }
 
-/// Draws from a slice of `ITEMS` items without a size, by words of equal bytes.
+/// Draws from a slice of `ITEMS` zero-sized items, with words of equal bytes.
 #[cfg(target_pointer_width = "64")]
 fn draws_from<const ITEMS: usize>() {
     let mut nothing = [(); ITEMS];
@@ -136,7 +136,7 @@ fn draws_from<const ITEMS: usize>() {
     }
 }
 
-/// A slice of items without a size may have as many as a `usize` counts.
+/// A slice of zero-sized items may have up to `usize::MAX` of them.
 #[test]
 #[cfg(target_pointer_width = "64")]
 fn more_items_than_32_bits_count() {
@@ -147,7 +147,7 @@ fn more_items_than_32_bits_count() {
     draws_from::<{ usize::MAX }>();
 }
 
-/// The steps one by one: each draws a partner from its index to the last one.
+/// The single steps: each draws a partner from its own index to the last one.
 fn by_steps<G: Rng<OUTPUT>, const OUTPUT: usize>(
     rng: &mut G,
     items: &mut [usize],
@@ -160,7 +160,8 @@ fn by_steps<G: Rng<OUTPUT>, const OUTPUT: usize>(
     Ok(())
 }
 
-/// It does what the steps do one by one, and its first items are those of a whole shuffle.
+/// `partial_shuffle` does the same as the single steps, and its first items are those of a full
+/// shuffle.
 fn begins_alike<G: Rng<OUTPUT> + Clone, const OUTPUT: usize>(fresh: &G, length: usize) {
     for count in [0, 1, 2, 3, 4, 49, 50, 51] {
         let (mut rng, mut other) = (fresh.clone(), fresh.clone());
@@ -197,7 +198,7 @@ fn the_beginning_of_a_shuffle() {
     lengths_alike(&Script::new(&[255, 128, 1, 77, 200]));
 }
 
-/// Items of any type are moved as their indices are, also those that own memory or have no size.
+/// Items of any type are moved like their indices, even items that own memory or are zero-sized.
 #[test]
 fn shuffles_move_any_items() {
     for count in 0..100 {

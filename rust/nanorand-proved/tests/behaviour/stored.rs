@@ -25,7 +25,7 @@ fn three_choices() {
     }
 }
 
-/// The last digits of a number in a base, least digit first.
+/// The last `count` digits of a number in a base, least significant digit first.
 fn digits(number: usize, base: usize, count: usize) -> Vec<usize> {
     let mut left = number;
     let mut digits = vec![0; count];
@@ -42,8 +42,8 @@ fn holds_each_once(numbers: &[usize]) -> bool {
     (0..numbers.len()).all(|number| copies(number) == 1)
 }
 
-/// Of all lists of `count` numbers from 0 to 5, `choices_of` has choices exactly for those that are
-/// permutations, and `apply_choices` undoes it.
+/// Of all lists of `count` numbers from 0 to 5, `choices_of` returns choices exactly for those that
+/// are permutations, and `apply_choices` is its inverse.
 #[test]
 fn each_undoes_the_other() {
     for (count, permutations) in [(0, 1), (1, 1), (2, 2), (3, 6), (4, 24), (5, 120)] {
@@ -68,7 +68,7 @@ fn each_undoes_the_other() {
     }
 }
 
-/// All earlier contents of the record are overwritten, also after the draw that failed.
+/// All earlier contents of the record are overwritten, even after the failed draw.
 #[test]
 fn refused_at_the_first_and_the_second_draw() {
     let mut rng = zeros();
@@ -90,7 +90,8 @@ fn refused_at_the_first_and_the_second_draw() {
     assert_eq!(script.drawn(), 129);
 }
 
-/// It shuffles as `shuffle` does, and applying the recorded choices gives the same permutation.
+/// Asserts that the recording shuffle equals `shuffle`, and that applying the recorded choices
+/// makes the same permutation.
 fn check_record<G: Rng<OUTPUT> + Clone, const OUTPUT: usize>(fresh: &G) {
     for count in [0, 1, 2, 3, 50] {
         let (mut rng, mut other) = (fresh.clone(), fresh.clone());

@@ -1,5 +1,5 @@
-//! No call fails where nothing is wrong, and none changes what it should not: at sizes, seeds, rounds and format options
-//! that are spread over all that there are. No clause of the proved source says so.
+//! No call fails without a cause, and none changes what it should not. The sizes, seeds, rounds and
+//! format options are spread over all possible ones. No clause of the proved source states this.
 
 use crate::common::formats::has_texts;
 use crate::common::{ByteScript, Pieces, Rising};
@@ -15,8 +15,9 @@ use std::iter::successors;
 
 const MOST: usize = 2_100_000;
 
-/// A word of any length in bits: led by zeros or by ones, followed by zeros, a power of two or beside one, with
-/// few bits or with many. A bug between two bounds is met wherever these are.
+/// A word of any length in bits: with leading zeros or ones, with trailing zeros, a power of two or
+/// next to one, with few bits or with many. So a bug between two bounds is found wherever these
+/// are.
 fn word(rng: &mut WyRand) -> u64 {
     let (drawn, shape): (u64, u64) = (rng.generate(), rng.generate());
     let (length, power) = (shape % 64, 1_u64 << (shape % 64));
@@ -38,13 +39,13 @@ fn number(rng: &mut WyRand, most: usize) -> usize {
     usize::try_from(word(rng) % numbers).expect("a size")
 }
 
-/// A width or a precision: std takes 16 bits at most.
+/// A width or a precision. std accepts at most 16 bits.
 fn option(rng: &mut WyRand) -> usize {
     number(rng, usize::from(u16::MAX))
 }
 
-/// Sizes up to `MOST`: the powers of two with their neighbours, and up to half of `MOST` sizes of which each is above
-/// the last one by a sixteenth or less.
+/// Sizes up to `MOST`: the powers of two with their neighbours and, up to half of `MOST`, sizes
+/// each of which is at most a sixteenth above the one before.
 fn sizes() -> Vec<usize> {
     let mut rng = WyRand::new_seed(0x5eed);
     let powers = (0..22).map(|bit| 1 << bit);
@@ -54,12 +55,13 @@ fn sizes() -> Vec<usize> {
     near_powers.chain(steps).chain([MOST]).collect()
 }
 
-/// The outcome of `system`, and after how many reads.
+/// The outcome of `system`, and the number of reads.
 fn filled(mut source: Pieces, out: &mut [u8]) -> (Result<(), EntropyError>, usize) {
     (system(&mut source, out), source.reads())
 }
 
-/// A reader of as many bytes as are needed, one of fewer, and one that fails. Each gives up to `piece` at a read.
+/// A reader with as many bytes as are needed, one with fewer, and one that fails. Each returns up
+/// to `piece` bytes at a read.
 #[test]
 fn slices_are_filled() {
     let mut rng = WyRand::new_seed(1);
@@ -109,7 +111,8 @@ fn options(rng: &mut WyRand) -> [usize; 2] {
     [option(rng), option(rng)]
 }
 
-/// A `ChaCha` of these rounds is made of the reader's bytes. It and its groups have their texts at any counter.
+/// A `ChaCha` with these rounds is made from the reader's bytes. It and its groups have the right
+/// texts at any counter.
 fn chacha_is_made_and_has_texts<const ROUNDS: u8>(rng: &mut WyRand, source: &mut Pieces) {
     let made = ChaCha::<ROUNDS>::new(source);
     assert!(made.is_ok(), "{ROUNDS}");
@@ -129,7 +132,7 @@ fn chacha_is_made_and_has_texts<const ROUNDS: u8>(rng: &mut WyRand, source: &mut
     has_texts(&generator, texts, options(rng));
 }
 
-/// That of each of these numbers of rounds.
+/// The same for each of these numbers of rounds.
 macro_rules! chachas {
     ($($rounds:literal)*) => { [$(chacha_is_made_and_has_texts::<$rounds>),*] };
 }
@@ -142,7 +145,7 @@ const CHACHAS: [fn(&mut WyRand, &mut Pieces); 128] = chachas!(
     250 252 254
 );
 
-/// The bytes of words, and such that a key, a nonce or both are of zeros or of ones.
+/// The readers have the bytes of words, some of them with a key, a nonce or both of zeros or ones.
 #[test]
 fn chachas_of_any_rounds() {
     let mut rng = WyRand::new_seed(6);
@@ -186,8 +189,9 @@ fn generators_have_texts() {
     }
 }
 
-/// From one byte to a block less one, which are buffered, are appended to a vector that has this many items, and too
-/// little room for the bytes. The call is that of the buffer, or that of a reader.
+/// Some buffered bytes, from one to a block less one, are appended to a vector that has `size`
+/// items and too little capacity for the bytes. The call is the buffer's own `read_to_end` or that
+/// of `Read`.
 fn is_appended<G: Rng<OUTPUT>, const OUTPUT: usize>(
     rng: &mut WyRand,
     buffer: &mut BufferedRng<G, OUTPUT>,
@@ -224,8 +228,8 @@ fn buffered_bytes_are_appended() {
     }
 }
 
-/// Of these items the chosen one alone is written, and none if the choice fails. Words of 0 before the word are
-/// rejected.
+/// Writes the chosen item, or none if the choice fails, and the same in `expected`. `rejected`
+/// words of 0 come before the word.
 fn writes_one<T: Copy>(rejected: usize, word: u64, mark: T, items: &mut [T], expected: &mut [T]) {
     let mut rng = ByteScript::after_zeros(8 * rejected, &word.to_le_bytes());
     let mut same = rng.clone();
@@ -253,7 +257,7 @@ fn one_item_is_lent() {
     }
 }
 
-/// Items of this type are changed as little.
+/// `choose_mut` changes only the chosen item, for items of this type.
 fn one_is_lent_of<T: RandomGen<WyRand, 8> + Copy + PartialEq + Debug>() {
     let mut rng = WyRand::new_seed(7);
     for size in (1..=70).chain([1000, 4096]) {

@@ -11,7 +11,7 @@ use nanorand_proved::{ChaCha, ChaCha12, ChaCha12Stream, ChaCha20, ChaCha8, Pcg64
 use std::error::Error;
 use std::fmt::{Debug, Display};
 
-/// The value has these texts, whatever the options.
+/// Asserts that the value has these texts, whatever the format options are.
 fn has_texts<T: Debug + Display + ?Sized>(value: &T, debug: &str, display: &str) {
     formats::has_texts(value, [debug, display], [200, 3]);
 }
@@ -43,7 +43,7 @@ fn of_pcg64() {
     ] {
         has_texts(&Pcg64::new_seed(seed), debug, "Pcg64");
     }
-    // A draw from the seed before one leaves it, also as the state.
+    // A draw from the seed before it leaves this seed, also as the state.
     for seed in [1, 1 << 64, u128::from(u64::MAX) << 64, u128::MAX >> 64] {
         let mut rng = Pcg64::new_seed(seed);
         rng.jump((1 << 126) - 1);
@@ -58,7 +58,7 @@ fn of_pcg64() {
     has_texts(&rng, drawn, "Pcg64");
 }
 
-/// A generator at a counter. Its texts do not show the key or the nonce.
+/// Asserts the texts of a generator at a counter. They do not show the key or the nonce.
 fn chacha_has_texts<const ROUNDS: u8>(counter: u64) {
     let rng = ChaCha::<ROUNDS>::at([0xab; 32], [0xcd; 8], counter);
     let debug = format!("ChaCha20 {{ rounds: {ROUNDS}, counter: {counter} }}");
@@ -94,7 +94,7 @@ fn of_chacha() {
     );
 }
 
-/// The inner generator's text, and the number of the bytes that are left.
+/// A buffer's text has the inner generator's text and the number of buffered bytes.
 #[test]
 fn of_a_buffer() {
     let mut rng = BufferedRng::new(ChaCha8::new_key([1; 32], [2; 8]));
@@ -115,10 +115,10 @@ fn of_a_buffer() {
     }
 }
 
-/// What deriving writes for a buffer: its numbers obey the options.
+/// The text that a derived `Debug` writes for a buffer. Its numbers obey the format options.
 mod derived {
     #[derive(Debug)]
-    #[allow(dead_code)] // Debug alone reads the fields
+    #[allow(dead_code)] // only Debug reads the fields
     pub struct BufferedRng<'a, G> {
         pub inner: &'a G,
         pub buffered: usize,
@@ -150,7 +150,7 @@ fn of_a_buffer_by_options() {
 
 /// A generator whose text has as many lines and digits as the options say.
 #[derive(Debug)]
-#[allow(dead_code)] // Debug alone reads the path
+#[allow(dead_code)] // only Debug reads the path
 struct Own {
     next: u64,
     path: [Option<u8>; 2],
@@ -163,7 +163,7 @@ impl Rng<2> for Own {
     }
 }
 
-/// The options are those of the generator inside, too.
+/// The format options apply to the inner generator as well.
 #[test]
 fn of_a_buffer_over_any_generator() {
     let mut rng = BufferedRng::new(Own {

@@ -1,5 +1,5 @@
-//! Tuples, arrays, integers that are not 0, and ranges of 128 bits. Literal numbers of ranges come from
-//! another implementation of the rule.
+//! Tuples, arrays, nonzero integers, and 128-bit ranges. Literal numbers of ranges are from another
+//! implementation of the rule.
 
 use crate::common::{zeros, ByteScript, Script, Steps};
 use nanorand_proved::replay::{replay, Answer, Call, Kind};
@@ -8,7 +8,7 @@ use std::fmt::Debug;
 use std::num::{NonZeroI128, NonZeroI16, NonZeroI32, NonZeroI64, NonZeroI8, NonZeroIsize};
 use std::num::{NonZeroU128, NonZeroU16, NonZeroU32, NonZeroU64, NonZeroU8, NonZeroUsize};
 
-/// The value of the blocks 0, 8, 16, .., and how many it takes.
+/// Asserts the value for the blocks 0, 8, 16, .., and how many blocks it takes.
 fn takes<T: RandomGen<Steps, 8> + PartialEq + Debug>(value: &T, blocks: u64) {
     let mut steps = Steps::new();
     assert_eq!(&steps.generate::<T>(), value);
@@ -47,7 +47,7 @@ fn items_in_their_order() {
     assert_eq!(arrays, [[0x0100, 0x0908], [0x1110, 0x1918]]);
 }
 
-/// An array of any values but bytes takes what its items take one by one.
+/// An array of any values but bytes takes what its items take separately.
 #[test]
 #[allow(clippy::float_cmp)] // the same numbers, drawn one by one
 fn arrays_of_any_items() {
@@ -71,7 +71,7 @@ fn arrays_of_any_items() {
     );
 }
 
-/// A range of one number takes a word too.
+/// A range of one number takes a word as well.
 #[test]
 fn ranges_of_one_number() {
     macro_rules! check {
@@ -109,7 +109,7 @@ fn integers_that_are_not_zero() {
     check!(NonZeroI8 NonZeroI16 NonZeroI32 NonZeroI64 NonZeroI128 NonZeroIsize);
 }
 
-/// One bit is enough, wherever it is.
+/// A number with a single bit set is accepted, wherever the bit is.
 #[test]
 fn wide_integers_that_are_not_zero() {
     for bit in 0..128 {
@@ -123,7 +123,8 @@ fn wide_integers_that_are_not_zero() {
     }
 }
 
-/// Where `usize` has fewer bits too: it has the low ones of a value, and its ranges are those of 64.
+/// Even if `usize` has fewer bits: it gets the low bits of a 64-bit value, and its ranges draw
+/// 64-bit words.
 #[test]
 #[allow(clippy::cast_possible_truncation, clippy::cast_possible_wrap)]
 fn words_of_64_bits_on_every_machine() {
@@ -205,7 +206,7 @@ fn wide_signed_numbers() {
     }
 }
 
-/// The words whose low halves are the greatest that is rejected and the least that is not.
+/// The words whose low halves are the greatest rejected one and the least accepted one.
 #[test]
 fn wide_words_at_the_border() {
     for (size, rejected, accepted) in [
@@ -233,7 +234,7 @@ fn wide_words_at_the_border() {
     assert_eq!(rng.drawn(), 2 * 128);
 }
 
-/// The halves of a product, the high one first, by digits of 32 bits.
+/// The halves of a product, the high one first, computed with 32-bit digits.
 fn long_product(left: u128, right: u128) -> (u128, u128) {
     let digits = |number: u128| {
         [0, 32, 64, 96].map(|shift| u64::try_from(number >> shift & 0xffff_ffff).expect("a digit"))
@@ -255,23 +256,23 @@ fn long_product(left: u128, right: u128) -> (u128, u128) {
     (high, low)
 }
 
-/// 2^128 modulo the size: so many low halves, the least ones, are rejected.
+/// 2^128 modulo the size. This is the number of low halves that are rejected, the least ones.
 fn count_of_rejected(size: u128) -> u128 {
     (u128::MAX % size + 1) % size
 }
 
-/// The number that a word names, by the definition.
+/// The number that a word selects, by the definition.
 fn named(size: u128, word: u128) -> Option<u128> {
     let (number, low) = long_product(word, size);
     (low >= count_of_rejected(size)).then_some(number)
 }
 
-/// The least word whose product with the size has this low half. The greatest power of 2 in the
-/// size divides each.
+/// The least word whose product with the size has this low half, which must be divisible by the
+/// greatest power of 2 that divides the size.
 fn word_of(size: u128, low: u128) -> u128 {
     let shift = size.trailing_zeros();
     let odd = size >> shift;
-    let mut inverse = odd; // right in its lowest three bits, then in twice as many
+    let mut inverse = odd; // correct in its lowest three bits, then in twice as many
     for _ in 0..6 {
         inverse = inverse.wrapping_mul(2_u128.wrapping_sub(odd.wrapping_mul(inverse)));
     }
@@ -302,8 +303,8 @@ fn words_at_borders(size: u128) -> Vec<u128> {
     words
 }
 
-/// By ranges that begin at 0, that end with the greatest number, and that begin with the least.
-#[allow(clippy::cast_possible_wrap)] // the least number is rank 0
+/// Tests ranges that begin at 0, that end at the maximum, and that begin at the minimum.
+#[allow(clippy::cast_possible_wrap)] // the minimum has the rank 0
 fn check_wide_size(size: u128) {
     let last = word_of(size, count_of_rejected(size));
     let end = named(size, last).expect("the first that is accepted");

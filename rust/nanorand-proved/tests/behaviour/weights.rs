@@ -7,7 +7,8 @@ use nanorand_proved::{BufferedRng, ChaCha8, Pcg64, Rng, WyRand};
 
 const HALF: u64 = 1 << 63;
 
-/// Words of one byte, eight times, at both ends of the shares, with a weight of 0 at each index.
+/// Words of one byte, repeated eight times, at both ends of the shares, with a weight of 0 at each
+/// index.
 #[test]
 fn ends_of_shares() {
     let rows = [
@@ -28,7 +29,7 @@ fn ends_of_shares() {
     }
 }
 
-/// Two words, the first one in the low half, and then words of zeros.
+/// The generator returns two words, the first one in the low half, and then zeros.
 #[test]
 fn great_sums() {
     let top = u128::from(u64::MAX) << 64;
@@ -73,7 +74,8 @@ fn refused_sums_draw_nothing() {
     assert_eq!(rng.drawn(), 0);
 }
 
-/// Sums that are too great by however much, also where the low 64 bits of the sum are no less than each weight.
+/// Sums that are too large by any amount, even if the low 64 bits of the sum are at least each
+/// weight.
 #[test]
 fn sums_of_great_weights() {
     let great = [0, 1, HALF - 1, HALF, HALF + 1, u64::MAX - 1, u64::MAX];
@@ -86,7 +88,8 @@ fn sums_of_great_weights() {
         let due = match sum {
             0 => Some(WeightError::NoWeight),
             _ if sum >= 1 << 64 => Some(WeightError::TooHeavy),
-            // Zeros draw the least number of each sum that divides the words, and are rejected for every other.
+            // Zeros draw the least number if the sum divides the number of words, and are rejected
+            // otherwise.
             _ => (!sum.is_power_of_two()).then_some(WeightError::Exhausted),
         };
         assert_eq!(refusal, due, "{weights:?}");

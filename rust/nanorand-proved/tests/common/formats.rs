@@ -1,5 +1,5 @@
 //! Texts that no format option changes.
-#![allow(dead_code)] // each file of tests uses some of them
+#![allow(dead_code)] // each test file uses a part
 
 use std::fmt::{Debug, Display};
 
@@ -32,7 +32,7 @@ pub fn has_texts<T: Debug + Display + ?Sized>(
     is_displayed(value, display, options);
 }
 
-/// Checks this for `Display` alone.
+/// Checks this only for `Display`.
 pub fn is_displayed<T: Display + ?Sized>(value: &T, display: &str, options: [usize; 2]) {
     let [width, precision] = options;
     let displays = [

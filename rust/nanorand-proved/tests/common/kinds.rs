@@ -1,9 +1,10 @@
-//! Errors of every kind that a call of the system may have.
-#![allow(dead_code)] // each file of tests uses some of them
+//! Errors of every kind that a system call may return.
+#![allow(dead_code)] // each test file uses a part
 
 use std::io::{Error, ErrorKind};
 
-/// The kinds that the oldest compiler names, and those that this one gives the system's numbers.
+/// The kinds that the oldest supported compiler knows, and those that this compiler assigns to the
+/// system's error numbers.
 pub fn kinds() -> Vec<ErrorKind> {
     let mut kinds = vec![
         ErrorKind::NotFound,
@@ -33,7 +34,7 @@ pub fn kinds() -> Vec<ErrorKind> {
     kinds
 }
 
-/// An error of a kind alone, one with a text, or one of the system's number.
+/// An error with only a kind, one with a text, or one with an error number of the system.
 #[derive(Clone, Copy, Debug)]
 pub enum Fault {
     Alone(ErrorKind),
@@ -61,7 +62,7 @@ impl From<ErrorKind> for Fault {
     }
 }
 
-/// Errors of every kind, in each form that one may have.
+/// Errors of every kind, in each form.
 pub fn faults() -> Vec<Fault> {
     let forms = |kind| [Fault::Alone(kind), Fault::Told(kind)];
     let numbered = (1..200).map(Fault::Numbered);

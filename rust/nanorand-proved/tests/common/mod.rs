@@ -1,5 +1,5 @@
 //! Generators whose bytes are known, and a reader that ends early or fails.
-#![allow(dead_code)] // each file of tests uses some of them
+#![allow(dead_code)] // each test file uses a part
 
 pub mod formats;
 pub mod kinds;
@@ -80,7 +80,7 @@ pub fn zeros() -> Constant {
     Constant::new(0)
 }
 
-/// Block n is byte n of a list, eight times; after the list come zeros.
+/// Block n is byte n of a list, eight times. After the list come zeros.
 #[derive(Clone, Debug, PartialEq, Eq)]
 pub struct Script {
     bytes: Vec<u8>,
@@ -147,7 +147,7 @@ impl Rng<1> for ByteScript {
     }
 }
 
-/// The blocks of `Steps`. A request of any number of bytes but 0 and 8 draws one block more than a
+/// The blocks of `Steps`. A request for any number of bytes but 0 and 8 draws one block more than a
 /// plain generator does, and drops it.
 #[derive(Clone, Debug, Default, PartialEq, Eq)]
 pub struct Waste {
@@ -179,8 +179,8 @@ impl Rng<8> for Waste {
     }
 }
 
-/// Blocks that alternate the number of the stream and the number of the block. A clone is not equal
-/// to its original: it is the next stream, at the same block.
+/// Blocks that alternate the number of the stream and the number of the block. A clone does not
+/// equal its original: it is the next stream, at the same block.
 #[derive(Debug, PartialEq, Eq)]
 pub struct Forking<const SIZE: usize> {
     pub stream: u8,
@@ -204,7 +204,7 @@ impl<const SIZE: usize> Rng<SIZE> for Forking<SIZE> {
     }
 }
 
-/// A reader of known bytes, at most `piece` at a read, one of whose reads may fail.
+/// A reader of known bytes, with at most `piece` bytes at a read. One of its reads may fail.
 pub struct Pieces<'a> {
     bytes: &'a [u8],
     piece: usize,
@@ -222,7 +222,7 @@ impl<'a> Pieces<'a> {
         }
     }
 
-    /// The same, whose read of that number, counted from 0, fails.
+    /// The same, but the read with this number, from 0, fails.
     pub fn failing(bytes: &'a [u8], piece: usize, read: usize, fault: impl Into<Fault>) -> Self {
         Pieces {
             fault: Some((read, fault.into())),
@@ -258,7 +258,7 @@ impl Read for Pieces<'_> {
     }
 }
 
-/// The bytes of hexadecimal digits.
+/// The bytes that hexadecimal digits stand for.
 pub fn bytes_of(digits: &str) -> Vec<u8> {
     let digits: Vec<u32> = digits
         .chars()
@@ -270,7 +270,7 @@ pub fn bytes_of(digits: &str) -> Vec<u8> {
         .collect()
 }
 
-/// The same, of an array's length.
+/// The same, as an array.
 pub fn array_of<const SIZE: usize>(digits: &str) -> [u8; SIZE] {
     bytes_of(digits).try_into().expect("the array's length")
 }

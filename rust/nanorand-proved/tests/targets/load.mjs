@@ -1,5 +1,5 @@
-// Runs a program for WebAssembly: load.mjs PROGRAM. Its status is the program's. One for WASI has WASI alone,
-// and any other nothing at all.
+// Runs a WebAssembly program, and exits with the program's status: node load.mjs PROGRAM. A program for WASI gets only
+// WASI as imports, any other program gets none.
 import { readFile } from "node:fs/promises";
 import { WASI } from "node:wasi";
 

@@ -1,4 +1,4 @@
-/* Stands for bcryptprimitives.dll where Wine has none: bytes that rise from call to call. */
+/* Replaces bcryptprimitives.dll if Wine has none. Its bytes rise from call to call. */
 #include <stddef.h>
 
 __declspec(dllexport) int ProcessPrng(unsigned char *bytes, size_t size) {

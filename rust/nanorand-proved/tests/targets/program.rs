@@ -1,4 +1,4 @@
-//! Draws what x86-64 draws, on every target on which `run` starts it: what differs is a panic.
+//! Checks that every target draws what x86-64 draws. Any difference is a panic.
 
 use nanorand_proved::choices::{choose, choose_weighted, ratio};
 use nanorand_proved::replay::{replay, Answer, Call, Kind, Span};
@@ -24,8 +24,8 @@ fn values() {
     assert_eq!(rng.generate::<[u8; 3]>(), [210, 170, 158]);
 }
 
-// A word of 64 bits is drawn everywhere. Where `usize` has 32 bits, a value is its low half, and its high half
-// names the number of the whole range.
+// A 64-bit word is drawn on every target. If `usize` has 32 bits, a value is the word's low half,
+// and the word's high half is the number in a range of all numbers.
 fn whole_words() -> Outcome {
     let mut rng = BufferedRng::new(WyRand::new_seed(42));
     assert_eq!(rng.generate::<usize>(), FIRST as usize);
@@ -134,7 +134,7 @@ fn replays() {
     assert_eq!(items, [3, 4, 0, 1, 2]);
 }
 
-// The system gives seeds, which differ, except to WebAssembly without a system.
+// The system provides seeds, which differ, except for WebAssembly without a system.
 fn seeds() -> Outcome {
     match WyRand::from_entropy() {
         Ok(rng) => assert_ne!(rng, WyRand::from_entropy()?),

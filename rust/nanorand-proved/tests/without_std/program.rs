@@ -1,4 +1,4 @@
-//! A program without std: `tests/workspace.sh` compiles it with the crate that has no features.
+//! A program without std. `tests/workspace.sh` compiles it with the crate without features.
 #![no_std]
 
 use nanorand_proved::{Rng, WyRand};

@@ -1,6 +1,7 @@
-//! The functions of `c/include/nanorand.h` by any prefix of their names, for `tests/declarations.py` to compare, and the
-//! numbers by which the tests choose their calls.
-#![allow(dead_code)] // Each test takes a part.
+//! The functions of `c/include/nanorand.h` with any prefix of their names, which
+//! `tests/declarations.py` compares with the header, and the pseudorandom numbers by which the
+//! tests choose their calls.
+#![allow(dead_code)] // Each test uses a part.
 
 #[derive(Clone, Debug, PartialEq)]
 #[repr(C)]
@@ -31,7 +32,7 @@ pub struct Stream {
     pub buffered: u64,
 }
 
-/// Bytes that were delivered do not count.
+/// Streams are equal if their `chacha` and their buffered bytes are. Delivered bytes do not count.
 impl PartialEq for Stream {
     fn eq(&self, other: &Self) -> bool {
         let rest = |stream: &Self| stream.block[64 - stream.buffered as usize..].to_vec();
@@ -54,7 +55,7 @@ impl PartialEq for GroupStream {
     }
 }
 
-/// The nine calls that every generator has, over the state that it has in C, and that of parts, if it has it.
+/// The ten calls that every generator has, with its state in C, and `part` if it has that.
 pub struct Calls<S> {
     pub u64: fn(&mut S) -> u64,
     pub fill_bytes: fn(&mut S, &mut [u8]),
@@ -69,7 +70,7 @@ pub struct Calls<S> {
     pub part: Option<fn(&mut S, u64, u64) -> u8>,
 }
 
-/// The ten calls of a generator, in the library of a prefix. They are made where calls of C are safe.
+/// The ten calls of a generator in the library with a prefix.
 macro_rules! calls {
     ($prefix:literal, $generator:literal, $state:ty) => {{
         extern "C" {
@@ -122,7 +123,7 @@ macro_rules! calls {
     }};
 }
 
-/// The call of parts of a generator, in the library of a prefix.
+/// The call `part` of a generator in the library with a prefix.
 macro_rules! part {
     ($prefix:literal, $generator:literal, $state:ty) => {{
         extern "C" {
@@ -133,7 +134,7 @@ macro_rules! part {
     }};
 }
 
-/// A library, and its functions that are of one generator, or of none.
+/// A library: the calls of its generators, and its functions of only one generator or of none.
 pub struct Library {
     pub wyrand: Calls<WyRand>,
     pub pcg64: Calls<Wide>,
@@ -264,12 +265,12 @@ macro_rules! library {
     }};
 }
 
-/// The first archive that `build.rs` links: the proved library, or without the kit that by cargo.
+/// The first archive that `build.rs` links: the proved library, or cargo's without the kit.
 pub fn one_library() -> Library {
     library!("nanorand_v1_")
 }
 
-/// `SplitMix64`, after Steele, Lea and Flood (2014), which is none of the generators.
+/// `SplitMix64` by Steele, Lea and Flood (2014), which is not one of the tested generators.
 pub struct Chooser(pub u64);
 
 impl Chooser {
@@ -289,8 +290,8 @@ impl Chooser {
         [(); SIZE].map(|()| self.number() as u8)
     }
 
-    /// A number that is often 0, the greatest or beside a power of two. A range of a little more numbers than a
-    /// power of two rejects nearly half of the words.
+    /// A number that is often 0, the maximum or near a power of two. A range whose size is a little
+    /// above a power of two rejects nearly half of the words.
     pub fn end(&mut self) -> u64 {
         let power = 1 << (self.number() % 64);
         let ends = [0, u64::MAX, power - 1, power, power + 1];

@@ -5,7 +5,7 @@ use Rattle.std.specs.declared.ops.Bound.TheVariants.{Included, Excluded, Unbound
 use Rattle.draw_core.specs.Requests.{IsHigh}
 use Rattle.draw_core.proofs.bounds.high_bound.Goals as goal
 
--- A text that is not empty, does not begin with `=` and is no number, is no upper bound.
+-- A text that is not empty, does not begin with `=` and is not a number is not a high bound.
 no_bound : {N : Type 0} (is_text : List ℕ → N → Type 0) (text : List ℕ) → 0 < length text
     → ((rest : List ℕ) → text ≢ 61 ∷ rest) → ((n : N) → is_text text n → let none : Option N = None in none ≡ Some n)
     → (high : Bound N) → IsHigh is_text text high → ⊥
@@ -13,7 +13,7 @@ no_bound is_text text some no_equals no_number (Included n) (digits, whole, said
 no_bound is_text text some no_equals no_number (Excluded n) said = let gives = no_number n said in cc
 no_bound is_text text some no_equals no_number Unbounded said = omega (arith, some, ap length said)
 
--- Such a text that is a number is one upper bound.
+-- A text that is not empty, does not begin with `=` and is a number is exactly one high bound.
 one_bound : {N : Type 0} (is_text : List ℕ → N → Type 0) (text : List ℕ) (n : N) → 0 < length text → ((rest : List ℕ) → text ≢ 61 ∷ rest)
     → ((m : N) → is_text text m → Some n ≡ Some m) → (high : Bound N) → IsHigh is_text text high → Some (Excluded n) ≡ Some high
 one_bound is_text text n some no_equals only (Included m) (digits, whole, said) = absurd (no_equals digits whole)

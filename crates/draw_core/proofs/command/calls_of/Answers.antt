@@ -9,7 +9,7 @@ use Rattle.draw_core.specs.Arguments.{argument_at, texts}
 use Rattle.draw_core.proofs.lemmas.ReadArguments.{text_at, said_all, said_more, only_more}
 use Rattle.draw_core.proofs.command.calls_of.Goals as goal
 
--- The number of a bad word.
+-- Equal `BadWord` errors have equal numbers.
 same_word : {T : Type 0} (n k : ℕ) → (let given : Result T DrawError = Err (BadWord n) in given ≡ Err (BadWord k)) → k ≡ n
 same_word n k failed = cc
 

@@ -5,7 +5,7 @@ use Rattle.draw_core.specs.declared.error.DrawError.{DrawError}
 use Rattle.draw_core.specs.declared.error.DrawError.TheVariants.{BadWord}
 use Rattle.draw_core.proofs.command.count_of.Goals as goal
 
--- An `ok_or` fails with its error alone.
+-- The only error of `ok_or` is the one passed to it.
 its_error : {T : Type 0} (option : Option T) (error : DrawError) → IfErr (ok_or option error) (λ made. made ≡ error)
 its_error None error = refl
 its_error (Some x) error = tt

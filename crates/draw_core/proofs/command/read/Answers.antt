@@ -10,7 +10,7 @@ use Rattle.draw_core.proofs.lemmas.ReadArguments.{texts_from, same_asked, first_
 use Rattle.draw_core.proofs.lemmas.ReadArguments.{second_is_bad, third_is_bad, none_is_bad}
 use Rattle.draw_core.proofs.command.read.Goals as goal
 
--- An `ok_or` that refuses had no value, and hands on its error.
+-- If `ok_or` returns an error, the option was `None`, and the error is the one passed on.
 refused : {T R : Type 0} (option : Option T) (error kept : DrawError) (result : Result R DrawError) → Err kept
     ≡ ok_or option error → IsErrAnd result (λ made. made ≡ kept) → (option ≡ None) × (result ≡ Err error)
 refused None error kept result value failed =
@@ -18,7 +18,7 @@ refused None error kept result value failed =
     let same = made.1 in let handed = made.2 in (refl, cc)
 refused (Some x) error kept result value failed = absurd (cc)
 
--- The error of a `?` is the one that it was given.
+-- The error that `?` returns is the error of the result.
 handed_on : {T R : Type 0} (result : Result R DrawError) (kept error : DrawError)
     → IsErrAnd result (λ made. made ≡ kept) → result ≡ Err error → let given : Result T DrawError = Err kept in given
     ≡ Err error
@@ -26,7 +26,7 @@ handed_on result kept error failed same =
     let made = err_from_is_err_and result failed in
     let first = made.1 in let handed = made.2 in cc
 
--- Where it was given a known one, it is that one.
+-- If the error of the result is known, `?` returns that error.
 told : {R : Type 0} (result : Result R DrawError) (kept error : DrawError) → IsErrAnd result (λ made. made ≡ kept) → kept ≡ error → result ≡ Err error
 told result kept error failed is =
     let made = err_from_is_err_and result failed in

@@ -14,7 +14,7 @@ returns-in_ok-span_of-in-Some-clause-found c =
     let parts = (split_parts 58 c.args.text.now (Some (c.in-Some.name, c.in-Some.range)) c.in-Some.ensures.cases (lit< tt)).0 in
     (range, parts ∙ ap (λ name. name ++ 58 ∷ range) named ∙ sym (append_assoc _ (58 ∷ []) range), found.1)
 
--- Below, `search` gives up before Rattle tries `grind`.
+-- In the goals below, `search` fails before Rattle tries `grind`.
 pub returns-in_err-kind_of-in-Some-clause-only : goal.returns-in_err-kind_of-in-Some-clause-only
 returns-in_err-kind_of-in-Some-clause-only c = grind (arith, common_steps)
 

@@ -8,14 +8,14 @@ use Rattle.draw_core.specs.declared.error.DrawError.{DrawError}
 use Rattle.draw_core.specs.declared.error.DrawError.TheVariants.{BadWord, Write}
 use Rattle.draw_core.proofs.run.run.Goals as goal
 
--- A text that was written is the one that is asked for.
+-- The text that was written is the text that the arguments ask for.
 asked_for : {T : Type 0} (outcome : Result T DrawError) (arguments : List (List ℕ)) (bytes text : List ℕ) (before after : Option (List ℕ))
     → OnOk outcome (Appends before after bytes) → bytes ≡ text → ((asked : Asked) → AsksFor arguments asked → text ≡ text_asked asked)
     → OnOk outcome ((asked : Asked) → AsksFor arguments asked → Appends before after (text_asked asked))
 asked_for outcome arguments bytes text before after wrote same asks =
     on_ok_weaker outcome (λ appends asked said. subst (Appends before after) (same ∙ asks asked said) appends) wrote
 
--- A failed write is no bad word.
+-- A failed write is not a `BadWord`.
 not_bad : {T : Type 0} (outcome : Result T DrawError) (k : ℕ) → IfErr outcome (λ error. error ≡ Write) → outcome ≡ Err (BadWord k) → ⊥
 not_bad outcome k refusal failed = let error : BadWord k ≡ Write = IfErr-at_err (λ error. error ≡ Write) failed refusal in cc
 

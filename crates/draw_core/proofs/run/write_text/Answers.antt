@@ -4,7 +4,7 @@ use Rattle.std.specs.Prelude.{OnOk}
 use Rattle.std.specs.Result.{is_ok}
 use Rattle.draw_core.proofs.run.write_text.Goals as goal
 
--- What was written and then kept was appended.
+-- Text that was written, and then kept by the flush, was appended.
 appended : (before written after : Option (List ℕ)) (bytes text : List ℕ)
     → Appends before written bytes → Keeps written after → bytes ≡ text → Appends before after text
 appended None written after bytes text appends keeps same = tt
@@ -12,7 +12,7 @@ appended (Some x) None after bytes text appends keeps same = absurd appends
 appended (Some x) (Some y) None bytes text appends keeps same = absurd keeps
 appended (Some x) (Some y) (Some z) bytes text appends keeps same = keeps ∙ appends ∙ ap (λ l. x ++ l) same
 
--- A write that is Ok was that of all bytes.
+-- A successful write wrote all bytes.
 all_written : {T U E F : Type 0} (wrote : Result T E) (outcome : Result U F) (text bytes : List ℕ)
     (before written after : Option (List ℕ)) → true ≡ is_ok wrote → OnOk wrote (Appends before written bytes) → Keeps written after
     → bytes ≡ text → OnOk outcome (Appends before after text)

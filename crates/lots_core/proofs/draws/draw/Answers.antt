@@ -7,19 +7,19 @@ use Rattle.nanorand_core.specs.shuffles.Shuffles.{from_itself, partly_shuffled}
 use Rattle.lots_core.specs.Draws.{drawing, requests}
 use Rattle.lots_core.proofs.draws.draw.Goals as goal
 
--- What is equal is so on success.
+-- An equality holds on success.
 equal_on_success : {E T : Type 0} (outcome : Result Unit E) (x y : T) → x ≡ y → OnOk outcome (x ≡ y)
 equal_on_success (Ok done) x y same = same
 equal_on_success (Err error) x y same = tt
 
--- On success the shuffle has succeeded.
+-- If the draw succeeds, the shuffle has succeeded.
 answered : {E : Type 0} (shuffled answer : Result Unit RangeError) (outcome : Result Unit E)
     → is_ok outcome ≡ is_ok shuffled → shuffled ≡ answer → OnOk outcome (answer ≡ Ok tt)
 answered shuffled answer (Err error) same is = tt
 answered (Ok tt) answer (Ok done) same is = sym is
 answered (Err error) answer (Ok done) same is = absurd (cc)
 
--- On failure it has failed.
+-- If the draw fails, the shuffle has failed with `Exhausted`.
 refused : {E : Type 0} (shuffled answer : Result Unit RangeError) (outcome : Result Unit E) (named : E)
     → is_ok outcome ≡ is_ok shuffled → shuffled ≡ answer → IfErr shuffled (λ refusal. refusal ≡ Exhausted)
     → outcome ≡ Err named → answer ≡ Err Exhausted

@@ -5,7 +5,7 @@ use Rattle.std.proofs.lemmas.List.Elements.{All-push}
 use Rattle.lots_core.specs.Lists.{lines_of}
 use Rattle.lots_core.proofs.entrants.count_entrants.Goals as goal
 
--- The line joins the lines so far.
+-- The line is appended to the lines so far.
 pub lines-preserved : goal.lines-preserved
 lines-preserved c =
     let seen = c.lines.invariant.0 in

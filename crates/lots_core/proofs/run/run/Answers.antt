@@ -10,31 +10,31 @@ use Rattle.lots_core.specs.declared.error.LotsError.{LotsError}
 use Rattle.lots_core.specs.declared.error.LotsError.TheVariants.{Usage, TooFew, EmptyLine, Write, Exhausted}
 use Rattle.lots_core.proofs.run.run.Goals as goal
 
--- What is found is no error.
+-- If the request was found, there is no error.
 some_is_no_error : {T E : Type 0} (P : T → Type 0) (found : Option T) (refusal error : E) → IsSomeAnd found P
     → ok_or found refusal ≡ Err error → ⊥
 some_is_no_error P None refusal error there is = absurd there
 some_is_no_error P (Some it) refusal error there is = search (arith, is)
 
--- The request that is found is asked for.
+-- The request that was found is what the arguments ask for.
 found_asks : (arguments : List (List ℕ)) (found : Option Request) (request : Request)
     → IfSome found (λ it. AsksFor arguments (asked_by it)) → found ≡ Some request
     → AsksFor arguments (asked_by request)
 found_asks arguments found request asks is =
     subst (λ it. IfSome it (λ it. AsksFor arguments (asked_by it))) is asks
 
--- The error of a result, or else `other`.
+-- The error of a result, or `other` if it is not an error.
 abbrev error_of : {U E : Type 0} → E → Result U E → E
 error_of other (Ok value) = other
 error_of other (Err error) = error
 
--- An error that `?` passes on is the error of the call.
+-- An error that `?` returns is the error of the call.
 passed_on : {U E : Type 0} (result : Result U E) (error named : E)
     → IsErrAnd result (λ it. it ≡ error) → result ≡ Err named → error ≡ named
 passed_on (Ok value) error named passed is = absurd passed
 passed_on (Err it) error named passed is = sym passed ∙ ap (error_of named) is
 
--- An error of the draw is that of the run.
+-- An error of the draw is the error of the run.
 told : {A : Type 0} (draw : Result (Vec ℕ A) LotsError) (result : Result Unit LotsError) (asked : Asked)
     (list bytes : List ℕ) (error : LotsError) → Outcome asked (lines_of bytes) draw → draw ≡ Err error
     → bytes ≡ list → IsErrAnd result (λ it. it ≡ error)

@@ -7,7 +7,7 @@ use Rattle.lots_core.specs.Text.{HasSelection, places_asked, text_drawn, text_of
 use Rattle.lots_core.proofs.lemmas.DrawLemmas.{drawn-map}
 use Rattle.lots_core.proofs.run.select.Goals as goal
 
--- What is drawn of entrants is drawn of their lines.
+-- The lines of the entrants drawn are what is drawn from their lines.
 selected : {T : Type 0} (line : T → List ℕ) (asked : Asked) (entrants : List T) (count : ℕ)
     → count ≡ number_asked asked.count (length entrants) → count ≤ length entrants
     → (drawing asked.seed count entrants).answer ≡ Ok tt

@@ -1,7 +1,7 @@
 use Rattle.std.proofs.Common.{Err, ap, ◌∙◌}
 use Rattle.nanorand_c.proofs.lots.nanorand_v1_lots_count.Goals as goal
 
--- The number is that of the error.
+-- The number written is the one in the error.
 pub returns-in-Err-EmptyLine-clause-empty : goal.returns-in-Err-EmptyLine-clause-empty
 returns-in-Err-EmptyLine-clause-empty c four =
     let refused = c.in-Err-EmptyLine in

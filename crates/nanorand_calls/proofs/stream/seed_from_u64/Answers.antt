@@ -3,6 +3,6 @@ use Rattle.std.proofs.lemmas.List.{drop_all}
 use Rattle.nanorand_replay.specs.generators.Buffered.{buffer_of}
 use Rattle.nanorand_calls.proofs.stream.seed_from_u64.Goals as goal
 
--- nothing of the block is buffered
+-- No bytes of the block are buffered.
 pub returns-clause-state : goal.returns-clause-state
 returns-clause-state c = ap₂ buffer_of (drop_all 64 c.args.stream.now.block (omega arith)) c.seed_from_u64.ensures

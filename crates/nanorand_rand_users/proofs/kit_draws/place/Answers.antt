@@ -5,13 +5,13 @@ use Rattle.std.specs.Iterator.{Yields}
 use Rattle.std.specs.declared.ops.Range.{Range}
 use Rattle.nanorand_rand_users.proofs.kit_draws.place.Goals as goal
 
--- what a range yields is below its end
+-- The numbers that a range yields are below its end.
 below_end : (end : ℕ) (s t : Range ℕ) (xs : List ℕ) → s.end ≡ end → Yields nat_range_steps s xs t → All (λ x. x < end) xs
 below_end end s t [] same run = All-nil _
 below_end end s t (x ∷ xs) same run =
     All-cons (λ x. x < end) x xs (omega (arith, same, run.1.1.0, run.1.1.1)) (below_end end run.0 t xs (run.1.0 ∙ same) run.2)
 
--- so is one item of it
+-- One of these numbers is below the end too.
 some_below : (item : Option ℕ) (s : Range ℕ)
     → IfSome item (λ x. (xs : List ℕ) × (t : Range ℕ) × Yields nat_range_steps s xs t × Contains xs x)
     → IfSome item (λ x. x < s.end)

@@ -5,7 +5,7 @@ use Rattle.rand_chacha.specs.Block.{block_word}
 use Rattle.rand_chacha.specs.ChaCha.{ChaCha}
 use Rattle.nanorand_rand_users.proofs.our_draws.kits_number.Goals as goal
 
--- a word of ChaCha has 32 bits
+-- A word of ChaCha has 32 bits.
 word_fits : (rounds : ℕ) (key : List ℕ) (counter nonce k : ℕ) → block_word rounds key counter nonce k < 2 ^ 32
 unfolding block_word
 word_fits rounds key counter nonce k = omega arith

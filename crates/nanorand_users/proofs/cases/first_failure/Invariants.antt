@@ -3,7 +3,7 @@ use Rattle.nanorand.specs.generators.WyRand.{wyrand_after}
 use Rattle.nanorand_users.specs.Cases.{case_seed}
 use Rattle.nanorand_users.proofs.cases.first_failure.Given as goal
 
--- the property holds in the cases so far, and as many words were drawn as there were cases
+-- The property holds in the cases so far, and one word was drawn for each case.
 abbrev pub invariant-loop-number : goal.invariant-loop-number
 invariant-loop-number g l = record {
   held : (number : ℕ) → number < l.number → g.P.Property.holds l.property (g.T.RandomGen.value (case_seed l.seed number)) ≡ true;

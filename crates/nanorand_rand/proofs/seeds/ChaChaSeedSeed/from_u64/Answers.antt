@@ -5,7 +5,7 @@ use Rattle.rand_core.specs.Pcg32Seed.{pcg32_seed, pcg32_step}
 use Rattle.nanorand_rand.specs.support.WordLemmas.{length-word_bytes, front-more}
 use Rattle.nanorand_rand.proofs.seeds.ChaChaSeedSeed.from_u64.Goals as goal
 
--- a seed of 40 bytes is the beginning of one of 64
+-- A seed of 40 bytes is the beginning of one of 64 bytes.
 shorter : (state : ℕ) → take 40 (pcg32_seed 64 state) ≡ pcg32_seed 40 state
 unfolding pcg32_seed
 shorter state =

@@ -1,4 +1,5 @@
--- A refused request fails here; any other is passed on to the inner allocator. Assumes `Logic`.
+-- A refused request fails here; any other request is passed on to the inner allocator. Assumes
+-- `Logic`.
 use Rattle.std.proofs.Common.{◌≡◌, ℕ, ◌+◌, ◌^◌, ◌<◌, true, false, Bool, List, [], ◌∷◌, Ok, Err, refl, w64, Bor}
 use seplogic.Ra.Ura.{Ura}
 use mir.Syntax.{Ty, Args, Fn, a_type, dnil, dcons}
@@ -92,7 +93,7 @@ module _ (Z : Al) {M : Type 1} {𝓤 : Ura M} (𝓛 : Logic 𝓤) (mem : Memory 
     abbrev Done : Val → SProp 𝓤
     Done = (walk_of 𝓛 (ended Z) (stayed Z) held).post bound
 
-    -- The exit that returns the inner allocator's block, with the right to give it back.
+    -- The exit that returns the inner allocator's block, with the right to free it.
     handed : (b o : ℕ) → Sq 𝓛 (‵ (fsep (froom τ b o) (token Z handle.now.inner τ (block_ptr b o))) ∷ ‵ (flft κ q)
         ∷ (‵ (flft ρ r) ⊛ ‵ ftrue) ∷ []) (prop (Done (answer_val true b o)))
     handed b o =
@@ -100,7 +101,7 @@ module _ (Z : Al) {M : Type 1} {𝓤 : Ura M} (𝓛 : Logic 𝓤) (mem : Memory 
         use0 𝓛 (‵ (Answer.own_val (Ok (block_ptr b o)) (answer_val true b o ∷ []))) (Answer-Ok 𝓛 b o) $
         nothing ! $ nothing ! $ fjoin ! $ nothing ! $ fjoin ! $ nothing ! $ fjoin ! $ join ! $ move ! (2 ∷ 3 ∷ []) $ join ! $ join ! $ done !
 
-    -- Both exits that return an error.
+    -- The two exits that return an error.
     refused : Sq 𝓛 (‵ ftrue ∷ ‵ (flft κ q) ∷ (‵ (flft ρ r) ⊛ ‵ ftrue) ∷ []) (prop (Done (answer_val false 0 0)))
     refused =
         suffices ! _ (ends_at 𝓛 (ended Z) (stayed Z) held bound (answer_val false 0 0) (Err (record {})) (tt, (tt, (tt, tt))) (tt, (tt, (tt, tt)))) $

@@ -1,4 +1,4 @@
--- A block is given back to the inner allocator, which allocated it. Assumes `Logic`.
+-- A block is returned to the inner allocator, which allocated it. Assumes `Logic`.
 use Rattle.std.proofs.Common.{◌≡◌, ℕ, ◌+◌, ◌^◌, ◌<◌, List, [], ◌∷◌, refl, w64, Bor}
 use seplogic.Ra.Ura.{Ura}
 use mir.Syntax.{Ty, Args, Fn, a_type, dnil, dcons}
@@ -108,7 +108,7 @@ module _ (Z : Al) {M : Type 1} {𝓤 : Ura M} (𝓛 : Logic 𝓤) (mem : Memory 
     walk : n < 2 ^ 64 → a < 2 ^ 64 → (x : Ptr)
         → ent 𝓤 ((walk_of 𝓛 (ended Z) (stayed Z) held).pre (bound x))
         (WpFn 𝓤 H 𝓣.C 𝓣.Λ (body Z) (given_values x) (Done x))
-    -- No block is at null.
+    -- No block is at the null address.
     walk n_fits a_fits null_ptr =
         qed 𝓛 (parameters null_ptr ∷ (raw (fact 𝓤 (ρ ⊑ Z.row.lives)) ⊛ raw (fact 𝓤 Asked) ⊛ ‵ (fsep ffalse (token Z handle.now.inner τ null_ptr))) ∷ []) ∵
         move ! (1 ∷ []) $ split3 ! $ move ! (2 ∷ []) $ fsplit ! $ keep ! (0 ∷ []) $ by ! (never_e 𝓤 _)
@@ -121,7 +121,7 @@ module _ (Z : Al) {M : Type 1} {𝓤 : Ura M} (𝓛 : Logic 𝓤) (mem : Memory 
         move ! (1 ∷ []) $ split3 ! $ heard ! (ρ ⊑ Z.row.lives) (λ lasts. heard ! Asked (λ is_asked. move ! (1 ∷ []) $
         split ! $ split ! $ move ! (2 ∷ []) $ fsplit ! $ fsplit ! $ move ! (1 ∷ []) $ unhide ! $ fsplit ! $ fsplit ! $
         use1 𝓛 (‵ (seen Z κ p h)) (id⊢ 𝓤 _) $ keep ! (0 ∷ 5 ∷ 6 ∷ 7 ∷ []) $
-        -- [the inner allocator; the token of κ; the token of ρ; the block and the right to give it back]
+        -- [the inner allocator; the token of κ; the token of ρ; the block and the right to free it]
         enter ! 𝓣.C 𝓣.Λ (body Z) (given_values x) _ $
         alloc_all ! (λ l. pass_all ! refl ((tt, tt), ((tt, tt), ((tt, record { fits = n_fits }), ((tt, record { fits = a_fits }), tt)))) $
         sets ! (addr ! (through ! refl (fld ! refl (stop !)))) refl (tt, tt) $
