@@ -73,11 +73,11 @@ by_c() {
     prints 'the same jobs again' "$table" "$examples/run" array
     prints 'a loop in C' "$table" "$work/room/job" 0 1000
     prints 'the one command' "$table" env -u ROOM "$examples/run" array
-    check 'what it leaves' "$(ls -A "$work/temporary")"
-    check 'C finds nothing' "$(cc "${warnings[@]}" -c -o /dev/null "$examples/percolation.c" 2>&1 &&
+    check 'files left behind' "$(ls -A "$work/temporary")"
+    check 'no warnings in C' "$(cc "${warnings[@]}" -c -o /dev/null "$examples/percolation.c" 2>&1 &&
         cc "${warnings[@]}" -c -o /dev/null "$examples/job.c" 2>&1)"
     refuses 'a job without tasks' 'usage: ' "$work/room/job"
-    refuses 'a way that there is not' 'usage: ' "$examples/run" mpi
+    refuses 'MPI without a number' 'usage: ' "$examples/run" mpi
 }
 
 # Builds the program $1 with the compiler $2, from sources that the sed command $3 changed, in the folder $work/changed.
@@ -97,7 +97,7 @@ refused_by_c() {
     refuses 'a part past the period' "job: task $past_period was refused with status 3" \
         "$work/changed/job" "$past_period" 1
     changed job cc 's/nanorand_pcg64_shuffle(/NANORAND_EXHAUSTED | &/'
-    refuses 'a refused shuffle' 'job: task 7 was refused with status 2' "$work/changed/job" 7 1
+    refuses 'a shuffle that fails' 'job: task 7 was refused with status 2' "$work/changed/job" 7 1
 }
 
 by_mpi() {

@@ -226,8 +226,8 @@ def sums(counts, room):
     all_passed = 7 * (len(made) - 1) + 1
     counts.same("the sum", (lines[-1], status), (f"{all_passed} passed, 0 failed", 0))
     times = [line for line in lines if re.fullmatch(r".+: [\d.]+ minutes, [\d.]+ processor-minutes", line)]
-    counts.same("the times, and the ten dearest again", len(times), len(made) + 10)
-    counts.same("the ten dearest are the last", lines[-11:-1], times[-10:])
+    counts.same("the times, and those of ten parts again", len(times), len(made) + 10)
+    counts.same("the times of ten parts come last", lines[-11:-1], times[-10:])
     for call in made:
         # One part is tested with every kind of end, the others with the kind that is easily overlooked.
         for kind in KINDS if call == "tests/quotes.py" else ["its status alone fails"]:

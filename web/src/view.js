@@ -29,7 +29,7 @@ export function itemize(id, texts) {
 /** The fields that each kind of error can belong to. A list is a pasted text or a file. */
 const FIELDS = { seed: ["seed"], count: ["count"], list: ["list-text", "list-file"], page: [] };
 
-/** The one of these fields that is visible. @param {string} kind @returns {HTMLElement|undefined} */
+/** The visible one of these fields. @param {string} kind @returns {HTMLElement|undefined} */
 export function fieldOf(kind) {
   return FIELDS[kind].map(part).find((field) => field.getClientRects().length > 0);
 }

@@ -1,4 +1,5 @@
-// Tests scripts of the page, whose code precedes this. Returns the names of the cases, and what was found and expected.
+// Tests scripts of the page, whose code precedes this. Returns the names of the cases, and what was
+// found and expected.
 
 const cases = [];
 const same = (name, found, wanted) => cases.push([name, found, wanted]);
@@ -279,7 +280,8 @@ function unreadRecords() {
     same(`a line that fails by ${error}`, outcomeOf({ split: () => ["", { replace: fail }] }), refusalOf(error));
   }
   same("a text that is no record", outcomeOf("a\n"), "no record");
-  // Browsers differ in how long a line a regular expression accepts. A line that is too long is not the record's error.
+  // Browsers differ in how long a line a regular expression accepts. A line that is too long is not
+  // the record's error.
   const record = writeRecord({ ...RECORD, named: ["Ada"].map(utf8) });
   same("a long line", outcomeOf(record.replace("Ada", "x".repeat(2e7))) === "no record", false);
 }
