@@ -261,7 +261,7 @@ function failedChecks() {
   }
   const few = { ...record, drawn: 3, named: [utf8("Ada"), utf8("Bob"), utf8("Cid")] };
   same("more than there are", check(module, maker, list, writeRecord(few)).findings,
-    ["The list has 2 entrants, and 3 are asked for."]);
+    ["Cannot draw 3: the list has only 2."]);
 }
 
 /** An error that is not the record's, while the record is read, is not shown as an error of the record. */
@@ -335,7 +335,7 @@ function endings() {
       for (const other of [[code, ...line], [...line, code], [code, code, ...line, code]]) {
         same(`${other} beside ${line}`, isTold([...line, 10, ...other, 10], "the spaces at its ends"), isSpace);
       }
-      same(`${code} alone, with ${line}`, isTold([...line, 10, code, 10], "Line 2 is an entrant of spaces"), isSpace);
+      same(`${code} alone, with ${line}`, isTold([...line, 10, code, 10], "Line 2 is an entrant that consists only of spaces"), isSpace);
     }
   }
 }
