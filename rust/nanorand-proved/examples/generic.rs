@@ -1,15 +1,15 @@
-//! Functions and structs over any generator. Of blocks of eight bytes it is an `Rng<8>`; `OUTPUT` stands for
-//! blocks of any size.
+//! Functions and structs over any generator. A generator with blocks of eight bytes is an `Rng<8>`; the parameter
+//! `OUTPUT` allows blocks of any size.
 
 use nanorand_proved::choices::choose;
 use nanorand_proved::{BufferedRng, ChaCha8, Pcg64, RangeError, Rng, WyRand};
 
-/// A date of a year that is no leap year, as the number of the day.
+/// The day of a birthday in a year that is not a leap year, from 1 to 365.
 fn birthday<R: Rng<OUTPUT>, const OUTPUT: usize>(rng: &mut R) -> Result<u16, RangeError> {
     rng.generate_range(1..=365)
 }
 
-/// The hours and minutes of an appointment. The generator is lent: what is drawn is gone from its stream.
+/// The hours and minutes of an appointment. The generator is borrowed, so the draws consume its stream.
 fn time(mut rng: impl Rng<8>) -> Result<(u8, u8), RangeError> {
     Ok((rng.generate_range(8..18)?, rng.generate_range(..60)?))
 }
