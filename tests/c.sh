@@ -135,7 +135,7 @@ void run(nanorand_pcg64 *rng, nanorand_chacha *state, size_t *items, uint8_t *te
 }
 END
     if compile "$1" -c -o "$work/warns.o" "$work/warns.c"; then
-        check "$1: $2" "${3:+it warns of nothing}"
+        check "$1: $2" "${3:+the compiler does not warn}"
     elif [ -z "$3" ] || ! grep -qF "$3" "$work/errors"; then
         check "$1: $2" "$(head -n 5 "$work/errors")"
     else
@@ -177,7 +177,7 @@ other_compilers() {
     fi
     "${clang[@]}" --target=i386 2>"$work/errors"
     check 'the header for 32 bits' \
-        "$(grep -q 'error: "nanorand needs a size_t of 64 bits"' "$work/errors" || echo 'it is not refused')"
+        "$(grep -q 'error: "nanorand needs a size_t of 64 bits"' "$work/errors" || echo 'there is no such error')"
     check 'the header for 64 bits' "$("${clang[@]}" --target=x86_64 2>&1)"
     check 'the header without attributes' "$("${clang[@]}" --target=x86_64 -U__GNUC__ 2>&1)"
     check 'no attribute' "$("${clang[@]}" --target=x86_64 -U__GNUC__ -E 2>&1 | grep -m 1 'nonnull\|warn_unused')"

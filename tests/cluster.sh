@@ -73,11 +73,11 @@ by_c() {
     prints 'the same jobs again' "$table" "$examples/run" array
     prints 'a loop in C' "$table" "$work/room/job" 0 1000
     prints 'the one command' "$table" env -u ROOM "$examples/run" array
-    check 'what it leaves' "$(ls -A "$work/temporary")"
-    check 'C finds nothing' "$(cc "${warnings[@]}" -c -o /dev/null "$examples/percolation.c" 2>&1 &&
+    check 'files left behind' "$(ls -A "$work/temporary")"
+    check 'no warnings in C' "$(cc "${warnings[@]}" -c -o /dev/null "$examples/percolation.c" 2>&1 &&
         cc "${warnings[@]}" -c -o /dev/null "$examples/job.c" 2>&1)"
     refuses 'a job without tasks' 'usage: ' "$work/room/job"
-    refuses 'a way that there is not' 'usage: ' "$examples/run" mpi
+    refuses 'MPI without a number' 'usage: ' "$examples/run" mpi
 }
 
 # Builds the program $1 with the compiler $2, from sources that the sed command $3 changed, in the folder $work/changed.
@@ -94,10 +94,10 @@ changed() {
 refused_by_c() {
     changed job cc "$long_parts"
     check 'a part within the period' "$(in_room "$work/changed/job" $((past_period / 2)) 1 2>&1 >"$work/printed")"
-    refuses 'a part past the period' "job: task $past_period was refused with status 3" \
+    refuses 'a part past the period' "job: task $past_period failed with status 3" \
         "$work/changed/job" "$past_period" 1
     changed job cc 's/nanorand_pcg64_shuffle(/NANORAND_EXHAUSTED | &/'
-    refuses 'a refused shuffle' 'job: task 7 was refused with status 2' "$work/changed/job" 7 1
+    refuses 'a shuffle that fails' 'job: task 7 was refused with status 2' "$work/changed/job" 7 1
 }
 
 by_mpi() {
@@ -111,7 +111,7 @@ by_mpi() {
         prints "MPI, $processes processes" "$table" "$examples/run" mpi "$processes"
     done
     changed mpi mpicc "$long_parts; s/(uint64_t)task,/$past_period * &/"
-    refuses 'MPI, past the period' 'mpi: task 1 was refused with status 3' \
+    refuses 'MPI, past the period' 'mpi: task 1 failed with status 3' \
         env ROOM="$work/changed" "$examples/run" mpi 2
     changed mpi mpicc 's/print_table(all)/printf("side of %d\\n", processes)/'
     echo 'side of 3' >"$work/side"

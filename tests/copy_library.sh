@@ -15,9 +15,9 @@ top=$PWD
 crates=(nanorand_core nanorand_replay nanorand_fairness nanorand)
 lines=('nanorand_core: thiserror' 'nanorand_replay: nanorand_core thiserror' 'nanorand_fairness: nanorand_core'
     'nanorand: nanorand_core nanorand_replay nanorand_fairness thiserror')
-with='with the proofs that rt kept'
+with='with kept proofs'
 without='without proofs that rt kept: the first check takes some minutes'
-stay='whose earlier proofs stay: the next check proves what has changed'
+stay='keeping its earlier proofs: the next check proves what has changed'
 
 # What the folder $1's ./copy_library says about proofs when it copies to $2.
 copy() {

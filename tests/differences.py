@@ -231,10 +231,10 @@ def cases(library, original):
     there, here = renamed()
     gone = {**left_out, **there}
     for name in sorted(items - original):
-        yield name in {**added, **here}, None, name, "the library alone has it, and it is not listed as added"
+        yield name in {**added, **here}, None, name, "only the library has it, and it is not listed as added"
     for name in sorted(original):
         right = name in named or is_covered(name, gone)
-        yield right, None, name, "0.7.0 alone has it, and it is not listed as left out or under another name"
+        yield right, None, name, "only 0.7.0 has it, and it is not listed as left out or under another name"
     for name, line in added.items():
         yield name in items, line, name, "it is listed as added, and the library has no such item"
         yield name not in original, line, name, "it is listed as added, and 0.7.0 has it"

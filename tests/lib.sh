@@ -69,8 +69,8 @@ step() {
     fi
 }
 
-# Adds the sum in the last line of the file $1. A file without a sum counts as a failure. So does a status $2, of the
-# command that printed the file, other than 0 if the sum has no failure.
+# Adds the sum in the last line of the file $1. $2 is the status of the command that printed it. A file without a sum
+# counts as a failure, and so does a status other than 0 if the sum has no failure.
 add_sum() {
     if [[ $(tail -n 1 "$1") =~ ^([0-9]+)\ passed,\ ([0-9]+)\ failed$ ]]; then
         passed=$((passed + BASH_REMATCH[1]))
@@ -177,7 +177,7 @@ runs_on_every_processor() {
     objdump -d --no-show-raw-insn "$1" >"$work/code" && ! grep -m 1 -E "$later" "$work/code"
 }
 
-# Whether the version of the command $2 is $1, or $1 and a patch number.
+# Whether the version of the command $2 is $1 and any patch number, such as 1.63.0 for 1.63.
 is_version() {
     grep -qF " $1." <<<"$("$2" --version 2>/dev/null)"
 }

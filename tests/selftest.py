@@ -84,33 +84,33 @@ CHANGES = [
     ("tests/links.py", "docs/PAGE.md", "## The record", "## A record"),
     ("tests/links.py", "crates/nanorand/CONTRACTS.md", "](../../docs/DIFFERENCES.md", "](../../docs/DIFFERENCE.md"),
     ("tests/differences.py", "crates/nanorand/src/parts.rt", "/// The error", "pub fn spare() {}\n\n/// The error",
-     "`parts::spare`: the library alone"),
+     "`parts::spare`: only the library"),
     ("tests/differences.py", "crates/nanorand_core/src/choices.rt", "{below, ", "{below as under, ",
-     "`choices::under`: the library alone", "`choices::below`: it is listed as added"),
+     "`choices::under`: only the library", "`choices::below`: it is listed as added"),
     ("tests/differences.py", "crates/nanorand/src/rand/chacha_groups.rt", "pub fn counter(", "pub fn count(",
-     "`ChaChaGroups::count`: the library alone", "`ChaChaGroups::counter`: it is listed as added"),
+     "`ChaChaGroups::count`: only the library", "`ChaChaGroups::counter`: it is listed as added"),
     ("tests/differences.py", "crates/nanorand_core/src/values/range.rt", "    Exhausted,\n", "    Exhausted,\n    Late,\n",
-     "`RangeError::Late`: the library alone"),
+     "`RangeError::Late`: only the library"),
     ("tests/differences.py", "crates/nanorand/src/parts.rt", "    fn part(", "    fn period() -> u128;\n\n    fn part(",
-     "`Parts::period`: the library alone"),
+     "`Parts::period`: only the library"),
     ("tests/differences.py", "crates/nanorand/src/rand/wyrand.rt", "#[derive(Drop)]", "#[derive(Drop, Hash)]",
-     "`impl Hash for WyRand`: the library alone"),
+     "`impl Hash for WyRand`: only the library"),
     ("tests/differences.py", "docs/DIFFERENCES.md", "`at_index`, `key`, `nonce`, `counter`", "`at_index`, `key`, `nonce`",
-     "`ChaChaGroups::counter`: the library alone"),
+     "`ChaChaGroups::counter`: only the library"),
     ("tests/differences.py", "docs/DIFFERENCES.md", "`Short`, ", "`Short`, `Long`, ",
      "`entropy::EntropyError::Long`: it is listed as added"),
     ("tests/differences.py", "docs/DIFFERENCES.md", "| `samples` | `sample`", "| `Rng` | `shuffle`",
-     "`Rng::shuffle`: it is listed as added", "`samples::sample`: the library alone"),
+     "`Rng::shuffle`: it is listed as added", "`samples::sample`: only the library"),
     ("tests/differences.py", "docs/DIFFERENCES.md", "`impl Default`", "`impl Hash`",
-     "`impl Default for Pcg64`: 0.7.0 alone", "`impl Hash for Pcg64`: it is listed as of 0.7.0"),
+     "`impl Default for Pcg64`: only 0.7.0", "`impl Hash for Pcg64`: it is listed as of 0.7.0"),
     ("tests/differences.py", "docs/DIFFERENCES.md", "| `gen` | `values` |", "| `gen` | `value` |",
      "`value`: it is listed as a name here"),
     ("tests/differences.py", "tests/nanorand-0.7.0.txt", ", windows_uwp, backup", ", backup",
      "`entropy::windows_uwp`: it is listed as of 0.7.0"),
     ("tests/differences.py", "crates/nanorand/src/entropy.rt", "pub fn rdseed", "fn rdseed",
-     "`entropy::rdseed`: 0.7.0 alone"),
+     "`entropy::rdseed`: only 0.7.0"),
     ("tests/differences.py", "crates/nanorand/src/rand.rt", "pub use wyrand::", "use wyrand::",
-     "`rand::WyRand`: 0.7.0 alone"),
+     "`rand::WyRand`: only 0.7.0"),
     ("tests/differences.py", "crates/nanorand/src/rand/pcg64.rt", "impl Eq for Pcg64", "impl Default for Pcg64",
      "`impl Default for Pcg64`: it is listed as left out", "`impl Eq for Pcg64`: it is listed as added"),
     ("tests/answers/make.py --check", "tests/answers/answers.tsv", "12558987674375533620", "12558987674375533621"),
@@ -226,8 +226,8 @@ def sums(counts, room):
     all_passed = 7 * (len(made) - 1) + 1
     counts.same("the sum", (lines[-1], status), (f"{all_passed} passed, 0 failed", 0))
     times = [line for line in lines if re.fullmatch(r".+: [\d.]+ minutes, [\d.]+ processor-minutes", line)]
-    counts.same("the times, and the ten dearest again", len(times), len(made) + 10)
-    counts.same("the ten dearest are the last", lines[-11:-1], times[-10:])
+    counts.same("the times, and those of ten parts again", len(times), len(made) + 10)
+    counts.same("the times of ten parts come last", lines[-11:-1], times[-10:])
     for call in made:
         # One part is tested with every kind of end, the others with the kind that is easily overlooked.
         for kind in KINDS if call == "tests/quotes.py" else ["its status alone fails"]:

@@ -129,7 +129,7 @@ class Mutant:
         return definitions_of(self.crate).behind("\n".join(texts))
 
     def is_apart(self, other):
-        """Whether the two change different functions, and neither changes what has to refuse the other."""
+        """Whether the two change different functions, and neither changes what the other's refusal depends on."""
         different = self.asked().isdisjoint(other.asked()) and set(self.functions).isdisjoint(other.functions)
         return different and not self.spoils(other) and not other.spoils(self)
 

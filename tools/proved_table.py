@@ -47,10 +47,10 @@ def modules(report):
         rows.append((short(file), ", ".join(code(name.removeprefix("crates/")) for name in names), *counts))
     total = [sum(row[column] for row in rows) for column in (2, 3, 4)]
     text = (
-        "Each file of Rust here has the items of a module of the proved crates. An item is a function, a constant, a"
-        " type, a trait, an implementation, a module, or all `use` lines of a file."
+        "Each Rust file in this table has the items of a module of the proved crates. An item is a function, a"
+        " constant, a type, a trait, an implementation, a module, or all `use` lines of a file."
     )
-    columns = ("File", "Proved source, in `crates/`", "Items that are the same", "that depart", "written by hand")
+    columns = ("File", "Proved source, in `crates/`", "Items that are the same", "that depart", "hand-written")
     return rows_of("Modules", text, columns, [*rows, ("all", "", *total)])
 
 
@@ -62,7 +62,7 @@ def departures(report):
 def items_by_hand(report):
     rows = [(place(row), row.get("reason")) for row in report.listed.of("hand_written") if row.get("item")]
     text = f"{len(rows)} items."
-    return rows_of("Items that are written by hand", text, ("Item", "What it is"), rows)
+    return rows_of("Hand-written items", text, ("Item", "What it is"), rows)
 
 
 def files_by_hand(report):
@@ -71,20 +71,20 @@ def files_by_hand(report):
         names = row.values.get("files") or ([] if row.get("item") else [row.get("file")])
         if names:
             rows.append((", ".join(short(name) for name in names), row.get("reason")))
-    text = "No proof speaks of these files. Tests do."
-    return rows_of("Files that are written by hand", text, ("File", "What it is"), rows)
+    text = "These files are tested, not proved."
+    return rows_of("Hand-written files", text, ("File", "What it is"), rows)
 
 
 def preconditions(report):
     listed = report.listed.of("precondition")
     rows = [(code(row.get("clause")), row.get("rust") and code(row.get("rust")), row.get("reason")) for row in listed]
     text = (
-        "A contract of Rattle may require something of the caller, which the prover checks at each call. A public"
-        " function in Rust checks it first, where it can be checked and matters."
+        "A contract of Rattle may require something of the caller, and the prover checks that at each call. A public"
+        " function in Rust checks it before anything else, if it can be checked and matters."
     )
     return rows_of("Preconditions", text, ("Clause", "Check in Rust", "Why"), rows)
 
 
 def languages(_report):
-    text = "These differences of the two languages are the same everywhere, and are no departures."
+    text = "These differences between the two languages are the same everywhere. They do not count as departures."
     return rows_of("Rattle and Rust", text, ("Rattle", "Rust", "Why"), SENTENCES)

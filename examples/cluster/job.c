@@ -17,7 +17,7 @@ int main(int argc, char **argv)
     for (uint64_t i = 0; i < count; i++) {
         uint8_t status = add_task(first + i, totals);
         if (status != NANORAND_OK) {
-            fprintf(stderr, "job: task %" PRIu64 " was refused with status %d\n", first + i, status);
+            fprintf(stderr, "job: task %" PRIu64 " failed with status %d\n", first + i, status);
             return 1;
         }
     }

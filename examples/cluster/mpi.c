@@ -15,7 +15,7 @@ int main(int argc, char **argv)
     for (int task = rank; task < TASKS; task += processes) {
         uint8_t status = add_task((uint64_t)task, own);
         if (status != NANORAND_OK) {
-            fprintf(stderr, "mpi: task %d was refused with status %d\n", task, status);
+            fprintf(stderr, "mpi: task %d failed with status %d\n", task, status);
             MPI_Abort(MPI_COMM_WORLD, 1);
         }
     }

@@ -50,11 +50,7 @@ def reached_from_above(opened, neighbours, side):
 
 
 def draw_estimates(axes, totals):
-<<<<<<< HEAD
-    """Draws the mean share of open sites of each side, with bars of one standard error up and down."""
-=======
-    """Draws the mean share of open sites for each side length, with its standard error."""
->>>>>>> 1280d4cea916070707461ee345ead2cf9a93f98a
+    """Draws the mean share of open sites for each side length, with bars of one standard error up and down."""
     means, errors = zip(*[estimate(side, *sums) for side, sums in zip(SIDES, totals)])
     axes.axhline(PUBLISHED, color=ORANGE, linewidth=1.2)
     axes.annotate(f"published: {PUBLISHED}", (0, PUBLISHED), (-20, 5), textcoords="offset points", color=ORANGE)

@@ -157,7 +157,7 @@ class JobArray(unittest.TestCase):
         with tempfile.TemporaryDirectory() as folder:
             whole, failed = Path(folder, "whole"), Path(folder, "failed")
             whole.write_text(TABLE, encoding="utf-8")
-            for text in ["", "job: task 7 was refused with status 2\n"]:
+            for text in ["", "job: task 7 failed with status 2\n"]:
                 failed.write_text(text, encoding="utf-8")
                 for files in [[whole, failed], [failed, whole], [failed]]:
                     added = subprocess.run(["awk", "-f", HERE / "sum.awk", *files], capture_output=True)

@@ -1,4 +1,4 @@
-"""What the tests share: every generator, comparisons of states, copies of errors, and long memory."""
+"""Shared by the tests: every generator, comparisons of states, copies of errors, and large memory."""
 
 import copy
 import ctypes
@@ -35,14 +35,14 @@ RANDOMS = {
     ChaCha20Random: ChaCha20,
     StreamRandom: Stream,
 }
-# The ways of a copy, and of what crosses processes.
+# The ways to make a copy, including the pickles that go to other processes.
 COPIES = [copy.copy, copy.deepcopy]
 COPIES += [lambda thing, protocol=protocol: pickle.loads(pickle.dumps(thing, protocol))
            for protocol in range(pickle.HIGHEST_PROTOCOL + 1)]
 
 
 class Index:
-    """A whole number by its `__index__`. As an integer, a float or a truth it is another one."""
+    """A whole number by its `__index__`. Converted to an int, a float or a bool it is another number."""
 
     def __init__(self, number):
         self.number = number
@@ -63,7 +63,7 @@ class Index:
 
 
 def generators():
-    """One of each, and two more streams: one without and one with the most buffered bytes."""
+    """One generator of each class, and two more streams, with no and with the maximum of buffered bytes."""
     return [
         *[WyRand(42), Pcg64(2**64 + 42)],
         *[kind(KEY, NONCE, 5) for kind in CHACHAS],
@@ -72,7 +72,7 @@ def generators():
 
 
 def refuses(test, rng, errors, call):
-    """The call raises exactly one of these errors, and leaves the state. An error of this package can be copied."""
+    """Asserts that the call raises exactly this error and leaves the state. Errors of this package can be copied."""
     before = rng.state
     with test.assertRaises(errors) as caught:
         call(rng)
@@ -85,19 +85,19 @@ def refuses(test, rng, errors, call):
 
 
 def told_of(error):
-    """What can be seen of an error."""
+    """Everything that is visible of an error."""
     return type(error), error.args, str(error), repr(error), vars(error)
 
 
 def stays_itself(test, error, ways=COPIES):
-    """Every copy of an error is as the error, and so is one that is made by hand of its arguments."""
+    """Asserts that every copy of an error equals it, and so does one that is made from its arguments."""
     made = type(error)(*error.args)
     for again in (made, *(way(error) for way in ways), *(way(way(error)) for way in ways)):
         test.assertEqual(told_of(again), told_of(error))
 
 
 def views_of(text):
-    """Views of other memory that show these bytes: of a part, of each third byte, from the end, by signed items."""
+    """Views of other memory that show these bytes: a part, every third byte, from the end, with signed items."""
     return [
         memoryview(b"ab" + text + b"c")[2 : 2 + len(text)],
         memoryview(bytes(one for byte in text for one in (byte, 10, 0)))[::3],
@@ -107,13 +107,13 @@ def views_of(text):
 
 
 WINDOW = 1 << 22
-MAP_FIXED = 0x10  # of Linux
+MAP_FIXED = 0x10  # the value on Linux
 
 
 def long_memory(test):
-    """More than 2 GiB that take 4 MiB: one window over and over, which keeps what is written last."""
+    """More than 2 GiB of addresses that take 4 MiB: one window is mapped repeatedly, and keeps what is written last."""
     if "COVERAGE_FILE" in os.environ:
-        test.skipTest("what counts lines is too slow for so much memory")
+        test.skipTest("counting lines is too slow with so much memory")
     try:
         length, descriptor = 2**31 + WINDOW, os.memfd_create("a window")
         test.addCleanup(os.close, descriptor)

@@ -1,7 +1,7 @@
-"""NumPy's own tests of bit generators, on those of `nanorand.numpy`: `pytest numpy_own.py`.
+"""NumPy's own tests of bit generators, run on those of `nanorand.numpy`: `pytest numpy_own.py`.
 
-They are all of `Base` and of `RNG`, which name no stream. The other tests of NumPy compare with the numbers of its own
-bit generators.
+These are all tests of `Base` and `RNG`, which do not depend on the stream. NumPy's other tests compare with the numbers
+of its own bit generators.
 """
 
 import numpy
@@ -13,7 +13,7 @@ from nanorand.numpy import Pcg64Bits, StreamBits, WyRandBits
 
 
 def words_of(kind, seed):
-    """What `Base` compares with: the words of the generator that the seed makes, drawn one by one."""
+    """The numbers that `Base` compares with: the words of the generator with this seed, drawn one by one."""
     rng = kind(SeedSequence(seed)).generator
     return {"seed": [seed], "data": numpy.array([rng.u64() for _ in range(1000)], dtype=numpy.uint64)}
 

@@ -1,6 +1,6 @@
-"""The build of the wheel: which library and compiler it takes, what it refuses, and what it says then.
+"""The build of the wheel: which library and compiler it uses, its errors, and their texts.
 
-It runs in the repository: the wheel does not have what it tests.
+It runs in the repository, because the wheel does not have what it tests.
 """
 
 import contextlib
@@ -21,7 +21,7 @@ BUILD = backend.HERE / "build.py"
 
 
 class Places(unittest.TestCase):
-    """In a folder of its own, which stands for the top of the repository."""
+    """Tests in a temporary folder, which replaces the top of the repository."""
 
     def setUp(self):
         folder = tempfile.TemporaryDirectory()
@@ -80,7 +80,7 @@ class Places(unittest.TestCase):
 
 
 def listed(order):
-    """Every way to list a folder gives its files in this order."""
+    """Makes every way to list a folder return its files in this order."""
     patches = contextlib.ExitStack()
     for place, name in (Path, "glob"), (Path, "rglob"), (Path, "iterdir"), (os, "listdir"), (glob, "glob"):
         def found(*given, own=getattr(place, name), **named):
@@ -91,7 +91,7 @@ def listed(order):
 
 
 def written(includes, archive, module):
-    """What `link` makes, without a compiler."""
+    """Writes the file that `link` makes, without a compiler."""
     module.write_bytes(b"a module")
 
 
@@ -102,7 +102,7 @@ class Tools(unittest.TestCase):
         return run.call_args_list
 
     def test_commands_have_one_order(self):
-        """Whatever the order in which a folder lists its files."""
+        """The order does not depend on the order in which a folder lists its files."""
         commands = self.linked(sorted)
         self.assertEqual(self.linked(lambda files: sorted(files, reverse=True)), commands)
         self.assertEqual(self.linked(lambda files: sorted(files, key=lambda file: str(file)[::-1])), commands)

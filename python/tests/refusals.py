@@ -1,7 +1,7 @@
-"""What becomes of the statuses that the library returns in fewer than one of 2^128 draws.
+"""What the package does with error statuses that the library returns in fewer than one of 2^128 draws.
 
-These tests run with the library of refusing.c in place of nanorand's: a state's first byte is the status, and the
-second one counts the draws before it.
+These tests run with the library of refusing.c in place of nanorand's. The first byte of a state is the status, and the
+second byte counts the draws that succeed before it.
 """
 
 import array
@@ -38,7 +38,7 @@ PIECES = ["choices", "choices, weighted", "fill_range", "fill_range, signed", "f
 
 
 def refusing(kind, status, after=0):
-    """A generator that refuses with a status after so many draws."""
+    """A generator whose draws return a status after a number of successful draws."""
     state = bytearray(48 if kind not in ("wyrand", "pcg64") else {"wyrand": 8, "pcg64": 16}[kind])
     state[0], state[1] = status, after
     return CLASSES[kind].from_state(state)
@@ -59,7 +59,7 @@ class Refusals(unittest.TestCase):
                         self.assertEqual(rng.state[2], 1)
 
     def test_parts(self):
-        """For every status but 0 a part is refused, and what was refused is a copy."""
+        """For every status but 0, `part` raises an error, and leaves the generator unchanged."""
         for kind in CLASSES:
             self.assertEqual(refusing(kind, 0).part(1, 1).state[:3], bytes([0, 0, 1]))
             for status in (1, 2, 3, 7, 255):
@@ -102,7 +102,7 @@ class Refusals(unittest.TestCase):
                     self.assertEqual(items.tolist(), [2, 2] + [7] * (length - 2))
 
     def test_more_than_two_gib(self):
-        """The number of items is no multiple of 256, by which the state counts them."""
+        """The number of items is not a multiple of 256, because the state counts them modulo 256."""
         memory = long_memory(self)
         for letter, middle in ("Q", 2), ("q", 3), ("i", 4):
             rng, items = refusing("wyrand", 0), memoryview(memory).cast(letter)[5:]
@@ -121,7 +121,7 @@ class Refusals(unittest.TestCase):
         self.assertEqual((caught.exception.entrants, caught.exception.count), (3, 2))
 
     def test_versions(self):
-        """The library has the header's major version, and is no older."""
+        """The library must have the header's major version, and must not be older."""
         for version in (10000, 10001, 19999, 9999, 20000, 0):
             environment = {**os.environ, "NANORAND_TEST_VERSION": str(version)}
             command = [sys.executable, "-c", "import nanorand"]

@@ -1,8 +1,9 @@
 /*
- * A library that refuses, in place of nanorand's: statuses that its own calls return in fewer than one of 2^128 draws.
+ * A library that replaces nanorand's and returns error statuses, which nanorand's own calls return in fewer than one of
+ * 2^128 draws.
  *
- * A state's first byte is the status that its draws return, and its second one counts those that succeed before. Its
- * third byte counts the draws that are refused. tests/refusals.py has what the Python package makes of them.
+ * The first byte of a state is the status that its draws return, and the second byte counts the draws that succeed
+ * before. The third byte counts the draws that returned the status. refusals.py tests how the Python package reacts.
  */
 #include "nanorand.h"
 
@@ -123,7 +124,7 @@ uint8_t nanorand_lots_draw(const uint8_t *seed, size_t seed_length, size_t *plac
     return seed_length == 0 ? NANORAND_OK : seed[0];
 }
 
-/* The variable NANORAND_TEST_VERSION, or what the header says. */
+/* Returns the variable NANORAND_TEST_VERSION, or else the version in the header. */
 uint32_t nanorand_version(void)
 {
     const char *version = getenv("NANORAND_TEST_VERSION");

@@ -1,4 +1,4 @@
-"""The whole table of answers, by the public calls."""
+"""The whole table of known answers, with the public calls."""
 
 import unittest
 from pathlib import Path
@@ -85,7 +85,7 @@ def given_count(text):
 
 
 def given_draw(arguments):
-    """The table has all places, and the call the drawn ones alone: both halves are compared."""
+    """The table has all places, and the call returns only the drawn ones. Both parts are compared."""
     seed, length, count = arguments.split(",")
     try:
         drawn = lots.draw(octets(seed), range(int(length)), int(count))
@@ -106,7 +106,7 @@ class Answers(unittest.TestCase):
                 answer = given(generator, before, call, arguments)
                 self.assertEqual(answer, (int(status), result, after))
                 tried.add((generator, call))
-        # Ten calls of six generators, three blocks, two jumps and a new seed.
+        # Ten calls for each of six generators, three blocks, two jumps and a new seed.
         self.assertEqual(len(tried), 11 * 6 + 6)
 
     def test_every_row_of_lots(self):

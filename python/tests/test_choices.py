@@ -1,4 +1,4 @@
-"""Choices by weight: exact shares of whole weights, those of random.choices for floats, and what is refused."""
+"""Choices by weight: exact shares for whole weights, those of random.choices for floats, and errors."""
 
 import collections
 import decimal
@@ -29,7 +29,7 @@ class Index:
 
 
 class Python(random.Random):
-    """Python's own class over the floats of a generator."""
+    """Python's own class, with the floats of a generator."""
 
     def __new__(cls, rng):
         return super().__new__(cls)
@@ -74,7 +74,7 @@ class Choices(unittest.TestCase):
                 self.assertEqual(rng.choices(population, weights, k=60), wanted)
 
     def test_every_number_of_a_share(self):
-        """By words that name each of 16 numbers: the shares have no gap and do not overlap."""
+        """Words that select each of 16 numbers: the shares have no gaps and do not overlap."""
         weights = [3, 0, 1, 7, 0, 5]
         for number in range(16):
             low = -(-number * 2**64 // 16)
@@ -108,7 +108,7 @@ class Choices(unittest.TestCase):
                     self.assertEqual(same, python.rng)
 
     def test_no_weight_is_no_draw(self):
-        """Also where the greatest float below 1.0, times the sum, is rounded up to the sum."""
+        """Even if the greatest float below 1.0, times the sum, is rounded up to the sum."""
         last = (LAST).to_bytes(8, "little")
         for total in (5e-324, 0.1 + 0.2, 1.0, 1e308):
             for weights in ([total, 0.0], [0.0, total, 0.0, 0.0]):
@@ -137,7 +137,7 @@ class Choices(unittest.TestCase):
     def test_weights_out_of_bounds(self):
         lists = [[1, -1], [-1, 5], [2**64, 0], [LAST, 1], [2**63, 2**63], [-(10**5000), 1], [1, 2, -0.5], [-1.0, 5]]
         lists += [[1.0, math.nan], [math.inf, 1], [-math.inf, 1], [1e308, 1e308], [math.nan, math.nan], [0.5, -0.6]]
-        # A weight below 0 beside one so great that the sum does not change.
+        # A negative weight, with one so large that the sum does not change.
         lists += [[great, less] for great in (1.0, 1e16, 1e17, 1e300, 1.7e308) for less in (-5e-324, -1e-20, -1.0)]
         lists += [[less, great] for great in (1.0, 1e300) for less in (-5e-324, -1.0)]
         sums = [[5, 3], [1, 2**64], [-1, 5], [1.0, 0.5], [1.0, math.nan], [1.0, math.inf], [-1.0, 1]]
@@ -171,7 +171,7 @@ class Choices(unittest.TestCase):
             refuses(self, rng, TypeError, lambda rng: rng.choices("ab", None, [1, 3]))
 
     def test_a_population_that_fails(self):
-        """The state is as before, also after the draw."""
+        """The state is unchanged, even after the draw."""
         class Fails:
             def __init__(self, error):
                 self.error = error

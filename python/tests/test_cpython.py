@@ -1,6 +1,6 @@
 """CPython's own tests of `random.Random`, run with each class of nanorand.randoms.
 
-They are those of `test.test_random`, which Debian has in the package libpython3.X-testsuite.
+They are in `test.test_random`, for which Debian has the package libpython3.X-testsuite.
 """
 
 import random
@@ -16,7 +16,7 @@ except ImportError as error:
     raise unittest.SkipTest(f"CPython's own tests are not there: {error}") from None
 
 GROUPS = ["MersenneTwister_TestBasicOps", "TestDistributions", "TestRandomSubclassing"]
-# What a test expects that is the Mersenne Twister's alone, or that of earlier versions of Python.
+# Tests that expect what only the Mersenne Twister does, or only earlier versions of Python.
 LEFT_OUT = {
     "test_bug_1727780": "its pickled states",
     "test_bug_27706": "its numbers, of seeds of version 1",
@@ -35,7 +35,7 @@ CALLS = [name for name in random.__all__ if callable(getattr(random.Random, name
 
 
 def with_generator(group, kind):
-    """The group of tests, whose `random.Random`, generator, and calls of the module are those of the class."""
+    """The group of tests, with the class in place of `random.Random`, its instance, and the module's functions."""
 
     class Tests(group):
         gen = kind()
@@ -53,7 +53,7 @@ def with_generator(group, kind):
 
 
 def without(tests, names):
-    """The same tests but for those of some names."""
+    """The same tests without those with these names."""
     return type(tests.__name__, (tests,), {name: None for name in names if hasattr(tests, name)})
 
 
@@ -63,7 +63,7 @@ globals().update({one.__name__: without(one, LEFT_OUT) for one in MADE})
 
 class LeftOut(unittest.TestCase):
     def test_they_fail(self):
-        """No test is left out that would pass."""
+        """Each test that is left out would fail."""
         failed = set()
         for tests in MADE:
             for name in filter(lambda name: hasattr(tests, name), LEFT_OUT):

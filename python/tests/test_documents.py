@@ -1,4 +1,4 @@
-"""The READMEs' and the docstrings' examples; every public thing has both a docstring and an example."""
+"""Tests the examples in the READMEs and docstrings, and that every public name has a docstring and an example."""
 
 import doctest
 import inspect
@@ -17,7 +17,7 @@ INSECURE = [
 
 
 def public_things():
-    """The modules, their public names, and the public members that each class has itself."""
+    """The modules, their public names, and each class's own public members."""
     for module in MODULES:
         yield module.__name__, module
         for name in module.__all__:
@@ -97,7 +97,7 @@ class Documents(unittest.TestCase):
 
 
 def order(name):
-    """Python's own order of names, but ChaCha8 before ChaCha12."""
+    """Sorts names as Python does, but ChaCha8 before ChaCha12."""
     return name.replace("ChaCha8", "ChaCha08")
 
 

@@ -1,4 +1,4 @@
-"""Fills of memory: the numbers of every kind of item, every kind of buffer, and what is refused."""
+"""Fills of memory: numbers for every kind of item, every kind of buffer, and errors."""
 
 import array
 import contextlib
@@ -18,11 +18,11 @@ except ImportError:
 
 WHOLE = "BHILQbhilq"
 LENGTHS = (0, 1, 2, 7, 64, 1000)
-LONG = 1 << 16  # more bytes than these are drawn without Python's lock
+LONG = 1 << 16  # larger fills release Python's lock
 
 
 def bounds_of(letter):
-    """The least and the greatest number of an item."""
+    """The minimum and the maximum of an item."""
     bits = 8 * array.array(letter).itemsize
     return (0, 2**bits - 1) if letter.isupper() else (-(2 ** (bits - 1)), 2 ** (bits - 1) - 1)
 
@@ -34,14 +34,14 @@ def spans_of(letter):
 
 
 def drawn_of(rng, letter, first, last):
-    """What an item is to be."""
+    """The expected value of an item."""
     if array.array(letter).itemsize == 8:
         return rng.range(first, last)
     return first + rng.range32(0, last - first)
 
 
 class Memory:
-    """Buffers of every kind that hold so many bytes and can be written."""
+    """Writable buffers of every kind with this number of bytes."""
 
     def __init__(self, length):
         self.length = length
@@ -84,7 +84,7 @@ class Bytes(unittest.TestCase):
                 self.assertEqual(whole[:10] + whole[10 + length :], b"\xa5" * 20)
 
     def test_the_buffer_is_given_back(self):
-        """A buffer that is still exported could not grow."""
+        """After the call the buffer can grow, so it is no longer exported."""
         for call in (
             lambda rng, buffer: rng.fill(buffer),
             lambda rng, buffer: rng.fill_range(buffer, 0, 9),
@@ -144,7 +144,7 @@ class Ranges(unittest.TestCase):
                 self.assertEqual(items.tolist(), [7, 7])
 
     def test_a_bound_that_changes_the_buffer(self):
-        """It cannot: the buffer is exported meanwhile."""
+        """The bound cannot change the buffer's size, because the buffer is exported during the call."""
         class Grows:
             def __index__(self):
                 with self.test.assertRaises(BufferError):
@@ -186,10 +186,10 @@ class Floats(unittest.TestCase):
 
 
 class Long(unittest.TestCase):
-    """More memory than 2 GiB. Ranges of it are in refusals.py, where the library is faster."""
+    """More than 2 GiB of memory. Range fills of it are in refusals.py, where the library is faster."""
 
     def test_each_fill(self):
-        """What is left is what the generator draws last, and it has drawn all before."""
+        """The memory has what the generator draws last, and the state shows that it has drawn everything before."""
         memory = long_memory(self)
         for name, letter in ("fill", "Q"), ("fill_random", "d"), ("fill_random", "f"):
             rng, same, last = WyRand(5), WyRand(5), array.array(letter, bytes(WINDOW))
@@ -201,7 +201,7 @@ class Long(unittest.TestCase):
 
 
 def every_fill(buffer):
-    """The fills of a buffer, by their names."""
+    """The fills of a buffer, by name."""
     return {
         "fill": lambda rng: rng.fill(buffer),
         "fill_range": lambda rng: rng.fill_range(buffer, 0, 1),
@@ -210,12 +210,12 @@ def every_fill(buffer):
 
 
 def fills_of(letter):
-    """The names of the fills that take such items."""
+    """The names of the fills that accept items of this type."""
     return {"c": ["fill"], "d": ["fill_random"], "f": ["fill_random"]}.get(letter, ["fill", "fill_range"])
 
 
 def alike(letter, size):
-    """The type code of an array for items of that size: after some byte-order marks L has four bytes."""
+    """The type code of an array with items of the same size: with some byte-order marks, L has four bytes."""
     letters = [one for one in (letter, *WHOLE) if one != "c" and one.isupper() == (letter.isupper() or letter == "c")]
     return next(one for one in letters if array.array(one).itemsize == size)
 
@@ -272,7 +272,7 @@ class Refusals(unittest.TestCase):
                 refuses(self, rng, ValueError, call)
 
     def test_formats_with_an_order(self):
-        """As ctypes and NumPy write this machine's order."""
+        """The formats with which ctypes and NumPy write this machine's byte order."""
         kinds = [(ctypes.c_uint8, "B"), (ctypes.c_uint16, "H"), (ctypes.c_uint32, "I"), (ctypes.c_ulong, "L"),
                  (ctypes.c_int8, "b"), (ctypes.c_int16, "h"), (ctypes.c_int32, "i"), (ctypes.c_long, "l")]
         for kind, letter in kinds:
@@ -302,7 +302,7 @@ class Refusals(unittest.TestCase):
 
 @unittest.skipUnless(_testbuffer, "this Python has no _testbuffer")
 class Exporters(unittest.TestCase):
-    """Buffers of every shape, by the module that Python tests its own with."""
+    """Buffers of every shape, from the module with which Python tests its own buffers."""
 
     def made(self, flags=0, shape=(2, 3), letter="Q", items=(0,) * 6):
         return _testbuffer.ndarray(list(items), shape=list(shape), format=letter, flags=_testbuffer.ND_WRITABLE | flags)
@@ -317,7 +317,7 @@ class Exporters(unittest.TestCase):
                 self.assertEqual(made.tobytes(), items.tobytes())
 
     def marked(self, marks):
-        """A buffer of each format with each mark, and an array of the same items."""
+        """A buffer of each format with each byte-order mark, and an array with the same items."""
         for mark in marks:
             for letter in (*WHOLE, "c", "d", "f"):
                 made = self.made(letter=mark + letter, items=[b"\0" if letter == "c" else 0] * 6)
@@ -346,7 +346,7 @@ class Exporters(unittest.TestCase):
                     refuses(self, WyRand(5), OutOfBounds, lambda rng, f=first, o=last: rng.fill_range(made, f, o))
 
     def test_marks_of_another_order(self):
-        """Of items of one byte too."""
+        """They are an error even for items of one byte."""
         for _, made, _ in self.marked([">", "!"]):
             for call in every_fill(made).values():
                 error = refuses(self, WyRand(5), TypeError, call)
@@ -373,7 +373,7 @@ class Exporters(unittest.TestCase):
 
 
 class NumPy(unittest.TestCase):
-    """Arrays of NumPy's, where it is there."""
+    """NumPy's arrays, if NumPy is there."""
 
     def setUp(self):
         try:
@@ -407,7 +407,7 @@ class NumPy(unittest.TestCase):
                 self.assertEqual(made.ravel().tolist(), items.tolist())
 
     def test_memory_that_is_not_aligned(self):
-        """Its items are of this machine's order too, though NumPy marks them by `=`."""
+        """Its items have this machine's byte order as well, although NumPy marks them with `=`."""
         for letter in (*WHOLE, "d", "f"):
             items = array.array(letter, [0] * 20)
             made = self.numpy.frombuffer(bytearray(20 * items.itemsize + 1), letter, offset=1)

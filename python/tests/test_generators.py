@@ -1,4 +1,4 @@
-"""Generators: states, copies, texts, sequences of every kind, and what they refuse."""
+"""Generators: states, copies, texts, sequences of every kind, and errors."""
 
 import array
 import collections
@@ -31,7 +31,7 @@ LENGTHS_OF_SEEDS = {"wyrand": 8, "pcg64": 16, "chacha8": 40, "chacha12": 40, "ch
 
 
 class SetOfPlaces(collections.abc.Set):
-    """A set whose items have places."""
+    """A set whose items have indices."""
 
     def __contains__(self, item):
         return item in "abc"
@@ -50,7 +50,7 @@ class SetOfPlaces(collections.abc.Set):
 
 
 class OwnList(collections.abc.MutableSequence):
-    """A mutable sequence that takes no slices, and refuses an item after some."""
+    """A mutable sequence without slices, which raises an error when some items have been set."""
 
     def __init__(self, items, room=None, error=KeyError):
         self.items = list(items)
@@ -76,7 +76,7 @@ class OwnList(collections.abc.MutableSequence):
 
 
 class Matrix(OwnList):
-    """Rows by views of one memory, as numpy has them."""
+    """Rows that are views of one memory, as in NumPy."""
 
     def __init__(self, rows):
         super().__init__([array.array("q", row) for row in rows])
@@ -89,21 +89,21 @@ class Matrix(OwnList):
 
 
 class OwnWyRand(WyRand):
-    """Of a user, in a module where pickles find it."""
+    """A user's subclass, in a module where pickles find it."""
 
 
 class OwnStream(Stream):
-    """The same of a stream."""
+    """The same for a stream."""
 
 
 class Unseeded:
-    """Of a user, before a class of the package: made of nothing."""
+    """A user's base class, before a class of the package, whose instances are made without arguments."""
 
     def __init__(self):
         super().__init__(*{WyRand: [7], Pcg64: [7]}.get(type(self).__bases__[1], (KEY, NONCE)))
 
 
-# One over each class, in this module, where pickles find them.
+# A subclass of each class, in this module, where pickles find them.
 UNSEEDED = {kind: type(f"Unseeded{kind.__name__}", (Unseeded, kind), {}) for kind in CLASSES.values()}
 globals().update({own.__name__: own for own in UNSEEDED.values()})
 
@@ -153,7 +153,7 @@ class States(unittest.TestCase):
                 self.assertEqual(made, rng)
 
     def test_copies_of_subclasses(self):
-        """A copy has the class of its generator by every way."""
+        """Every kind of copy has the class of its generator."""
         for rng in (OwnWyRand(42), OwnStream(KEY, NONCE, 5, b"abc")):
             copies = [rng.copy(), rng.part(0, 1), copy.copy(rng), copy.deepcopy(rng), copy.deepcopy([rng])[0]]
             copies += [pickle.loads(pickle.dumps(rng, protocol)) for protocol in range(pickle.HIGHEST_PROTOCOL + 1)]
@@ -162,7 +162,7 @@ class States(unittest.TestCase):
                 self.assertEqual(made, rng)
 
     def test_copies_of_one_made_of_nothing(self):
-        """By every way, though the maker of its class takes no seed."""
+        """Every kind of copy works, although the class is called without a seed."""
         for kind, own in UNSEEDED.items():
             rng = own()
             rng.bytes(5)
@@ -174,7 +174,7 @@ class States(unittest.TestCase):
                 self.assertEqual(made.u64(), rng.copy().u64())
 
     def test_pickles_of_version_1(self):
-        """As the package wrote them when it was written in Python."""
+        """Pickles that the package wrote when it was still implemented in Python."""
         oldest = (
             b"c__builtin__\ngetattr\np0\n(cnanorand.generators\nWyRand\np1\nVfrom_state\np2\ntp3\nRp4\n(c_codecs\n"
             b"encode\np5\n(V*" + 7 * b"\\u0000" + b"\np6\nVlatin1\np7\ntp8\nRp9\ntp10\nRp11\n."
@@ -239,7 +239,7 @@ class States(unittest.TestCase):
         self.assertEqual((rng.counter, len(rng.rest)), (0, 63))
 
     def test_seeds_of_numbers(self):
-        """The words of `splitmix64.c` from 1234567."""
+        """The words of `splitmix64.c` for the seed 1234567."""
         words = "599ed017fb08fc85 2c73f08458540fa5 883ebce5a3f27c77 3fbef740e9177b3f e3b8346708cb5ecd".split()
         seed = b"".join(bytes.fromhex(word)[::-1] for word in words)
         for name, kind in CLASSES.items():
@@ -288,7 +288,7 @@ class States(unittest.TestCase):
         self.assertEqual(eval(repr(Pcg64(99))), Pcg64(99))
 
     def test_views(self):
-        """A view of a part, of each second byte or from the end is the bytes that it shows."""
+        """A view of a part, of every second byte or from the end counts as the bytes that it shows."""
         key, nonce, state = bytes(range(32)), bytes(range(8)), bytes(range(48))
         for one, other, whole in zip(views_of(key), views_of(nonce), views_of(state)):
             for kind in (*CHACHAS, Stream):
@@ -298,7 +298,7 @@ class States(unittest.TestCase):
             self.assertEqual(WyRand.from_state(other), WyRand.from_state(nonce))
 
     def test_the_state_of_a_stream(self):
-        """After any number of bytes it is that of blocks drawn one by one, and goes on with the same bytes."""
+        """After any number of bytes it equals that after single blocks, and the same bytes follow."""
         whole = Stream(KEY, NONCE, LAST - 3).bytes(1200)
         blocks = [ChaCha20(KEY, NONCE, counter % 2**64).block() for counter in range(LAST - 3, LAST + 17)]
         self.assertEqual(whole, b"".join(blocks)[:1200])
@@ -355,7 +355,7 @@ class Numbers(unittest.TestCase):
                 refuses(self, rng, OutOfBounds, lambda rng, end=end: rng.below(end))
 
     def test_ranges_between_types(self):
-        """A range within both i64 and u64 is the same of both."""
+        """A range that fits into both i64 and u64 draws the same with both."""
         for rng in generators():
             same = rng.copy()
             self.assertEqual(rng.range(0, 99), same.range(-50, 49) + 50)
@@ -539,7 +539,7 @@ class Lists(unittest.TestCase):
                     refuses(self, rng, error, lambda rng, items=items: rng.shuffle(items))
 
     def test_a_sequence_of_views(self):
-        """Rows that are moved over one another would be lost."""
+        """Rows that were moved over one another would be lost."""
         for rng in generators():
             for rows in ([[1, 2], [3, 4]], [[1, 2], [3, 4], [5, 6]], [[place, -place] for place in range(100)]):
                 matrix = Matrix(rows)
@@ -587,7 +587,7 @@ class Lists(unittest.TestCase):
             self.assertTrue(all(0 <= number < 10**18 for number in rng.sample(range(10**18), 5)))
 
     def test_samples_of_every_length(self):
-        """Floyd's algorithm: number j of the last `length` numbers joins if the one drawn from 0 to j is there."""
+        """Floyd's algorithm: for the last `length` numbers j, j is added if the number drawn from 0 to j is there."""
         for rng in generators():
             for length in (*range(14, 19), 31, 32, 33, 100, 128, 129, 1000):
                 for count in (length, length + 1, 2 * length, 10**6, 2**63 + 1, LAST):
@@ -599,7 +599,7 @@ class Lists(unittest.TestCase):
                     self.assertEqual(rng, same)
 
     def test_samples_in_pieces(self):
-        """The first places of a sample are one of as many numbers less as places are left out."""
+        """The first places of a sample are themselves a sample: of fewer numbers, less one for each place left out."""
         for rng in (WyRand(5), Stream(bytes(32))):
             for length in (2**20 - 1, 2**20, 2**20 + 1, 2**21 + 5):
                 same = rng.copy()

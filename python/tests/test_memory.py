@@ -1,4 +1,4 @@
-"""References and memory: no call keeps or loses any, whether it succeeds or fails; and lists that change meanwhile."""
+"""References and memory: no call leaks or loses any, whether it succeeds or fails; and lists that change meanwhile."""
 
 import _imp
 import array
@@ -29,7 +29,7 @@ ITEMS = ["an item %d" % place for place in range(9)]
 
 
 class Fails:
-    """A sequence and a number that fail whenever they are asked."""
+    """A sequence and a number. Everything but its length raises an error."""
 
     def __len__(self):
         return 3
@@ -45,7 +45,7 @@ class Fails:
 
 
 class FailsLate(list):
-    """A list that gives no item from its sixth on."""
+    """A list that raises an error from its sixth item on."""
 
     def __getitem__(self, place):
         if place > 4:
@@ -54,14 +54,14 @@ class FailsLate(list):
 
 
 class NoLength(list):
-    """A list that does not say how long it is."""
+    """A list whose length is an error."""
 
     def __len__(self):
         raise KeyError
 
 
 class Refuses(list):
-    """A list that takes no items."""
+    """A list to which no items can be assigned."""
 
     def __setitem__(self, place, item):
         raise KeyError(place)
@@ -72,7 +72,7 @@ WORDS, DOUBLES, READ_ONLY = array.array("Q", [0] * 9), array.array("d", [0] * 9)
 MANY = array.array("Q", range(600))
 FAILS, REFUSES, REALS, WHOLES, OTHER = Fails(), Refuses(ITEMS), [1.5] * 9, [2] * 9, object()
 LATE, NO_LENGTH = FailsLate(ITEMS), NoLength(ITEMS)
-# Sequences that are no plain list, of items that can be written to.
+# Sequences other than plain lists, with mutable items.
 ROWS = [[1], {"a": 1}, bytearray(5), array.array("Q", [7]), [2], Refuses()]
 OF_ROWS = [collections.deque(ROWS), collections.UserList(ROWS), type("Own", (list,), {})(ROWS)]
 SHARED = [LIST, TUPLE, TEXT, BUFFER, WORDS, DOUBLES, READ_ONLY, FAILS, LATE, REFUSES, REALS, WHOLES, OTHER, BIG]
@@ -112,7 +112,7 @@ SUCCEED = {
     "weak references": lambda rng: weakref.ref(rng)(),
 }
 
-LONG = 2**5000  # errors tell its length alone
+LONG = 2**5000  # errors show only its length
 
 FAIL = {
     "bytes": [lambda rng: rng.bytes(-1), lambda rng: rng.bytes(BIG), lambda rng: rng.bytes(OTHER),
@@ -205,7 +205,7 @@ OF_LOTS = {
 
 
 def octets_of(*things):
-    """The bytes that stand in the code of the functions among these."""
+    """The bytes constants in the code of the functions among these."""
     constants = [one for thing in things if hasattr(thing, "__code__") for one in thing.__code__.co_consts]
     return [one for one in constants if isinstance(one, bytes)]
 
@@ -217,15 +217,15 @@ def refused(call, *arguments):
 
 class Leaks(unittest.TestCase):
     def setUp(self):
-        """What is there already is not looked through again and again."""
+        """Existing objects are frozen, so that the collector does not examine them repeatedly."""
         gc.collect()
         gc.freeze()
         self.addCleanup(gc.unfreeze)
 
     def keeps_nothing(self, call, *arguments):
-        """The call leaves as much memory, and as many references to what it was given, as there were.
+        """Asserts that a call leaves as much memory, and as many references to its arguments, as before.
 
-        Python's own caches grow now and then: what is lost is lost in each of three rounds.
+        Python's own caches grow now and then, so only what is lost in each of three rounds is a leak.
         """
         watched = [*arguments, *map(type, arguments), *SHARED, *ITEMS, *octets_of(call, *arguments)]
         rounds = [self.grown(watched, call, arguments) for _ in range(3)]
@@ -234,7 +234,7 @@ class Leaks(unittest.TestCase):
             self.assertGreater(max(growths), -TIMES // 10)
 
     def grown(self, watched, call, arguments):
-        """By how many blocks of memory, and references to each thing, there are more after so many calls."""
+        """How many more blocks of memory, and references to each object, there are after a number of calls."""
         gc.collect()
         before = [sys.getallocatedblocks(), *map(sys.getrefcount, watched)]
         for _ in range(TIMES):
@@ -277,7 +277,7 @@ class Leaks(unittest.TestCase):
                     self.keeps_nothing(refused, lots.draw, seed, text)
 
     def test_long_memory(self):
-        """Arrays that are too long for Python's own allocator, by what the process holds."""
+        """Arrays that are too large for Python's own allocator, measured by the memory of the process."""
         rng, items, buffer = WyRand(5), list(range(50_000)), bytearray(400_000)
         calls = [
             lambda: rng.shuffle(items),
@@ -304,7 +304,7 @@ class Leaks(unittest.TestCase):
             self.assertLess(resident() - before, 20 * 2**20, place)
 
     def test_locks_are_freed(self):
-        """A generator that drew without Python's lock has a lock of its own."""
+        """A generator that has drawn without Python's lock has a lock of its own, which is freed."""
         tracemalloc.start()
         self.addCleanup(tracemalloc.stop)
         for _ in range(2):
@@ -328,7 +328,7 @@ class Leaks(unittest.TestCase):
 
 @unittest.skipIf(_testcapi is None or sys.gettrace(), "this Python, or what traces it, cannot be refused memory")
 class NoMemory(unittest.TestCase):
-    """Each request for memory is refused, the first alone, then the second alone, and so on."""
+    """Each allocation fails: first only the first one, then only the second one, and so on."""
 
     CALLS = {
         "bytes": lambda rng: rng.bytes(100),
@@ -356,7 +356,7 @@ class NoMemory(unittest.TestCase):
                     self.assertGreater(refusals, 0)
 
     def is_refused(self, request, call, *arguments):
-        """Whether the call says that there is no memory, if its request of this number is refused."""
+        """Whether the call raises MemoryError if its allocation with this number fails."""
         _testcapi.set_nomemory(request, request + 1)
         try:
             call(*arguments)
@@ -369,7 +369,7 @@ class NoMemory(unittest.TestCase):
         return False
 
     def test_nothing_is_kept(self):
-        """By calls without a line of Python's own, which keeps some references itself."""
+        """Only calls without Python code, which keeps some references itself."""
         for rng in (WyRand(1), Pcg64(1), ChaCha8(KEY), Stream(KEY)):
             calls = [
                 *[(rng.u64,), (rng.random,), (rng.bytes, 100), (rng.below, 1000), (rng.below, 2**64), (rng.__repr__,)],
@@ -391,7 +391,7 @@ class NoMemory(unittest.TestCase):
                     self.keeps_nothing([rng, type(rng), *SHARED, *ITEMS, *arguments], call, arguments)
 
     def test_a_module_that_is_loaded(self):
-        """Python's own making of a class may fail and not say why: a SystemError."""
+        """Python may fail to create a class without saying why, with a SystemError."""
         spec = importlib.util.spec_from_file_location("nanorand._native", _native.__file__)
         refusals = [self.is_refused(request, self.loads, importlib.util.module_from_spec(spec))
                     for request in range(500)]
@@ -406,7 +406,7 @@ class NoMemory(unittest.TestCase):
             raise MemoryError from None
 
     def keeps_nothing(self, watched, call, arguments, times=20):
-        """Whichever request is refused, there are as many references to these things after it."""
+        """Whichever allocation fails, there are as many references to these objects afterwards."""
         request = granted = 0
         while granted < 5:
             before = list(map(sys.getrefcount, watched))
@@ -438,7 +438,7 @@ class Weak(unittest.TestCase):
 
 
 class Changing(unittest.TestCase):
-    """Sequences that call Python change themselves, or the generator, during a call: no memory is read that is gone."""
+    """Sequences in Python change themselves, or the generator, during a call. No freed memory is read."""
 
     def test_a_list_that_shrinks(self):
         class Shrinks(list):
@@ -488,7 +488,7 @@ class Changing(unittest.TestCase):
             self.assertEqual(items, [])
 
     def test_an_item_that_draws(self):
-        """What an item draws meanwhile is undone with the rest if the call fails."""
+        """If the call fails, draws that an item has made meanwhile are undone as well."""
         class Draws(list):
             def __getitem__(self, place):
                 self.rng.u64()
@@ -530,7 +530,7 @@ class Changing(unittest.TestCase):
         for kind in CLASSES.values():
             class Own(kind):
                 def __init__(self):
-                    """It does not call the base's."""
+                    """Does not call the base class's."""
 
             calls = [lambda rng: rng.u64(), lambda rng: rng.state, lambda rng: rng.copy(), lambda rng: repr(rng),
                      lambda rng: rng.fill(bytearray(100_000)), lambda rng: pickle.dumps(rng), lambda rng: rng == Own(),

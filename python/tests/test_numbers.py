@@ -1,4 +1,4 @@
-"""Numbers by the names of Python's module `random`: floats, `randint`, `uniform`; and what errors say of numbers."""
+"""Calls with the names of Python's module `random`: floats, `randint`, `uniform`; and the numbers in errors."""
 
 import decimal
 import fractions
@@ -19,7 +19,7 @@ def stream_of(*words):
 
 
 class Raising:
-    """A number of which one operation raises an error, and each other returns itself."""
+    """A number one of whose operations raises an error. Every other operation returns the number itself."""
 
     def __init__(self, error, operation):
         self.error, self.operation = error, operation
@@ -40,7 +40,7 @@ class Raising:
 
 
 class Kept:
-    """A number that no operation may change in place."""
+    """A number that operations must not change in place."""
 
     def __init__(self, value):
         self.value = value
@@ -198,7 +198,7 @@ class Texts(unittest.TestCase):
         return str(caught.exception)
 
     def test_numbers_that_write_themselves(self):
-        """A subclass of int has texts of its own, and they are not asked for."""
+        """A subclass of int may have its own texts, which are not used."""
         class Own(int):
             def __str__(self):
                 raise AssertionError

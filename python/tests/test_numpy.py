@@ -1,4 +1,4 @@
-"""The bit generators for NumPy beside the generators that they draw from. Skipped where there is no NumPy."""
+"""The bit generators for NumPy, compared with the generators that they draw from. Skipped without NumPy."""
 
 import copy
 import gc
@@ -37,16 +37,16 @@ LAST_JUMPS = {WyRandBits: 2**16 - 1, Pcg64Bits: 2**62 - 1, StreamBits: 2**16 - 1
 
 
 def bits_of(generator):
-    """The bit generator that goes on where the generator is."""
+    """The bit generator that continues from the generator's state."""
     return BITS_OF[type(generator)].of(generator)
 
 
 class OwnBits(Pcg64Bits):
-    """Of a user, in a module where pickles find it."""
+    """A user's subclass, in a module where pickles find it."""
 
 
 class Model:
-    """What a bit generator does, by the calls of the generator."""
+    """A model of a bit generator, with the calls of the generator."""
 
     def __init__(self, generator):
         self.generator, self.half = generator.copy(), None
@@ -71,7 +71,7 @@ class Model:
 
 
 def drawn(bits, call):
-    """What a pointer of the capsule draws."""
+    """The number that a function pointer of the capsule draws."""
     interface = bits.ctypes
     return getattr(interface, call)(interface.state)
 
@@ -84,7 +84,7 @@ DRAWS = {
 
 
 def state_of(bits):
-    """The state in the form of the model's."""
+    """The state, in the form of the model's state."""
     state = bits.state
     return state["state"], state["uinteger"] if state["has_uint32"] else None
 
@@ -157,7 +157,7 @@ class States(unittest.TestCase):
                 self.assertEqual(rng.random(300).tolist(), first)
 
     def test_refused(self):
-        """They leave all as it was, though their other parts are those of another state."""
+        """They change nothing, although their other parts are those of another state."""
         for start in STARTS:
             bits, same, older = bits_of(start), bits_of(start), bits_of(start)
             for one, draws in (bits, 3), (same, 3), (older, 5):
@@ -207,7 +207,7 @@ class States(unittest.TestCase):
             thread.join()
 
     def test_waits_for_who_draws_from_the_generator(self):
-        """It goes on where a long call of another thread begins or ends, and not within it."""
+        """It continues at the beginning or the end of a long call of another thread, not within it."""
         words = array("Q", bytes(4_000_000))
         for start in STARTS:
             shared, after = start.copy(), start.copy()
@@ -297,7 +297,7 @@ class Seeds(unittest.TestCase):
 
 class Octets(unittest.TestCase):
     def test_arrays_by_columns(self):
-        """The bytes of a view are in the order of its indices, however they lie in memory."""
+        """The bytes of a view are in the order of its indices, whatever their order in memory."""
         for text in (bytes(range(97, 121)), b"a\nb\nc\nd\n"):
             rows = numpy.frombuffer(text, "u1").reshape(2, -1)
             for view in (memoryview(rows), memoryview(numpy.asfortranarray(rows))):
@@ -381,7 +381,7 @@ class Memory(unittest.TestCase):
 
     @unittest.skipIf(_testcapi is None or sys.gettrace(), "this Python, or what traces it, cannot be refused memory")
     def test_words_that_have_no_memory(self):
-        """The capsule has none then, and may be given some later."""
+        """The capsule then has none, and may get it later."""
         for start in STARTS:
             made = type(bits_of(start)).__new__(type(bits_of(start)))
             BitGenerator.__init__(made, 5)

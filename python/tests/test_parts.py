@@ -1,4 +1,4 @@
-"""Parts of a stream: each begins where the one before it ends, and none reaches past the period, in every class."""
+"""Parts of a stream, for every class: each begins where the one before it ends, and none ends past the period."""
 
 import pickle
 import random
@@ -16,7 +16,7 @@ LATE += [Stream(KEY, NONCE, LAST - 8, NONCE)]
 
 
 def ahead(rng, draws):
-    """A generator that is so many draws further on, by other calls."""
+    """A generator that is a number of draws ahead, by other calls."""
     made = rng.copy()
     if type(rng) is not Stream:
         made.jump(draws)
@@ -59,7 +59,7 @@ class Parts(unittest.TestCase):
                 self.assertEqual(rng.part(index, draws), ahead(rng, index * draws), (index, draws))
 
     def test_the_period_is_the_end(self):
-        """With each index, the longest parts that are within the period, and those that are a draw longer."""
+        """For each index, the longest part within the period, and one that is a draw longer."""
         indices = [0, 1, 2, 3, 4, 6, 7, 8, 15, 16, 274176, 2**32 - 1, 2**32, 2**61, 2**62, 2**63 - 1, 2**63, LAST]
         for rng in [*generators(), *LATE]:
             for index in indices:
@@ -70,7 +70,7 @@ class Parts(unittest.TestCase):
                     refuses(self, rng, PastPeriod, lambda rng, i=index, n=draws: rng.part(i, n))
 
     def test_numbers_out_of_bounds(self):
-        """Also where the other number is 0, and no part would end past the period."""
+        """They are errors even if the other number is 0, and no part would end past the period."""
         for rng in generators():
             for number in (-1, -(2**64), LAST + 1, 2**64 + 1, 10**40):
                 for other in (0, 1, LAST):
@@ -81,7 +81,7 @@ class Parts(unittest.TestCase):
                     refuses(self, rng, TypeError, lambda rng, a=arguments: rng.part(*a))
 
     def test_a_part_is_apart(self):
-        """It is of the same class, and neither moves the other."""
+        """It has the same class, and neither generator changes the other."""
         for name, kind in CLASSES.items():
             own = type("Own", (kind,), {})
             for made in (kind, own):
@@ -98,7 +98,7 @@ class Parts(unittest.TestCase):
                     rng.state = before
 
     def test_what_a_class_makes(self):
-        """A class whose `__new__` makes a generator of another class is refused, or makes parts of that one."""
+        """If a class's `__new__` creates an object of another class, `part` raises an error."""
 
         class Other(WyRand):
             made = None

@@ -1,4 +1,4 @@
-"""The generators as `random.Random`: every public call of it, seeds, states and refusals."""
+"""The generators as `random.Random`: each of its public calls, seeds, states and errors."""
 
 import copy
 import fractions
@@ -47,13 +47,13 @@ NO_DRAWS = {"seed", "getstate", "setstate"}
 
 
 def public_calls():
-    """The calls of this Python's random.Random."""
+    """The public methods of this Python's random.Random."""
     names = {name for name in dir(random.Random) if not name.startswith("_")}
     return {name for name in names if callable(getattr(random.Random, name))}
 
 
 class Unseeded:
-    """Of a user, before a class of the package: made of nothing, and with a state that has more."""
+    """A user's base class, before a class of the package: made without arguments, and with a larger state."""
 
     def __init__(self):
         super().__init__(7)
@@ -67,13 +67,13 @@ class Unseeded:
         super().setstate(own)
 
 
-# One over each class, in this module, where pickles find them.
+# A subclass of each class, in this module, where pickles find them.
 UNSEEDED = {kind: type(f"Unseeded{kind.__name__}", (Unseeded, kind), {}) for kind in RANDOMS}
 globals().update({own.__name__: own for own in UNSEEDED.values()})
 
 
 class Twin(random.Random):
-    """Python's own class over `random` and `getrandbits` of another one, by a generator alone."""
+    """Python's own class, with a `random` and `getrandbits` that only a generator provides."""
 
     def __new__(cls, generator):
         return super().__new__(cls)
@@ -94,7 +94,7 @@ class Twin(random.Random):
 
 
 def refused_states(kind):
-    """Each state that `setstate` refuses, with the error."""
+    """Each state for which `setstate` raises an error, and the error."""
     older = kind(2)
     older.gauss(0, 1)
     name, octets, kept = older.getstate()
@@ -196,7 +196,7 @@ class Randoms(unittest.TestCase):
             self.assertEqual(len(seen), 8 + len(seeds))
 
     def test_seeds_of_subclasses(self):
-        """What counts is the text, the number or the bytes, however they show themselves."""
+        """The text, the number or the bytes count, whatever texts the subclass has."""
         def shown(base):
             says = {name: lambda self, *_: "another" for name in ("__str__", "__repr__", "__format__")}
             return type("Shown", (base,), says)
@@ -208,7 +208,7 @@ class Randoms(unittest.TestCase):
                 self.assertEqual(str(same), "another")
 
     def test_what_a_replaced_generator_sees_at_its_end(self):
-        """The new one, and no longer itself: a `__del__` may read the attribute, set it again or remove it."""
+        """Its `__del__` sees the new generator, and may read the attribute, set it or draw."""
         for kind, of in RANDOMS.items():
             for ends in ("reads", "sets", "draws"):
                 seen = []
@@ -275,7 +275,7 @@ class Randoms(unittest.TestCase):
                     self.assertEqual(rng.getstate(), kind(seed).getstate())
 
     def test_each_octet_of_a_seed_counts(self):
-        """At both ends too, where other things are often cut off."""
+        """Even at both ends, where text is often stripped."""
         whole = [b"", b"a", b"octets", bytes(31), bytes(100)]
         seeds = [*whole, *(octets + end for octets in whole for end in (b"\0", b"\0\0", b" ", b"\n", b"\xff"))]
         seeds += [end + octets for octets in whole for end in (b"\0", b" ", b"\n", b"\xef\xbb\xbf")]
@@ -287,7 +287,7 @@ class Randoms(unittest.TestCase):
                     self.assertEqual(kind(seed).getstate()[1][:length], wanted)
 
     def test_long_seeds(self):
-        """Each letter counts, also behind a million others."""
+        """Each character counts, even after a million others."""
         for kind in RANDOMS:
             length = SEED_LENGTHS.get(kind.__name__, 32)
             for size in (1000, 65_535, 65_537, 1_000_003):
@@ -324,7 +324,7 @@ class Randoms(unittest.TestCase):
                 self.assertEqual([other.gauss(0, 1) for _ in range(5)], wanted)
 
     def test_refused_states(self):
-        """They leave all as it was, though their other parts are those of another state."""
+        """They change nothing, although their other parts are those of another state."""
         for kind in RANDOMS:
             rng, same = kind(1), kind(1)
             own = rng.generator
@@ -359,7 +359,7 @@ class Randoms(unittest.TestCase):
                 self.assertNotEqual(made.getstate(), rng.getstate())
 
     def test_pickles_of_version_1(self):
-        """As the package wrote them when it was written in Python."""
+        """Pickles that the package wrote when it was still implemented in Python."""
         oldest = (
             b"\x80\x02cnanorand.randoms\nWyRandRandom\nq\0)Rq\1X\6\0\0\0WyRandq\2c_codecs\nencode\nq\3X\x08\0\0\0"
             b"*\0\0\0\0\0\0\0q\4X\6\0\0\0latin1q\5\x86q\6Rq\7N\x87q\x08b."
@@ -392,7 +392,7 @@ class Randoms(unittest.TestCase):
             refuses(self, rng.generator, ValueError, lambda _: rng.sample([1], 2))
 
     def test_fair_calls(self):
-        """Each face comes about as often."""
+        """Each face is rolled about equally often."""
         for kind in RANDOMS:
             rng = kind("a die")
             faces = [rng.randint(1, 6) for _ in range(6000)]
@@ -410,7 +410,7 @@ class Randoms(unittest.TestCase):
 
 
 class Generators(unittest.TestCase):
-    """The attribute `generator`, which is drawn from."""
+    """The attribute `generator`, from which the class draws."""
 
     def test_the_state_is_shared(self):
         for kind in RANDOMS:
@@ -450,7 +450,7 @@ class Generators(unittest.TestCase):
             self.assertIs(rng.generator, before)
 
     def test_a_class_of_other_things(self):
-        """What is drawn from is a generator, whatever a class calls its kind."""
+        """The attribute has to be a generator, whatever a class sets as its kind."""
         class Own(WyRandRandom):
             _kind = object
 
@@ -511,7 +511,7 @@ class Generators(unittest.TestCase):
 
 
 class Subclasses(unittest.TestCase):
-    """Of the user's, as those of `random.Random` behave."""
+    """A user's subclasses behave like those of `random.Random`."""
 
     def test_arguments_of_its_own(self):
         class Own(WyRandRandom):
@@ -522,7 +522,7 @@ class Subclasses(unittest.TestCase):
             self.assertEqual(made.random(), WyRand(7).random())
 
     def test_copies_of_one_made_of_nothing(self):
-        """They keep what its own `getstate` gives, as those of a subclass of `random.Random` do."""
+        """They keep what its own `getstate` returns, like copies of a subclass of `random.Random`."""
         for own in UNSEEDED.values():
             rng = own()
             rng.gauss(0, 1)
@@ -563,7 +563,7 @@ class Subclasses(unittest.TestCase):
             self.assertEqual(Floats(7).randbytes(9), kind(7).generator.bytes(9))
 
     def test_bits_of_another_base(self):
-        """A class that has its `getrandbits` from beside draws bytes by it too."""
+        """A class that inherits `getrandbits` from another base before ours draws bytes with it as well."""
         class Zeros:
             def getrandbits(self, k):
                 return 0

@@ -1,4 +1,4 @@
-"""Signals while a long sample is drawn: what a handler raises ends it, and other handlers leave it as it is."""
+"""Signals while a long sample is drawn: an exception in a handler ends it, and other handlers do not change it."""
 
 import contextlib
 import signal
@@ -6,11 +6,11 @@ import unittest
 
 from nanorand import Stream, WyRand
 
-LENGTH = 6 * 2**20  # some pieces, after each of which a signal is looked for
+LENGTH = 6 * 2**20  # several pieces, after each of which signals are checked
 
 
 class Raised(Exception):
-    """What a signal's handler raises."""
+    """The exception that a signal handler raises."""
 
 
 def fail(*_):
@@ -19,7 +19,7 @@ def fail(*_):
 
 @contextlib.contextmanager
 def handled_by(handler, seconds, again=0.0):
-    """The handler is called when a time has passed; and then whenever another has, if that is not 0."""
+    """Calls the handler after a time, and then repeatedly after another time if that is not 0."""
     before = signal.signal(signal.SIGALRM, handler)
     try:
         signal.setitimer(signal.ITIMER_REAL, seconds, again)

@@ -1,4 +1,4 @@
-"""What callers see beside the numbers: names of arguments, types, texts without keys, special methods, imports."""
+"""What callers see besides the numbers: names of arguments, types, texts without keys, special methods, imports."""
 
 import array
 import copy
@@ -16,20 +16,20 @@ from nanorand import ChaCha20, OutOfBounds, Pcg64, Stream, WrongLength, WyRand, 
 
 README = Path(__file__).resolve().parents[1] / "README.md"
 COMPARISONS = {"__eq__", "__ne__", "__lt__", "__le__", "__gt__", "__ge__"}
-HUGE = 10**5000  # more digits than Python writes
-# Every other special method would be one more thing that a generator can do: an order, a length, a text.
+HUGE = 10**5000  # more digits than Python converts to text
+# The special methods of generators. Any other one would be a further ability: an order, a length, a text.
 SPECIAL = {
     "Generator": {"__new__", "__hash__", "__copy__", "__deepcopy__", "__reduce__", *COMPARISONS},
     **{kind.__name__: {"__new__", "__init__", "__repr__"} for kind in CLASSES.values()},
     "GeneratorRandom": {"__init__", "__init_subclass__"},
     "BaseRandom": {"__new__"},
 }
-# What Python itself writes in each class.
+# Attributes that Python itself adds to each class.
 OF_EVERY_CLASS = {
     *("__module__", "__doc__", "__dict__", "__weakref__", "__annotations__", "__qualname__"),
     *("__static_attributes__", "__firstlineno__", "__annotate_func__", "__annotations_cache__"),
 }
-# The calls of generators that raise errors of this package, by their names. What needs 128 words is in refusals.py.
+# The calls of generators that raise errors of this package, by name. The error after 128 words is in refusals.py.
 RAISING = {
     "state": [("WrongLength", lambda rng: setattr(rng, "state", b"short"))],
     "from_state": [("WrongLength", lambda rng: rng.from_state(b"short"))],
@@ -59,7 +59,7 @@ RAISING = {
                    ("OutOfBounds", lambda rng: rng.fill_range(bytearray(2), 0, 256))],
 }
 NEVER_RAISING = {"u64", "random", "uniform", "copy", "from_entropy", "fill", "fill_random", "shuffle", "shuffle_full"}
-# What an error is made of; each other one is made of its text.
+# The arguments of errors. All other errors are made from their text.
 ARGUMENTS = {
     "EmptySeed": lambda error: (),
     "SeedNotText": lambda error: (),
@@ -74,13 +74,13 @@ def parameters(call):
 
 
 def has_signature(call):
-    """Python 3.9 forgets that of a class written in C."""
+    """Whether Python knows the signature. Python 3.9 does not keep that of a class written in C."""
     return sys.version_info >= (3, 10) or not inspect.isclass(call)
 
 
 class Arguments(unittest.TestCase):
     def test_the_readme_names_them_as_the_calls_do(self):
-        """So a caller can give each by its name."""
+        """So a caller can pass each argument by name."""
         kind = {"block": ChaCha20, "jump": Pcg64}
         rows = re.findall(r"^\| ((?:`\w+\([^`]*\)`(?:, )?)+) \|", README.read_text(encoding="utf-8"), re.M)
         found = {call: names for row in rows for call, names in re.findall(r"`(\w+)\(([^)]*)\)`", row)}
@@ -109,7 +109,7 @@ class Arguments(unittest.TestCase):
                         self.assertRegex(str(error), rf"^{name} is ")
 
     def test_arguments_that_do_not_fit(self):
-        """Too few and too many, one twice, and one of another name: of each call."""
+        """For each call: too few and too many arguments, one twice, and one with another name."""
         good = {"first": 0, "last": 9, "count": 9, "length": 1, "population": "abc", "end": 5, "draws": 1, "a": 1,
                 "b": 2, "index": 1, "items": [1, 2], "buffer": b"", "state": b"", "number": 7}
         members = [name for name in dir(kinds.Generator) if not name.startswith("_")]
@@ -133,7 +133,7 @@ class Arguments(unittest.TestCase):
                     self.assertEqual(call(*values), getattr(same, name)(**dict(zip(names, values))), name)
 
     def test_an_argument_that_is_given_twice(self):
-        """By place and by name, also one that may be left out: of each call, and of each maker."""
+        """For each call and constructor: by position and by name, including optional arguments."""
         good = {"first": 0, "last": 9, "count": 9, "length": 1, "population": "abc", "end": 5, "draws": 1, "a": 1,
                 "b": 2, "index": 1, "items": [1, 2], "buffer": b"", "state": b"", "number": 7, "weights": None,
                 "k": 1, "cum_weights": None, "key": KEY, "nonce": NONCE, "counter": 0, "rest": b"", "seed": 5}
@@ -150,7 +150,7 @@ class Arguments(unittest.TestCase):
                         call(*values, **{name: good[name]})
 
     def test_each_whole_number_by_its_index(self):
-        """Of each call, each argument: an object is the number of its `__index__`, whatever else it may be."""
+        """For each argument of each call: an object counts as the number of its `__index__`, whatever else it is."""
         good = {"first": 0, "last": 9, "count": 9, "length": 3, "population": "abc", "end": 5, "draws": 1, "a": 1,
                 "b": 2,
                 "index": 1, "number": 7, "k": 2, "buffer": None}
@@ -273,7 +273,7 @@ class Secrets(unittest.TestCase):
 
 class Errors(unittest.TestCase):
     def test_errors_cross_processes(self):
-        """As of a pool of workers, which pickles them: with arguments, text, attributes and what was added to them."""
+        """A pool of workers pickles errors, with their arguments, texts, attributes and what was added to them."""
         rows = [(errors.EmptyLine, (7,), "line 7 is empty", {"line": 7}),
                 (errors.TooFew, (3, 4), "3 entrants, 4 asked for", {"entrants": 3, "count": 4}),
                 (errors.ForeignState, ("WyRand",), "the state is not one of WyRand", {"generator": "WyRand"}),
@@ -294,7 +294,7 @@ class Errors(unittest.TestCase):
                     self.assertEqual(vars(again), {**attributes, "added": [1]})
 
     def raised(self, kind, call, *given):
-        """An error that a call raises: it has its arguments, and so has every copy."""
+        """An error that a call raises has its arguments, and so has every copy of it."""
         with self.assertRaises(kind) as caught:
             call(*given)
         error = caught.exception
@@ -329,7 +329,7 @@ class Errors(unittest.TestCase):
         self.raised(errors.EmptyLine, lots.count, b"a\nb\n\n")
 
     def test_numbers_of_errors_by_their_index(self):
-        """An error has plain numbers, and tells them, where objects with an `__index__` were given."""
+        """If objects with an `__index__` are passed, the error has and shows plain numbers."""
         calls = [(lots.draw, "seed", ["a"], 2), (lots.draw, "seed", ["a"], 2**64), (lots.draw, "seed", b"a\nb\n", 3)]
         for kind in (WyRand, Pcg64):
             calls += [(kind, -1), (kind.seed_from_u64, -1)]
@@ -366,9 +366,9 @@ class Errors(unittest.TestCase):
 
 class Imports(unittest.TestCase):
     def test_another_interpreter_of_the_process(self):
-        """It has classes and errors of its own, and this one's are as before when it ends."""
+        """It has classes and errors of its own, and those of this interpreter are unchanged when it ends."""
         if sys.version_info >= (3, 12):
-            self.skipTest("the way to one is another since Python 3.12")
+            self.skipTest("Python 3.12 and later start interpreters in another way")
         import _xxsubinterpreters
 
         code = f"import sys; sys.path[:] = {sys.path}\n" \
@@ -385,7 +385,7 @@ class Imports(unittest.TestCase):
         self.assertEqual([kind(5).random() for kind in RANDOMS], [kind(5).generator.random() for kind in RANDOMS])
 
     def test_an_import_that_fails(self):
-        """By an extension module that is not there, and by one that refuses the library: each is a LibraryRefused."""
+        """A missing extension module, and one that does not accept the library, each raise a LibraryRefused."""
         class Finder:
             @staticmethod
             def find_spec(name, path=None, target=None):

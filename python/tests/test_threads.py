@@ -1,4 +1,4 @@
-"""Threads that share a generator take turns: each call sees a state that was before or after any other call."""
+"""Threads that share a generator take turns: a call is atomic, and sees the state before or after any other call."""
 
 import array
 import collections.abc
@@ -17,8 +17,8 @@ from makers import CLASSES, RANDOMS, generators
 
 from nanorand import ChaCha20, WyRand
 
-LONG = 30_000_000  # bytes that take long
-HANGS = 300  # seconds that no test takes
+LONG = 30_000_000  # the bytes of a slow draw
+HANGS = 300  # seconds after which a test counts as hanging
 
 CALLS = {
     "u64": lambda rng: rng.u64(),
@@ -70,7 +70,7 @@ def filled(fill, buffer):
 
 BUFFER = bytearray(LONG)
 WORDS, DOUBLES, FLOATS, SHORTS = (array.array(letter, bytes(4_000_000)) for letter in "Qdfh")
-# They take long by their draws.
+# Calls that take long because of their draws.
 LONG_CALLS = {
     "bytes": lambda rng: rng.bytes(LONG),
     "fill": lambda rng: rng.fill(BUFFER),
@@ -85,7 +85,7 @@ LONG_CALLS = {
 
 
 class Meanwhile:
-    """A call that runs in a thread of its own, and has begun."""
+    """Runs a call in a thread of its own, and waits until it has begun."""
 
     def __init__(self, call):
         self.begun = threading.Event()
@@ -99,20 +99,20 @@ class Meanwhile:
 
 
 class Threads(unittest.TestCase):
-    """An exception in a thread fails the test too, and threads that wait for ever end the run."""
+    """An exception in a thread fails the test as well, and threads that hang end the run."""
 
     def setUp(self):
         faulthandler.dump_traceback_later(HANGS, exit=True, file=sys.__stderr__)
         self.addCleanup(faulthandler.cancel_dump_traceback_later)
         raised = []
         hook = mock.patch.object(threading, "excepthook", lambda told: raised.append(repr(told.exc_value)))
-        # They are called last to first.
+        # Cleanups are called from the last to the first.
         self.addCleanup(lambda: self.assertEqual(raised, []))
         hook.start()
         self.addCleanup(hook.stop)
 
     def together(self, *calls):
-        """Each call in a thread of its own."""
+        """Runs each call in a thread of its own."""
         threads = [threading.Thread(target=call) for call in calls]
         for thread in threads:
             thread.start()
@@ -122,7 +122,7 @@ class Threads(unittest.TestCase):
 
 class Reports(Threads):
     def test_an_exception_of_a_thread(self):
-        """It is one of the test."""
+        """It fails the test."""
         class Fails(Threads):
             def runTest(self):
                 self.together(lambda: None, lambda: WyRand(-1), lambda: None)
@@ -133,7 +133,7 @@ class Reports(Threads):
 
 
 class Failing(collections.abc.MutableSequence):
-    """So many items, none of which is given or taken."""
+    """A sequence of this length whose items can be neither read nor set."""
 
     def __init__(self, length):
         self.length = length
@@ -173,7 +173,7 @@ class Turns(Threads):
                     self.assertIn(shared.state, (first.state, second.state))
 
     def test_a_call_that_fails_after_its_turn(self):
-        """It leaves the state that it found when its turn came."""
+        """It leaves the state that it found at its turn."""
         failing = {
             "choice": lambda rng: rng.choice(Failing(9)),
             "choices": lambda rng: rng.choices(Failing(9), k=5),
@@ -207,7 +207,7 @@ class Turns(Threads):
                 self.assertIn(found, [call(first), call(second)])
 
     def test_what_is_replaced_while_a_call_waits(self):
-        """Freed memory is overwritten there, so a call that had lost its generator or its items would fail."""
+        """A subprocess overwrites freed memory, so a call that had lost its generator or its items would fail."""
         for name in ("replace_the_generator", "clear_the_list"):
             code = f"import sys; sys.path.insert(0, '.'); import test_threads; test_threads.{name}()"
             environment = {**os.environ, "PYTHONMALLOC": "debug", "PYTHONPATH": os.pathsep.join(sys.path)}
@@ -216,7 +216,7 @@ class Turns(Threads):
             self.assertEqual((done.returncode, done.stderr), (0, ""))
 
     def test_a_generator_that_is_replaced_meanwhile(self):
-        """It is kept until its draw has ended."""
+        """It is kept alive until its draw has ended."""
         for kind in RANDOMS:
             for draw in (lambda rng: rng.randbytes(5_000_000), lambda rng: rng.getrandbits(8 * 5_000_000)):
                 rng, drawn = kind(5), []
@@ -227,7 +227,7 @@ class Turns(Threads):
                 self.assertIn(drawn[0], [draw(kind(5)), draw(kind(6))])
 
     def test_python_s_lock_is_given_up(self):
-        """While one thread draws for long, another runs."""
+        """While one thread makes a long draw, another one runs."""
         for kind in CLASSES.values():
             for name, call in LONG_CALLS.items():
                 rng = kind.from_entropy()
@@ -235,7 +235,7 @@ class Turns(Threads):
                     self.assertTrue(any(self.runs_meanwhile(rng, call) for _ in range(20)))
 
     def runs_meanwhile(self, rng, call):
-        """Whether this thread goes on before the other's call has ended. Python itself lets it wait for that."""
+        """Whether this thread continues before the other one's call has ended, instead of waiting for it."""
         begun, ended = threading.Event(), []
 
         def draw():
@@ -255,13 +255,13 @@ class Turns(Threads):
             thread.join()
 
     def test_python_s_lock_is_given_up_for_choices(self):
-        """Where a draw takes longer than what Python makes of it."""
+        """This matters if a draw takes longer than building its Python result."""
         for weights in (None, [1, 2], [1.5, 2.5]):
             self.assertTrue(any(self.runs_meanwhile(ChaCha20(bytes(32)), lambda rng, weights=weights:
                                                     rng.choices(["a", "b"], weights, k=300_000)) for _ in range(20)))
 
     def test_many_threads_and_fills(self):
-        """Every byte is drawn once, whoever draws it."""
+        """Every byte is drawn exactly once, by whichever thread."""
         for kind in CLASSES.values():
             state = kind.from_entropy().state
             shared, pieces = kind.from_state(state), []
@@ -279,7 +279,7 @@ class Turns(Threads):
                 self.assertEqual(whole[at : at + len(piece)], piece)
 
     def test_a_state_that_is_set_while_others_wait(self):
-        """It is not lost: what is drawn after it is drawn from there, and each piece once."""
+        """It takes effect: later draws continue from it, and each piece is drawn once."""
         for kind in CLASSES.values():
             for _ in range(20):
                 first, second = kind.from_entropy(), kind.from_entropy()
@@ -301,7 +301,7 @@ class Turns(Threads):
                 self.assertEqual(shared, second)
 
     def test_generators_of_their_own(self):
-        """Threads with a generator each do not wait for one another, and draw what they draw alone."""
+        """Threads with their own generators draw the same as each one alone."""
         wanted = [WyRand(seed).bytes(1_000_000) for seed in range(8)]
         found = [b""] * 8
 
@@ -312,7 +312,7 @@ class Turns(Threads):
         self.assertEqual(found, wanted)
 
     def test_a_list_of_another_thread_s(self):
-        """A list that others change is shuffled in one moment: no item is lost and none comes twice."""
+        """Shuffling a list that other threads change is atomic: no item is lost or duplicated."""
         rng, items, stop = WyRand(5), list(range(1000)), threading.Event()
 
         def swap():
@@ -343,7 +343,7 @@ def clear_the_list():
 
 
 def replace_the_generator():
-    """Its generator is drawn from by one thread, which goes, and waited for by another; and then it is replaced."""
+    """One thread draws from the generator, another one waits for it, and then it is replaced."""
     for kind, of_generator in RANDOMS.items():
         for call in (lambda rng: rng.random(), lambda rng: rng.getrandbits(9), lambda rng: rng.randbytes(9)):
             rng = kind(5)

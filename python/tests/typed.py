@@ -1,6 +1,6 @@
-"""Calls and their types, for `mypy --strict`; nothing runs this file.
+"""Calls and their types, for `mypy --strict`. This file is not run.
 
-An `ignore` of a line with a mistake is one that mypy has to find: it reports those that nothing needs.
+A line with a mistake has an `ignore`, and mypy has to find the mistake, because it reports an unused `ignore`.
 """
 
 import array

@@ -1,4 +1,4 @@
-"""What the wheel in the file of the variable WHEEL says of itself. It is run in the repository, by tests/python.sh."""
+"""Tests the metadata of the wheel whose file the variable WHEEL names. tests/python.sh runs it, in the repository."""
 
 import base64
 import csv
@@ -30,7 +30,7 @@ class Wheel(unittest.TestCase):
         return self.files[f"{self.folder}/{name}"]
 
     def test_record(self):
-        """No file is missing or changed, by its own record."""
+        """By its own record, no file is missing or changed."""
         rows = list(csv.reader(self.of_itself("RECORD").decode().splitlines()))
         self.assertEqual(sorted(row[0] for row in rows), sorted(self.files))
         for path, digest, size in rows:
@@ -40,7 +40,7 @@ class Wheel(unittest.TestCase):
                 self.assertEqual((digest, size), (f"sha256={wanted}", str(len(content))), path)
 
     def test_files(self):
-        """It holds the package's files and its own, not compressed, and of no time."""
+        """It has the package's files and its own, uncompressed, and without times."""
         modules = {f"nanorand/{path.name}" for path in (ROOT / "python/nanorand").iterdir() if path.is_file()}
         own = {f"{self.folder}/{name}" for name in ("METADATA", "WHEEL", "LICENSE", "RECORD")}
         self.assertEqual(set(self.files), modules | own | {NATIVE})
@@ -49,7 +49,7 @@ class Wheel(unittest.TestCase):
         self.assertEqual(kinds, {((1980, 1, 1, 0, 0, 0), zipfile.ZIP_STORED)})
 
     def test_tags(self):
-        """It is for this Python, on every Linux of its processor."""
+        """It is for this Python version and every Linux on its processor."""
         python = "cp" + "".join(map(str, sys.version_info[:2]))
         self.assertEqual(self.tags, [python, python, "manylinux_2_17_x86_64"])
         said = email.message_from_bytes(self.of_itself("WHEEL"))
@@ -57,7 +57,7 @@ class Wheel(unittest.TestCase):
         self.assertEqual((said["Root-Is-Purelib"], said["Wheel-Version"]), ("false", "1.0"))
 
     def test_metadata(self):
-        """Its version, license and page are the package's, and so is the oldest Python."""
+        """Its version, license, description and oldest Python are the package's."""
         readme = (ROOT / "python/README.md").read_text(encoding="utf-8")
         self.assertEqual((self.metadata["Name"], self.metadata["Version"]), (self.name, self.version))
         header = (ROOT / "c/include/nanorand.h").read_text("ascii")

@@ -24,7 +24,7 @@ const FORMS = [
   { of: (line) => line, name: "" },
   { of: trimmed, name: "the spaces at its ends" },
   { of: (line) => line.normalize("NFC"), name: "how an accented letter is encoded" },
-  { of: (line) => line.toLowerCase().normalize("NFC"), name: "small and capital letters" },
+  { of: (line) => line.toLowerCase().normalize("NFC"), name: "upper and lower case" },
 ];
 
 /** The last form of each line, computed in one text, because a call for each line takes seconds. */

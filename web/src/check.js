@@ -18,7 +18,7 @@ const TITLES = {
     "Whether its list and its seed are those that were announced, only you can compare.",
   "other module": "The result agrees, but the record names another version or another module.",
   "differs": "The record differs from the draw repeated here.",
-  "no record": "This is no record of a draw.",
+  "no record": "This text is not a record of a draw.",
   "no list": "The record can be read. Open or paste its list above, and check again.",
 };
 
@@ -69,7 +69,7 @@ function otherMakers(record, { version, module, otherModule }) {
 /** Says so if the page's other module made the record, which is not an error. */
 function otherOfPage(record, { otherModule, words, otherWords }) {
   return record.module !== otherModule ? [] : [
-    `The record was made by this page's other module, ${otherWords}. Here runs the one ${words}.`,
+    `The record was made by this page's other module, ${otherWords}. This browser runs the one ${words}.`,
   ];
 }
 

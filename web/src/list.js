@@ -64,7 +64,7 @@ export function warningsOf(list) {
       "It belongs to the entrant, as all bytes do: the same list without it is another list.",
     found.spaces && `${counted(found.spaces, "begin or end", "begins or ends")} with a space or ` +
       `a tab, which belongs to the entrant: look at line ${found.firstSpaced}.`,
-    blank && `Line ${blank} is an entrant of spaces alone.`,
+    blank && `Line ${blank} is an entrant that consists only of spaces.`,
     ...alikeIn(lines, text !== null).map(alikeWords),
   ].filter(Boolean);
 }
@@ -75,7 +75,7 @@ function alikeWords({ name, count, line }) {
   return count && (name === ""
     ? `${equal}: look at line ${line}. Equal lines are separate entrants, each with its own ` +
       "chance."
-    : `${equal} but for ${name}: look at line ${line}. They are separate entrants.`);
+    : `${equal} except for ${name}: look at line ${line}. They are separate entrants.`);
 }
 
 /** Warnings about the bytes as a whole. @param {Uint8Array} list @returns {string[]} */
@@ -86,8 +86,8 @@ function marks(list) {
     marked && "The list begins with a byte order mark, which belongs to the first entrant.",
     list.includes(0) && "The list has bytes of value 0. It may be UTF-16, which the draw does " +
       "not read.",
-    textOf(list) === null && "The list is not UTF-8. The draw takes its bytes as they are; other " +
-      "bytes than letters are shown as \\x and two digits.",
+    textOf(list) === null && "The list is not UTF-8. The draw takes its bytes as they are. Bytes " +
+      "that are not visible ASCII are shown as \\x and two digits.",
     open && "The last line has no line feed. The same list with one has another SHA-256.",
   ];
 }

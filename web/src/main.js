@@ -21,11 +21,11 @@ const MOMENT = 500;
 const LARGE = 100000;
 
 /**
- * `file` holds the bytes of the opened file, or is null if the list is the text in the field;
- * `name` is what the page calls the file. `bytes` is the list itself. `sent` promises whether the
- * worker has the list. `pending` is the timer until a changed list is sent, `showing` the timer
- * until progress is shown. `turn` counts the changes of all fields and `listTurn` those of the
- * list: an answer to an earlier turn is not shown. `result` is the result of the draw that is
+ * `file` holds the bytes of the opened file or of a long paste, or is null if the list is the text
+ * in the field; `name` is what the page calls the file. `bytes` is the list itself. `sent` promises
+ * whether the worker has the list. `pending` is the timer until a changed list is sent, `showing`
+ * the timer until progress is shown. `turn` counts the changes of all fields, `listTurn` those of
+ * the list: an answer to an earlier turn is not shown. `result` is the result of the draw that is
  * shown, or null.
  */
 const state = {

@@ -10,11 +10,11 @@ const REFUSALS = {
   },
   "seed has half a character": {
     field: "seed",
-    words: () => "The seed has half of a character (a lone surrogate), which has no UTF-8.",
+    words: () => "The seed has half of a character (a lone surrogate), which UTF-8 cannot encode.",
   },
   "count is no number": {
     field: "count",
-    words: () => "The count must be the word all, or digits alone: no sign, no space, no comma.",
+    words: () => "The count must be the word all, or only digits: no sign, no space, no comma.",
   },
   "count is too large": {
     field: "count",
@@ -23,7 +23,7 @@ const REFUSALS = {
   "too few entrants": {
     field: "count",
     words: ({ entrants, count }) =>
-      `The list has ${entrants} entrants, and ${count} are asked for.`,
+      `Cannot draw ${count}: the list has only ${entrants}.`,
   },
   "line is empty": {
     field: "list",
@@ -32,7 +32,7 @@ const REFUSALS = {
   "list has half a character": {
     field: "list",
     words: ({ line }) =>
-      `Line ${line} has half of a character (a lone surrogate), which has no UTF-8.`,
+      `Line ${line} has half of a character (a lone surrogate), which UTF-8 cannot encode.`,
   },
   "list cannot be read": {
     field: "list",
@@ -40,11 +40,11 @@ const REFUSALS = {
   },
   "words were rejected": {
     field: "page",
-    words: () => "128 words in a row were rejected. Nothing is drawn. This was never seen.",
+    words: () => "128 words in a row were rejected. Nothing is drawn. This has never been observed.",
   },
   "no memory": {
     field: "page",
-    words: () => "The browser gives no memory for a list of this size.",
+    words: () => "The browser cannot allocate enough memory for a list of this size.",
   },
   "no WebAssembly": {
     field: "page",

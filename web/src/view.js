@@ -29,7 +29,7 @@ export function itemize(id, texts) {
 /** The fields that each kind of error can belong to. A list is a pasted text or a file. */
 const FIELDS = { seed: ["seed"], count: ["count"], list: ["list-text", "list-file"], page: [] };
 
-/** The one of these fields that is visible. @param {string} kind @returns {HTMLElement|undefined} */
+/** The visible one of these fields. @param {string} kind @returns {HTMLElement|undefined} */
 export function fieldOf(kind) {
   return FIELDS[kind].map(part).find((field) => field.getClientRects().length > 0);
 }
@@ -114,7 +114,7 @@ function withDigests(text) {
 const LIST_WORDS = {
   draw: {
     "list-heading": "1. Close the list",
-    "list-hint": "One entrant a line, no empty line. Publish the list with its SHA-256 before " +
+    "list-hint": "One entrant per line, no empty lines. Publish the list with its SHA-256 before " +
       "anybody knows the seed.",
     "digest-label": "SHA-256 to publish:",
   },

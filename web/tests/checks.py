@@ -17,7 +17,7 @@ TITLES = {
               "Whether its list and its seed are those that were announced, only you can compare.",
     "other module": "The result agrees, but the record names another version or another module.",
     "differs": "The record differs from the draw repeated here.",
-    "no record": "This is no record of a draw.",
+    "no record": "This text is not a record of a draw.",
     "no list": "The record can be read. Open or paste its list above, and check again.",
 }
 NAMES = ["seed", "list SHA-256", "entrants", "drawn", "version", "module SHA-256", "result SHA-256"]
@@ -62,7 +62,7 @@ def agreements(counts: Counts, page: Page, record: str, digests: Dict[int, str])
             "Another module:")
     second = record.replace(digests[64], digests[32])
     made = ("The record was made by this page's other module, for 32-bit memory: the same source, its proof erased. "
-            "Here runs the one for 64-bit memory, proved.")
+            "This browser runs the one for 64-bit memory, proved.")
     outcome(counts, page, "the page's other module", second, "agrees", made)
     outcome(counts, page, "it and another version", with_line(second, 6, "version: 1.0.1"), "other module",
             "Another version:", made)
@@ -98,7 +98,7 @@ def differences(counts: Counts, page: Page, record: str) -> None:
     outcome(counts, page, "two spaces", with_line(record, 10, "2: Jun  Ito"), "differs",
             "Line 2 of the result: the record says Jun  Ito, the draw gives Jun.")
     more = record.replace("drawn: 3", "drawn: 13") + "".join(f"{k}: x\n" for k in range(4, 14))
-    outcome(counts, page, "13 drawn of 12", more, "differs", "The list has 12 entrants, and 13 are asked for.")
+    outcome(counts, page, "13 drawn of 12", more, "differs", "Cannot draw 13: the list has only 12.")
     for name, text in (("another order", LIST.replace("Ada\nBarbara", "Barbara\nAda")),
                        ("no last line feed", LIST[:-1]), ("one more", LIST + "Max\n"),
                        ("a space", LIST.replace("Ada", "Ada "))):

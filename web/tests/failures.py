@@ -31,12 +31,12 @@ FIELDS = ("page", "list", "seed", "count")
 FAILED = "The module failed, and nothing is drawn: it stopped"
 # Errors that no input leads to, or that other tests lead to as well: the place where each is shown, and its text.
 REFUSALS: "Dict[str, Tuple[Dict[str, Any], str, str]]" = {
-    "no memory": ({}, "page", "The browser gives no memory for a list of this size."),
+    "no memory": ({}, "page", "The browser cannot allocate enough memory for a list of this size."),
     "the module failed": ({"reason": "it stopped"}, "page", FAILED),
     "words were rejected": (
-        {}, "page", "128 words in a row were rejected. Nothing is drawn. This was never seen."),
+        {}, "page", "128 words in a row were rejected. Nothing is drawn. This has never been observed."),
     "line is empty": ({"line": "7"}, "list", "Line 7 is empty. Each line of the list must have an entrant."),
-    "too few entrants": ({"entrants": 5, "count": "9"}, "count", "The list has 5 entrants, and 9 are asked for."),
+    "too few entrants": ({"entrants": 5, "count": "9"}, "count", "Cannot draw 9: the list has only 5."),
     "seed is empty": ({}, "seed", "The seed is empty. Type at least one character."),
 }
 # Runs before the worker's code. The first answer to each task but the start cannot be copied to the page.

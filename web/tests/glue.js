@@ -1,6 +1,6 @@
-// Watches the calls of module.js, whose code precedes this. Each pointer has to be in memory that the
-// module itself never uses, no two areas may overlap, and the module has to read what it was given.
-// Returns the number of calls, what is wrong, and the digests.
+// Watches the calls of module.js, whose code precedes this. Each pointer has to be in memory that
+// the module itself never uses, no two areas may overlap, and the module has to read what it was
+// given. Returns the number of calls, what is wrong, and the digests.
 
 const [code, bits] = arguments;
 const compiled = new WebAssembly.Module(

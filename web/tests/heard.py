@@ -11,13 +11,13 @@ STATUSES = {"draw": ["list-status", "progress-status", "heard"],
             "check": ["list-status", "outcome-status", "progress-status", "heard"]}
 # What the page says about the list in each tab: the heading, the hint, and the purpose of its SHA-256.
 LIST_WORDS = {
-    "draw": ["1. Close the list", "One entrant a line, no empty line. Publish the list with its SHA-256 before "
+    "draw": ["1. Close the list", "One entrant per line, no empty lines. Publish the list with its SHA-256 before "
              "anybody knows the seed.", "SHA-256 to publish:"],
     "check": ["The list", "The list that was published, as a file if there is one: each byte counts.",
               "SHA-256, to compare with the one that was published:"],
 }
 SPACED = "1 line begins or ends with a space or a tab, which belongs to the entrant: look at line 2."
-ALIKE = ("1 of the lines equals an earlier line but for the spaces at its ends: look at line 2. They are separate "
+ALIKE = ("1 of the lines equals an earlier line except for the spaces at its ends: look at line 2. They are separate "
          "entrants.")
 
 

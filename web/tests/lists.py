@@ -37,20 +37,20 @@ NFC, NFD = "Zo\u00eb", "Zoe\u0308"
 ONE = "1 of the lines equals an earlier line"
 SPACED = "1 line begins or ends with a space or a tab, which belongs to the entrant"
 ALIKE = {
-    "Ada\nada\n": ["1 of the lines equals an earlier line but for small and capital letters: look at line 2."],
-    "Ada\nMax\nADA\nmax\n": ["2 of the lines equal an earlier line but for small and capital letters: look at line 3."],
-    f"{NFC}\n{NFD}\n": [f"{ONE} but for how an accented letter is encoded: look at line 2."],
-    f"x\n{NFD}\n{NFC.upper()}\n": [f"{ONE} but for small and capital letters: look at line 3."],
-    "Ada\nAda \n": [f"{SPACED}: look at line 2.", f"{ONE} but for the spaces at its ends: look at line 2."],
+    "Ada\nada\n": ["1 of the lines equals an earlier line except for upper and lower case: look at line 2."],
+    "Ada\nMax\nADA\nmax\n": ["2 of the lines equal an earlier line except for upper and lower case: look at line 3."],
+    f"{NFC}\n{NFD}\n": [f"{ONE} except for how an accented letter is encoded: look at line 2."],
+    f"x\n{NFD}\n{NFC.upper()}\n": [f"{ONE} except for upper and lower case: look at line 3."],
+    "Ada\nAda \n": [f"{SPACED}: look at line 2.", f"{ONE} except for the spaces at its ends: look at line 2."],
     "\tada\nx\nAda\n": ["1 line begins or ends with a space",
-                        f"{ONE} but for small and capital letters: look at line 3."],
+                        f"{ONE} except for upper and lower case: look at line 3."],
     "a\nA\nb\nb\na\n": ["2 of the lines equal an earlier line: look at line 4.",
-                        f"{ONE} but for small and capital letters: look at line 2."],
-    "Ada\nAda\nada\n": [f"{ONE}: look at line 2. ", f"{ONE} but for small and capital letters: look at line 3."],
-    "Ada\nx\n \n": [f"{SPACED}: look at line 3.", "Line 3 is an entrant of spaces alone."],
+                        f"{ONE} except for upper and lower case: look at line 2."],
+    "Ada\nAda\nada\n": [f"{ONE}: look at line 2. ", f"{ONE} except for upper and lower case: look at line 3."],
+    "Ada\nx\n \n": [f"{SPACED}: look at line 3.", "Line 3 is an entrant that consists only of spaces."],
     "\t\nx\n  \n": ["2 lines begin or end with a space or a tab, which belongs to the entrant: look at line 1.",
-                    "Line 1 is an entrant of spaces alone.",
-                    "1 of the lines equals an earlier line but for the spaces at its ends: look at line 3."],
+                    "Line 1 is an entrant that consists only of spaces.",
+                    "1 of the lines equals an earlier line except for the spaces at its ends: look at line 3."],
     "Ada\nAdah\nA da\n\u0410da\n": [],
     "stra\u00dfe\nSTRASSE\n": [],
 }
@@ -207,7 +207,7 @@ def alike_bytes(counts: Counts, page: Page) -> None:
     for lines, begins in ((each, []), (each + each, ["128 of the lines equal an earlier line: look at line 129."]),
                           ([b"B\xe4n", b"B\xf6n", b"B\xef\xbf\xbdn"], []), ([b"\xe4", b"\xc4"], []),
                           ([b"\xe4 ", b"\xe4"],
-                           [f"{SPACED}: look at line 1.", f"{ONE} but for the spaces at its ends"])):
+                           [f"{SPACED}: look at line 1.", f"{ONE} except for the spaces at its ends"])):
         page.open_file(b"\n".join(lines))
         found = [one for one in page.facts()["warnings"] if "equal" in one or "space" in one]
         right = len(found) == len(begins) and all(one.startswith(begin) for one, begin in zip(found, begins))

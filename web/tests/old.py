@@ -21,7 +21,7 @@ WORDS = ("This browser cannot draw: it has no WebAssembly, or it is switched off
 FAILED = "The module failed, and nothing is drawn: TypeError: "
 MAKER = f"Version {VERSION}, module SHA-256 {{}}, for 32-bit memory: the same source, its proof erased"
 OTHER = ("The record was made by this page's other module, for 64-bit memory, proved. "
-         "Here runs the one for 32-bit memory: the same source, its proof erased.")
+         "This browser runs the one for 32-bit memory: the same source, its proof erased.")
 # Elements that are visible only once they are of use or have a text.
 LATER = """
 return ["tidy", "opened", "list-facts", "progress", "result", "check-step", "outcome", "maker"]

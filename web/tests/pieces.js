@@ -1,4 +1,5 @@
-// Tests scripts of the page, whose code precedes this. Returns the names of the cases, and what was found and expected.
+// Tests scripts of the page, whose code precedes this. Returns the names of the cases, and what was
+// found and expected.
 
 const cases = [];
 const same = (name, found, wanted) => cases.push([name, found, wanted]);
@@ -260,7 +261,7 @@ function failedChecks() {
   }
   const few = { ...record, drawn: 3, named: [utf8("Ada"), utf8("Bob"), utf8("Cid")] };
   same("more than there are", check(module, maker, list, writeRecord(few)).findings,
-    ["The list has 2 entrants, and 3 are asked for."]);
+    ["Cannot draw 3: the list has only 2."]);
 }
 
 /** An error that is not the record's, while the record is read, is not shown as an error of the record. */
@@ -279,7 +280,8 @@ function unreadRecords() {
     same(`a line that fails by ${error}`, outcomeOf({ split: () => ["", { replace: fail }] }), refusalOf(error));
   }
   same("a text that is no record", outcomeOf("a\n"), "no record");
-  // Browsers differ in how long a line a regular expression accepts. A line that is too long is not the record's error.
+  // Browsers differ in how long a line a regular expression accepts. A line that is too long is not
+  // the record's error.
   const record = writeRecord({ ...RECORD, named: ["Ada"].map(utf8) });
   same("a long line", outcomeOf(record.replace("Ada", "x".repeat(2e7))) === "no record", false);
 }
@@ -333,7 +335,7 @@ function endings() {
       for (const other of [[code, ...line], [...line, code], [code, code, ...line, code]]) {
         same(`${other} beside ${line}`, isTold([...line, 10, ...other, 10], "the spaces at its ends"), isSpace);
       }
-      same(`${code} alone, with ${line}`, isTold([...line, 10, code, 10], "Line 2 is an entrant of spaces"), isSpace);
+      same(`${code} alone, with ${line}`, isTold([...line, 10, code, 10], "Line 2 is an entrant that consists only of spaces"), isSpace);
     }
   }
 }

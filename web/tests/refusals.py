@@ -7,12 +7,12 @@ from page import Page
 
 INVALID = "return Array.from(document.querySelectorAll('[aria-invalid]'), (field) => field.id);"
 LETTERS = "a\nb\nc\nd\ne\nf\ng\nh\ni\nj\n"
-NO_NUMBER = "The count must be the word all, or digits alone: no sign, no space, no comma."
+NO_NUMBER = "The count must be the word all, or only digits: no sign, no space, no comma."
 TOO_LARGE = "The count is too large: at most 18446744073709551615."
 
 
 def too_few(entrants: int, count: str) -> str:
-    return f"The list has {entrants} entrants, and {count} are asked for."
+    return f"Cannot draw {count}: the list has only {entrants}."
 
 
 def empty(line: int) -> str:
@@ -20,7 +20,7 @@ def empty(line: int) -> str:
 
 
 def half(line: int) -> str:
-    return f"Line {line} has half of a character (a lone surrogate), which has no UTF-8."
+    return f"Line {line} has half of a character (a lone surrogate), which UTF-8 cannot encode."
 
 
 def refused(counts: Counts, page: Page, name: str, field: str, words: str) -> None:
@@ -60,7 +60,7 @@ def seeds_refused(counts: Counts, page: Page) -> None:
     page.paste(LETTERS)
     page.fill("", "all")
     refused(counts, page, "an empty seed", "seed", "The seed is empty. Type at least one character.")
-    words = "The seed has half of a character (a lone surrogate), which has no UTF-8."
+    words = "The seed has half of a character (a lone surrogate), which UTF-8 cannot encode."
     for number, seed in enumerate(('"\\ud83d"', '"a\\ude00b"', '"\\ude00\\ud83d"')):
         page.browser.run("""document.getElementById("seed").value = JSON.parse(arguments[0]);
             document.getElementById("seed").dispatchEvent(new Event("input"));""", seed)

@@ -1,5 +1,5 @@
-//! A client that names all that nanorand 0.7.0 makes public. It is compiled with 0.7.0 and with this crate, for several
-//! sets of features, and as a program without std.
+//! A client that names everything that is public in nanorand 0.7.0. It is compiled with 0.7.0 and
+//! with this crate, for several sets of features, and as a program without std.
 #![no_std]
 
 #[cfg(feature = "std")]
@@ -44,7 +44,7 @@ pub fn calls<R: Rng<OUTPUT>, const OUTPUT: usize>(rng: &mut R) -> [u8; OUTPUT] {
     rng.clone().rand()
 }
 
-/// A value of a user.
+/// A user's own value type.
 pub struct Pips(pub u8);
 
 impl<R: rand::Rng<OUTPUT>, const OUTPUT: usize> gen::RandomGen<R, OUTPUT> for Pips {
@@ -62,7 +62,7 @@ impl<R: rand::Rng<OUTPUT>, const OUTPUT: usize> gen::RandomRange<R, OUTPUT> for 
     }
 }
 
-/// A generator of a user, with a fill of its own.
+/// A user's own generator, with its own `fill_bytes`.
 #[derive(Clone)]
 pub struct Counter(pub u8);
 
@@ -83,7 +83,7 @@ impl SeedableRng<1, 3> for Counter {
     }
 }
 
-/// What each generator of the crate is and can.
+/// The traits and methods of each generator of the crate.
 pub fn of_the_crate<R, const SEED: usize, const OUTPUT: usize>(mut rng: R) -> [u8; OUTPUT]
 where
     R: SeedableRng<SEED, OUTPUT> + rand::SeedableRng<SEED, OUTPUT> + Default,

@@ -1,4 +1,4 @@
-//! Deals two hands of five cards from a deck: only as many cards are shuffled as are dealt.
+//! Deals two hands of five cards from a deck. It shuffles only as many cards as it deals.
 
 use nanorand_proved::shuffles::partial_shuffle;
 use nanorand_proved::{RangeError, WyRand};

@@ -1,4 +1,4 @@
-//! Throws a die ten times. Equal seeds give equal throws, on every machine.
+//! Throws a die ten times. The same seed gives the same throws on every machine.
 
 use nanorand_proved::{RangeError, Rng, WyRand};
 

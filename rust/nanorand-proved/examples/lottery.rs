@@ -1,4 +1,4 @@
-//! Six different numbers of 49. The sample is a set: sorted, it says nothing of the order of the draws.
+//! Draws six different numbers from 1 to 49. They are a set, so they are sorted: the order of a sample is not random.
 
 use nanorand_proved::samples::sample;
 use nanorand_proved::{Pcg64, RangeError};

@@ -1,5 +1,4 @@
-//! Pi by lattice points: of the points of a square, those in the quarter circle are counted, in whole
-//! numbers alone.
+//! Estimates pi: draws points of a square, and counts those in the quarter circle. It uses only integers.
 
 use nanorand_proved::{Rng, WyRand};
 

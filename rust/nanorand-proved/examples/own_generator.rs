@@ -1,8 +1,8 @@
-//! A generator of one's own: `rand` is all that it has to write.
+//! A generator of your own: you write only `rand`.
 
 use nanorand_proved::{BufferedRng, RangeError, Rng};
 
-/// Marsaglia's xorshift with the shifts 13, 7 and 17; the state is never 0.
+/// Marsaglia's xorshift with the shifts 13, 7 and 17. The state must not be 0.
 #[derive(Clone)]
 struct XorShift(u64);
 

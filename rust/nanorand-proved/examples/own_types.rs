@@ -1,4 +1,4 @@
-//! Types of one's own: a value, which `generate` and `fill` draw, and one that has ranges too.
+//! Types of your own: one that `generate` and `fill` can draw, and one that also has ranges.
 
 use nanorand_proved::{ChaCha12Stream, RandomGen, RandomRange, RangeError, Rng, WyRand};
 use std::ops::Bound::{self, Excluded, Included, Unbounded};

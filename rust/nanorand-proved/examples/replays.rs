@@ -1,8 +1,8 @@
-//! A run is repeated from a clone that was made before it, and from its seed.
+//! Repeats a run from a clone that was made before it, and from its seed.
 
 use nanorand_proved::{RangeError, Rng, WyRand};
 
-/// A game of ten rounds: each player throws two dice, and the higher sum has the round.
+/// A game of ten rounds: each player throws two dice, and the higher sum wins the round.
 fn play(rng: &mut WyRand) -> Result<[u32; 2], RangeError> {
     let mut won = [0; 2];
     for _ in 0..10 {

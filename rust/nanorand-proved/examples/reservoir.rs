@@ -1,5 +1,5 @@
-//! A sample of lines that can be read only once, of unknown number: each line is in the sample with the
-//! same probability.
+//! Samples lines that can be read only once and whose number is unknown. Each line is in the sample with the same
+//! probability.
 
 use nanorand_proved::samples::reservoir;
 use nanorand_proved::{RangeError, WyRand};

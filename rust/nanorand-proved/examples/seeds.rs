@@ -1,5 +1,5 @@
-//! Seeds from a reader, as a file, a socket or bytes that a test gives, from a generator, and from the operating
-//! system. An error is never zeros.
+//! Seeds from a reader (a file, a socket, or bytes that a test provides), from a generator, and from the operating
+//! system. If a seed cannot be read, the result is an error, never a seed of zeros.
 
 use nanorand_proved::entropy::EntropyError;
 use nanorand_proved::{BufferedRng, ChaCha20Stream, ChaCha8, Pcg64, Rng, WyRand};

@@ -1,4 +1,4 @@
-//! Generators are stored as numbers and bytes, and go on as if nothing had happened.
+//! Stores generators as numbers and bytes. The restored generators continue where the stored ones stopped.
 
 use nanorand_proved::{BufferedRng, ChaCha20, Pcg64, Rng, WyRand};
 use std::error::Error;

@@ -1,5 +1,5 @@
-//! A generator for each thread, lent by a function as `tls_rng` of the crate `nanorand` 0.7.0 lends it. The system
-//! seeds it at the thread's first draw.
+//! A generator for each thread, which a function lends, as `tls_rng` of the crate `nanorand` 0.7.0 does. The operating
+//! system seeds it at the first draw of the thread.
 
 use nanorand_proved::{Rng, WyRand};
 use std::cell::RefCell;

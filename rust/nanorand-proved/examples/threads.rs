@@ -1,5 +1,5 @@
-//! Generators of threads: one stream in parts that do not overlap, one for each thread, and one generator behind a lock,
-//! whose seed is a constant.
+//! Generators for threads: one stream is divided into parts that do not overlap, one for each thread. Another
+//! generator, whose seed is a constant, is shared behind a lock.
 
 use nanorand_proved::{Parts, Pcg64, Rng, WyRand};
 use std::sync::Mutex;

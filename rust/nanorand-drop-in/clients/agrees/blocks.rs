@@ -12,7 +12,8 @@ macro_rules! check_blocks {
     )+ };
 }
 
-/// Any even number of rounds gives the same block, and the counters are the same but for the carry that 0.7.0 loses.
+/// With any even number of rounds the block is the same, and so is the counter, except for the
+/// carry that 0.7.0 loses.
 #[test]
 fn blocks_and_counters() {
     let mut choices = WyRand::new_seed(9);
@@ -36,7 +37,7 @@ fn blocks_and_counters() {
     assert!(carries > 0);
 }
 
-/// An odd number of rounds compiles, and the first block panics in both crates.
+/// An odd number of rounds compiles, and the first block panics, in both crates.
 #[test]
 fn odd_rounds() {
     quiet();

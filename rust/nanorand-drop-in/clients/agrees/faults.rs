@@ -1,4 +1,4 @@
-//! Ranges, and the calls in which nanorand 0.7.0 does otherwise than it documents.
+//! Ranges, and the calls for which nanorand 0.7.0 does not do what it documents.
 
 use crate::own::State;
 use crate::pair::{below, of_types, Pair};
@@ -12,20 +12,20 @@ use std::panic::{self, AssertUnwindSafe};
 /// A listed fault of nanorand 0.7.0.
 #[derive(Clone, Copy, Debug, PartialEq, Eq, PartialOrd, Ord)]
 pub enum Fault {
-    /// A range without a number returns one.
+    /// An empty range returns a number.
     EmptyRange,
-    /// A range of several unsigned numbers never gives the type's greatest.
+    /// A range of several unsigned numbers never returns the type's maximum.
     UnsignedWithoutMax,
     /// A signed range is one too low.
     SignedTooLow,
-    /// A signed range from the least number may give the greatest.
+    /// A signed range from the minimum may return the maximum.
     SignedFromMin,
-    /// A signed range to the greatest number lacks one.
+    /// A signed range up to the maximum lacks one number.
     SignedToMax,
 }
 
 impl Fault {
-    /// Whether the call draws as many words as it should, so that the calls after it are not moved.
+    /// Whether the call draws as many words as it should, so that later calls draw the same words.
     fn keeps_the_stream(self) -> bool {
         matches!(self, Self::SignedTooLow | Self::SignedFromMin)
     }
@@ -39,14 +39,14 @@ pub trait Number: Copy + PartialEq + Debug {
     const LEAST: Self;
     const GREATEST: Self;
     fn wide(self) -> i128;
-    /// The number so many further on, modulo the type.
+    /// The number plus `count`, modulo the type's size.
     fn plus(self, count: i128) -> Self;
     fn any(choices: &mut WyRand) -> Self;
 }
 
 macro_rules! numbers {
     ($($number:ty),+) => { $(
-        // All casts are meant modulo the type.
+        // All casts are meant to wrap.
         #[allow(clippy::cast_lossless, clippy::cast_possible_truncation, clippy::cast_sign_loss)]
         impl Number for $number {
             const LEAST: Self = <$number>::MIN;
@@ -73,7 +73,7 @@ thread_local! {
     static EXPECTED: Cell<bool> = const { Cell::new(false) };
 }
 
-/// The result, or nothing if the call panics. Other panics than these are shown.
+/// The result, or `None` if the call panics. Other panics are printed.
 pub fn caught<T>(call: impl FnOnce() -> T) -> Option<T> {
     EXPECTED.with(|expected| expected.set(true));
     let result = panic::catch_unwind(AssertUnwindSafe(call)).ok();
@@ -81,7 +81,7 @@ pub fn caught<T>(call: impl FnOnce() -> T) -> Option<T> {
     result
 }
 
-/// Has the panics of `caught` not be printed.
+/// Suppresses the messages of panics in `caught`.
 pub fn quiet() {
     let shown = panic::take_hook();
     panic::set_hook(Box::new(move |panic| {
@@ -91,7 +91,7 @@ pub fn quiet() {
     }));
 }
 
-/// A bound near an end of the type, near 0 or near `other`, or any.
+/// A bound near an end of the type, near 0, near `other`, or anywhere.
 fn bound<T: Number>(choices: &mut WyRand, other: T) -> Bound<T> {
     let near = i128::from(choices.generate::<u8>() % 8) - 4;
     let number = match below(choices, 6) {
@@ -108,7 +108,7 @@ fn bound<T: Number>(choices: &mut WyRand, other: T) -> Bound<T> {
     }
 }
 
-/// The first and the last number of a range, which is empty if the last is less.
+/// The first and the last number of a range. It is empty if the last is less than the first.
 fn ends<T: Number>(low: Bound<T>, high: Bound<T>) -> (i128, i128) {
     let first = match low {
         Bound::Included(low) => low.wide(),
@@ -123,7 +123,7 @@ fn ends<T: Number>(low: Bound<T>, high: Bound<T>) -> (i128, i128) {
     (first, last)
 }
 
-/// Which fault the call has, by its bounds alone.
+/// The fault of a call, which depends only on the bounds.
 fn fault_of<T: Number>(first: i128, last: i128) -> Option<Fault> {
     let signed = T::LEAST.wide() < 0;
     let to_max = last == T::GREATEST.wide();
@@ -179,7 +179,8 @@ where
         }
     }
 
-    /// The number of this crate, which is the right one. An empty range has none, and draws nothing.
+    /// The number that this crate draws, which is the right one. An empty range has none, and draws
+    /// nothing.
     fn right_number<T>(&mut self, range: (Bound<T>, Bound<T>), first: i128, last: i128) -> Option<T>
     where
         T: Number + new::RandomRange<New, OUTPUT> + old::RandomRange<Old, OUTPUT>,
@@ -195,8 +196,8 @@ where
         drawn
     }
 
-    /// The number that the old crate draws from a range of as many numbers in which it has no fault, moved to the
-    /// range. A range of the whole type has the words themselves.
+    /// The number that the old crate draws from a range of the same size in which it has no fault,
+    /// shifted to this range. A range of the whole type returns the words themselves.
     fn right<T>(&mut self, first: i128, last: i128) -> T
     where
         T: Number + old::RandomRange<Old, OUTPUT>,

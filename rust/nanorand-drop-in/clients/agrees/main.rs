@@ -1,7 +1,9 @@
-//! Compares this crate with nanorand 0.7.0 by ten million random calls, of the same generators in the same states.
+//! Compares this crate with nanorand 0.7.0, by ten million random calls of the same generators in
+//! the same states.
 //!
-//! Results and states are the same, but for the calls that have a listed fault of 0.7.0. Whether a call has one is
-//! told by the call alone; what is right then comes from calls of 0.7.0 that have none, and each fault is met.
+//! Results and states are the same, except for calls that have a listed fault of 0.7.0. Whether a
+//! call has one depends only on the call. The right result is then found with calls of 0.7.0 that
+//! have none. Each fault has to occur.
 
 mod blocks;
 mod faults;
@@ -16,7 +18,7 @@ use pair::Pair;
 const SEEDS: u64 = 36;
 const CALLS: usize = 20_000;
 
-/// Compares a generator alone and behind a buffer.
+/// Compares a generator, alone and in a buffer.
 fn check<New, Old, const SEED: usize, const OUTPUT: usize>(
     pair: Pair<New, Old, SEED, OUTPUT>,
     choices: &mut WyRand,
@@ -44,7 +46,7 @@ macro_rules! check_all {
     })+ };
 }
 
-/// No width, precision or flag changes what a generator displays, which names its address.
+/// No width, precision or flag changes the `Display` text of a generator, which has its address.
 fn displays_plainly(generator: &impl std::fmt::Display) {
     let plain = generator.to_string();
     for text in [
@@ -71,7 +73,8 @@ fn displays() {
     displays_plainly(&old::ChaCha20::new_key([1; 32], [1; 8]));
 }
 
-/// What generators show of seeds whose halves, bytes or bits are zeros or ones, before a draw and after it.
+/// The texts of generators with seeds whose halves, bytes or bits are zeros or ones, before and
+/// after a draw.
 #[test]
 fn texts_of_plain_seeds() {
     for bit in 0..128 {
@@ -121,7 +124,7 @@ fn ten_million_calls() {
     assert_eq!(faults.len(), 5, "each fault is met");
 }
 
-/// 0.7.0 draws as long as the words are rejected.
+/// 0.7.0 draws without limit as long as words are rejected.
 #[test]
 fn words_without_end() {
     quiet();

@@ -1,8 +1,8 @@
-//! A generator of a user, and the states of all generators as texts.
+//! A user's own generator, and the states of all generators as texts.
 
 use std::fmt::Debug;
 
-/// Blocks of 5 bytes, which no number fills evenly. While `stuck` is left the blocks are zeros.
+/// Blocks of 5 bytes, of which no number type is a multiple. The next `stuck` blocks are zeros.
 #[derive(Clone, Debug)]
 pub struct Own {
     pub seed: u64,

@@ -1,4 +1,4 @@
-//! One generator in both crates, and random calls of it.
+//! A generator in both crates, and random calls of it.
 
 use crate::faults::Faults;
 use crate::own::State;
@@ -108,7 +108,7 @@ where
         self.old.reseed(seed);
     }
 
-    /// This pair behind buffers.
+    /// This pair in buffers.
     pub fn buffered(self) -> Buffered<New, Old, SEED, OUTPUT> {
         Pair {
             new: new::BufferedRng::new(self.new),
