@@ -4,7 +4,7 @@
 //! The same seed always produces the same stream, on every machine. The function bodies are
 //! compared with those of `nanorand` in Rattle, which is Rust with contracts that a prover checks.
 //! The crate's README says what is proved, what is hand-written and what is trusted. Names and
-//! paths are those of the Rust crate `nanorand` 0.7.0.
+//! paths are close to those of the Rust crate `nanorand` 0.7.0.
 //!
 //! **`WyRand` and `Pcg64` are not cryptographically secure.** Never use them to generate a key, a
 //! token or a password. `ChaCha` and its streams are not vetted cryptographic generators either:
