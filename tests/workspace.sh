@@ -48,12 +48,25 @@ has_a_page() {
     cmp "$library/LICENSE" "rust/$1/LICENSE" && grep -qF "cargo install --git URL $1" "rust/$1/README.md"
 }
 
-# The compiler gives a hint if a value is asked for of a type that implements no random values.
+# The compiler hints at the right way where a program asks for what a type does not have.
 hints_at_mistakes() {
+    local hint code said missing=0
     cargo build --quiet --offline -p nanorand-proved
-    grep -qF 'cannot be drawn' <<<"$(rustc --edition 2021 --crate-type lib --emit metadata \
-        --out-dir target/hints --extern nanorand_proved=target/debug/libnanorand_proved.rlib - 2>&1 \
-        <<<'pub fn f(rng: &mut nanorand_proved::WyRand) -> &str { nanorand_proved::Rng::generate(rng) }')"
+    while IFS='|' read -r hint code; do
+        said=$(rustc --edition 2021 --crate-type lib --emit metadata --out-dir target/hints - \
+            --extern nanorand_proved=target/debug/libnanorand_proved.rlib 2>&1 \
+            <<<"use nanorand_proved::*; pub fn f(rng: &mut WyRand) { $code }")
+        grep -qF "$hint" <<<"$said" || { echo "no hint: $hint"; missing=1; }
+    done <<'END'
+values of the type `&str` cannot be drawn|let _: &str = rng.generate();
+for a type of your own, implement `RandomGen`|struct Card; let _: Card = rng.generate();
+draw its items: `rng.generate_iter().take(n).collect()`|let _: Vec<u8> = rng.generate();
+`String` has no ranges|let _ = rng.range(String::new()..);
+for a type of your own, implement `RandomRange`|#[derive(Clone)] struct Card; let _ = rng.range(Card..);
+`R: AnyRng` takes a generator with blocks of any size|fn g<R: Rng>(_: R) {} g(ChaCha20Stream::seed_from_u64(1));
+an `Rng` of your own is lent by `rng.as_any()`|struct Own; fn g<R: AnyRng>(_: R) {} g(Own);
+END
+    return "$missing"
 }
 
 # Links a program without std with the library without its feature std. If std were linked, its panic handler would be a
