@@ -12,6 +12,7 @@ fn main() -> Result<(), Box<dyn std::error::Error>> {
     assert_eq!(Pcg64::new(&mut source), Err(EntropyError::Short));
 
     let mut seeds = BufferedRng::new(rng);
+    // Plain ChaCha8 reads keys; for numbers, take a stream of each key.
     let (first, second) = (ChaCha8::new(&mut seeds)?, ChaCha8::new(&mut seeds)?);
     assert_ne!(first.key(), second.key());
 

@@ -1,6 +1,6 @@
 //! Stores generators as numbers and bytes. The restored generators continue where the stored ones stopped.
 
-use nanorand_proved::{BufferedRng, ChaCha20, Pcg64, Rng, WyRand};
+use nanorand_proved::{BufferedRng, ChaCha20, ChaCha20Stream, Pcg64, Rng, WyRand};
 use std::error::Error;
 
 fn main() -> Result<(), Box<dyn Error>> {
@@ -14,6 +14,14 @@ fn main() -> Result<(), Box<dyn Error>> {
     let saved: u128 = pcg64.seed();
     assert_eq!(Pcg64::new_seed(saved).next_u64(), pcg64.next_u64());
 
+    let mut stream = ChaCha20Stream::new_key([1; 32], [2; 8]);
+    let _ = stream.generate::<u64>();
+    let byte: u128 = stream.position();
+    let mut restored = ChaCha20Stream::new_key([1; 32], [2; 8]);
+    restored.seek(byte);
+    assert_eq!(restored.next_u64(), stream.next_u64());
+
+    // A plain ChaCha20 computes a whole block for this number. A stream takes 8 of its 64 bytes.
     let mut chacha = ChaCha20::new_key([1; 32], [2; 8]);
     let _ = chacha.generate::<u64>();
     let (key, nonce, counter) = (chacha.key(), chacha.nonce(), chacha.counter());
