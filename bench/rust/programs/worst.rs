@@ -105,6 +105,23 @@ fn print_contexts(work: &[&Times]) {
     );
 }
 
+// The first context of each work: our time, that of the old crate, and each peer's, with our ratio
+// to it.
+fn print_peers(work: &[&Times]) {
+    let row = work[0];
+    let peers = row
+        .peers
+        .iter()
+        .map(|(name, time)| format!("`{name}` {time:.1} ({:.2})", row.here / time));
+    println!(
+        "| {} | {:.1} | {:.1} | {} |",
+        work_and_context(row).0,
+        row.here,
+        row.original,
+        peers.collect::<Vec<_>>().join(", ")
+    );
+}
+
 /// Prints the tables for the builds whose times are in the files.
 pub fn print(paths: impl Iterator<Item = String>) -> Result<(), Box<dyn Error>> {
     let least = least_of(paths)?;
@@ -127,6 +144,17 @@ pub fn print(paths: impl Iterator<Item = String>) -> Result<(), Box<dyn Error>> 
     println!("|---|---|---|---|---|---|---|---|");
     for work in &works {
         print_contexts(work);
+    }
+    println!();
+    println!(
+        "Each peer, with the generator in a {} variable, and our time divided by its own:",
+        BOUNDED[0]
+    );
+    println!();
+    println!("| Work | nanorand-proved | nanorand 0.7.0 | peers |");
+    println!("|---|---|---|---|");
+    for work in &works {
+        print_peers(work);
     }
     Ok(())
 }
