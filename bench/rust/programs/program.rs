@@ -156,6 +156,7 @@ macro_rules! rows {
             "`u64` below 1000": draws Below<u64>(1000, 1000);
             "`usize` below 10": draws Below<usize>(1000, 10);
             "`i32` of -50..=50": draws Within<>(1000, 0);
+            "die: `i32` of 1..=6": draws Die<>(1000, 0);
             "shuffle of 10 `u64`": wholes Shuffle<u64>(10);
             "shuffle of 52 `u8`": wholes Shuffle<u8>(52);
             "shuffle of 1000 `u64`": wholes Shuffle<u64>(1000);

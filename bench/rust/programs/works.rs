@@ -32,6 +32,9 @@ pub struct Below<L, T>(PhantomData<(L, T)>);
 /// A number from -50 to 50. The bounds are known at compile time.
 pub struct Within<L>(PhantomData<L>);
 
+/// A die: a number from 1 to 6 of `i32`, the type of a range of literals.
+pub struct Die<L>(PhantomData<L>);
+
 /// A shuffle of the items.
 pub struct Shuffle<L, T>(PhantomData<(L, T)>);
 
@@ -90,6 +93,15 @@ mod here {
         #[inline(always)]
         fn draw(rng: &mut R, _: i32) -> i32 {
             drawn(rng.generate_range(-50..=50))
+        }
+    }
+
+    impl<R: Rng<8>> Draw<R> for Die<Here> {
+        type Item = i32;
+
+        #[inline(always)]
+        fn draw(rng: &mut R, _: i32) -> i32 {
+            drawn(rng.generate_range(1..=6))
         }
     }
 
@@ -153,6 +165,15 @@ mod original {
         #[inline(always)]
         fn draw(rng: &mut R, _: i32) -> i32 {
             rng.generate_range(-50..=50)
+        }
+    }
+
+    impl<R: Rng<8>> Draw<R> for Die<Original> {
+        type Item = i32;
+
+        #[inline(always)]
+        fn draw(rng: &mut R, _: i32) -> i32 {
+            rng.generate_range(1..=6)
         }
     }
 
@@ -222,6 +243,15 @@ mod by_rand {
         #[inline(always)]
         fn draw(rng: &mut R, _: i32) -> i32 {
             rng.gen_range(-50..=50)
+        }
+    }
+
+    impl<R: Rng> Draw<R> for Die<Rand> {
+        type Item = i32;
+
+        #[inline(always)]
+        fn draw(rng: &mut R, _: i32) -> i32 {
+            rng.gen_range(1..=6)
         }
     }
 
@@ -300,6 +330,15 @@ mod by_fastrand {
         #[inline(always)]
         fn draw(rng: &mut Rng, _: i32) -> i32 {
             rng.i32(-50..=50)
+        }
+    }
+
+    impl Draw<Rng> for Die<Fast> {
+        type Item = i32;
+
+        #[inline(always)]
+        fn draw(rng: &mut Rng, _: i32) -> i32 {
+            rng.i32(1..=6)
         }
     }
 

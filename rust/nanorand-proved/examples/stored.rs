@@ -16,8 +16,8 @@ fn main() -> Result<(), Box<dyn Error>> {
 
     let mut stream = ChaCha20Stream::new_key([1; 32], [2; 8]);
     let _ = stream.generate::<u64>();
-    let byte: u128 = stream.position();
-    let mut restored = ChaCha20Stream::new_key([1; 32], [2; 8]);
+    let (key, nonce, byte) = (stream.key(), stream.nonce(), stream.position());
+    let mut restored = ChaCha20Stream::new_key(key, nonce);
     restored.seek(byte);
     assert_eq!(restored.next_u64(), stream.next_u64());
 

@@ -21,6 +21,7 @@ mod wide_numbers;
 mod wrappers;
 
 pub use any::{AnyRng, Lent};
+pub use dyn_calls::{AnyRange, AnyValue};
 pub use iterator::GenerateIter;
 pub(crate) use panics::{refused, refused_for, refused_range};
 pub(crate) use samples::table;

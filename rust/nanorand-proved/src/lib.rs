@@ -224,7 +224,7 @@ struct DoesNotCompile;
 struct Readme;
 
 pub use buffer::BufferedRng;
-pub use layer::{AnyRng, GenerateIter, Lent};
+pub use layer::{AnyRange, AnyRng, AnyValue, GenerateIter, Lent};
 pub use parts::{Parts, PastPeriod};
 pub use rand::{
     chacha_stream, chacha_stream_at, ChaCha12Stream, ChaCha20Stream, ChaCha8Stream, ChaChaGroups,

@@ -25,6 +25,10 @@ impl std::error::Error for PastPeriod {}
 /// next `draws` draws, and so on. What a task draws depends only on the stream, the length and the
 /// index of its part, so tasks may run in any order, on any machine, and more than once.
 ///
+/// Choose an odd length that no task exceeds: draws whose distance is divisible by a large power of
+/// two are correlated. A method that rejects points, such as a polar method for normal numbers, has
+/// no fixed number of draws, so leave ample room. The repository's `docs/SCALE.md` has the details.
+///
 /// The following is proved for the source of this crate's generators, and must be ensured by an
 /// implementation of your own:
 ///

@@ -70,9 +70,9 @@ pub use wyrand::WyRand;
 /// - `fn f(rng: &mut dyn AnyRng)`: a trait object, which has all calls of this trait. There is no
 ///   `dyn Rng`, since these methods are generic. See [`AnyRng`](crate::AnyRng).
 /// - `struct Game<R> {..}` and `impl<R: AnyRng> Game<R>`: generic without a block size. The calls
-///   are those of `self.rng.rng()`.
-/// - `fn f<R: Rng<OUTPUT>, const OUTPUT: usize>(rng: &mut R)`: generic with the block size, which
-///   is the fastest.
+///   are those of `self.rng.rng()`, which are compiled for the generator.
+/// - `fn f<R: Rng<OUTPUT>, const OUTPUT: usize>(rng: &mut R)`: generic with the block size. A
+///   struct then needs it as a parameter too: `struct Game<R, const OUTPUT: usize>`.
 ///
 /// `R: Rng` alone means `R: Rng<8>`: it takes `WyRand` and `Pcg64`, but no ChaCha stream. `&mut R`
 /// is a generator too, so pass a generator by reference where one is expected.
@@ -80,7 +80,7 @@ pub use wyrand::WyRand;
     diagnostic_hints,
     diagnostic::on_unimplemented(
         message = "`{Self}` is not a generator with blocks of {OUTPUT} bytes",
-        note = "`R: Rng` alone is `R: Rng<8>`; `R: AnyRng` takes a generator with blocks of any size"
+        note = "`R: Rng` alone is `R: Rng<8>`; `R: AnyRng` takes any generator: call `rng.rng().range(1..=6)`"
     )
 )]
 pub trait Rng<const OUTPUT: usize = 8>: Sized {
@@ -96,6 +96,7 @@ pub trait Rng<const OUTPUT: usize = 8>: Sized {
     /// Draws a value of the type `T`. [`RandomGen`] lists the types, and what each takes from the
     /// stream.
     #[inline(always)]
+    #[doc(alias = "gen", alias = "random")]
     fn generate<T: RandomGen<Self, OUTPUT>>(&mut self) -> T {
         T::random(self)
     }
@@ -125,6 +126,7 @@ pub trait Rng<const OUTPUT: usize = 8>: Sized {
     /// The types of this library return `Empty` if the range is empty; nothing is drawn then. They
     /// return `Exhausted` if 128 words in a row were rejected; they stay consumed.
     #[inline(always)]
+    #[doc(alias = "gen_range", alias = "random_range")]
     fn generate_range<T: RandomRange<Self, OUTPUT> + Clone>(
         &mut self,
         range: impl RangeBounds<T>,
@@ -182,11 +184,24 @@ pub trait Rng<const OUTPUT: usize = 8>: Sized {
     /// Returns `Exhausted` if 128 words in a row were rejected for one index. The swaps before that
     /// stay, and the words stay consumed. If `count` is 0 or the slice is empty, nothing is drawn.
     #[inline]
+    #[doc(alias = "choose_multiple")]
     fn partial_shuffle<T>(&mut self, items: &mut [T], count: usize) -> Result<(), RangeError> {
         shuffles::partial_shuffle(self, items, count)
     }
 
     /// Chooses an item of the slice. Each item is chosen by the same number of words.
+    ///
+    /// If the items are references, such as `&str`, and the compiler expects one as the result,
+    /// give their type: `rng.choose::<&str>(&names)`.
+    ///
+    /// ```
+    /// use nanorand_proved::{Rng, WyRand};
+    ///
+    /// fn colour(rng: &mut WyRand) -> &'static str {
+    ///     rng.choose_or_panic::<&str>(&["red", "green", "blue"])
+    /// }
+    /// # let _ = colour(&mut WyRand::seed_from_u64(42));
+    /// ```
     ///
     /// # Errors
     ///
@@ -217,6 +232,7 @@ pub trait Rng<const OUTPUT: usize = 8>: Sized {
     /// 2^64 or more, and `Exhausted` if 128 words in a row were rejected. After `Exhausted` the 128
     /// words stay consumed. After any other error nothing was drawn.
     #[inline]
+    #[doc(alias = "WeightedIndex")]
     fn choose_weighted(&mut self, weights: &[u64]) -> Result<usize, WeightError> {
         choices::choose_weighted(self, weights)
     }
@@ -229,6 +245,7 @@ pub trait Rng<const OUTPUT: usize = 8>: Sized {
     /// Returns `Empty` if `denominator` is 0; nothing is drawn then. Returns `Exhausted` if 128
     /// words in a row were rejected; they stay consumed.
     #[inline]
+    #[doc(alias = "gen_ratio", alias = "random_ratio")]
     fn ratio(&mut self, numerator: u64, denominator: u64) -> Result<bool, RangeError> {
         choices::ratio(self, numerator, denominator)
     }
@@ -250,6 +267,7 @@ pub trait Rng<const OUTPUT: usize = 8>: Sized {
     ///
     /// Panics if there are more than `count` slots.
     #[inline]
+    #[doc(alias = "choose_multiple")]
     fn sample(&mut self, count: usize, places: &mut [usize]) -> Result<(), RangeError> {
         samples::sample(self, count, places)
     }
@@ -408,6 +426,7 @@ pub trait Rng<const OUTPUT: usize = 8>: Sized {
     /// Panics if `p` is less than 0, greater than 1, or NaN; nothing is drawn then.
     #[inline]
     #[track_caller]
+    #[doc(alias = "random_bool")]
     fn gen_bool(&mut self, p: f64) -> bool {
         const WORDS: f64 = 18_446_744_073_709_551_616.0; // 2^64
         assert!((0.0..=1.0).contains(&p), "`p` must be from 0 to 1, not {p}");

@@ -9,7 +9,8 @@ use crate::rand::{ChaCha, ChaChaGroups, Pcg64, Rng, WyRand};
 ///
 /// `dyn AnyRng` has all calls of [`Rng`] itself. For a type parameter `R: AnyRng`,
 /// [`rng`](Self::rng) borrows the generator as a `dyn AnyRng`. These calls draw the same values as
-/// those of the generator.
+/// those of the generator. A `Box<dyn AnyRng>` has all calls too; for a `Box<dyn AnyRng + Send>`
+/// call `rng()` first.
 ///
 /// ```
 /// use nanorand_proved::{AnyRng, ChaCha20Stream, RangeError, Rng, WyRand};

@@ -7,6 +7,29 @@ use crate::rand::Rng;
 use crate::values::{RandomGen, RandomRange, RangeError};
 use core::ops::RangeBounds;
 
+/// A type whose values a `dyn AnyRng` draws: each [`RandomGen`] type of this library, and each of a
+/// program that implements it for all generators. Use it as the bound of a type parameter:
+///
+/// ```
+/// use nanorand_proved::{AnyRng, AnyValue, WyRand};
+///
+/// fn pair<T: AnyValue>(rng: &mut dyn AnyRng) -> (T, T) {
+///     (rng.generate(), rng.generate())
+/// }
+/// let (first, second): (u8, u8) = pair(&mut WyRand::seed_from_u64(42));
+/// # let _ = (first, second);
+/// ```
+pub trait AnyValue: for<'a> RandomGen<&'a mut (dyn AnyRng + 'a), 8> {}
+
+impl<T: for<'a> RandomGen<&'a mut (dyn AnyRng + 'a), 8>> AnyValue for T {}
+
+/// A type of whose ranges a `dyn AnyRng` draws numbers: each [`RandomRange`] type of this library,
+/// and each of a program that implements it for all generators. Use it as the bound of a type
+/// parameter, as [`AnyValue`].
+pub trait AnyRange: for<'a> RandomRange<&'a mut (dyn AnyRng + 'a), 8> + Clone {}
+
+impl<T: for<'a> RandomRange<&'a mut (dyn AnyRng + 'a), 8> + Clone> AnyRange for T {}
+
 /// Each call draws as the call of [`Rng`] with the same name, and returns or panics as it does.
 ///
 /// ```
@@ -32,29 +55,20 @@ impl dyn AnyRng + '_ {
 
     /// Draws a value of the type `T`. See [`Rng::generate`].
     #[inline]
-    pub fn generate<T>(&mut self) -> T
-    where
-        T: for<'a> RandomGen<&'a mut (dyn AnyRng + 'a), 8>,
-    {
+    pub fn generate<T: AnyValue>(&mut self) -> T {
         Rng::generate(&mut self.rng())
     }
 
     /// Returns an endless iterator of values. See [`Rng::generate_iter`].
     #[inline]
-    pub fn generate_iter<T>(&mut self) -> impl Iterator<Item = T> + '_
-    where
-        T: for<'a> RandomGen<&'a mut (dyn AnyRng + 'a), 8>,
-    {
+    pub fn generate_iter<T: AnyValue>(&mut self) -> impl Iterator<Item = T> + '_ {
         let mut rng = self.rng();
         core::iter::repeat_with(move || Rng::generate(&mut rng))
     }
 
     /// Fills the slice with values. To fill a slice of bytes, call `fill_bytes`. See [`Rng::fill`].
     #[inline]
-    pub fn fill<T>(&mut self, target: &mut [T])
-    where
-        T: for<'a> RandomGen<&'a mut (dyn AnyRng + 'a), 8>,
-    {
+    pub fn fill<T: AnyValue>(&mut self, target: &mut [T]) {
         Rng::fill(&mut self.rng(), target);
     }
 
@@ -64,10 +78,10 @@ impl dyn AnyRng + '_ {
     ///
     /// Returns the errors of `Rng::generate_range`.
     #[inline]
-    pub fn generate_range<T>(&mut self, range: impl RangeBounds<T>) -> Result<T, RangeError>
-    where
-        T: for<'a> RandomRange<&'a mut (dyn AnyRng + 'a), 8> + Clone,
-    {
+    pub fn generate_range<T: AnyRange>(
+        &mut self,
+        range: impl RangeBounds<T>,
+    ) -> Result<T, RangeError> {
         Rng::generate_range(&mut self.rng(), range)
     }
 
@@ -78,10 +92,7 @@ impl dyn AnyRng + '_ {
     /// Panics if `Rng::generate_range_or_panic` does.
     #[inline]
     #[track_caller]
-    pub fn generate_range_or_panic<T>(&mut self, range: impl RangeBounds<T>) -> T
-    where
-        T: for<'a> RandomRange<&'a mut (dyn AnyRng + 'a), 8> + Clone,
-    {
+    pub fn generate_range_or_panic<T: AnyRange>(&mut self, range: impl RangeBounds<T>) -> T {
         Rng::generate_range_or_panic(&mut self.rng(), range)
     }
 
@@ -92,10 +103,7 @@ impl dyn AnyRng + '_ {
     /// Panics if `Rng::range` does.
     #[inline]
     #[track_caller]
-    pub fn range<T>(&mut self, range: impl RangeBounds<T>) -> T
-    where
-        T: for<'a> RandomRange<&'a mut (dyn AnyRng + 'a), 8> + Clone,
-    {
+    pub fn range<T: AnyRange>(&mut self, range: impl RangeBounds<T>) -> T {
         Rng::range(&mut self.rng(), range)
     }
 

@@ -28,6 +28,7 @@ impl WyRand {
     /// Returns the error of the system call, or an error of kind `Unsupported` if the system has
     /// none of these calls.
     #[cfg(feature = "std")]
+    #[doc(alias = "thread_rng")]
     pub fn from_entropy() -> io::Result<Self> {
         system_seed().map(Self::from_seed)
     }

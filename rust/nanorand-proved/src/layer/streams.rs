@@ -17,6 +17,19 @@ impl<const ROUNDS: u8> ChaChaStream<ROUNDS> {
         chacha_stream_at(key, nonce, index)
     }
 
+    /// Returns the key, as 32 bytes. To store a stream, store its key, its nonce and its
+    /// `position`. `new_key` and `seek` restore it.
+    #[must_use]
+    pub fn key(&self) -> [u8; 32] {
+        self.inner().key()
+    }
+
+    /// Returns the nonce, as 8 bytes.
+    #[must_use]
+    pub fn nonce(&self) -> [u8; 8] {
+        self.inner().nonce()
+    }
+
     /// Moves to this byte of the stream, forward or back, as [`Keystream::seek`] does. Byte 2^70 is
     /// byte 0 again. Buffered bytes are dropped.
     pub fn seek(&mut self, byte: u128) {
