@@ -44,6 +44,8 @@ CHANGES = [
     ("tests/quotes.py", "crates/nanorand/CALLING.md", "ensures", "requires"),
     ("tests/quotes.py", "crates/nanorand/TASKS.md", "returns c =", "returns d ="),
     ("tests/quotes.py", "crates/nanorand/CONTRACTS.md", "`plain_after`", "`plainly_after`"),
+    ("tests/quotes.py", "rust/nanorand-rand-core/README.md", "Ok(self.0.next_u64())", "Ok(self.0.next_u32())"),
+    ("tests/quotes.py", "rust/nanorand-rand-core/README.md", "seed_from_u64(42)", "seed_from_u64(43)"),
     ("tests/quotes.py", "crates/dice/src/main.rt", "pips ≤ 6", "pips ≤ 7"),
     ("tests/declarations.py", "c/include/nanorand.h", "const uint8_t *list", "uint8_t *list"),
     ("tests/declarations.py", "c/include/nanorand.h", "uint32_t first, uint32_t last", "uint32_t first, uint64_t last"),

@@ -100,12 +100,20 @@ impl SeedableRng for Core<Pcg64, 8> {
 
 /// The seed of a `ChaCha` or of a ChaCha stream: 32 bytes of key and 8 bytes of nonce. `rand_core`
 /// requires that a seed implements `Default`, and an array of this length does not.
+///
+/// `AsRef` is for `rand_core` 0.9 and later, which require it of a seed.
 #[derive(Clone, Copy)]
 pub struct ChaChaSeed(pub [u8; 40]);
 
 impl Default for ChaChaSeed {
     fn default() -> Self {
         ChaChaSeed([0; 40])
+    }
+}
+
+impl AsRef<[u8]> for ChaChaSeed {
+    fn as_ref(&self) -> &[u8] {
+        &self.0
     }
 }
 

@@ -219,6 +219,7 @@ fn chacha_of<const ROUNDS: u8>() {
     assert_eq!(seed.as_mut(), [0; 40]);
     seed.as_mut().fill(1);
     seed.as_mut()[32..].fill(2);
+    assert_eq!(seed.as_ref(), seed.0);
     let made = Core::from_seed(seed);
     assert_eq!(made, Core(ChaCha::<ROUNDS>::new_key([1; 32], [2; 8])));
     let made = Core::from_seed(seed);
