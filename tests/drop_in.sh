@@ -6,19 +6,9 @@
 source "$(dirname "${BASH_SOURCE[0]}")/lib.sh"
 cd rust/nanorand-drop-in || exit
 here=$PWD
-registry=/usr/share/cargo/registry
 original=$registry/nanorand-0.7.0
 clients=$work/clients
-debian=(--offline --config 'source.crates-io.replace-with="debian"' --config "source.debian.directory=\"$registry\"")
 export CARGO_TARGET_DIR=$here/target
-
-# Whether Debian's packages of these crates, in these versions, are there.
-packages() {
-    local crate
-    for crate; do
-        available "$registry/$crate*" "librust-${crate%-*}-dev" || return
-    done
-}
 
 # Writes the manifest of a client, whose own lines come from stdin.
 client() {

@@ -18,7 +18,7 @@ ROOT = Path(__file__).resolve().parent.parent
 # What stands in tests/ and is no part: what the parts call or read.
 NO_PARTS = {
     "lib.sh", "program.sh", "build.sh", "workspace.sh", "build_script.sh", "targets.sh", "drop_in.sh", "c_crate.sh",
-    "second_opinion.py", "nanorand-0.7.0.txt", "answers", "against_c",
+    "second_opinion.py", "nanorand-0.7.0.txt", "answers", "against_c", "clients",
 }
 
 # What a part may do: its last lines and its status, and what of it the sum has to have.
@@ -526,6 +526,9 @@ def installs(counts, room):
         lines, status = in_lib(f"available {command} of-{command}", room, CALLS=str(calls), **environment)
         found = lines, status, len(calls.read_text().splitlines())
         counts.same(f"available {command}, {environment}", found, wanted)
+    lines, status = in_lib("packages no_such-1. nor-this-0.2.", room, CALLS=str(calls), CI="")
+    counts.same("packages that are not there", (lines, status),
+                (["to install: librust-no-such-dev", "to install: librust-nor-this-dev"], 1))
 
 
 def missing(counts, room):
