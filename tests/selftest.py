@@ -517,7 +517,7 @@ def definitions(counts, room):
 
 def installs(counts, room):
     """`available` finds a command that is there. It installs others as root where CI is true, and else says what to
-    install."""
+    install. `packages` says it of each crate that is not there."""
     program(room / "apt-get", "echo called >>$CALLS\n")
     calls = room / "calls"
     for command, environment, wanted in [("bash", {}, ([], 0, 0)), ("none", {"CI": ""}, (["to install: of-none"], 1, 0)),
