@@ -8,19 +8,9 @@
 source "$(dirname "${BASH_SOURCE[0]}")/lib.sh"
 cd rust/nanorand-drop-in || exit
 here=$PWD
-registry=/usr/share/cargo/registry
 original=$registry/nanorand-0.7.0
 clients=$work/clients
-debian=(--offline --config 'source.crates-io.replace-with="debian"' --config "source.debian.directory=\"$registry\"")
 export CARGO_TARGET_DIR=$here/target
-
-# Whether Debian's packages of these crates are installed, in these versions.
-packages() {
-    local crate
-    for crate; do
-        available "$registry/$crate*" "librust-${crate%-*}-dev" || return
-    done
-}
 
 # Writes the manifest of the client $1. Its own lines come from standard input.
 client() {

@@ -17,6 +17,11 @@ export CARGO_PROFILE_DEV_DEBUG=0 CARGO_PROFILE_TEST_DEBUG=0
 # shellcheck disable=SC2034
 oldest_bin=${NANORAND_OLDEST:-/usr}/bin
 
+# Debian's packages of Rust crates, and the options by which cargo takes crates from them.
+registry=/usr/share/cargo/registry
+# shellcheck disable=SC2034
+debian=(--offline --config 'source.crates-io.replace-with="debian"' --config "source.debian.directory=\"$registry\"")
+
 # Prints the sum and ends the script, with status 0 if nothing failed, else 1.
 finish() {
     printf '%s passed, %s failed\n' "$passed" "$failed"
@@ -154,6 +159,16 @@ available() {
     fi
     printf 'to install: %s\n' "$2"
     return 1
+}
+
+# Whether Debian's packages of these crates are there, in the versions that begin so: packages rand_core-0.6. hex-0.4.
+packages() {
+    local crate name status=0
+    for crate; do
+        name=${crate%-*}
+        available "$registry/$crate*" "librust-${name//_/-}-dev" || status=1
+    done
+    return "$status"
 }
 
 apt_get() {

@@ -35,6 +35,7 @@ DOCUMENTS = [
     "crates/nanorand/CONTRACTS.md",
     "crates/nanorand/TASKS.md",
     "docs/LANGUAGES.md",
+    "rust/nanorand-rand-core/README.md",
 ]
 MARK = re.compile(r"^<!-- (?P<path>\S+\.(rt|rs|antt)): (?P<items>.+) -->$")
 WORDS = re.compile(r"^\| \[[^\]]*\]\((?P<path>\S+\.antt)\) \| (?P<words>[^|]*) \|")

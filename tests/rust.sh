@@ -51,15 +51,42 @@ std_of_other_architectures() {
     done
 }
 
-# Tests the adapter with Debian's rand_core.
+# Tests the adapter with Debian's rand_core, its lints, and the crate itself without what its tests need.
 adapter() {
-    local registry=/usr/share/cargo/registry
-    if ! available "$registry/rand_core-0.6*" librust-rand-core-dev; then
-        skip 'the adapter for rand_core' 'that crate is not there'
-        return
+    local manifest=$work/copy/rust/nanorand-rand-core/Cargo.toml
+    local words=("${debian[@]}" --manifest-path "$manifest")
+    cargo_tests cargo test "${words[@]}"
+    step cargo check "${words[@]}"
+    step cargo run --quiet "${words[@]}" --example seeded
+    step env RUSTDOCFLAGS='-D warnings' cargo doc "${words[@]}" --no-deps
+    if is_version 1.63 "$oldest_bin/rustc"; then
+        cargo_tests env "RUSTC=$oldest_bin/rustc" "RUSTDOC=$oldest_bin/rustdoc" "$oldest_bin/cargo" test "${words[@]}" \
+            --target-dir "$work/oldest"
+    else
+        skip 'the adapter with rustc 1.63, the oldest that Cargo.toml names' "$oldest_bin has none"
     fi
-    cargo_tests cargo test --offline --manifest-path "$work/copy/rust/nanorand-rand-core/Cargo.toml" \
-        --config 'source.crates-io.replace-with="debian"' --config "source.debian.directory=\"$registry\""
+    if cargo clippy --version >/dev/null 2>&1; then
+        step cargo clippy "${words[@]}" --all-targets -- -D warnings -W clippy::pedantic
+    else
+        skip 'clippy of the adapter' 'it is not there'
+    fi
+    if cargo fmt --version >/dev/null 2>&1; then
+        step cargo fmt --check --manifest-path "$manifest"
+    else
+        skip 'the format of the adapter' 'there is no rustfmt'
+    fi
+}
+
+# A program takes the adapter from a clone by the commands of its README, and the README's example runs.
+adapter_from_a_clone() {
+    local program=$work/adapted page=$work/clone/rust/nanorand-rand-core/README.md
+    cargo new --quiet --vcs none "$program" && mkdir "$program/.cargo" || return
+    printf '[source.crates-io]\nreplace-with = "debian"\n[source.debian]\ndirectory = "%s"\n' "$registry" \
+        >"$program/.cargo/config.toml"
+    sed -n 's/^\$ //p' "$page" | sed "s|URL|file://$work/clone|" >"$program/commands"
+    awk '/^```/ { if (inside) exit; inside = $0 == "```rust"; next } inside' "$page" >"$program/src/main.rs"
+    grep -q nanorand-proved-rand-core "$program/commands" && grep -q RngCore "$program/src/main.rs" &&
+        (cd "$program" && bash -e commands && cargo run --quiet)
 }
 
 # A program uses the crate from a clone, as a user does from the repository's address.
@@ -101,11 +128,16 @@ available "$command" "$package"
 copy_of_workspace "$work/copy"
 part env PATH="$(path_without_kit)" "$work/copy/tests/workspace.sh"
 part env PATH="$(path_without_kit)" "$work/copy/tests/build_script.sh"
-adapter
+if packages rand_core-0.6.; then
+    adapter
+else
+    skip 'the adapter for rand_core' 'that crate is not there'
+fi
 part tests/drop_in.sh
 git clone --quiet . "$work/clone"
 export CARGO_HOME=$work/cargo
 step added_from_a_clone
+! packages rand_core-0.6. >/dev/null || step adapter_from_a_clone
 step installed_from_a_clone
 step patched_from_a_clone
 finish

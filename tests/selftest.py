@@ -18,7 +18,7 @@ ROOT = Path(__file__).resolve().parent.parent
 # Files and folders in tests/ that are not parts: the parts call or read them.
 NO_PARTS = {
     "lib.sh", "program.sh", "build.sh", "workspace.sh", "build_script.sh", "targets.sh", "drop_in.sh", "c_crate.sh",
-    "second_opinion.py", "nanorand-0.7.0.txt", "answers", "against_c",
+    "second_opinion.py", "nanorand-0.7.0.txt", "answers", "against_c", "clients",
 }
 
 # How a part may end: its last lines, its status, and the counts that the sum has to have for it.
@@ -44,6 +44,8 @@ CHANGES = [
     ("tests/quotes.py", "crates/nanorand/CALLING.md", "ensures", "requires"),
     ("tests/quotes.py", "crates/nanorand/TASKS.md", "returns c =", "returns d ="),
     ("tests/quotes.py", "crates/nanorand/CONTRACTS.md", "`plain_after`", "`plainly_after`"),
+    ("tests/quotes.py", "rust/nanorand-rand-core/README.md", "Ok(self.0.next_u64())", "Ok(self.0.next_u32())"),
+    ("tests/quotes.py", "rust/nanorand-rand-core/README.md", "seed_from_u64(42)", "seed_from_u64(43)"),
     ("tests/quotes.py", "crates/dice/src/main.rt", "pips ≤ 6", "pips ≤ 7"),
     ("tests/declarations.py", "c/include/nanorand.h", "const uint8_t *list", "uint8_t *list"),
     ("tests/declarations.py", "c/include/nanorand.h", "uint32_t first, uint32_t last", "uint32_t first, uint64_t last"),
@@ -517,7 +519,7 @@ def definitions(counts, room):
 
 def installs(counts, room):
     """`available` finds a command that is there. For others it prints what to install, and installs it if CI is `true`
-    and the user is root."""
+    and the user is root. `packages` says it of each crate that is not there."""
     program(room / "apt-get", "echo called >>$CALLS\n")
     calls = room / "calls"
     for command, environment, wanted in [("bash", {}, ([], 0, 0)), ("none", {"CI": ""}, (["to install: of-none"], 1, 0)),
@@ -526,6 +528,9 @@ def installs(counts, room):
         lines, status = in_lib(f"available {command} of-{command}", room, CALLS=str(calls), **environment)
         found = lines, status, len(calls.read_text().splitlines())
         counts.same(f"available {command}, {environment}", found, wanted)
+    lines, status = in_lib("packages no_such-1. nor-this-0.2.", room, CALLS=str(calls), CI="")
+    counts.same("packages that are not there", (lines, status),
+                (["to install: librust-no-such-dev", "to install: librust-nor-this-dev"], 1))
 
 
 def missing(counts, room):
