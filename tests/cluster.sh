@@ -97,7 +97,7 @@ refused_by_c() {
     refuses 'a part past the period' "job: task $past_period failed with status 3" \
         "$work/changed/job" "$past_period" 1
     changed job cc 's/nanorand_pcg64_shuffle(/NANORAND_EXHAUSTED | &/'
-    refuses 'a shuffle that fails' 'job: task 7 was refused with status 2' "$work/changed/job" 7 1
+    refuses 'a shuffle that fails' 'job: task 7 failed with status 2' "$work/changed/job" 7 1
 }
 
 by_mpi() {
