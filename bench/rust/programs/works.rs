@@ -66,7 +66,7 @@ fn drawn<T, E: Debug>(result: Result<T, E>) -> T {
 pub struct Here;
 
 mod here {
-    use super::{drawn, Below, Bytes, Draw, Fill, Here, Shuffle, Value, Whole, Within};
+    use super::{drawn, Below, Bytes, Die, Draw, Fill, Here, Shuffle, Value, Whole, Within};
     use nanorand_proved::{RandomGen, RandomRange, Rng};
 
     impl<R: Rng<8>, T: RandomGen<R, 8> + Copy> Draw<R> for Value<Here, T> {
@@ -137,7 +137,7 @@ mod here {
 pub struct Original;
 
 mod original {
-    use super::{Below, Bytes, Draw, Fill, Original, Shuffle, Value, Whole, Within};
+    use super::{Below, Bytes, Die, Draw, Fill, Original, Shuffle, Value, Whole, Within};
     use nanorand::rand::Rng;
     use nanorand::{RandomGen, RandomRange};
 
@@ -210,7 +210,7 @@ pub struct Rand;
 
 #[cfg(feature = "peers")]
 mod by_rand {
-    use super::{Below, Bytes, Draw, Fill, Rand, Shuffle, Value, Whole, Within};
+    use super::{Below, Bytes, Die, Draw, Fill, Rand, Shuffle, Value, Whole, Within};
     use rand::distributions::uniform::SampleUniform;
     use rand::distributions::{Distribution, Standard};
     use rand::seq::SliceRandom;
@@ -291,7 +291,7 @@ pub struct Fast;
 
 #[cfg(feature = "peers")]
 mod by_fastrand {
-    use super::{Below, Draw, Fast, Fill, Shuffle, Value, Whole, Within};
+    use super::{Below, Die, Draw, Fast, Fill, Shuffle, Value, Whole, Within};
     use fastrand::Rng;
 
     macro_rules! values {
