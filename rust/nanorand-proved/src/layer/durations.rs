@@ -1,5 +1,5 @@
-//! Random durations, and ranges of durations. Hand-written on top of ranges of `u128`, and tested,
-//! not proved.
+//! Random durations, and ranges of durations. Hand-written on top of ranges of `u64` and `u128`, and
+//! tested, not proved.
 
 use super::mapped;
 use crate::rand::Rng;
@@ -20,7 +20,8 @@ impl<G: Rng<OUTPUT>, const OUTPUT: usize> RandomGen<G, OUTPUT> for Duration {
 }
 
 /// Draws one of the durations within both bounds, in nanoseconds. Each is produced by the same
-/// number of words of 128 bits. The errors are those of the integer types.
+/// number of words: of 64 bits if both bounds are below 2^64 nanoseconds, which are 584 years, and
+/// of 128 bits otherwise. The errors are those of the integer types.
 impl<G: Rng<OUTPUT>, const OUTPUT: usize> RandomRange<G, OUTPUT> for Duration {
     #[inline]
     fn random_range(
@@ -33,12 +34,25 @@ impl<G: Rng<OUTPUT>, const OUTPUT: usize> RandomRange<G, OUTPUT> for Duration {
             bound => bound,
         };
         let (low, high) = (mapped(low, nanoseconds), mapped(high, nanoseconds));
-        u128::random_range(rng, low, high).map(from_nanoseconds)
+        match (narrow(low), narrow(high)) {
+            (Some(low), Some(high)) => u64::random_range(rng, low, high).map(Duration::from_nanos),
+            _ => u128::random_range(rng, low, high).map(from_nanoseconds),
+        }
     }
 
     fn write_bound(&self, f: &mut core::fmt::Formatter<'_>) -> core::fmt::Result {
         write!(f, "{self:?}")
     }
+}
+
+// Returns the bound as a number of 64 bits, if it is one.
+#[inline]
+fn narrow(bound: Bound<u128>) -> Option<Bound<u64>> {
+    Some(match bound {
+        Bound::Included(count) => Bound::Included(u64::try_from(count).ok()?),
+        Bound::Excluded(count) => Bound::Excluded(u64::try_from(count).ok()?),
+        Bound::Unbounded => Bound::Unbounded,
+    })
 }
 
 #[inline]

@@ -43,7 +43,8 @@ impl std::error::Error for RangeError {}
 /// **Characters.** A range of `char` is drawn in the same way from words of 32 bits; surrogates are
 /// skipped.
 ///
-/// **Durations.** A range of `Duration` is drawn as the range of its nanoseconds in `u128`.
+/// **Durations.** A range of `Duration` is drawn as the range of its nanoseconds: in `u64` if both
+/// bounds are below 2^64 nanoseconds (584 years), and in `u128` otherwise.
 ///
 /// **Floats.** The value is `low + (high - low) * part`, rounded. Let k be the top 53 bits of a
 /// 64-bit word. `part` is k / 2^53 if `high` is excluded, and k / (2^53 - 1) if it is included, so
