@@ -13,9 +13,11 @@ from dataclasses import dataclass
 from rattle import (Alias, Constant, Data, Function, Ghost, Implementation, Module, Other, Part, Token, Trait, Use,
                     closing, derives_of, split, tokens_of)
 
-# Attributes that do not affect what a program does: lints, hints to the optimizer, docs and layout of the source.
+# Attributes that do not affect what a program does: lints, hints to the optimizer, the place that a panic names, docs
+# and layout of the source.
 # `forbid` is not among them, since a crate promises something with it.
-IGNORED = ("allow", "cold", "deny", "doc", "expect", "inline", "must_use", "rustfmt", "tactic", "warn")
+IGNORED = ("allow", "cold", "deny", "doc", "expect", "inline", "must_use", "rustfmt", "tactic", "track_caller",
+           "warn")
 
 # Words after which a parenthesis opens a tuple. After any other name it opens arguments.
 BEFORE_TUPLES = (

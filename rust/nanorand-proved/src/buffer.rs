@@ -18,7 +18,7 @@ use std::vec::Vec;
 /// block. The bytes of the last block that are not delivered, always fewer than a block, stay
 /// buffered for the next request. The inner generator may be any generator, including another
 /// `BufferedRng`.
-pub struct BufferedRng<G: Rng<OUTPUT>, const OUTPUT: usize> {
+pub struct BufferedRng<G: Rng<OUTPUT>, const OUTPUT: usize = 8> {
     inner: G,
     block: [u8; OUTPUT],
     cursor: usize,

@@ -60,7 +60,7 @@ impl std::error::Error for PastPeriod {}
 /// assert_eq!(whole.part(1 << 63, 1 << 63), Err(PastPeriod)); // 2^126 draws and 2^63 more
 /// # Ok::<(), PastPeriod>(())
 /// ```
-pub trait Parts<const OUTPUT: usize>: Rng<OUTPUT> {
+pub trait Parts<const OUTPUT: usize = 8>: Rng<OUTPUT> {
     /// Returns the generator at the beginning of a part, which is `index * draws` draws ahead. This
     /// generator does not change.
     ///

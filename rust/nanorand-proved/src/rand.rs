@@ -76,6 +76,18 @@ pub use wyrand::WyRand;
 ///
 /// `R: Rng` alone means `R: Rng<8>`: it takes `WyRand` and `Pcg64`, but no ChaCha stream. `&mut R`
 /// is a generator too, so pass a generator by reference where one is expected.
+///
+/// # Errors of the compiler
+///
+/// - E0599, "no method named `range` found for type parameter `R`", with the help `R: AnyRng +
+///   Rng`: do not follow it, but call `rng.rng().range(..)`.
+/// - E0207, "the const parameter `N` is not constrained": a struct needs `N` as a parameter of its
+///   own, or `R: AnyRng` in place of `R: Rng<N>`.
+/// - E0107, "missing generics for trait `Parts`": write
+///   `fn f<R: Parts<OUTPUT>, const OUTPUT: usize>`.
+/// - E0499, "cannot borrow `*self` as mutable more than once", where `self.rng.rng()` is kept: make
+///   the helper a function that takes `rng: &mut dyn AnyRng`.
+/// - E0308, "expected `&mut dyn AnyRng`, found `RefMut`": pass `&mut *cell.borrow_mut()`.
 #[cfg_attr(
     diagnostic_hints,
     diagnostic::on_unimplemented(
@@ -267,6 +279,7 @@ pub trait Rng<const OUTPUT: usize = 8>: Sized {
     ///
     /// Panics if there are more than `count` slots.
     #[inline]
+    #[track_caller]
     #[doc(alias = "choose_multiple")]
     fn sample(&mut self, count: usize, places: &mut [usize]) -> Result<(), RangeError> {
         samples::sample(self, count, places)
@@ -498,7 +511,7 @@ pub trait Rng<const OUTPUT: usize = 8>: Sized {
 
 /// A generator that can be reseeded from `SEED_SIZE` bytes. `OUTPUT` is the number of bytes of a
 /// block.
-pub trait SeedableRng<const SEED_SIZE: usize, const OUTPUT: usize>: Rng<OUTPUT> {
+pub trait SeedableRng<const SEED_SIZE: usize, const OUTPUT: usize = 8>: Rng<OUTPUT> {
     /// Reseeds the generator with the bytes of `seed`.
     ///
     /// Each generator defines the state that this leaves. It may keep some of the old state, as a

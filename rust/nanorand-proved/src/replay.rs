@@ -119,6 +119,7 @@ pub enum Answer {
 /// assert_eq!(answers, [first, second, Answer::Empty, Answer::Shuffled]);
 /// assert_eq!(items, [8, 7, 9]);
 /// ```
+#[track_caller]
 pub fn replay<G: Rng<OUTPUT>, const OUTPUT: usize>(
     rng: &mut G,
     calls: &[Call],

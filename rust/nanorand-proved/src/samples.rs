@@ -44,6 +44,7 @@ use core::ops::Bound;
 /// rng.shuffle(&mut places)?; // now in random order
 /// # Ok::<(), RangeError>(())
 /// ```
+#[track_caller]
 pub fn sample<G: Rng<OUTPUT>, const OUTPUT: usize>(
     rng: &mut G,
     count: usize,
@@ -87,6 +88,7 @@ pub fn sample<G: Rng<OUTPUT>, const OUTPUT: usize>(
 /// assert_eq!(places, [341, 812, 641, 50]); // as `sample`
 /// # Ok::<(), RangeError>(())
 /// ```
+#[track_caller]
 pub fn sample_with<G: Rng<OUTPUT>, const OUTPUT: usize>(
     rng: &mut G,
     count: usize,
@@ -135,6 +137,7 @@ pub fn sample_with<G: Rng<OUTPUT>, const OUTPUT: usize>(
 /// assert_eq!(places, [341, 812, 641, 50]); // as `sample`
 /// # Ok::<(), RangeError>(())
 /// ```
+#[track_caller]
 pub fn extend_sample<G: Rng<OUTPUT>, const OUTPUT: usize>(
     rng: &mut G,
     count: usize,

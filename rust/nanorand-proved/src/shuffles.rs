@@ -53,6 +53,7 @@ pub fn identity(slots: &mut [usize]) {
 /// nanorand_proved::shuffles::apply_choices(&[2, 1, 2], &mut items);
 /// assert_eq!(items, ["queen", "king", "ace"]);
 /// ```
+#[track_caller]
 pub fn apply_choices<T>(choices: &[usize], items: &mut [T]) {
     assert!(
         choices.len() == items.len(),
@@ -96,6 +97,7 @@ pub fn apply_choices<T>(choices: &[usize], items: &mut [T]) {
 /// assert_eq!(choices_of(&[1, 1], &mut [0; 2], &mut [0; 2]), Err(NotArrangement));
 /// # Ok::<(), NotArrangement>(())
 /// ```
+#[track_caller]
 pub fn choices_of(
     order: &[usize],
     out: &mut [usize],
@@ -160,6 +162,7 @@ fn place_from(items: &[usize], from: usize, wanted: usize) -> Option<usize> {
 /// assert_eq!(letters, ['b', 'e', 'd', 'c', 'a']);
 /// # Ok::<(), RangeError>(())
 /// ```
+#[track_caller]
 pub fn shuffle_and_record<G: Rng<OUTPUT>, T, const OUTPUT: usize>(
     rng: &mut G,
     target: &mut [T],

@@ -35,7 +35,6 @@ pub use word::pick_word;
     diagnostic::on_unimplemented(
         message = "values of the type `{Self}` cannot be drawn",
         note = "for a type of your own, implement `RandomGen`",
-        note = "for a type parameter drawn from a `dyn AnyRng`, write the bound `AnyValue`",
         note = "for a collection, draw its items: `rng.generate_iter().take(n).collect()`",
         note = "for one of several values, call `rng.choose(&values)`"
     )

@@ -79,6 +79,7 @@ pub fn between<T: Number, G: Rng<OUTPUT>, const OUTPUT: usize>(
 /// let digit: u8 = choices::bits(&mut WyRand::seed_from_u64(42), 4);
 /// assert_eq!(digit, 13);
 /// ```
+#[track_caller]
 #[inline]
 pub fn bits<T: Number, G: Rng<OUTPUT>, const OUTPUT: usize>(rng: &mut G, count: u32) -> T {
     assert!(

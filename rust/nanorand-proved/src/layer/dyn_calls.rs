@@ -19,15 +19,34 @@ use core::ops::RangeBounds;
 /// let (first, second): (u8, u8) = pair(&mut WyRand::seed_from_u64(42));
 /// # let _ = (first, second);
 /// ```
+#[cfg_attr(
+    diagnostic_hints,
+    diagnostic::on_unimplemented(
+        message = "values of the type `{Self}` cannot be drawn from a `dyn AnyRng`",
+        note = "for a type parameter, write the bound `{Self}: AnyValue`",
+        note = "for a type of your own, implement `RandomGen` for all generators",
+        note = "for a collection, draw its items: `rng.generate_iter().take(n).collect()`"
+    )
+)]
 pub trait AnyValue: for<'a> RandomGen<&'a mut (dyn AnyRng + 'a), 8> {}
 
+#[cfg_attr(do_not_recommend, diagnostic::do_not_recommend)]
 impl<T: for<'a> RandomGen<&'a mut (dyn AnyRng + 'a), 8>> AnyValue for T {}
 
 /// A type of whose ranges a `dyn AnyRng` draws numbers: each [`RandomRange`] type of this library,
 /// and each of a program that implements it for all generators. Use it as the bound of a type
 /// parameter, as [`AnyValue`].
+#[cfg_attr(
+    diagnostic_hints,
+    diagnostic::on_unimplemented(
+        message = "a `dyn AnyRng` draws no numbers from ranges of the type `{Self}`",
+        note = "for a type parameter, write the bound `{Self}: AnyRange`",
+        note = "for a type of your own, implement `RandomRange` for all generators, and `Clone`"
+    )
+)]
 pub trait AnyRange: for<'a> RandomRange<&'a mut (dyn AnyRng + 'a), 8> + Clone {}
 
+#[cfg_attr(do_not_recommend, diagnostic::do_not_recommend)]
 impl<T: for<'a> RandomRange<&'a mut (dyn AnyRng + 'a), 8> + Clone> AnyRange for T {}
 
 /// Each call draws as the call of [`Rng`] with the same name, and returns or panics as it does.

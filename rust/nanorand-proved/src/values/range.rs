@@ -60,7 +60,6 @@ impl std::error::Error for RangeError {}
     diagnostic::on_unimplemented(
         message = "`{Self}` has no ranges",
         note = "for a type of your own, implement `RandomRange`",
-        note = "for a type parameter drawn from a `dyn AnyRng`, write the bound `AnyRange`",
         note = "for other types, draw a number and convert it; for a time, add a random `Duration`"
     )
 )]

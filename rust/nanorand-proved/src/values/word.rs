@@ -17,6 +17,7 @@ pub(crate) const MAX_WORDS: usize = 128;
 /// # Panics
 ///
 /// Panics unless `bits` is 8, 16, 32 or 64, `size` is from 1 to 2^bits, and `word` is below 2^bits.
+#[track_caller]
 #[inline(always)]
 #[must_use]
 pub fn pick_word(size: u128, bits: u32, word: u64) -> Option<u64> {
@@ -143,6 +144,7 @@ fn remainder(others: u64, size: u64) -> u64 {
 /// # Panics
 ///
 /// Panics unless `bits` is 8, 16, 32 or 64, and `size` is from 1 to 2^bits.
+#[track_caller]
 #[inline(always)]
 pub fn draw_below<G: Rng<OUTPUT>, const OUTPUT: usize>(
     rng: &mut G,
