@@ -190,7 +190,7 @@ PLANTED = (
     # Items that are written by hand and listed.
     ("rust/nanorand-proved/src/rand.rs", "choices::ratio(self, numerator, denominator)",
      "choices::ratio(self, denominator, numerator)"),
-    ("rust/nanorand-proved/src/rand.rs", "if let Err(error) = self.shuffle(items)", "if let Ok(error) = self.shuffle(items)"),
+    ("rust/nanorand-proved/src/rand.rs", "if let Err(error) = self.shuffle(target)", "if let Ok(error) = self.shuffle(target)"),
     ("rust/nanorand-proved/src/rand.rs", "    fn next_u32(&mut self) -> u32", "    #[cfg(unix)]\n    fn next_u32(&mut self) -> u32"),
     ("rust/nanorand-proved/src/values.rs", "core::array::from_fn(|_| Self::random(rng))", "[Self::random(rng); N]"),
     ("rust/nanorand-proved/src/values/unsigned.rs", "-> [u8; N] {\n        next_bytes(rng)", "-> [u8; N] {\n        [0; N]"),
