@@ -63,7 +63,7 @@ for a type of your own, implement `RandomGen`|struct Card; let _: Card = rng.gen
 draw its items: `rng.generate_iter().take(n).collect()`|let _: Vec<u8> = rng.generate();
 `String` has no ranges|let _ = rng.range(String::new()..);
 for a type of your own, implement `RandomRange`|#[derive(Clone)] struct Card; let _ = rng.range(Card..);
-`R: AnyRng` takes any generator: call `rng.rng().range(1..=6)`|fn g<R: Rng>(_: R) {} g(ChaCha20Stream::seed_from_u64(1));
+`R: AnyRng` takes any generator: call `rng.rng()|fn g<R: Rng>(_: R) {} g(ChaCha20Stream::seed_from_u64(1));
 write the bound `T: AnyValue`|fn g<T>(rng: &mut dyn AnyRng) -> T { rng.generate() }
 write the bound `T: AnyRange`|fn g<T: Clone>(rng: &mut dyn AnyRng, one: T) -> T { rng.range(one..) }
 an `Rng` of your own is lent by `rng.as_any()`|struct Own; fn g<R: AnyRng>(_: R) {} g(Own);
