@@ -665,7 +665,9 @@ mod tests {
     use crate::{ChaCha20, ChaCha20Stream, Rng};
     use core::sync::atomic::{AtomicUsize, Ordering};
 
-    const CASES: usize = 250_000;
+    mod blocks;
+
+    const CASES: usize = if cfg!(miri) { 500 } else { 250_000 };
 
     // The number of groups of eight blocks that were computed on vectors of eight words.
     static GROUPS: AtomicUsize = AtomicUsize::new(0);

@@ -1,6 +1,7 @@
 //! Seeds from a `getrandom` that replaces the system's: what it is asked for, and what the library
 //! does with its answers.
 #![cfg(all(target_os = "linux", feature = "std"))]
+#![warn(unsafe_op_in_unsafe_fn)] // for cargo 1.63, which reads no lints from Cargo.toml
 
 use nanorand_proved::rand::ChaChaGroups;
 use nanorand_proved::system;

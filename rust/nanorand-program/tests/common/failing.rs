@@ -1,4 +1,5 @@
 //! A `read` and a `write` that replace the system's, and fail with any error number.
+#![warn(unsafe_op_in_unsafe_fn)] // for cargo 1.63, which reads no lints from Cargo.toml
 
 use std::cell::RefCell;
 use std::collections::VecDeque;

@@ -1,5 +1,6 @@
 //! An allocator that fails on demand. Code that does not handle a failed allocation then aborts the
 //! test's process.
+#![warn(unsafe_op_in_unsafe_fn)] // for cargo 1.63, which reads no lints from Cargo.toml
 
 use std::alloc::{GlobalAlloc, Layout, System};
 use std::cell::Cell;
