@@ -16,17 +16,21 @@ type State = [u32; 16];
 
 const EXTREMES: [u32; 6] = [0, 1, 0x7fff_ffff, 0x8000_0000, u32::MAX - 1, u32::MAX];
 
+// What is not set by the environment variable. Miri takes some thousand times as long.
+const STATES: &str = if cfg!(miri) { "20" } else { "10000" };
+const CORNERS: usize = if cfg!(miri) { 20 } else { usize::MAX };
+
 fn number_of_states() -> usize {
-    let few = if cfg!(miri) { 20 } else { 10_000 };
-    let asked = std::env::var("NANORAND_STATES").ok();
-    asked.map_or(few, |text| text.parse().expect("a number of states"))
+    let asked = std::env::var("NANORAND_STATES");
+    let states = asked.as_deref().unwrap_or(STATES);
+    states.parse().expect("a number of states")
 }
 
-/// `find`. Where the body for eight words is plain code, which every processor can run, also if
-/// `find` grants nothing.
+/// The permission that `find` grants, or any where the body for eight words is plain code, which
+/// every processor can run.
 fn eight_lanes() -> Option<EightLanes> {
     let plain = cfg!(not(all(target_arch = "x86_64", target_feature = "sse2")));
-    EightLanes::find().or_else(|| plain.then_some(EightLanes(())))
+    EightLanes::find().or(plain.then_some(EightLanes(())))
 }
 
 #[allow(clippy::many_single_char_names)] // the cipher's own names
@@ -157,8 +161,7 @@ fn random_state(words: &mut Words) -> State {
 fn corner_states() {
     let lanes = eight_lanes();
     assert!(corners().count() > 300);
-    let few = if cfg!(miri) { 20 } else { usize::MAX };
-    for state in corners().take(few) {
+    for state in corners().take(CORNERS) {
         check_with::<0>(lanes, state);
         check_with::<2>(lanes, state);
         check_with::<8>(lanes, state);
