@@ -68,6 +68,9 @@ CHANGES = [
     ("tests/declarations.py", "rust/nanorand-c/src/lib.rs", "    10000\n", "    10001\n"),
     ("tests/declarations.py", "c/include/nanorand.h", "#define NANORAND_VERSION 1", "#define NANORAND_VERSION 2"),
     ("tests/declarations.py", "docs/PAGE.md", "\nversion: 1", "\nversion: 2"),
+    ("tests/declarations.py", "CHANGELOG.md", "## [1.", "## [2."),
+    ("tests/declarations.py", "CHANGELOG.md", "## [Unreleased]\n", ""),
+    ("tests/declarations.py", "rust/nanorand-proved/CHANGELOG.md", "### Added", "### New"),
     ("tests/declarations.py", "c/README.md", "| 3 | `NANORAND_PAST", "| 2 | `NANORAND_PAST"),
     ("tests/declarations.py", "c/README.md", "`nanorand_stream_...`", "`nanorand_streams_...`"),
     ("tests/declarations.py", "c/README.md", "120 bytes", "112 bytes"),
@@ -287,7 +290,7 @@ if [ "$(wc -l <"$CALLS")" -eq "$BAD" ]; then
     exit 1
 fi
 case "$*" in *targets/program.rs) install -D /bin/true ../../target/targets/x86_64-unknown-linux-gnu/program ;; esac
-case "$*" in *--list*) cd rust/nanorand-proved && find src benches examples tests *.md LICENSE -type f ! -name answers.rs ;; esac
+case "$*" in *--list*) cd rust/nanorand-proved && find src benches examples tests *.md LICENSE -type f ;; esac
 echo 'test result: ok. 3 passed; 0 failed'
 """
 
