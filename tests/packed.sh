@@ -65,7 +65,7 @@ step put_into_the_registry
 for name in nanorand-proved nanorand-program lots draw; do
     tests_alone "$name"
 done
-tests_alone nanorand-proved --no-default-features
+tests_alone nanorand-proved --no-default-features -- --skip sweeps::
 if crates_of_others getrandom-0.2 zeroize-1; then
     # The name of the drop-in's package is that of the crate which it replaces.
     outside_the_workspace nanorand-drop-in nanorand
