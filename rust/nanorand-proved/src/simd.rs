@@ -282,7 +282,7 @@ mod avx2 {
     #[inline(always)]
     pub(super) fn run<W: Wide>(lanes: EightLanes, work: &mut W, out: &mut [u8]) {
         // SAFETY: `with_avx2` needs a processor with AVX2. The caller has an `EightLanes`, so this one
-        // has it: see the top of this module.
+        // has it: see above this module.
         unsafe { with_avx2(lanes, work, out) }
     }
 
@@ -295,7 +295,7 @@ mod avx2 {
     #[inline(always)]
     pub(super) fn next<W: Wide>(lanes: EightLanes, work: &mut W) -> [u8; 512] {
         // SAFETY: `next_with_avx2` needs a processor with AVX2. The caller has an `EightLanes`, so
-        // this one has it: see the top of this module.
+        // this one has it: see above this module.
         unsafe { next_with_avx2(lanes, work) }
     }
 
@@ -321,21 +321,21 @@ mod avx2 {
     #[inline(always)]
     pub(super) fn woven(a: Words, b: Words) -> (Words, Words) {
         // SAFETY: both unpack instructions need AVX2, and nothing else. The caller has a `U32x8`, so
-        // the processor has AVX2: see the top of this module.
+        // the processor has AVX2: see above this module.
         unsafe { (_mm256_unpacklo_epi32(a, b), _mm256_unpackhi_epi32(a, b)) }
     }
 
     #[inline(always)]
     pub(super) fn woven_pairs(a: Words, b: Words) -> (Words, Words) {
         // SAFETY: both unpack instructions need AVX2, and nothing else. The caller has a `U32x8`, so
-        // the processor has AVX2: see the top of this module.
+        // the processor has AVX2: see above this module.
         unsafe { (_mm256_unpacklo_epi64(a, b), _mm256_unpackhi_epi64(a, b)) }
     }
 
     #[inline(always)]
     pub(super) fn joined(a: Words, b: Words) -> (Words, Words) {
         // SAFETY: `_mm256_permute2x128_si256` needs AVX2, and nothing else. The caller has a `U32x8`,
-        // so the processor has AVX2: see the top of this module.
+        // so the processor has AVX2: see above this module.
         unsafe {
             (
                 _mm256_permute2x128_si256::<0x20>(a, b),
@@ -347,21 +347,21 @@ mod avx2 {
     #[inline(always)]
     pub(super) fn add(a: Words, b: Words) -> Words {
         // SAFETY: `_mm256_add_epi32` needs AVX2, and nothing else. The caller has a `U32x8`, so the
-        // processor has AVX2: see the top of this module.
+        // processor has AVX2: see above this module.
         unsafe { _mm256_add_epi32(a, b) }
     }
 
     #[inline(always)]
     pub(super) fn xor(a: Words, b: Words) -> Words {
         // SAFETY: `_mm256_xor_si256` needs AVX2, and nothing else. The caller has a `U32x8`, so the
-        // processor has AVX2: see the top of this module.
+        // processor has AVX2: see above this module.
         unsafe { _mm256_xor_si256(a, b) }
     }
 
     #[inline(always)]
     pub(super) fn rotate_left(words: Words, bits: u32) -> Words {
         // SAFETY: the instructions need AVX2, or SSE2, which every processor with AVX2 has. The caller
-        // has a `U32x8`, so the processor has AVX2: see the top of this module. `read_volatile` needs
+        // has a `U32x8`, so the processor has AVX2: see above this module. `read_volatile` needs
         // a pointer to an aligned and initialized value that nobody writes at the same time. It gets
         // references to two statics that nobody can write, as they are neither `mut` nor a cell.
         unsafe {
