@@ -142,7 +142,7 @@ END
     export CARGO_HOME=$work/cargo CARGO_TARGET_DIR=$work/target
     prints 'cargo' 'Ok(35)' cargo run --offline --quiet --manifest-path "$work/program/Cargo.toml"
     prints 'the tests of the library' 'good' bash -c 'cd "$1" &&
-        cargo test --offline --quiet -p nanorand-proved --test calls --test answers >&2 && echo good' - "$root"
+        cargo test --offline --quiet -p nanorand-proved -p nanorand-answers --test calls --test answers >&2 && echo good' - "$root"
 }
 
 python_program() {

@@ -3,7 +3,8 @@
 
 No compiler sees a declaration together with the function, and the linker compares only names. The script also compares
 the exports of the library that cargo builds, the attributes for null pointers and statuses in the header, the structs
-that the exports take or return, the version that each part names, and the C functions and statuses that documents name.
+that the exports take or return, the version that each part names, the headings of the changelogs, and the C functions
+and statuses that documents name.
 The last line is N passed, M failed.
 """
 
@@ -40,7 +41,13 @@ VERSIONS = {
     "rust/nanorand-c/Cargo.toml": r'^version = "(.*)"$',
     "rust/nanorand-c/src/lib.rs": r"^    (\d{5,})$",
     "docs/PAGE.md": r"^version: (.*)$",
+    "CHANGELOG.md": r"(?s)\A.*?\n## \[([\d.]+)\] - ",
 }
+# The headings of a changelog, after Keep a Changelog 1.1.0.
+CHANGELOGS = "CHANGELOG.md", "rust/nanorand-proved/CHANGELOG.md"
+CHANGELOG_TITLE, CHANGELOG_FIRST = "# Changelog", "## [Unreleased]"
+CHANGELOG_LATER = re.compile(r"## \[\d+\.\d+\.\d+\] - (\d{4}-\d\d-\d\d|not released)"
+                             r"|### (Added|Changed|Deprecated|Removed|Fixed|Security)")
 # Documents that name C functions and their statuses: the patterns of a name and of a table row for a status.
 NAMES = {
     "c/README.md": r"\bnanorand_(?!v1_|c\b)(\w+)",
@@ -282,6 +289,14 @@ def version_problems():
         yield [] if found and set(found) <= wanted else [f"{path}: version {found}, and {number} is exported"]
 
 
+def changelog_problems():
+    for path in CHANGELOGS:
+        title, first, *later = re.findall(r"^#+ .*", read(path), re.M)
+        begins = (title, first) == (CHANGELOG_TITLE, CHANGELOG_FIRST)
+        yield [] if begins else [f"{path}: it begins with {title}, {first}"]
+        yield [f"{path}: {text} is no heading of a changelog" for text in later if not CHANGELOG_LATER.fullmatch(text)]
+
+
 def name_problems(header):
     """The C names and the status numbers in documents are in the header."""
     text = without_comments(read(header))
@@ -326,6 +341,7 @@ def main():
     cases += struct_problems(CALLED, rust_structs([ROOT / CALLED]), proved)
     cases += struct_problems(header, c_structs(header), proved)
     cases += version_problems()
+    cases += changelog_problems()
     cases += name_problems(header)
     cases += size_problems(header)
     for text in (text for case in cases for text in case):

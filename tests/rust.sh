@@ -1,10 +1,10 @@
 #!/usr/bin/env bash
 # Tests the Rust packages: tests/rust.sh. The last line is N passed, M failed.
 #
-# It tests the tools that compare their sources with the proved ones; the workspace and the library's build.rs, in a
-# copy without this repository's other files and without the kit; the adapter for rand_core; the drop-in replacement for
-# nanorand 0.7.0; and using and installing the packages from a clone. The workspace's tests have to run all its code:
-# tools/uncovered.py checks that with Debian's LLVM tools.
+# It tests the tools that compare their sources with the proved ones; the workspace, the library's build.rs and the packed
+# packages, in a copy without this repository's other files and without the kit; the adapter for rand_core; the drop-in
+# replacement for nanorand 0.7.0; and using and installing the packages from a clone. The workspace's tests have to run
+# all its code: tools/uncovered.py checks that with Debian's LLVM tools.
 # shellcheck source=tests/lib.sh
 source "$(dirname "${BASH_SOURCE[0]}")/lib.sh"
 
@@ -12,7 +12,8 @@ source "$(dirname "${BASH_SOURCE[0]}")/lib.sh"
 copy_of_workspace() {
     mkdir "$1"
     git ls-files -z --cached --others --exclude-standard Cargo.{toml,lock} {clippy,rustfmt}.toml rust \
-        tests/answers tests/{lib,workspace,build_script,targets}.sh tools/uncovered.{py,txt} | xargs -0 cp --parents -t "$1"
+        tests/answers tests/{lib,workspace,build_script,packed,targets}.sh tools/uncovered.{py,txt} |
+        xargs -0 cp --parents -t "$1"
 }
 
 # Gets what compiles, links and runs programs for other targets, as far as it is available.
@@ -128,6 +129,7 @@ available "$command" "$package"
 copy_of_workspace "$work/copy"
 part env PATH="$(path_without_kit)" "$work/copy/tests/workspace.sh"
 part env PATH="$(path_without_kit)" "$work/copy/tests/build_script.sh"
+part env PATH="$(path_without_kit)" "$work/copy/tests/packed.sh"
 if packages rand_core-0.6.; then
     adapter
 else

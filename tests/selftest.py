@@ -17,8 +17,8 @@ from pathlib import Path
 ROOT = Path(__file__).resolve().parent.parent
 # Files and folders in tests/ that are not parts: the parts call or read them.
 NO_PARTS = {
-    "lib.sh", "program.sh", "build.sh", "workspace.sh", "build_script.sh", "targets.sh", "drop_in.sh", "c_crate.sh",
-    "second_opinion.py", "nanorand-0.7.0.txt", "answers", "against_c", "clients",
+    "lib.sh", "program.sh", "build.sh", "workspace.sh", "build_script.sh", "packed.sh", "targets.sh", "drop_in.sh",
+    "c_crate.sh", "second_opinion.py", "nanorand-0.7.0.txt", "answers", "against_c", "clients",
 }
 
 # How a part may end: its last lines, its status, and the counts that the sum has to have for it.
@@ -68,6 +68,9 @@ CHANGES = [
     ("tests/declarations.py", "rust/nanorand-c/src/lib.rs", "    10000\n", "    10001\n"),
     ("tests/declarations.py", "c/include/nanorand.h", "#define NANORAND_VERSION 1", "#define NANORAND_VERSION 2"),
     ("tests/declarations.py", "docs/PAGE.md", "\nversion: 1", "\nversion: 2"),
+    ("tests/declarations.py", "CHANGELOG.md", "## [1.", "## [2."),
+    ("tests/declarations.py", "CHANGELOG.md", "## [Unreleased]\n", ""),
+    ("tests/declarations.py", "rust/nanorand-proved/CHANGELOG.md", "### Added", "### New"),
     ("tests/declarations.py", "c/README.md", "| 3 | `NANORAND_PAST", "| 2 | `NANORAND_PAST"),
     ("tests/declarations.py", "c/README.md", "`nanorand_stream_...`", "`nanorand_streams_...`"),
     ("tests/declarations.py", "c/README.md", "120 bytes", "112 bytes"),
@@ -287,7 +290,7 @@ if [ "$(wc -l <"$CALLS")" -eq "$BAD" ]; then
     exit 1
 fi
 case "$*" in *targets/program.rs) install -D /bin/true ../../target/targets/x86_64-unknown-linux-gnu/program ;; esac
-case "$*" in *--list*) cd rust/nanorand-proved && find src benches examples tests *.md LICENSE -type f ! -name answers.rs ;; esac
+case "$*" in *--list*) cd rust/nanorand-proved && find src benches examples tests *.md LICENSE -type f ;; esac
 echo 'test result: ok. 3 passed; 0 failed'
 """
 

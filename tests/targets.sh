@@ -2,8 +2,9 @@
 # Compiles rust/nanorand-proved for other targets: tests/targets.sh. The last line is N passed, M failed.
 #
 # For each target whose std the oldest supported compiler has, it compiles the library with and without its feature std,
-# and runs the library's tests/targets/program.rs if a linker and what runs it are there. NANORAND_OLDEST names the
-# folder that has bin/rustc (/usr by default), and NANORAND_STD a folder with the std of further targets.
+# and runs the library's tests/targets/program.rs if a linker and what runs it are there; under qemu also the unit tests
+# of the two files with unsafe code, which compare NEON with scalar code. NANORAND_OLDEST names the folder that has
+# bin/rustc (/usr by default), and NANORAND_STD a folder with the std of further targets.
 # shellcheck source=tests/lib.sh
 source "$(dirname "${BASH_SOURCE[0]}")/lib.sh"
 oldest=${NANORAND_OLDEST:-/usr}
@@ -70,6 +71,14 @@ run_program() {
     esac
     step timeout 300 "${@:3}" "$(ls "$out/$1"/program{,.exe,.wasm} 2>/dev/null)"
     case $1 in *windows*) timeout 60 wineserver64 -w ;; esac
+    case $3 in qemu-*) run_unit_tests "$@" ;; esac
+}
+
+# The unit tests of simd.rs and system.rs, without one that asks for more memory than qemu may have.
+run_unit_tests() {
+    step compile "$1" -C "linker=$2" --crate-name unit_tests --test --cfg 'feature="std"' src/lib.rs || return
+    cargo_tests timeout 600 "${@:3}" "$out/$1/unit_tests" --test-threads=1 simd:: system:: \
+        --skip more_than_4_gibibytes
 }
 
 while read -r target linker runner; do

@@ -12,7 +12,7 @@ library_says_what_it_is() {
     local version
     version=$(sed -n 's/^version = "\(.*\)"$/\1/p' "$library/Cargo.toml")
     holds "CHANGELOG.md begins with the version $version" \
-        [ "$(sed -n 's/^## //p' "$library/CHANGELOG.md" | head -n 1)" = "$version" ] &&
+        [ "$(sed -nE 's/^## \[([0-9.]+)\] - .*/\1/p' "$library/CHANGELOG.md" | head -n 1)" = "$version" ] &&
         holds "README.md names Rust $oldest" grep -qF "Rust $oldest." "$library/README.md" &&
         holds "CHANGELOG.md names Rust $oldest" grep -qF "Rust $oldest or newer." "$library/CHANGELOG.md" &&
         holds 'the workspace has the license Zlib' grep -qx 'license = "Zlib"' Cargo.toml &&
@@ -99,9 +99,27 @@ pub extern "C" fn draw(places: &mut [usize; 9]) -> u8 {
 END
 }
 
-# Only two files of the library have unsafe code, as its README says, whatever the attributes say.
-unsafe_in_two_files() {
-    [ "$(cd "$library" && grep -rlw unsafe src | sort)" = $'src/simd.rs\nsrc/system.rs' ]
+# Only two files of the library have unsafe code, whatever the attributes say, and their numbers of unsafe blocks and
+# functions, without the tests at their ends, are those in the table of the README.
+unsafe_as_the_readme_says() {
+    local file code
+    [ "$(cd "$library" && grep -rlw unsafe src | sort)" = $'src/simd.rs\nsrc/system.rs' ] || return
+    for file in simd system; do
+        code=$(sed -E '/^#\[cfg\((test|all\(test, unix\))\)\]$/,$d' "$library/src/$file.rs" | grep -vE '^ *//')
+        grep -F "| \`src/$file.rs\` | $(grep -c 'unsafe {' <<<"$code") | $(grep -c 'unsafe fn' <<<"$code") |" \
+            "$library/README.md" || { echo "README.md has other numbers for $file.rs"; return 1; }
+    done
+}
+
+# Each package has documentation without warnings, also without std.
+documented() {
+    local name
+    for name in nanorand-proved nanorand-program lots draw; do
+        cargo doc --offline --no-deps -p "$name" || return
+    done
+    for name in nanorand-proved lots; do
+        cargo doc --offline --no-deps -p "$name" --no-default-features || return
+    done
 }
 
 # The run-time check asks for exactly the features that the code is compiled for. Running it cannot show this, because a
@@ -120,15 +138,14 @@ is_compiled_for_avx2() {
             grep -c '#\[target_feature(enable = "avx2")\]')" = 2 ]
 }
 
-# The library's package has what its users need, but not the test that reads the repository's table of answers.
+# The library's package has what its users need.
 packs_what_it_should() {
-    local file outside='^tests/answers\.rs$'
+    local file
     cargo package --offline --allow-dirty --quiet --list -p nanorand-proved >target/packed || return
     (cd "$library" && ls LICENSE README.md CHANGELOG.md src/lib.rs benches/speed.rs examples/*.rs tests/*.*) |
-        grep -vE "$outside" | while read -r file; do
-        grep -qxF "$file" target/packed || { echo "the package lacks $file"; return 1; }
-    done || return
-    ! grep -E "$outside" target/packed
+        while read -r file; do
+            grep -qxF "$file" target/packed || { echo "the package lacks $file"; return 1; }
+        done
 }
 
 # Runs cargo's tests, and records in this target folder which code they run. If the tools of the compiler's LLVM are not
@@ -155,7 +172,8 @@ all_covered() {
 # is there.
 by_the_oldest() {
     local words=(env "RUSTC=$oldest_bin/rustc" "RUSTDOC=$oldest_bin/rustdoc" "$oldest_bin/cargo") std target
-    cargo_tests "${words[@]}" test --offline -p nanorand-proved --target-dir target/oldest -- --skip sweeps::
+    cargo_tests "${words[@]}" test --offline -p nanorand-proved -p nanorand-answers --target-dir target/oldest -- \
+        --skip sweeps::
     cargo_tests "${words[@]}" test --offline "${programs[@]}" --target-dir target/oldest -- --skip all_
     for std in "${oldest_bin%/bin}"/lib/rustlib/*/lib/libstd-*.rlib; do
         target=${std#*/lib/rustlib/}
@@ -165,7 +183,7 @@ by_the_oldest() {
 }
 
 step library_says_what_it_is
-for name in nanorand-proved nanorand-program lots draw; do
+for name in nanorand-proved nanorand-answers nanorand-program lots draw; do
     step shares_what_the_workspace_says "$name"
 done
 for name in nanorand-c nanorand-drop-in nanorand-rand-core; do
@@ -174,7 +192,9 @@ done
 step has_a_page lots
 step has_a_page draw
 clippy_and_format --workspace --all-targets
-step env RUSTDOCFLAGS='-D warnings' cargo doc --offline --workspace --no-deps
+export RUSTDOCFLAGS='-D warnings'
+step documented
+unset RUSTDOCFLAGS
 coverage=$PWD/target/coverage
 rm -rf "$coverage/profiles"
 covered "$coverage" --workspace --lib --bins --tests
@@ -187,12 +207,13 @@ else
 fi
 all_covered "$coverage" "${sources[@]}"
 cargo_tests cargo test --offline --workspace --doc
-cargo_tests cargo test --offline --release -p nanorand-proved
+# A million states for each vector body that this machine has.
+cargo_tests env NANORAND_STATES=1000000 cargo test --offline --release -p nanorand-proved -p nanorand-answers
 cargo_tests cargo test --offline --no-default-features --doc -p nanorand-proved
 cargo_tests cargo test --offline --no-default-features -p lots
 step library_without_std
 step lots_without_std
-step unsafe_in_two_files
+step unsafe_as_the_readme_says
 step asks_for_what_it_uses
 if [ "$(rustc --version | sed -nE 's/^rustc 1\.([0-9]+)\..*/\1/p')" -ge 78 ]; then
     step hints_at_mistakes
@@ -209,6 +230,14 @@ for example in "$library"/examples/*.rs; do
 done
 step cargo package --offline --allow-dirty --quiet -p nanorand-proved
 step packs_what_it_should
+# The unit tests are mainly those of the files with unsafe code. The one that is skipped takes 4 GiB.
+if available valgrind valgrind; then
+    cargo_tests cargo test --offline --release -p nanorand-proved --lib \
+        --config 'target."cfg(all())".runner=["valgrind", "--quiet", "--error-exitcode=9"]' -- \
+        --test-threads=1 --skip more_than_4_gibibytes
+else
+    skip 'the unsafe code under valgrind' 'it is not there'
+fi
 if cargo miri --version >/dev/null 2>&1; then
     cargo_tests cargo miri test --offline --lib -p nanorand-proved
 else

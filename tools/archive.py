@@ -32,7 +32,7 @@ LIBRARY = TOP / "crates/nanorand_c/out/libnanorand_c.a"
 PAGE = TOP / "web/dist"
 PROGRAMS = ["draw", "lots"]
 # The Rust workspace, whose tests also run in the archive, the adapter for rand_core and the drop-in.
-WORKSPACE = re.compile(r"Cargo\.(toml|lock)$|rust/(nanorand-(proved|program|rand-core)|draw|lots)/"
+WORKSPACE = re.compile(r"Cargo\.(toml|lock)$|rust/(nanorand-(answers|proved|program|rand-core)|draw|lots)/"
                        r"|rust/nanorand-drop-in/(src/|Cargo\.toml$|README\.md$)")
 # The files from which pip builds the Python package, with the archive's library.
 PACKAGE = re.compile(r"pyproject\.toml$|python/((native|nanorand)/|backend\.py$|README\.md$)")

@@ -1,6 +1,6 @@
 //! A run returns `Memory` and writes nothing, whichever of its allocations fails.
 
-#[path = "../../nanorand-program/tests/common/refusing.rs"]
+#[path = "common/refusing.rs"]
 mod refusing;
 
 use draw::run::run;

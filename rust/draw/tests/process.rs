@@ -1,7 +1,7 @@
 //! The program as a process: its arguments, its streams and its exit status.
 #![cfg(target_os = "linux")]
 
-#[path = "../../nanorand-program/tests/common/process.rs"]
+#[path = "common/process.rs"]
 mod process;
 
 use process::{by_each_name, shell};

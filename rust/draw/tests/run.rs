@@ -1,8 +1,8 @@
 //! A whole run: what arguments mean, which arguments are errors, and writers that fail.
 
-#[path = "../../nanorand-proved/tests/common/formats.rs"]
+#[path = "common/formats.rs"]
 mod formats;
-#[path = "../../nanorand-program/tests/common/writer.rs"]
+#[path = "common/writer.rs"]
 mod writer;
 
 use draw::run::{report, run};

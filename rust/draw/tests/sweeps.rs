@@ -1,8 +1,8 @@
 //! Commands of every size: none fails without a cause. No clause of the proved source states this.
 
-#[path = "../../nanorand-program/tests/common/sizes.rs"]
+#[path = "common/sizes.rs"]
 mod sizes;
-#[path = "../../nanorand-program/tests/common/writer.rs"]
+#[path = "common/writer.rs"]
 mod writer;
 
 use draw::run::{report, run};

@@ -1,6 +1,6 @@
 //! The draw without the program: places and entrants, the lines of a list, and errors.
 
-#[path = "../../nanorand-proved/tests/common/formats.rs"]
+#[path = "common/formats.rs"]
 mod formats;
 
 use formats::is_displayed;

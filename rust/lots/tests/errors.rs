@@ -1,7 +1,7 @@
 //! The status after a read of standard input that fails with any error number of the system.
 #![cfg(target_os = "linux")]
 
-#[path = "../../nanorand-program/tests/common/failing.rs"]
+#[path = "common/failing.rs"]
 mod failing;
 
 use failing::{answered, Answer};

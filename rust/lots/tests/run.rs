@@ -1,6 +1,6 @@
 //! A whole run with readers and writers whose bytes and failures are known.
 
-#[path = "../../nanorand-program/tests/common/writer.rs"]
+#[path = "common/writer.rs"]
 mod writer;
 
 use lots::run::{report, run};

@@ -1,9 +1,9 @@
 //! Lists and arguments of every size: no run fails without a cause. No clause of the proved source
 //! states this.
 
-#[path = "../../nanorand-program/tests/common/sizes.rs"]
+#[path = "common/sizes.rs"]
 mod sizes;
-#[path = "../../nanorand-program/tests/common/writer.rs"]
+#[path = "common/writer.rs"]
 mod writer;
 
 use lots::run::{report, run};

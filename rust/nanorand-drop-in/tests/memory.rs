@@ -1,7 +1,7 @@
 //! If an allocation fails, a buffer's `read_to_end` returns an error for that, and changes nothing.
 #![cfg(all(feature = "std", feature = "wyrand", feature = "chacha"))]
 
-#[path = "../../nanorand-program/tests/common/refusing.rs"]
+#[path = "common/refusing.rs"]
 #[allow(dead_code)] // the programs' tests use its other functions
 mod refusing;
 

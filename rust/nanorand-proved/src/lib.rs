@@ -168,6 +168,8 @@
 //! The crate `nanorand-proved-rand-core` implements the traits of `rand_core` 0.6.
 #![no_std]
 #![cfg_attr(docsrs, feature(doc_cfg))]
+// Also in Cargo.toml, which cargo reads for lints only from 1.74 on.
+#![warn(unsafe_op_in_unsafe_fn)]
 // The function bodies are those of the proved source. Its proofs show that no cast loses a bit that
 // matters.
 #![allow(

@@ -228,7 +228,14 @@ impl BitXor for U32x8 {
     }
 }
 
-// All functions except `is_here` are called only with the permission for eight lanes.
+// Every function except `is_here` and `from_words` may be called only if the processor has AVX2.
+// Only the methods of `EightLanes` and `U32x8` call them, and a value of these types exists only on
+// such a processor:
+// - The fields of both types are private to this file. `EightLanes::find` alone makes an
+//   `EightLanes`, and only if `is_here` returned true: the processor was asked, or the program was
+//   compiled for processors with AVX2. The features of a processor do not change.
+// - `EightLanes::vector` alone makes a `U32x8` from words. The other functions that return one have
+//   been given one.
 #[cfg(all(target_arch = "x86_64", target_feature = "sse2"))]
 mod avx2 {
     use super::{EightLanes, Wide};
@@ -253,7 +260,9 @@ mod avx2 {
     }
 
     const fn from_words(words: [u32; 8]) -> Words {
-        // SAFETY: both types are 32 bytes, and every 32 bytes are a value of both.
+        // SAFETY: `transmute` needs bytes that are a value of the new type; the compiler checks that
+        // both types have 32 bytes. All 32 bytes of `[u32; 8]` are initialized, as it has no padding,
+        // and `__m256i` is 256 bits of which each may be 0 or 1.
         unsafe { transmute(words) }
     }
 
@@ -272,10 +281,12 @@ mod avx2 {
 
     #[inline(always)]
     pub(super) fn run<W: Wide>(lanes: EightLanes, work: &mut W, out: &mut [u8]) {
-        // SAFETY: the processor has AVX2, or there would be no permission for eight lanes.
+        // SAFETY: `with_avx2` needs a processor with AVX2. The caller has an `EightLanes`, so this one
+        // has it: see above this module.
         unsafe { with_avx2(lanes, work, out) }
     }
 
+    // Precondition: the processor has AVX2.
     #[target_feature(enable = "avx2")]
     unsafe fn with_avx2<W: Wide>(lanes: EightLanes, work: &mut W, out: &mut [u8]) {
         work.fill_eight(lanes, out);
@@ -283,10 +294,12 @@ mod avx2 {
 
     #[inline(always)]
     pub(super) fn next<W: Wide>(lanes: EightLanes, work: &mut W) -> [u8; 512] {
-        // SAFETY: the processor has AVX2, or there would be no permission for eight lanes.
+        // SAFETY: `next_with_avx2` needs a processor with AVX2. The caller has an `EightLanes`, so
+        // this one has it: see above this module.
         unsafe { next_with_avx2(lanes, work) }
     }
 
+    // Precondition: the processor has AVX2.
     #[target_feature(enable = "avx2")]
     unsafe fn next_with_avx2<W: Wide>(lanes: EightLanes, work: &mut W) -> [u8; 512] {
         work.next_eight(lanes)
@@ -299,25 +312,30 @@ mod avx2 {
 
     #[inline(always)]
     pub(super) fn to_array(words: Words) -> [u32; 8] {
-        // SAFETY: both types are 32 bytes, and every 32 bytes are a value of both.
+        // SAFETY: `transmute` needs bytes that are a value of the new type; the compiler checks that
+        // both types have 32 bytes. All 32 bytes of `__m256i` are initialized, as it has no padding,
+        // and any four bytes are a value of `u32`.
         unsafe { transmute(words) }
     }
 
     #[inline(always)]
     pub(super) fn woven(a: Words, b: Words) -> (Words, Words) {
-        // SAFETY: the processor has AVX2, or there would be no permission for eight lanes.
+        // SAFETY: both unpack instructions need AVX2, and nothing else. The caller has a `U32x8`, so
+        // the processor has AVX2: see above this module.
         unsafe { (_mm256_unpacklo_epi32(a, b), _mm256_unpackhi_epi32(a, b)) }
     }
 
     #[inline(always)]
     pub(super) fn woven_pairs(a: Words, b: Words) -> (Words, Words) {
-        // SAFETY: the processor has AVX2, or there would be no permission for eight lanes.
+        // SAFETY: both unpack instructions need AVX2, and nothing else. The caller has a `U32x8`, so
+        // the processor has AVX2: see above this module.
         unsafe { (_mm256_unpacklo_epi64(a, b), _mm256_unpackhi_epi64(a, b)) }
     }
 
     #[inline(always)]
     pub(super) fn joined(a: Words, b: Words) -> (Words, Words) {
-        // SAFETY: the processor has AVX2, or there would be no permission for eight lanes.
+        // SAFETY: `_mm256_permute2x128_si256` needs AVX2, and nothing else. The caller has a `U32x8`,
+        // so the processor has AVX2: see above this module.
         unsafe {
             (
                 _mm256_permute2x128_si256::<0x20>(a, b),
@@ -328,19 +346,24 @@ mod avx2 {
 
     #[inline(always)]
     pub(super) fn add(a: Words, b: Words) -> Words {
-        // SAFETY: the processor has AVX2, or there would be no permission for eight lanes.
+        // SAFETY: `_mm256_add_epi32` needs AVX2, and nothing else. The caller has a `U32x8`, so the
+        // processor has AVX2: see above this module.
         unsafe { _mm256_add_epi32(a, b) }
     }
 
     #[inline(always)]
     pub(super) fn xor(a: Words, b: Words) -> Words {
-        // SAFETY: the processor has AVX2, or there would be no permission for eight lanes.
+        // SAFETY: `_mm256_xor_si256` needs AVX2, and nothing else. The caller has a `U32x8`, so the
+        // processor has AVX2: see above this module.
         unsafe { _mm256_xor_si256(a, b) }
     }
 
     #[inline(always)]
     pub(super) fn rotate_left(words: Words, bits: u32) -> Words {
-        // SAFETY: the processor has AVX2, or there would be no permission for eight lanes.
+        // SAFETY: the instructions need AVX2, or SSE2, which every processor with AVX2 has. The caller
+        // has a `U32x8`, so the processor has AVX2: see above this module. `read_volatile` needs
+        // a pointer to an aligned and initialized value that nobody writes at the same time. It gets
+        // references to two statics that nobody can write, as they are neither `mut` nor a cell.
         unsafe {
             match bits {
                 8 => return _mm256_shuffle_epi8(words, read_volatile(&BY_8)),
@@ -447,43 +470,52 @@ mod sse2 {
 
     #[inline(always)]
     pub(super) fn from_array(words: [u32; 4]) -> Words {
-        // SAFETY: both types are 16 bytes, and every 16 bytes are a value of both.
+        // SAFETY: `transmute` needs bytes that are a value of the new type; the compiler checks that
+        // both types have 16 bytes. All 16 bytes of `[u32; 4]` are initialized, as it has no padding,
+        // and `__m128i` is 128 bits of which each may be 0 or 1.
         unsafe { transmute(words) }
     }
 
     #[inline(always)]
     pub(super) fn to_array(words: Words) -> [u32; 4] {
-        // SAFETY: both types are 16 bytes, and every 16 bytes are a value of both.
+        // SAFETY: `transmute` needs bytes that are a value of the new type; the compiler checks that
+        // both types have 16 bytes. All 16 bytes of `__m128i` are initialized, as it has no padding,
+        // and any four bytes are a value of `u32`.
         unsafe { transmute(words) }
     }
 
     #[inline(always)]
     pub(super) fn add(a: Words, b: Words) -> Words {
-        // SAFETY: the target has SSE2, or this module would not be compiled.
+        // SAFETY: `_mm_add_epi32` needs SSE2, and nothing else. This module is compiled only for
+        // targets whose every processor has it: its `cfg` asks for `target_feature = "sse2"`.
         unsafe { _mm_add_epi32(a, b) }
     }
 
     #[inline(always)]
     pub(super) fn xor(a: Words, b: Words) -> Words {
-        // SAFETY: the target has SSE2, or this module would not be compiled.
+        // SAFETY: `_mm_xor_si128` needs SSE2, and nothing else. This module is compiled only for
+        // targets whose every processor has it: its `cfg` asks for `target_feature = "sse2"`.
         unsafe { _mm_xor_si128(a, b) }
     }
 
     #[inline(always)]
     pub(super) fn or(a: Words, b: Words) -> Words {
-        // SAFETY: the target has SSE2, or this module would not be compiled.
+        // SAFETY: `_mm_or_si128` needs SSE2, and nothing else. This module is compiled only for
+        // targets whose every processor has it: its `cfg` asks for `target_feature = "sse2"`.
         unsafe { _mm_or_si128(a, b) }
     }
 
     #[inline(always)]
     pub(super) fn left(words: Words, bits: u32) -> Words {
-        // SAFETY: the target has SSE2, or this module would not be compiled.
+        // SAFETY: the instructions need SSE2, and nothing else. This module is compiled only for
+        // targets whose every processor has it: its `cfg` asks for `target_feature = "sse2"`.
         unsafe { _mm_sll_epi32(words, _mm_cvtsi64_si128(i64::from(bits))) }
     }
 
     #[inline(always)]
     pub(super) fn right(words: Words, bits: u32) -> Words {
-        // SAFETY: the target has SSE2, or this module would not be compiled.
+        // SAFETY: the instructions need SSE2, and nothing else. This module is compiled only for
+        // targets whose every processor has it: its `cfg` asks for `target_feature = "sse2"`.
         unsafe { _mm_srl_epi32(words, _mm_cvtsi64_si128(i64::from(bits))) }
     }
 }
@@ -513,44 +545,58 @@ mod neon {
 
     #[inline(always)]
     pub(super) fn from_array(words: [u32; 4]) -> Words {
-        // SAFETY: both types are 16 bytes, and every 16 bytes are a value of both.
+        // SAFETY: `transmute` needs bytes that are a value of the new type; the compiler checks that
+        // both types have 16 bytes. All 16 bytes of `[u32; 4]` are initialized, as it has no padding,
+        // and `uint32x4_t` is four words of which each bit may be 0 or 1.
         unsafe { transmute(words) }
     }
 
     #[inline(always)]
     pub(super) fn to_array(words: Words) -> [u32; 4] {
-        // SAFETY: both types are 16 bytes, and every 16 bytes are a value of both.
+        // SAFETY: `transmute` needs bytes that are a value of the new type; the compiler checks that
+        // both types have 16 bytes. All 16 bytes of `uint32x4_t` are initialized, as it has no
+        // padding, and any four bytes are a value of `u32`.
         unsafe { transmute(words) }
     }
 
     #[inline(always)]
     pub(super) fn add(a: Words, b: Words) -> Words {
-        // SAFETY: the target has NEON, or this module would not be compiled.
+        // SAFETY: `vaddq_u32` needs NEON, and nothing else. This module is compiled only for
+        // targets whose every processor has it, as its `cfg` asks for `target_feature = "neon"`,
+        // and for tests, where these are functions of `tests` that need nothing.
         unsafe { vaddq_u32(a, b) }
     }
 
     #[inline(always)]
     pub(super) fn xor(a: Words, b: Words) -> Words {
-        // SAFETY: the target has NEON, or this module would not be compiled.
+        // SAFETY: `veorq_u32` needs NEON, and nothing else. This module is compiled only for
+        // targets whose every processor has it, as its `cfg` asks for `target_feature = "neon"`,
+        // and for tests, where these are functions of `tests` that need nothing.
         unsafe { veorq_u32(a, b) }
     }
 
     #[inline(always)]
     pub(super) fn or(a: Words, b: Words) -> Words {
-        // SAFETY: the target has NEON, or this module would not be compiled.
+        // SAFETY: `vorrq_u32` needs NEON, and nothing else. This module is compiled only for
+        // targets whose every processor has it, as its `cfg` asks for `target_feature = "neon"`,
+        // and for tests, where these are functions of `tests` that need nothing.
         unsafe { vorrq_u32(a, b) }
     }
 
     #[inline(always)]
     pub(super) fn left(words: Words, bits: u32) -> Words {
-        // SAFETY: the target has NEON, or this module would not be compiled.
+        // SAFETY: the instructions need NEON, and nothing else. This module is compiled only for
+        // targets whose every processor has it, as its `cfg` asks for `target_feature = "neon"`,
+        // and for tests, where these are functions of `tests` that need nothing.
         unsafe { vshlq_u32(words, vreinterpretq_s32_u32(vdupq_n_u32(bits))) }
     }
 
     // NEON shifts to the right by a negative number of bits.
     #[inline(always)]
     pub(super) fn right(words: Words, bits: u32) -> Words {
-        // SAFETY: the target has NEON, or this module would not be compiled.
+        // SAFETY: the instructions need NEON, and nothing else. This module is compiled only for
+        // targets whose every processor has it, as its `cfg` asks for `target_feature = "neon"`,
+        // and for tests, where these are functions of `tests` that need nothing.
         unsafe { vshlq_u32(words, vnegq_s32(vreinterpretq_s32_u32(vdupq_n_u32(bits)))) }
     }
 }
@@ -619,7 +665,9 @@ mod tests {
     use crate::{ChaCha20, ChaCha20Stream, Rng};
     use core::sync::atomic::{AtomicUsize, Ordering};
 
-    const CASES: usize = 250_000;
+    mod blocks;
+
+    const CASES: usize = if cfg!(miri) { 500 } else { 250_000 };
 
     // The number of groups of eight blocks that were computed on vectors of eight words.
     static GROUPS: AtomicUsize = AtomicUsize::new(0);

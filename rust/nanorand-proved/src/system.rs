@@ -1,8 +1,10 @@
 //! Random bytes from the operating system, by its own call: no file is opened.
 //!
 //! This is one of the two files with unsafe code; `simd.rs` is the other. It is trusted that each
-//! system has the function declared here, and that a call writes only to the bytes that it is
-//! given.
+//! system has the functions declared here, with these types, and that a call with a pointer and a
+//! size writes only to that many bytes from the pointer on. Each call gets both from a
+//! `&mut [u8]`: it may be written over its whole size, nothing else uses its bytes during the
+//! call, and whatever is written there is a value of `u8`.
 
 use std::io::{self, ErrorKind};
 
@@ -59,7 +61,8 @@ mod call {
     // Without flags, the call blocks until the system has gathered enough entropy, which happens
     // once after it starts.
     pub(super) fn request(bytes: &mut [u8]) -> io::Result<usize> {
-        // SAFETY: the slice may be written over its whole size.
+        // SAFETY: `getrandom` writes at most `size` bytes from its pointer on, and keeps no pointer.
+        // Pointer and size are those of one `&mut [u8]`, which may be written over its whole size.
         let count = unsafe { getrandom(bytes.as_mut_ptr().cast(), bytes.len(), 0) };
         usize::try_from(count).map_err(|_| io::Error::last_os_error())
     }
@@ -116,10 +119,14 @@ mod call {
     ) -> io::Result<usize> {
         let (first, size) = (bytes.as_mut_ptr().cast::<c_void>(), bytes.len());
         let count = match (function, NUMBER) {
-            // SAFETY: the slice may be written over its whole size.
+            // SAFETY: `getrandom` writes at most `size` bytes from `first` on, and keeps no pointer.
+            // Both are those of one `&mut [u8]`, which may be written over its whole size. Every
+            // `GetRandom` is the C library's function: `get_random` alone makes one.
             (Some(getrandom), _) => unsafe { getrandom(first, size, flags) },
-            // SAFETY: the slice may be written over its whole size, and the call of this number
-            // takes these arguments.
+            // SAFETY: `number` is that of the system call `getrandom` on this processor (Linux
+            // never changes a number), and the arguments are the three that it takes, in their
+            // order and with their types. It writes at most `size` bytes from `first` on. Both are
+            // those of one `&mut [u8]`, which may be written over its whole size.
             (None, Some(number)) => unsafe { syscall(number, first, size, flags) as isize },
             (None, None) => return Err(io::ErrorKind::Unsupported.into()),
         };
@@ -132,12 +139,16 @@ mod call {
         static ADDRESS: AtomicPtr<c_void> = AtomicPtr::new(NOT_LOOKED_UP);
         let mut address = ADDRESS.load(Ordering::Acquire);
         if address == NOT_LOOKED_UP {
-            // SAFETY: the name ends in 0, and a null pointer stands for all loaded libraries.
+            // SAFETY: `dlsym` needs a handle and a text that ends in a zero byte. A null pointer is
+            // the handle `RTLD_DEFAULT` of glibc, which stands for all loaded libraries, and the
+            // literal ends in `\0`. It is static, so it outlives the call.
             address = unsafe { dlsym(null_mut(), b"getrandom\0".as_ptr().cast()) };
             ADDRESS.store(address, Ordering::Release);
         }
-        // SAFETY: the address is null, which is `None`, or that of the function of this name, which
-        // has this type.
+        // SAFETY: an `Option` of a function pointer has the size of a pointer, which the compiler
+        // checks, and null is `None`. An address that is not null is what `dlsym` found by the name
+        // `getrandom`: the C library's function, whose declaration in C has the type `GetRandom`.
+        // It stays loaded, as std uses that library too. `NOT_LOOKED_UP` was replaced above.
         unsafe { transmute::<*mut c_void, Option<GetRandom>>(address) }
     }
 }
@@ -176,7 +187,8 @@ mod getentropy {
     }
 
     pub(super) fn request(bytes: &mut [u8]) -> io::Result<usize> {
-        // SAFETY: the slice may be written over its whole size.
+        // SAFETY: `getentropy` writes at most `size` bytes from its pointer on, and keeps no pointer.
+        // Pointer and size are those of one `&mut [u8]`, which may be written over its whole size.
         match unsafe { getentropy(bytes.as_mut_ptr().cast(), bytes.len()) } {
             0 => Ok(bytes.len()),
             _ => Err(io::Error::last_os_error()),
@@ -204,7 +216,9 @@ mod common_crypto {
     }
 
     pub(super) fn request(bytes: &mut [u8]) -> io::Result<usize> {
-        // SAFETY: the slice may be written over its whole size.
+        // SAFETY: `CCRandomGenerateBytes` writes `size` bytes from its pointer on, and keeps no
+        // pointer. Pointer and size are those of one `&mut [u8]`, which may be written over its
+        // whole size.
         match unsafe { CCRandomGenerateBytes(bytes.as_mut_ptr().cast(), bytes.len()) } {
             0 => Ok(bytes.len()),
             _ => Err(io::Error::new(
@@ -235,7 +249,8 @@ mod wasi {
     }
 
     pub(super) fn request(bytes: &mut [u8]) -> io::Result<usize> {
-        // SAFETY: the slice may be written over its whole size.
+        // SAFETY: `random_get` writes `size` bytes from its pointer on, and keeps no pointer. Pointer
+        // and size are those of one `&mut [u8]`, which may be written over its whole size.
         match unsafe { random_get(bytes.as_mut_ptr(), bytes.len()) } {
             0 => Ok(bytes.len()),
             error => Err(io::Error::from_raw_os_error(error)),
@@ -270,7 +285,9 @@ mod process_prng {
 
     pub(super) fn request(bytes: &mut [u8]) -> io::Result<usize> {
         let process_prng = load().ok_or_else(io::Error::last_os_error)?;
-        // SAFETY: the slice may be written over its whole size.
+        // SAFETY: `ProcessPrng` writes `size` bytes from its pointer on, and keeps no pointer. Pointer
+        // and size are those of one `&mut [u8]`, which may be written over its whole size. `load`
+        // returned the function of that name; its library is never unloaded.
         match unsafe { process_prng(bytes.as_mut_ptr(), bytes.len()) } {
             0 => Err(io::Error::last_os_error()),
             _ => Ok(bytes.len()),
@@ -279,14 +296,19 @@ mod process_prng {
 
     fn load() -> Option<ProcessPrng> {
         let name = b"bcryptprimitives.dll\0".as_ptr();
-        // SAFETY: both names end in 0, and the function of this name has this type.
-        unsafe {
-            let library = LoadLibraryExA(name, std::ptr::null_mut(), LOAD_LIBRARY_SEARCH_SYSTEM32);
-            if library.is_null() {
-                return None;
-            }
-            GetProcAddress(library, b"ProcessPrng\0".as_ptr())
+        // SAFETY: `LoadLibraryExA` needs a text that ends in a zero byte, a null pointer and flags
+        // that it knows. The literal ends in `\0` and is static. What is loaded is the system's own
+        // library, as no other folder is searched.
+        let library =
+            unsafe { LoadLibraryExA(name, std::ptr::null_mut(), LOAD_LIBRARY_SEARCH_SYSTEM32) };
+        if library.is_null() {
+            return None;
         }
+        // SAFETY: `GetProcAddress` needs a loaded library and a text that ends in a zero byte. The
+        // library is not null, so it was loaded just now, and the literal ends in `\0`. It returns
+        // null, which is `None`, or the address of the function of this name, whose type Microsoft
+        // documents as that of `ProcessPrng`: a pointer, a size, and a 32-bit status.
+        unsafe { GetProcAddress(library, b"ProcessPrng\0".as_ptr()) }
     }
 }
 
@@ -481,24 +503,37 @@ mod tests {
             fn __errno_location() -> *mut c_int;
         }
 
+        fn set_errno(number: c_int) {
+            // SAFETY: the C library returns the address of this thread's `errno`, which may be
+            // written at any time.
+            unsafe { *__errno_location() = number };
+        }
+
+        // Precondition: `size` bytes from `bytes` on may be written.
         unsafe extern "system" fn fill(bytes: *mut u8, size: usize) -> i32 {
-            bytes.write_bytes(1, size);
-            *__errno_location() = 1117;
+            // SAFETY: that is the precondition.
+            unsafe { bytes.write_bytes(1, size) };
+            set_errno(1117);
             STATUS.with(Cell::get)
         }
 
         #[no_mangle]
         unsafe extern "C" fn CCRandomGenerateBytes(bytes: *mut c_void, size: usize) -> i32 {
-            fill(bytes.cast(), size)
+            // SAFETY: this function has the precondition of `fill`.
+            unsafe { fill(bytes.cast(), size) }
         }
 
         #[no_mangle]
         unsafe extern "C" fn random_get(bytes: *mut u8, size: usize) -> i32 {
-            fill(bytes, size)
+            // SAFETY: this function has the precondition of `fill`.
+            unsafe { fill(bytes, size) }
         }
 
+        // Precondition: the name ends in a zero byte.
         unsafe fn is(name: *const u8, text: &str) -> bool {
-            CStr::from_ptr(name.cast::<c_char>()).to_bytes() == text.as_bytes()
+            // SAFETY: that is the precondition.
+            let name = unsafe { CStr::from_ptr(name.cast::<c_char>()) };
+            name.to_bytes() == text.as_bytes()
         }
 
         #[no_mangle]
@@ -507,11 +542,12 @@ mod tests {
             file: *mut c_void,
             flags: u32,
         ) -> *mut c_void {
-            let found = is(name, "bcryptprimitives.dll") && file.is_null() && flags == 0x800;
-            if found && LIBRARY.with(Cell::get) {
+            // SAFETY: the function that this one replaces has the same precondition.
+            let named = unsafe { is(name, "bcryptprimitives.dll") };
+            if named && file.is_null() && flags == 0x800 && LIBRARY.with(Cell::get) {
                 NonNull::dangling().as_ptr()
             } else {
-                *__errno_location() = 126;
+                set_errno(126);
                 null_mut()
             }
         }
@@ -521,9 +557,10 @@ mod tests {
             library: *mut c_void,
             name: *const u8,
         ) -> Option<ProcessPrng> {
-            let found = !library.is_null() && is(name, "ProcessPrng");
-            *__errno_location() = 127;
-            (found && FUNCTION.with(Cell::get)).then_some(fill)
+            // SAFETY: the function that this one replaces has the same precondition.
+            let named = unsafe { is(name, "ProcessPrng") };
+            set_errno(127);
+            (named && !library.is_null() && FUNCTION.with(Cell::get)).then_some(fill)
         }
     }
 

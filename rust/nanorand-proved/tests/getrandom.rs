@@ -1,6 +1,7 @@
 //! Seeds from a `getrandom` that replaces the system's: what it is asked for, and what the library
 //! does with its answers.
 #![cfg(all(target_os = "linux", feature = "std"))]
+#![warn(unsafe_op_in_unsafe_fn)] // for cargo 1.63, which reads no lints from Cargo.toml
 
 use nanorand_proved::rand::ChaChaGroups;
 use nanorand_proved::system;
@@ -31,16 +32,21 @@ unsafe extern "C" fn getrandom(bytes: *mut c_void, size: usize, flags: c_uint) -
     let answer = ANSWERS.with(|answers| answers.borrow_mut().pop_front());
     match answer.unwrap_or(Ok(size)) {
         Ok(count) => {
+            assert!(count <= size);
             let (mut byte, step) = BYTES.with(Cell::get);
             for place in 0..count {
-                bytes.cast::<u8>().add(place).write(byte);
+                // SAFETY: the caller guarantees that `size` bytes may be written, and `place` is below
+                // `count`, which is at most `size`.
+                unsafe { bytes.cast::<u8>().add(place).write(byte) };
                 byte = byte.wrapping_add(step);
             }
             BYTES.with(|next| next.set((byte, step)));
             count.try_into().unwrap_or(-1)
         }
         Err(number) => {
-            *__errno_location() = number;
+            // SAFETY: the C library returns the address of this thread's `errno`, which may be
+            // written at any time.
+            unsafe { *__errno_location() = number };
             -1
         }
     }

@@ -38,13 +38,16 @@ unsafe impl GlobalAlloc for Refusing {
             std::ptr::null_mut()
         } else {
             hold(signed(layout.size()));
-            System.alloc(layout)
+            // SAFETY: `System` needs what the caller of this function guarantees.
+            unsafe { System.alloc(layout) }
         }
     }
 
     unsafe fn dealloc(&self, bytes: *mut u8, layout: Layout) {
         hold(-signed(layout.size()));
-        System.dealloc(bytes, layout);
+        // SAFETY: `System` needs what the caller of this function guarantees, and `bytes` are from
+        // it, like every allocation.
+        unsafe { System.dealloc(bytes, layout) }
     }
 }
 

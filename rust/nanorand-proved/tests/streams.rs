@@ -1,8 +1,8 @@
 //! ChaCha streams deliver the same bytes as buffered generators, and can seek.
 
 use nanorand_proved::{
-    chacha_stream, chacha_stream_at, BufferedRng, ChaCha, ChaCha12Stream, ChaCha20, ChaCha20Stream,
-    ChaCha8Stream, ChaChaGroups, ChaChaStream, Rng, SeedableRng,
+    chacha_stream, chacha_stream_at, BufferedRng, ChaCha, ChaCha20, ChaCha20Stream, ChaCha8Stream,
+    ChaChaGroups, ChaChaStream, Rng, SeedableRng,
 };
 
 const KEY: [u8; 32] = [1; 32];
@@ -26,10 +26,10 @@ fn streams_by_functions() {
     assert_eq!(stream, ChaCha8Stream::at_block(KEY, NONCE, 3));
 }
 
-#[cfg(unix)]
+#[cfg(all(unix, feature = "std"))]
 #[test]
 fn streams_from_the_system() {
-    let made = || ChaCha12Stream::from_entropy().expect("entropy");
+    let made = || nanorand_proved::ChaCha12Stream::from_entropy().expect("entropy");
     let (one, other) = (made(), made());
     assert_ne!(one.inner().key(), other.inner().key());
     assert_ne!(one.inner().nonce(), other.inner().nonce());

@@ -1,4 +1,5 @@
 //! A `read` and a `write` that replace the system's, and fail with any error number.
+#![warn(unsafe_op_in_unsafe_fn)] // for cargo 1.63, which reads no lints from Cargo.toml
 
 use std::cell::RefCell;
 use std::collections::VecDeque;
@@ -35,19 +36,24 @@ fn next_answer() -> Option<Result<Vec<u8>, c_int>> {
     ANSWERS.with(|answers| answers.borrow_mut().pop_front())
 }
 
-unsafe fn failed(number: c_int) -> isize {
-    *__errno_location() = number;
+fn failed(number: c_int) -> isize {
+    // SAFETY: the C library returns the address of this thread's `errno`, which may be written at
+    // any time.
+    unsafe { *__errno_location() = number };
     -1
 }
 
 #[no_mangle]
 unsafe extern "C" fn read(descriptor: c_int, bytes: *mut c_void, count: usize) -> isize {
     match next_answer() {
-        None => readv(descriptor, &Part(bytes, count), 1),
+        // SAFETY: the caller of `read` guarantees that these bytes may be written.
+        None => unsafe { readv(descriptor, &Part(bytes, count), 1) },
         Some(Err(number)) => failed(number),
         Some(Ok(given)) => {
             assert!(given.len() <= count);
-            bytes.cast::<u8>().copy_from(given.as_ptr(), given.len());
+            // SAFETY: the caller guarantees that `count` bytes may be written, which are enough, and
+            // `given` is a vector of its own.
+            unsafe { bytes.cast::<u8>().copy_from(given.as_ptr(), given.len()) };
             given.len().try_into().unwrap_or(-1)
         }
     }
@@ -56,7 +62,8 @@ unsafe extern "C" fn read(descriptor: c_int, bytes: *mut c_void, count: usize) -
 #[no_mangle]
 unsafe extern "C" fn write(descriptor: c_int, bytes: *mut c_void, count: usize) -> isize {
     match next_answer() {
-        None => writev(descriptor, &Part(bytes, count), 1),
+        // SAFETY: the caller of `write` guarantees that these bytes may be read.
+        None => unsafe { writev(descriptor, &Part(bytes, count), 1) },
         Some(Err(number)) => failed(number),
         Some(Ok(taken)) => taken.len().min(count).try_into().unwrap_or(-1),
     }

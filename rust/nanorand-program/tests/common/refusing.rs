@@ -1,5 +1,6 @@
 //! An allocator that fails on demand. Code that does not handle a failed allocation then aborts the
 //! test's process.
+#![warn(unsafe_op_in_unsafe_fn)] // for cargo 1.63, which reads no lints from Cargo.toml
 
 use std::alloc::{GlobalAlloc, Layout, System};
 use std::cell::Cell;
@@ -59,7 +60,8 @@ fn granted(size: usize) -> bool {
 unsafe impl GlobalAlloc for Refusing {
     unsafe fn alloc(&self, layout: Layout) -> *mut u8 {
         if granted(layout.size()) {
-            System.alloc(layout)
+            // SAFETY: `System` needs what the caller of this function guarantees.
+            unsafe { System.alloc(layout) }
         } else {
             null_mut()
         }
@@ -67,13 +69,17 @@ unsafe impl GlobalAlloc for Refusing {
 
     unsafe fn realloc(&self, place: *mut u8, layout: Layout, size: usize) -> *mut u8 {
         if granted(size) {
-            System.realloc(place, layout, size)
+            // SAFETY: `System` needs what the caller of this function guarantees, and `place` is from
+            // it, like every allocation.
+            unsafe { System.realloc(place, layout, size) }
         } else {
             null_mut()
         }
     }
 
     unsafe fn dealloc(&self, place: *mut u8, layout: Layout) {
-        System.dealloc(place, layout);
+        // SAFETY: `System` needs what the caller of this function guarantees, and `place` is from it,
+        // like every allocation.
+        unsafe { System.dealloc(place, layout) }
     }
 }

@@ -1,7 +1,7 @@
 //! A writer that records its calls, and fails when it is told to.
 #![allow(dead_code)] // each test file uses a part
 
-#[path = "../../../nanorand-proved/tests/common/kinds.rs"]
+#[path = "kinds.rs"]
 pub mod kinds;
 
 use kinds::{faults, Fault};

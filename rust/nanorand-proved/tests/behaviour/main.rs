@@ -1,6 +1,6 @@
-//! What the table of answers (`tests/answers.rs`) does not cover: a user's own generators and
-//! types, rejected words, floats, characters, buffers, replays, weights, entropy and texts. The
-//! expected values are from the documented rules, not from this crate.
+//! What the table of answers (the package `nanorand-answers`) does not cover: a user's own
+//! generators and types, rejected words, floats, characters, buffers, replays, weights, entropy and
+//! texts. The expected values are from the documented rules, not from this crate.
 //!
 //! A word is a random number of n bits, n being the width of the draw. A request is one read of
 //! bytes from a generator.

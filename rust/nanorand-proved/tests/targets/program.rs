@@ -4,7 +4,7 @@ use nanorand_proved::choices::{choose, choose_weighted, ratio};
 use nanorand_proved::replay::{replay, Answer, Call, Kind, Span};
 use nanorand_proved::samples::sample;
 use nanorand_proved::shuffles::partial_shuffle;
-use nanorand_proved::{BufferedRng, ChaCha20, ChaCha20Stream, Keystream, Pcg64, Rng, WyRand};
+use nanorand_proved::{BufferedRng, ChaCha20, ChaCha20Stream, Pcg64, Rng, WyRand};
 use std::error::Error;
 use std::io::ErrorKind;
 use std::ops::Bound::{Excluded, Included};

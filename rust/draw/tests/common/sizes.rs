@@ -1,0 +1,1 @@
+../../../nanorand-program/tests/common/sizes.rs

@@ -1,0 +1,1 @@
+../../../nanorand-proved/tests/common/formats.rs

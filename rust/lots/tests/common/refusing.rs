@@ -1,0 +1,1 @@
+../../../nanorand-program/tests/common/refusing.rs

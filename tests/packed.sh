@@ -1,0 +1,76 @@
+#!/usr/bin/env bash
+# Tests the Rust packages as a registry would hold them: tests/packed.sh. The last line is N passed, M failed.
+#
+# It packs each package, unpacks it into a folder of its own, and runs its tests there. No package sees this repository:
+# they get each other from a folder that stands in for the registry. The crates of others in it are Debian's. The only
+# warning that packing may give is that a manifest names no repository.
+# shellcheck source=tests/lib.sh
+source "$(dirname "${BASH_SOURCE[0]}")/lib.sh"
+shelf=$work/registry
+from_registry=(--offline --config 'source.crates-io.replace-with="packed"'
+    --config "source.packed.directory=\"$shelf\"")
+export CARGO_TARGET_DIR=$work/target
+
+# Packs what these arguments of cargo name, and fails for any warning but the one that is allowed.
+packs() {
+    cargo package --allow-dirty --no-verify "$@" 2>&1 | tee "$work/said"
+    [ "${PIPESTATUS[0]}" -eq 0 ] && ! grep '^warning' "$work/said" |
+        grep -vx 'warning: manifest has no documentation, homepage or repository'
+}
+
+# Unpacks each new package into the registry, with its digest, which the lock files of others name.
+put_into_the_registry() {
+    local file name
+    for file in "$CARGO_TARGET_DIR"/package/*.crate; do
+        name=$(basename "$file" .crate)
+        [ ! -e "$shelf/$name" ] || continue
+        tar -xzf "$file" -C "$shelf" || return
+        printf '{"files":{},"package":"%s"}\n' "$(sha256sum "$file" | cut -d ' ' -f 1)" \
+            >"$shelf/$name/.cargo-checksum.json"
+    done
+}
+
+# Runs the tests of the unpacked package $1.
+tests_alone() {
+    local folder
+    folder=$(compgen -G "$shelf/$1-[0-9]*" | grep -E "/$1-[0-9.]+$")
+    step cp -r "$folder" "$work/alone" || return
+    cargo_tests cargo test "${from_registry[@]}" --manifest-path "$work/alone/Cargo.toml" "${@:2}"
+    rm -rf "$work/alone"
+}
+
+# Packs and tests the package in rust/$1, whose name is $2. It needs others of the registry.
+outside_the_workspace() {
+    step packs "${from_registry[@]}" --manifest-path "rust/$1/Cargo.toml" && step put_into_the_registry &&
+        tests_alone "$2"
+}
+
+# Puts Debian's crates into the registry, if those with the names that begin like this are installed.
+crates_of_others() {
+    packages "$@" &&
+        find "$registry" -mindepth 1 -maxdepth 1 ! -name 'nanorand-*' -exec ln -sf -t "$shelf" {} +
+}
+
+if [ "$(cargo --version | sed -nE 's/^cargo 1\.([0-9]+)\..*/\1/p')" -lt 90 ]; then
+    skip_all 'the packed packages' 'cargo packs those that depend on each other from 1.90 on'
+fi
+mkdir "$shelf"
+step grep -qx 'publish = false' rust/nanorand-c/Cargo.toml
+step packs --offline --workspace --exclude nanorand-answers
+step put_into_the_registry
+for name in nanorand-proved nanorand-program lots draw; do
+    tests_alone "$name"
+done
+tests_alone nanorand-proved --no-default-features -- --skip sweeps::
+if crates_of_others getrandom-0.2. zeroize-1.; then
+    # The name of the drop-in's package is that of the crate which it replaces.
+    outside_the_workspace nanorand-drop-in nanorand
+else
+    skip 'the packed drop-in' 'the crates getrandom and zeroize are not there'
+fi
+if crates_of_others rand_core-0.6.; then
+    outside_the_workspace nanorand-rand-core nanorand-proved-rand-core
+else
+    skip 'the packed adapter for rand_core' 'that crate is not there'
+fi
+finish
