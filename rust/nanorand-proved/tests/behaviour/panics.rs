@@ -144,7 +144,7 @@ fn mistakes() {
         rng.ratio_or_panic(1, 0)
     });
     panics("`places` must have at most `count` slots", 0, |rng| {
-        rng.sample_or_panic(1, &mut [0; 2])
+        rng.sample_or_panic(1, &mut [0; 2]);
     });
     for (p, text) in [(-0.5, "-0.5"), (1.5, "1.5"), (f64::NAN, "NaN")] {
         let text = format!("`p` must be from 0 to 1, not {text}");
