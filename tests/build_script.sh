@@ -12,11 +12,12 @@ build_prints() {
     return 1
 }
 
-# It sets the hints for each version from 1.78 on. It declares their name for each version from 1.80 on, and if it
-# cannot read the version.
+# It sets the hints for each version from 1.78 on, and what is not recommended from 1.85 on. It declares both names for
+# each version from 1.80 on, and if it cannot read the version.
 sets_hints_by_the_version() {
     local folder=$PWD/target/build_script first=cargo:rerun-if-changed=build.rs minor rest said wanted
-    local name=$'\ncargo:rustc-check-cfg=cfg(diagnostic_hints)' hints=$'\ncargo:rustc-cfg=diagnostic_hints'
+    local name=$'\ncargo:rustc-check-cfg=cfg(diagnostic_hints, do_not_recommend)'
+    local hints=$'\ncargo:rustc-cfg=diagnostic_hints' recommend=$'\ncargo:rustc-cfg=do_not_recommend'
     mkdir -p "$folder" && rustc --edition 2021 -o "$folder/program" rust/nanorand-proved/build.rs || return
     printf '#!/bin/sh\necho rustc 1.80.0 >&2\nexit 1\n' >"$folder/fails"
     cat >"$folder/says" <<'END'
@@ -28,6 +29,7 @@ END
         wanted=$first
         [ "$minor" -lt 80 ] || wanted+=$name
         [ "$minor" -lt 78 ] || wanted+=$hints
+        [ "$minor" -lt 85 ] || wanted+=$recommend
         for rest in '.0 (90b35a623 2024-11-26)\n' '.1-nightly (90b35a623 2024-11-26)\n' .79-beta.80; do
             build_prints "$folder/says" "$wanted" "rustc 1.$minor$rest" || return
         done

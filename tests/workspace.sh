@@ -138,6 +138,17 @@ is_compiled_for_avx2() {
             grep -c '#\[target_feature(enable = "avx2")\]')" = 2 ]
 }
 
+# Tests of several packages share files by copies, since each package is packed alone and `rt ci` refuses links. Copies
+# are equal to the file of the same name in nanorand-program or nanorand-proved.
+copies_are_equal() {
+    local file source
+    for file in rust/{draw,lots,nanorand-program,nanorand-drop-in}/tests/common/*.rs; do
+        for source in rust/nanorand-{program,proved}/tests/common/"${file##*/}"; do
+            [ ! -e "$source" ] || cmp "$file" "$source" || return
+        done
+    done
+}
+
 # The library's package has what its users need.
 packs_what_it_should() {
     local file
@@ -229,6 +240,7 @@ for example in "$library"/examples/*.rs; do
     step cargo run --offline --quiet -p nanorand-proved --example "$(basename "$example" .rs)"
 done
 step cargo package --offline --allow-dirty --quiet -p nanorand-proved
+step copies_are_equal
 step packs_what_it_should
 # The unit tests are mainly those of the files with unsafe code. The one that is skipped takes 4 GiB.
 if available valgrind valgrind; then

@@ -2,7 +2,7 @@
 
 use nanorand_proved::{
     chacha_stream, chacha_stream_at, BufferedRng, ChaCha, ChaCha20, ChaCha20Stream, ChaCha8Stream,
-    ChaChaGroups, ChaChaStream, Rng, SeedableRng,
+    ChaChaGroups, ChaChaStream, Keystream, Rng, SeedableRng,
 };
 
 const KEY: [u8; 32] = [1; 32];
@@ -24,6 +24,40 @@ fn streams_by_functions() {
     assert_eq!(stream, ChaCha20Stream::new_key(KEY, NONCE));
     let stream: ChaCha8Stream = chacha_stream_at(KEY, NONCE, 3);
     assert_eq!(stream, ChaCha8Stream::at_block(KEY, NONCE, 3));
+}
+
+/// The calls of a stream are those of the trait.
+#[test]
+fn calls_of_the_trait() {
+    type Stream = ChaChaStream<12>;
+    for index in [0, 1, 1 << 32, u64::MAX] {
+        let mut stream = Stream::at_block(KEY, NONCE, index);
+        let mut same = <Stream as Keystream<512>>::at_block(KEY, NONCE, index);
+        assert_eq!(stream, same);
+        for byte in [0, 1, 511, 512, 513, 1 << 69, (1 << 70) + 5, u128::MAX] {
+            stream.seek(byte);
+            Keystream::seek(&mut same, byte);
+            assert_eq!(stream, same);
+            assert_eq!(stream.position(), Keystream::position(&same));
+        }
+    }
+    let same: Stream = Keystream::new_key(KEY, NONCE);
+    assert_eq!(Stream::new_key(KEY, NONCE), same);
+}
+
+/// A stream is restored from its key, its nonce and its position, wherever it is.
+#[test]
+fn stored_streams() {
+    for size in [0, 1, 8, 63, 64, 511, 512, 513, 4096] {
+        let mut stream = ChaCha20Stream::at_block([3; 32], [4; 8], 5);
+        stream.fill_bytes(&mut vec![0; size]);
+        let (key, nonce) = (stream.key(), stream.nonce());
+        assert_eq!((key, nonce), ([3; 32], [4; 8]));
+        let mut restored = ChaCha20Stream::new_key(key, nonce);
+        restored.seek(stream.position());
+        assert_eq!(restored.position(), stream.position());
+        assert_eq!(restored.next_u64(), stream.next_u64(), "{size}");
+    }
 }
 
 #[cfg(all(unix, feature = "std"))]

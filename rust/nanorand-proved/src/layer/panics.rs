@@ -54,22 +54,18 @@ where
     G: Rng<OUTPUT>,
 {
     fn fmt(&self, f: &mut Formatter<'_>) -> fmt::Result {
-        match &self.0 {
-            Bound::Included(low) => low.write_bound(f)?,
-            Bound::Excluded(low) => {
-                low.write_bound(f)?;
-                f.write_str(" (excluded)")?;
-            }
-            Bound::Unbounded => {}
-        }
-        f.write_str("..")?;
-        match &self.1 {
-            Bound::Included(high) => {
-                f.write_str("=")?;
-                high.write_bound(f)
-            }
-            Bound::Excluded(high) => high.write_bound(f),
+        let low = match &self.0 {
+            Bound::Included(low) => low.write_bound(f),
+            Bound::Excluded(low) => low.write_bound(f).and_then(|()| f.write_str(" (excluded)")),
             Bound::Unbounded => Ok(()),
+        };
+        let dots = low.and_then(|()| f.write_str(".."));
+        match &self.1 {
+            Bound::Included(high) => dots
+                .and_then(|()| f.write_str("="))
+                .and_then(|()| high.write_bound(f)),
+            Bound::Excluded(high) => dots.and_then(|()| high.write_bound(f)),
+            Bound::Unbounded => dots,
         }
     }
 }
