@@ -83,8 +83,10 @@ pub use wyrand::WyRand;
 ///   Rng`: do not follow it, but call `rng.rng().range(..)`.
 /// - E0207, "the const parameter `N` is not constrained": a struct needs `N` as a parameter of its
 ///   own, or `R: AnyRng` in place of `R: Rng<N>`.
-/// - E0107, "missing generics for trait `Parts`": write
-///   `fn f<R: Parts<OUTPUT>, const OUTPUT: usize>`.
+/// - E0277, "the trait `Parts` is not implemented" for a stream: `R: Parts` alone is `R: Parts<8>`.
+///   Write `fn f<R: Parts<OUTPUT>, const OUTPUT: usize>`.
+/// - E0107, "missing generics for trait `SeedableRng`": that trait is for seeds of bytes, whose
+///   number differs. To make any generator from a number, take a function: `impl Fn(u64) -> R`.
 /// - E0499, "cannot borrow `*self` as mutable more than once", where `self.rng.rng()` is kept: make
 ///   the helper a function that takes `rng: &mut dyn AnyRng`.
 /// - E0308, "expected `&mut dyn AnyRng`, found `RefMut`": pass `&mut *cell.borrow_mut()`.
