@@ -84,7 +84,7 @@ sources() {
         crates/nanorand_c/out/libnanorand_c.a:lib/libnanorand.a web/dist/nanorand.html:web/nanorand.html; do
         check "${pair#*:}" "$(cmp "${pair%%:*}" "$root/${pair#*:}" 2>&1)"
     done
-    git ls-files Cargo.toml Cargo.lock rust/{nanorand-{proved,program,rand-core},draw,lots} \
+    git ls-files Cargo.toml Cargo.lock rust/{nanorand-{answers,proved,program,rand-core},draw,lots} \
         rust/nanorand-drop-in/{Cargo.toml,README.md,src} | sort >"$work/wanted"
     (cd "$root" && find Cargo.* rust -type f | sort) >"$work/found"
     check 'the list of the Rust packages' "$(diff "$work/wanted" "$work/found" | head -n 5)"
