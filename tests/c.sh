@@ -8,7 +8,7 @@
 #
 # The header must declare the exports and the archives' symbols. With four compilers, and warnings as errors, the header
 # compiles alone and warns of mistakes, and structs have the declared layout in memory. The table of known answers, the
-# edge cases and the example are compiled once and linked with both libraries. Then come two releases in one program,
+# edge cases and the examples are compiled once and linked with both libraries. Then come two releases in one program,
 # what c/install installs, the crate of the exports, and a check that the tests run all its code. The last line is N
 # passed, M failed.
 # shellcheck source=tests/lib.sh
@@ -100,7 +100,9 @@ compiler() {
     read -r _ first _ <<<"$1"
     for standard in ${1#* }; do
         prints "$name $standard" c/tests/alone.c /dev/null
+        prints "$name $standard" c/examples/roll.c c/examples/roll.out
         prints "$name $standard" c/examples/deck.c c/examples/deck.out
+        [[ $standard != c++* ]] || prints "$name $standard" c/examples/shuffle.cpp c/examples/shuffle.out
         tests_of "$name $standard" c/tests/layout.c
         tests_of "$name $standard" c/tests/edges.c -O2
         tests_of "$name $standard" c/tests/guards.c -O2
@@ -152,12 +154,12 @@ warnings_of() {
         warns "$1" "nanorand_$call;" nonnull
     done
     for call in 'pcg64_range_usize(rng, 1, 6, NULL)' 'pcg64_shuffle(NULL, items, 1)' 'pcg64_part(NULL, 1, 1)' \
-        'lots_count(text, 1, NULL)'; do
+        'pcg64_distance(rng, NULL, rng)' 'lots_count(text, 1, NULL)'; do
         warns "$1" "if (nanorand_$call != 0) { return; }" nonnull
     done
     for call in 'pcg64_range_usize(rng, 1, 6, items)' 'pcg64_shuffle(rng, items, 1)' \
-        'pcg64_sample(rng, 1, items, 1)' 'pcg64_part(rng, 1, 1)' 'lots_count(text, 1, items)' \
-        'lots_draw(text, 1, items, 1, 1)'; do
+        'pcg64_sample(rng, 1, items, 1)' 'pcg64_part(rng, 1, 1)' 'pcg64_distance(rng, rng, rng)' \
+        'lots_count(text, 1, items)' 'lots_draw(text, 1, items, 1, 1)'; do
         warns "$1" "nanorand_$call;" unused-result
     done
     for call in 'pcg64_shuffle(rng, NULL, 0)' 'pcg64_sample(rng, 1, NULL, 0)' 'lots_count(NULL, 0, items)' \

@@ -3,8 +3,8 @@
 
 No compiler sees a declaration together with the function, and the linker compares only names. The script also compares
 the exports of the library that cargo builds, the attributes for null pointers and statuses in the header, the structs
-that the exports take or return, the version that each part names, the headings of the changelogs, and the C functions
-and statuses that documents name.
+that the exports take or return, the version and the repository's address that each part names, the headings of the
+changelogs, and the C functions and statuses that documents name.
 The last line is N passed, M failed.
 """
 
@@ -43,6 +43,8 @@ VERSIONS = {
     "docs/PAGE.md": r"^version: (.*)$",
     "CHANGELOG.md": r"(?s)\A.*?\n## \[([\d.]+)\] - ",
 }
+# Where the repository's address is written.
+ADDRESSES = {"Cargo.toml": r'^repository = "(.*)"$', "pyproject.toml": r'^Repository = "(.*)"$'}
 # The headings of a changelog, after Keep a Changelog 1.1.0.
 CHANGELOGS = "CHANGELOG.md", "rust/nanorand-proved/CHANGELOG.md"
 CHANGELOG_TITLE, CHANGELOG_FIRST = "# Changelog", "## [Unreleased]"
@@ -289,6 +291,12 @@ def version_problems():
         yield [] if found and set(found) <= wanted else [f"{path}: version {found}, and {number} is exported"]
 
 
+def address_problems():
+    found = {path: re.findall(pattern, read(path), re.M) for path, pattern in ADDRESSES.items()}
+    same = len({*map(tuple, found.values())}) == 1 and all(len(addresses) == 1 for addresses in found.values())
+    return [[] if same else [f"the repository's address is {found}"]]
+
+
 def changelog_problems():
     for path in CHANGELOGS:
         title, first, *later = re.findall(r"^#+ .*", read(path), re.M)
@@ -341,6 +349,7 @@ def main():
     cases += struct_problems(CALLED, rust_structs([ROOT / CALLED]), proved)
     cases += struct_problems(header, c_structs(header), proved)
     cases += version_problems()
+    cases += address_problems()
     cases += changelog_problems()
     cases += name_problems(header)
     cases += size_problems(header)

@@ -42,11 +42,12 @@
 /* The version of this header: 10000 * major + 100 * minor + patch. nanorand_version() returns the library's. */
 #define NANORAND_VERSION 10000
 
-/* The statuses of ranges, shuffles, samples and parts. */
+/* The statuses of ranges, shuffles, samples, parts and distances. */
 #define NANORAND_OK 0          /* success; the results are written */
 #define NANORAND_EMPTY 1       /* no such number or sample exists; nothing was drawn or written */
 #define NANORAND_EXHAUSTED 2   /* 128 words in a row were rejected; they stay consumed */
 #define NANORAND_PAST_PERIOD 3 /* the part ends past the period; the state did not move */
+#define NANORAND_OTHER_CYCLE 4 /* no number of draws leads to the other state; nothing was written */
 
 /* The statuses of nanorand_lots_count and nanorand_lots_draw, besides NANORAND_OK. */
 #define NANORAND_LOTS_BAD_SEED 2   /* the seed is empty or not valid UTF-8; nothing was written */
@@ -72,6 +73,7 @@
 #define nanorand_wyrand_extend_sample nanorand_v1_wyrand_extend_sample
 #define nanorand_wyrand_jump nanorand_v1_wyrand_jump
 #define nanorand_wyrand_part nanorand_v1_wyrand_part
+#define nanorand_wyrand_distance nanorand_v1_wyrand_distance
 #define nanorand_pcg64_seed_from_u64 nanorand_v1_pcg64_seed_from_u64
 #define nanorand_pcg64_u64 nanorand_v1_pcg64_u64
 #define nanorand_pcg64_fill_bytes nanorand_v1_pcg64_fill_bytes
@@ -85,6 +87,7 @@
 #define nanorand_pcg64_extend_sample nanorand_v1_pcg64_extend_sample
 #define nanorand_pcg64_jump nanorand_v1_pcg64_jump
 #define nanorand_pcg64_part nanorand_v1_pcg64_part
+#define nanorand_pcg64_distance nanorand_v1_pcg64_distance
 #define nanorand_chacha8_seed_from_u64 nanorand_v1_chacha8_seed_from_u64
 #define nanorand_chacha8_block nanorand_v1_chacha8_block
 #define nanorand_chacha8_u64 nanorand_v1_chacha8_u64
@@ -338,6 +341,13 @@ uint8_t nanorand_wyrand_part(
     nanorand_wyrand *rng, uint64_t index, uint64_t draws)
     NANORAND_NOT_NULL((1)) NANORAND_USE_STATUS;
 
+/*
+ * Returns the number of draws, below 2^64, that lead from the state `rng` to the state `other`.
+ * There is exactly one such number.
+ */
+uint64_t nanorand_wyrand_distance(
+    const nanorand_wyrand *rng, const nanorand_wyrand *other) NANORAND_NOT_NULL((1, 2));
+
 /* ---- Pcg64: a 128-bit seed. Not cryptographically secure. ---- */
 
 void nanorand_pcg64_seed_from_u64(nanorand_pcg64 *seed, uint64_t number) NANORAND_NOT_NULL((1));
@@ -375,6 +385,17 @@ void nanorand_pcg64_jump(
 uint8_t nanorand_pcg64_part(
     nanorand_pcg64 *seed, uint64_t index, uint64_t draws)
     NANORAND_NOT_NULL((1)) NANORAND_USE_STATUS;
+
+/*
+ * Writes to `draws` the number of draws, below 2^126, that lead from the state `seed` to the state
+ * `other`. There is at most one such number. It takes at most 126 steps.
+ *
+ * Returns 0, or 4 if no number of draws leads to `other`; `draws` is unchanged then. Two states are
+ * in the same cycle if and only if they are equal modulo 8 or their sum is 7 modulo 8.
+ */
+uint8_t nanorand_pcg64_distance(
+    const nanorand_pcg64 *seed, const nanorand_pcg64 *other, nanorand_pcg64 *draws)
+    NANORAND_NOT_NULL((1, 2, 3)) NANORAND_USE_STATUS;
 
 /* ---- ChaCha with 8 rounds. Even a single number takes a new block: fill many bytes at once. ---- */
 

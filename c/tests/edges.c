@@ -19,6 +19,7 @@ HOLDS(ok, NANORAND_OK == 0);
 HOLDS(empty, NANORAND_EMPTY == 1);
 HOLDS(exhausted, NANORAND_EXHAUSTED == 2);
 HOLDS(past_period, NANORAND_PAST_PERIOD == 3);
+HOLDS(other_cycle, NANORAND_OTHER_CYCLE == 4);
 HOLDS(lots_bad_seed, NANORAND_LOTS_BAD_SEED == 2);
 HOLDS(lots_too_few, NANORAND_LOTS_TOO_FEW == 3);
 HOLDS(lots_empty_line, NANORAND_LOTS_EMPTY_LINE == 4);
@@ -379,6 +380,56 @@ static void parts_of_keystream(nanorand_keystream start)
     }
 }
 
+/* The distance to a state that a jump of 2^power - 1 or 2^power draws leaves, for every power. */
+static void distances_of_wyrand(nanorand_wyrand start)
+{
+    int holds = 1;
+    for (int power = 0; power < 64; power++) {
+        for (uint64_t less = 0; less < 2; less++) {
+            const uint64_t draws = ((uint64_t)1 << power) - less;
+            nanorand_wyrand end = start;
+            nanorand_wyrand_jump(&end, draws);
+            holds = holds && nanorand_wyrand_distance(&start, &end) == draws
+                && nanorand_wyrand_distance(&end, &start) == 0 - draws;
+        }
+    }
+    check("wyrand", "distances", holds);
+}
+
+static void distances_of_pcg64(nanorand_pcg64 start)
+{
+    int holds = 1;
+    for (int power = 0; power < 126; power++) {
+        const uint64_t bit = (uint64_t)1 << power % 64;
+        const nanorand_pcg64 draws = {power < 64 ? bit : 5, power < 64 ? 0 : bit};
+        nanorand_pcg64 end = start;
+        nanorand_pcg64 found = {77, 77};
+        nanorand_pcg64_jump(&end, &draws);
+        holds = holds && nanorand_pcg64_distance(&start, &end, &found) == NANORAND_OK
+            && found.low == draws.low && found.high == draws.high;
+    }
+    check("pcg64", "distances", holds);
+}
+
+/* A state is in the cycle of another if and only if they are equal modulo 8 or their sum is 7 modulo 8. */
+static void cycles_of_pcg64(void)
+{
+    int holds = 1;
+    for (uint64_t one = 0; one < 64; one++) {
+        const nanorand_pcg64 start = {one % 8, 77};
+        const nanorand_pcg64 end = {one / 8, 99};
+        const int joined = one % 8 == one / 8 || one % 8 + one / 8 == 7;
+        nanorand_pcg64 draws = {77, 99};
+        const uint8_t status = nanorand_pcg64_distance(&start, &end, &draws);
+        holds = holds && status == (joined ? NANORAND_OK : NANORAND_OTHER_CYCLE)
+            && (joined || (draws.low == 77 && draws.high == 99));
+        nanorand_pcg64 reached = start;
+        nanorand_pcg64_jump(&reached, &draws);
+        holds = holds && (!joined || (reached.low == end.low && reached.high == end.high));
+    }
+    check("pcg64", "cycles", holds);
+}
+
 /* Counts of buffered bytes above the maximum are clamped to it. */
 static void too_many_buffered(nanorand_stream stream, nanorand_keystream keystream)
 {
@@ -502,6 +553,9 @@ int main(void)
     all_keystream(keystream);
     parts_wyrand(nanorand_wyrand_new_seed(42));
     parts_pcg64(pcg64);
+    distances_of_wyrand(nanorand_wyrand_new_seed(42));
+    distances_of_pcg64(pcg64);
+    cycles_of_pcg64();
     parts_chacha8(stream.chacha);
     parts_chacha12(stream.chacha);
     parts_chacha20(stream.chacha);

@@ -122,6 +122,13 @@ over_an_older_one() {
     check 'its bytes' "$(diff -r "$root" "$work/here/destination$work/here/usr" 2>&1)"
 }
 
+# CC may have options: this one leaves the libraries as they are.
+compiler_with_options() {
+    check 'CC with options' "$(install_from . PREFIX="$work/options" CC='cc -pipe')"
+    check 'the same bytes' "$(diff -r --no-dereference --exclude=pkgconfig "$root" "$work/options")"
+    check 'CC has to be there' "$(install_from . PREFIX="$work/options" CC='no_such_cc -pipe' >/dev/null && echo 'no error')"
+}
+
 # If a tool fails, nothing is installed.
 failures() {
     local tool
@@ -141,5 +148,6 @@ libraries
 programs
 another_folder
 over_an_older_one
+compiler_with_options
 failures
 finish

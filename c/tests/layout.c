@@ -156,6 +156,30 @@ static void check_pcg64_jumps(void)
     check("pcg64_part: the seed", wide_is(&memory, 0xd2717c7cd985cbca, 0xd39cf3ae66b76eb1));
 }
 
+static void check_pcg64_distances(void)
+{
+    struct guarded_wide from = wide_of(42, 0);
+    struct guarded_wide to = wide_of(0xd2717c7cd985cbca, 0xd39cf3ae66b76eb1);
+    struct guarded_wide draws = wide_of(7, 7);
+    check("pcg64_distance: 1000 draws", nanorand_pcg64_distance(seed_in(&from), seed_in(&to), seed_in(&draws)) == 0);
+    check("pcg64_distance: the number", wide_is(&draws, 1000, 0));
+    check("pcg64_distance: back", nanorand_pcg64_distance(seed_in(&to), seed_in(&from), seed_in(&draws)) == 0);
+    check("pcg64_distance: 2^126 - 1000", wide_is(&draws, 0xfffffffffffffc18, 0x3fffffffffffffff));
+    check("pcg64_distance: the first state stays", wide_is(&from, 42, 0));
+    check("pcg64_distance: the second state stays", wide_is(&to, 0xd2717c7cd985cbca, 0xd39cf3ae66b76eb1));
+    check("pcg64_distance: to itself", nanorand_pcg64_distance(seed_in(&to), seed_in(&to), seed_in(&draws)) == 0);
+    check("pcg64_distance: 0", wide_is(&draws, 0, 0));
+
+    from = wide_of(5, 0);
+    to = wide_of(5, 1ULL << 63);
+    check("pcg64_distance: half", nanorand_pcg64_distance(seed_in(&from), seed_in(&to), seed_in(&draws)) == 0);
+    check("pcg64_distance: 2^125", wide_is(&draws, 0, 1ULL << 61));
+
+    to = wide_of(6, 0);
+    check("pcg64_distance: none", nanorand_pcg64_distance(seed_in(&from), seed_in(&to), seed_in(&draws)) == 4);
+    check("pcg64_distance: nothing is written", wide_is(&draws, 0, 1ULL << 61));
+}
+
 static void check_pcg64_ranges(void)
 {
     uint64_t number = 7;
@@ -212,6 +236,12 @@ static void check_wyrand_words(void)
     memory = word_of(42);
     check("wyrand_part: part 4 of 250 draws", nanorand_wyrand_part(rng_in(&memory), 4, 250) == 0);
     check("wyrand_part: the seed", word_is(&memory, 0xcd62d077a3cf57c2));
+
+    struct guarded_word from = word_of(42);
+    check("wyrand_distance: 1000 draws", nanorand_wyrand_distance(rng_in(&from), rng_in(&memory)) == 1000);
+    check("wyrand_distance: back", nanorand_wyrand_distance(rng_in(&memory), rng_in(&from)) == UINT64_MAX - 999);
+    check("wyrand_distance: to itself", nanorand_wyrand_distance(rng_in(&from), rng_in(&from)) == 0);
+    check("wyrand_distance: the states stay", word_is(&from, 42) && word_is(&memory, 0xcd62d077a3cf57c2));
 }
 
 static void check_wyrand_ranges(void)
@@ -348,6 +378,7 @@ int main(void)
     check_pcg64_words();
     check_pcg64_fills();
     check_pcg64_jumps();
+    check_pcg64_distances();
     check_pcg64_ranges();
     check_pcg64_shuffles();
     check_wyrand_words();

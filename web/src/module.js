@@ -14,7 +14,7 @@ const KINDS = {
   32: {
     number: Number,
     Places: Uint32Array,
-    words: "for 32-bit memory: the same source, its proof erased",
+    words: "for 32-bit memory: built from the Rust crate, whose functions are compared with the proved ones",
   },
 };
 

@@ -61,8 +61,8 @@ def agreements(counts: Counts, page: Page, record: str, digests: Dict[int, str])
     outcome(counts, page, "another module", with_line(record, 7, f"module SHA-256: {zero}"), "other module",
             "Another module:")
     second = record.replace(digests[64], digests[32])
-    made = ("The record was made by this page's other module, for 32-bit memory: the same source, its proof erased. "
-            "This browser runs the one for 64-bit memory, proved.")
+    made = ("The record was made by this page's other module, for 32-bit memory: built from the Rust crate, whose "
+            "functions are compared with the proved ones. This browser runs the one for 64-bit memory, proved.")
     outcome(counts, page, "the page's other module", second, "agrees", made)
     outcome(counts, page, "it and another version", with_line(second, 6, "version: 1.0.1"), "other module",
             "Another version:", made)

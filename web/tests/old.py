@@ -19,9 +19,10 @@ WORDS = ("This browser cannot draw: it has no WebAssembly, or it is switched off
          "Chrome, Edge or Chromium from version 97 on, Firefox from version 90 on, Safari from version 16 on. Or use "
          "the Python code below, which draws the same.")
 FAILED = "The module failed, and nothing is drawn: TypeError: "
-MAKER = f"Version {VERSION}, module SHA-256 {{}}, for 32-bit memory: the same source, its proof erased"
+MODULE = "for 32-bit memory: built from the Rust crate, whose functions are compared with the proved ones"
+MAKER = f"Version {VERSION}, module SHA-256 {{}}, {MODULE}"
 OTHER = ("The record was made by this page's other module, for 64-bit memory, proved. "
-         "This browser runs the one for 32-bit memory: the same source, its proof erased.")
+         f"This browser runs the one {MODULE}.")
 # Elements that are visible only once they are of use or have a text.
 LATER = """
 return ["tidy", "opened", "list-facts", "progress", "result", "check-step", "outcome", "maker"]

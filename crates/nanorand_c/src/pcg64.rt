@@ -1,11 +1,11 @@
 //! Pcg64. Its state is its seed, in the caller's memory, and each draw advances it. Not
 //! cryptographically secure.
-ghost use Rattle.std.specs.Prelude.{◌≡◌, ◌≢◌, ◌<◌, ◌≤◌, ◌≤ℤ◌, ◌^◌, ◌*◌, ◌+◌, ◌-◌, All, IsPermutation, length, ℕ, take};
+ghost use Rattle.std.specs.Prelude.{◌≡◌, ◌≢◌, ◌<◌, ◌≤◌, ◌≤ℤ◌, ◌^◌, ◌*◌, ◌+◌, ◌-◌, ◌⊎◌, ◌↔◌, All, IsPermutation, length, ℕ, take};
 ghost use Rattle.std.specs.List.{AllPairs};
 ghost use Rattle.nanorand_core.specs.values.Draws.{after_words};
 ghost use Rattle.nanorand_core.specs.shuffles.Shuffles.{from_all, from_itself, shuffled};
 ghost use Rattle.nanorand_core.specs.values.Values.{number_of};
-ghost use Rattle.nanorand.specs.generators.Pcg64.{pcg64_requests, seed_after, seeded_generator};
+ghost use Rattle.nanorand.specs.generators.Pcg64.{SameCycle, pcg64_requests, seed_after, seeded_generator};
 ghost use Rattle.nanorand.specs.generators.SplitMix.{seed_from};
 ghost use Rattle.nanorand_calls.specs.Between.{between, between_signed};
 ghost use Rattle.nanorand_calls.specs.Parts.{parting};
@@ -279,4 +279,24 @@ pub extern "C" fn nanorand_v1_pcg64_part(seed: &mut Wide, index: u64, draws: u64
         wide_number seed.new ≡ (parting pcg64_requests (2 ^ 126) draws index start).1.seed }
 {
     pcg64::part(seed, index, draws)
+}
+
+/// Writes to `draws` the number of draws, below 2^126, that lead from the state `seed` to the state
+/// `other`. There is at most one such number. It takes at most 126 steps.
+///
+/// Returns 0, or 4 if no number of draws leads to `other`; `draws` is unchanged then. Two states
+/// are in the same cycle if and only if they are equal modulo 8 or their sum is 7 modulo 8.
+#[unsafe(no_mangle)]
+pub extern "C" fn nanorand_v1_pcg64_distance(seed: &Wide, other: &Wide, draws: &mut Wide) -> u8
+    ensures status { (result ≡ 0) ⊎ (result ≡ 4) }
+    ensures reached { result ≡ 0 ↔ SameCycle (wide_number seed.now) (wide_number other.now) }
+    ensures below { result ≡ 0 → wide_number draws.new < 2 ^ 126 }
+    ensures leads { let left = seed_after (wide_number draws.new) (wide_number seed.now) in
+        result ≡ 0 → left ≡ wide_number other.now }
+    ensures only { (n : ℕ) → n < 2 ^ 126
+        → seed_after n (wide_number seed.now) ≡ wide_number other.now
+        → (result ≡ 0) × (wide_number draws.new ≡ n) }
+    ensures kept { result ≡ 4 → draws.new ≡ draws.old }
+{
+    pcg64::distance(seed, other, draws)
 }

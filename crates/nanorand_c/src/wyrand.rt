@@ -266,3 +266,13 @@ pub extern "C" fn nanorand_v1_wyrand_part(rng: &mut WyRand, index: u64, draws: u
 {
     part(rng, index, draws)
 }
+
+/// Returns the number of draws, below 2^64, that lead from the state `rng` to the state `other`.
+/// There is exactly one such number.
+#[unsafe(no_mangle)]
+pub extern "C" fn nanorand_v1_wyrand_distance(rng: &WyRand, other: &WyRand) -> u64
+    ensures leads { seed_after result rng.now ≡ other.now }
+    ensures only { (n : ℕ) → n < 2 ^ 64 → seed_after n rng.now ≡ other.now → n ≡ result }
+{
+    rng.distance(other)
+}

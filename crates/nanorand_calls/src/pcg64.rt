@@ -1,10 +1,10 @@
 //! The calls on `Pcg64`, whose seed is in the caller's memory. Not cryptographically secure.
-ghost use Rattle.std.specs.Prelude.{◌≡◌, ◌≢◌, ◌<◌, ◌≤◌, ◌≤ℤ◌, ◌^◌, ◌*◌, ◌+◌, ◌-◌, All, IsPermutation, length, ℕ, take};
+ghost use Rattle.std.specs.Prelude.{◌≡◌, ◌≢◌, ◌<◌, ◌≤◌, ◌≤ℤ◌, ◌^◌, ◌*◌, ◌+◌, ◌-◌, ◌⊎◌, ◌↔◌, All, IsPermutation, length, ℕ, take};
 ghost use Rattle.std.specs.List.{AllPairs};
 ghost use Rattle.nanorand_core.specs.values.Draws.{after_words};
 ghost use Rattle.nanorand_core.specs.shuffles.Shuffles.{from_all, from_itself, shuffled};
 ghost use Rattle.nanorand_core.specs.values.Values.{number_of};
-ghost use Rattle.nanorand.specs.generators.Pcg64.{pcg64_requests, seed_after, seeded_generator};
+ghost use Rattle.nanorand.specs.generators.Pcg64.{SameCycle, pcg64_requests, seed_after, seeded_generator};
 ghost use Rattle.nanorand.specs.generators.SplitMix.{seed_from};
 ghost use Rattle.nanorand_calls.specs.Between.{between, between_signed};
 ghost use Rattle.nanorand_calls.specs.Parts.{parting};
@@ -243,4 +243,26 @@ pub fn part(seed: &mut Wide, index: u64, draws: u64) -> u8
     let status = calls::part(&mut rng, index, draws);
     *seed = split(rng.seed());
     status
+}
+
+/// Writes to `draws` the number of draws, below 2^126, that lead from the first seed to the second.
+/// Returns the status 0, or 4 if no number of draws does; `draws` is unchanged then.
+pub fn distance(seed: &Wide, other: &Wide, draws: &mut Wide) -> u8
+    ensures status { (result ≡ 0) ⊎ (result ≡ 4) }
+    ensures reached { result ≡ 0 ↔ SameCycle (wide_number seed.now) (wide_number other.now) }
+    ensures below { result ≡ 0 → wide_number draws.new < 2 ^ 126 }
+    ensures leads { let left = seed_after (wide_number draws.new) (wide_number seed.now) in
+        result ≡ 0 → left ≡ wide_number other.now }
+    ensures only { (n : ℕ) → n < 2 ^ 126
+        → seed_after n (wide_number seed.now) ≡ wide_number other.now
+        → (result ≡ 0) × (wide_number draws.new ≡ n) }
+    ensures kept { result ≡ 4 → draws.new ≡ draws.old }
+{
+    match Pcg64::new_seed(joined(seed)).distance(&Pcg64::new_seed(joined(other))) {
+        Some(number) => {
+            *draws = split(number);
+            0
+        }
+        None => 4,
+    }
 }

@@ -47,3 +47,16 @@ extern "C" fn nanorand_v1_pcg64_seed_from_u64(seed: &mut Wide, number: u64) {
 extern "C" fn nanorand_v1_pcg64_jump(seed: &mut Wide, draws: &Wide) {
     seed.call(|rng| rng.jump(draws.joined()));
 }
+
+/// Returns `NANORAND_OK`, or `NANORAND_OTHER_CYCLE` if no number of draws leads to the other seed;
+/// `draws` is unchanged then.
+#[no_mangle]
+extern "C" fn nanorand_v1_pcg64_distance(seed: &Wide, other: &Wide, draws: &mut Wide) -> u8 {
+    match Pcg64::new_seed(seed.joined()).distance(&Pcg64::new_seed(other.joined())) {
+        Some(number) => {
+            *draws = Wide::split(number);
+            0
+        }
+        None => 4,
+    }
+}

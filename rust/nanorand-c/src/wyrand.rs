@@ -28,3 +28,8 @@ extern "C" fn nanorand_v1_wyrand_seed_from_u64(rng: &mut WyRand, number: u64) {
 extern "C" fn nanorand_v1_wyrand_jump(rng: &mut WyRand, draws: u64) {
     rng.jump(draws);
 }
+
+#[no_mangle]
+extern "C" fn nanorand_v1_wyrand_distance(rng: &WyRand, other: &WyRand) -> u64 {
+    rng.distance(other)
+}

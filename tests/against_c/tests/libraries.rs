@@ -207,6 +207,17 @@ fn seeds_and_jumps() {
 }
 
 #[test]
+fn distances() {
+    both(2000, |library, mut chooser| {
+        let [rng, other] = [0, 1].map(|_| (library.new_seed)(chooser.end()));
+        let (seed, end) = (wide(&mut chooser), wide(&mut chooser));
+        let mut draws = wide(&mut chooser);
+        let status = (library.pcg64_distance)(&seed, &end, &mut draws);
+        ((library.wyrand_distance)(&rng, &other), status, draws)
+    });
+}
+
+#[test]
 fn seeds_of_numbers() {
     both(2000, |library, mut chooser| {
         let mut rng = (library.new_seed)(chooser.end());

@@ -151,6 +151,8 @@ pub struct Library {
     pub keystream_seed: fn(&mut GroupStream, u64),
     pub wyrand_jump: fn(&mut WyRand, u64),
     pub pcg64_jump: fn(&mut Wide, &Wide),
+    pub wyrand_distance: fn(&WyRand, &WyRand) -> u64,
+    pub pcg64_distance: fn(&Wide, &Wide, &mut Wide) -> u8,
     pub blocks: [fn(&mut ChaChaState, &mut [u8; 64]); 3],
     pub digest: fn(&[u8], &mut [u8; 32]),
     pub count: fn(&[u8], &mut usize) -> u8,
@@ -182,6 +184,10 @@ macro_rules! library {
             fn wyrand_jump(rng: &mut WyRand, draws: u64);
             #[link_name = concat!($prefix, "pcg64_jump")]
             fn pcg64_jump(seed: &mut Wide, draws: &Wide);
+            #[link_name = concat!($prefix, "wyrand_distance")]
+            fn wyrand_distance(rng: &WyRand, other: &WyRand) -> u64;
+            #[link_name = concat!($prefix, "pcg64_distance")]
+            fn pcg64_distance(seed: &Wide, other: &Wide, draws: &mut Wide) -> u8;
             #[link_name = concat!($prefix, "chacha8_block")]
             fn chacha8_block(state: &mut ChaChaState, out: &mut [u8; 64]);
             #[link_name = concat!($prefix, "chacha12_block")]
@@ -243,6 +249,8 @@ macro_rules! library {
                 keystream_seed: |stream, number| keystream_seed(stream, number),
                 wyrand_jump: |rng, draws| wyrand_jump(rng, draws),
                 pcg64_jump: |seed, draws| pcg64_jump(seed, draws),
+                wyrand_distance: |rng, other| wyrand_distance(rng, other),
+                pcg64_distance: |seed, other, draws| pcg64_distance(seed, other, draws),
                 blocks: [
                     |state, out| chacha8_block(state, out),
                     |state, out| chacha12_block(state, out),
