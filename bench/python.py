@@ -1,16 +1,23 @@
 #!/usr/bin/env python3
 """Compares the speed of the installed package with Python's `random.Random`: bench/python.py [RUNS].
 
-It prints tables in Markdown: for the generators, for the classes of nanorand.randoms and, if NumPy is installed, for
-NumPy's Generator with the classes of nanorand.numpy. The first number of a row is the time of Python's own call, or of
-NumPy's PCG64, in nanoseconds. The others are the ratios of each class's time to it. Each is the median of RUNS runs, by
-default 9, in which the classes take turns.
+It prints tables in Markdown: for the generators, for sequences of several types, for the classes of nanorand.randoms
+and, if NumPy is installed, for NumPy's Generator with the classes of nanorand.numpy, and for fills of NumPy's arrays.
+The first number of a row is the time of Python's own call, or of NumPy's PCG64, in nanoseconds. The others are the
+ratios of each class's time to it. Each is the median of RUNS runs, by default 9, in which the classes take turns.
 """
 
+import array
+import collections
 import random
 import statistics
 import sys
 import timeit
+
+try:
+    import numpy
+except ImportError:
+    numpy = None
 
 from nanorand import ChaCha8, ChaCha12, ChaCha20, Pcg64, Stream, WyRand, randoms
 
@@ -36,6 +43,18 @@ CALLS = [
     ("[rng.random() for _ in thousand]", "rng.fill_random(doubles)"),
     ("[rng.randint(1, 100) for _ in thousand]", "rng.fill_range(words, 1, 100)"),
 ]
+# The populations of the table of sequences, small and large.
+POPULATIONS = {
+    "list": "list(range({}))",
+    "range": "range({})",
+    "bytes": "bytes({})",
+    "bytearray": "bytearray({})",
+    "array": "array('q', range({}))",
+    "deque": "deque(range({}))",
+    "NumPy array": "numpy.arange({})",
+}
+SIZES = [10, 100_000]
+OF_POPULATIONS = ["rng.choice(items)", "rng.choices(items)", "rng.choices(items, k=1000)", "rng.sample(items, 10)"]
 # The calls of NumPy's Generator, for a million numbers.
 NUMPY_CALLS = [
     "rng.integers(0, 1000, 10**6)",
@@ -46,6 +65,14 @@ NUMPY_CALLS = [
     "rng.shuffle(many)",
     "rng.bytes(10**6)",
 ]
+# The calls that fill an array of a million items: that of NumPy's Generator, that of our generators, and the items.
+FILLS = [
+    ("rng.random(out=items)", "rng.fill_random(items)", "float64"),
+    ("rng.random(out=items, dtype='float32')", "rng.fill_random(items)", "float32"),
+    ("rng.integers(1, 101, 10**6, dtype='uint64')", "rng.fill_range(items, 1, 100)", "uint64"),
+    ("rng.integers(1, 101, 10**6, dtype='uint32')", "rng.fill_range(items, 1, 100)", "uint32"),
+    ("rng.integers(1, 101, 10**6, dtype='uint8')", "rng.fill_range(items, 1, 100)", "uint8"),
+]
 VALUES = "from array import array; thousand = list(range(1, 1001)); many = list(range(100_000)); " \
          "doubles = array('d', thousand); words = array('Q', thousand)"
 
@@ -55,9 +82,9 @@ def made(kind):
     return kind.from_entropy() if hasattr(kind, "from_entropy") else kind(42)
 
 
-def timer(call, rng):
+def timer(call, rng, items=None):
     """The timer of a call, and how often one run makes the call."""
-    found = timeit.Timer(call, VALUES, globals={"rng": rng})
+    found = timeit.Timer(call, VALUES, globals={"rng": rng, "items": items})
     count = 1
     while found.timeit(count) < SECONDS / 10:
         count *= 2
@@ -92,18 +119,53 @@ def python_table(kinds, calls, runs):
     table(names, calls, [random.Random(42), *map(made, kinds)], runs)
 
 
+def compared(call, rngs, items, runs):
+    """The nanoseconds of the first generator and the ratio of the other, or dashes if the first refuses the items."""
+    try:
+        own, other = nanoseconds([timer(call, rng, items) for rng in rngs], runs)
+    except TypeError:
+        return "-", "-"
+    return f"{own:,.0f}", f"{other / own:.2f}"
+
+
+def sequence_table(runs):
+    """Compares `WyRand` with `random.Random` for sequences of several types."""
+    print("| Population |", " | ".join(f"`{call.removeprefix('rng.')}`, ns | ratio" for call in OF_POPULATIONS), "|")
+    print("|---" * (2 * len(OF_POPULATIONS) + 1) + "|")
+    rngs = [random.Random(42), made(WyRand)]
+    for name, text in POPULATIONS.items():
+        for size in SIZES:
+            try:
+                items = eval(text.format(size), {"array": array.array, "deque": collections.deque, "numpy": numpy})
+            except AttributeError:
+                continue
+            columns = [column for call in OF_POPULATIONS for column in compared(call, rngs, items, runs)]
+            print("|", " | ".join([f"{name} of {size:,}", *columns]), "|", flush=True)
+    print()
+
+
 def numpy_table(runs):
     """Compares NumPy's Generator with this package's bit generators and with its own."""
-    try:
-        from numpy.random import PCG64, Generator
+    from nanorand.numpy import Pcg64Bits, StreamBits, WyRandBits
 
-        from nanorand.numpy import Pcg64Bits, StreamBits, WyRandBits
-    except ImportError as error:
-        print(f"skipped: NumPy, as it cannot be imported: {error}")
-        return
-    kinds = [PCG64, WyRandBits, Pcg64Bits, StreamBits]
+    kinds = [numpy.random.PCG64, WyRandBits, Pcg64Bits, StreamBits]
     names = [kind.__name__ for kind in kinds]
-    table(names, [(call, call) for call in NUMPY_CALLS], [Generator(kind(42)) for kind in kinds], runs)
+    table(names, [(call, call) for call in NUMPY_CALLS], [numpy.random.Generator(kind(42)) for kind in kinds], runs)
+
+
+def fill_table(runs):
+    """Compares fills of arrays with NumPy's Generator over its own PCG64."""
+    kinds = [WyRand, Pcg64, Stream]
+    print("| Call | Items | `PCG64`, ns |", " | ".join(f"`{kind.__name__}`" for kind in kinds), "|")
+    print("|---" * (len(kinds) + 3) + "|")
+    for call, fill, items in FILLS:
+        array_of_items = numpy.zeros(10**6, items)
+        timers = [timer(call, numpy.random.Generator(numpy.random.PCG64(42)), array_of_items)]
+        timers += [timer(fill, made(kind), array_of_items) for kind in kinds]
+        own, *others = nanoseconds(timers, runs)
+        ratios = " | ".join(f"{other / own:.2f}" for other in others)
+        print(f"| `{fill.removeprefix('rng.')}` | {items} | {own:,.0f} | {ratios} |", flush=True)
+    print()
 
 
 def main(arguments):
@@ -111,9 +173,14 @@ def main(arguments):
         sys.exit("usage: bench/python.py [RUNS]")
     runs = int(arguments[0]) if arguments else RUNS
     python_table(GENERATORS, CALLS, runs)
+    sequence_table(runs)
     of_random = dict.fromkeys(python for python, _ in CALLS if "for" not in python)
     python_table(RANDOMS, [(call, call) for call in of_random], runs)
-    numpy_table(runs)
+    if numpy is None:
+        print("skipped: the tables of NumPy, which cannot be imported")
+    else:
+        numpy_table(runs)
+        fill_table(runs)
 
 
 if __name__ == "__main__":

@@ -3,7 +3,8 @@
 #
 # A plain loop, Dask, MPI with 1, 2 and 4 processes and a job array must print the committed sums. Dask with 1 and 2
 # workers, and the loop over one generator, must print the sums of the first 100 tasks; all tasks would take minutes.
-# Killing a worker must not change the sums, and a part past the end of the period must be an error.
+# Killing a worker must not change the sums, and a part past the end of the period must be an error. The programs of the
+# README's section "Your own simulation" run as it says.
 # shellcheck source=tests/lib.sh
 source "$(dirname "${BASH_SOURCE[0]}")/lib.sh"
 examples=$PWD/examples/cluster
@@ -65,6 +66,11 @@ refuses() {
 # Runs test_percolation.py with these options of unittest.
 percolation_tests() {
     (cd "$work/room" && PYTHONPATH=$work/room/python in_room /usr/bin/python3 "$examples/test_percolation.py" "$@")
+}
+
+# Runs test_own.py with these options of unittest.
+own_tests() {
+    (cd "$work/own" && PYTHONPATH=$work/room/python in_room /usr/bin/python3 "$examples/test_own.py" "$@")
 }
 
 # The loop in C, which takes a second, and the job array, which leaves no file behind if it is given no folder.
@@ -145,6 +151,9 @@ by_python() {
     done
     unit_tests 'test_percolation.py' percolation_tests
     prints 'a loop in Python' "$work/first" "$examples/run" plain --tasks 100
+    available /usr/lib/python3/dist-packages/mpi4py python3-mpi4py || true
+    mkdir "$work/own"
+    unit_tests 'test_own.py' own_tests
 }
 
 # The processes that do not end by themselves within a few seconds.

@@ -1,16 +1,19 @@
 #!/usr/bin/env bash
 # Tests the Python package.
 #
-#     tests/python.sh          tests it with each static library that can be built, the kit's and cargo's
+#     tests/python.sh          tests it with each static library that can be built, the kit's and rustc's
 #     tests/python.sh kit      tests it only with the kit's library
 #     tests/python.sh cargo    tests everything else
 #
-# For each library it builds the wheel twice, installs it into new environments of python3 and of the system's Python,
-# without the kit, and runs python/tests there. The last line is N passed, M failed.
+# For each library it builds the wheel in two folders, installs it into new environments of python3 and of the system's
+# Python, without the kit, and runs python/tests there. It also builds the wheel from the source distribution, with an
+# older rustc, and for an editable installation. The last line is N passed, M failed.
 # shellcheck source=tests/lib.sh
 source "$(dirname "${BASH_SOURCE[0]}")/lib.sh"
 unset NANORAND_LIBRARY PYTHONPATH
 export PYTHONDONTWRITEBYTECODE=1
+# Without its cache, pip builds a wheel each time.
+pip=(--quiet --no-index --no-cache-dir --disable-pip-version-check)
 
 # Copies what the tests read, so that they run outside this repository.
 copy_of_tests() {
@@ -19,10 +22,24 @@ copy_of_tests() {
         xargs -0 cp --parents -t "$work/tests"
 }
 
+# Copies what the wheel is built from into another folder, whose path has another length.
+another_place() {
+    local place="$work/another place/of the same/sources"
+    [ ! -e "$place" ] || return 0
+    mkdir -p "$place"
+    git ls-files -z --cached --others --exclude-standard LICENSE pyproject.toml c python rust |
+        xargs -0 cp --parents -t "$place"
+}
+
+# Builds the wheel in that folder, for the folder $1.
+build_in_another_place() {
+    (cd "$work/another place/of the same/sources" && python/build.py "$1")
+}
+
 # Makes a new environment of the Python $1 in the folder $2, with the wheel in the folder $3. Further arguments go to
 # venv.
 environment() {
-    "$1" -m venv "${@:4}" "$2" && "$2/bin/pip" install --quiet --no-index --disable-pip-version-check "$3"/*.whl
+    "$1" -m venv "${@:4}" "$2" && "$2/bin/pip" install "${pip[@]}" "$3"/*.whl
 }
 
 # The wheel's module runs on every processor that the wheel's tag names.
@@ -34,11 +51,12 @@ same_bytes() {
     [ "$(ls "$1")" = "$(ls "$2")" ] && cmp "$1"/*.whl "$2"/*.whl
 }
 
-# Builds the wheel with the library of $1, which NANORAND_LIBRARY names or cargo compiles, and runs its tests.
+# Builds the wheel with the library of $1, which NANORAND_LIBRARY names or rustc compiles, and runs its tests.
 over() {
     local room=$work/$1
     step python/build.py "$room/one"
-    step python/build.py "$room/two"
+    step another_place
+    step build_in_another_place "$room/two"
     step same_bytes "$room/one" "$room/two"
     WHEEL=$(echo "$room"/one/*.whl) unit_tests 'python/tests/wheel.py' in_repository wheel
     [ "$1" = kit ] || step runs_everywhere "$room/one"
@@ -158,11 +176,105 @@ stubs_are_right() {
     PYTHONPATH=$site stubtest nanorand._native
 }
 
-# Has pip, with the Python $1, install what is at the top of $2 into the new environment $3.
+# Has pip, with the Python $1, install $2 into the new environment $3. Further arguments are options of pip.
 pip_installs() {
-    "$1" -m venv "$3" &&
-        (cd "$2" && "$3/bin/pip" install --quiet --no-index --disable-pip-version-check .) &&
+    "$1" -m venv "$3" && "$3/bin/pip" install "${pip[@]}" "${@:4}" "$2" &&
         [ "$("$3/bin/python" -I -c 'import nanorand; print(nanorand.WyRand(42).range(1, 100))')" = 69 ]
+}
+
+# Builds with an older rustc and then again with the first one, in this same folder. Neither build finds files of the
+# other, and the first rustc makes the same wheel as before.
+by_two_compilers() {
+    local room=$work/cargo
+    if ! [ -x "$oldest_bin/rustc" ]; then
+        skip 'the package by an older rustc' "there is no $oldest_bin/rustc"
+        return
+    fi
+    step env RUSTC="$oldest_bin/rustc" python/build.py "$room/older"
+    step environment python3 "$room/env_of_older" "$room/older"
+    unit_tests 'python/tests/test_answers.py by an older rustc' in_tests "$room/env_of_older/bin/python" test_answers
+    step python/build.py "$room/three"
+    step same_bytes "$room/two" "$room/three"
+}
+
+# Builds the source distribution into $1 with the Python $2.
+build_sdist() {
+    mkdir -p "$1" && PYTHONPATH=python "$2" -c 'import sys, backend; backend.build_sdist(sys.argv[1])' "$1"
+}
+
+# The examples of the README, with the Python $1.
+readme_examples() {
+    "$1" -I -m doctest python/README.md
+}
+
+# Builds the source distribution, and from it, in another folder, the wheel that the repository makes.
+by_source_distribution() {
+    local room=$work/sdist archive other=/usr/bin/python3
+    [ -x "$other" ] || other=python3
+    step build_sdist "$room/one" python3
+    archive=$(echo "$room"/one/*.tar.gz)
+    step build_sdist "$room/two" "$other"
+    step cmp "$archive" "$room/two/${archive##*/}"
+    step pip_installs python3 "$archive" "$room/env"
+    step readme_examples "$room/env/bin/python"
+    step pip_installs python3 "$archive" "$room/env_of_same" --no-build-isolation
+    step "$room/env/bin/pip" wheel "${pip[@]}" --wheel-dir "$room/wheel" "$archive"
+    step same_bytes "$room/wheel" "$work/cargo/two"
+}
+
+# The command of the package `build` makes the same two files. It builds the wheel from the source distribution.
+by_build() {
+    local room=$work/build
+    if ! available /usr/lib/python3/dist-packages/build python3-build ||
+        ! /usr/bin/python3 -c 'import ensurepip, venv' 2>/dev/null; then
+        skip 'python -m build' "it or its venv is not there"
+        return
+    fi
+    step /usr/bin/python3 -m build --outdir "$room" .
+    step cmp "$(echo "$work"/sdist/one/*.tar.gz)" "$room"/*.tar.gz
+    step /usr/bin/python3 python/build.py "$work/of_system"
+    step cmp "$work"/of_system/*.whl "$room"/*.whl
+}
+
+# An editable installation takes up a change to a Python file at once.
+by_editable() {
+    local sources="$work/another place/of the same/sources" room=$work/editable
+    step another_place
+    step pip_installs python3 "$sources" "$room" --editable
+    step in_tests "$room/bin/python" test_numbers test_surface
+    echo 'changed = 6' >>"$sources/python/nanorand/errors.py"
+    step "$room/bin/python" -I -c 'import nanorand; assert nanorand.errors.changed == 6'
+    step "$room/bin/pip" uninstall --quiet --yes nanorand
+    step fails "$room/bin/python" -I -c 'import nanorand'
+}
+
+fails() {
+    ! "$@"
+}
+
+# A Python before 3.9 and PyPy, if they are there, have to say in one line that they cannot build the package.
+by_other_pythons() {
+    local python this wanted='python/build.py: nanorand requires CPython 3.9 or later, not free-threaded, and this is'
+    local name_of_python='import platform, sys; print(platform.python_implementation(), "%d.%d" % sys.version_info[:2])'
+    for python in python3.8 ~/.pyenv/versions/3.8.*/bin/python3 pypy3; do
+        this=$("$python" -c "$name_of_python" 2>/dev/null) || continue
+        expect "$python" "$wanted $this" "$("$python" python/build.py "$work/none" 2>&1)"
+    done
+}
+
+# Tests subinterpreters with the Pythons from 3.12 on that are there.
+by_newer_pythons() {
+    local python room found=
+    for python in python3.12 python3.13 ~/.pyenv/versions/3.1[23].*/bin/python3; do
+        "$python" -c 'import ensurepip, venv' 2>/dev/null || continue
+        room=$work/newer/$("$python" -c 'import sys; print("%d.%d" % sys.version_info[:2])')
+        [ ! -e "$room" ] || continue
+        found=1
+        step "$python" python/build.py "$room/one"
+        step environment "$python" "$room/env" "$room/one"
+        unit_tests "python/tests/test_interpreters.py by $python" in_tests "$room/env/bin/python" test_interpreters
+    done
+    [ -n "$found" ] || skip 'subinterpreters with a GIL of their own' 'there is no Python 3.12 or later'
 }
 
 # Makes a folder like the unpacked archive: the package, the header, and the library $1.
@@ -173,10 +285,10 @@ archive() {
     cp "$1" "$work/archive/lib/libnanorand.a"
 }
 
-without_cargo() {
+without_rustc() {
     mkdir -p "$work/none"
-    printf '#!/bin/sh\nexit 1\n' >"$work/none/cargo"
-    chmod +x "$work/none/cargo"
+    printf '#!/bin/sh\nexit 1\n' >"$work/none/rustc"
+    chmod +x "$work/none/rustc"
     PATH=$work/none:$PATH "$@"
 }
 
@@ -194,8 +306,8 @@ if asked_for kit && command -v rt >/dev/null; then
 fi
 PATH=$(path_without_kit)
 export PATH
-if [ -z "$kit" ] && ! { command -v cargo && [ -e rust/nanorand-c ]; } >/dev/null; then
-    skip_all "$package" 'there is neither a kit nor cargo to build the static library'
+if [ -z "$kit" ] && ! { command -v rustc && [ -e rust/nanorand-c ]; } >/dev/null; then
+    skip_all "$package" 'there is neither a kit nor rustc to build the static library'
 fi
 copy_of_tests
 with_its_tests python3
@@ -205,17 +317,23 @@ elif asked_for kit; then
     skip 'the package over the library of the kit' 'there is no kit'
 fi
 asked_for cargo || finish
-if command -v cargo >/dev/null && [ -e rust/nanorand-c ]; then
+if command -v rustc >/dev/null && [ -e rust/nanorand-c ]; then
     over cargo
     step pip_installs python3 . "$work/env_of_cargo"
+    by_two_compilers
+    by_source_distribution
+    by_build
+    by_editable
     first=$work/cargo
-    archive rust/nanorand-c/target/release/libnanorand.a
+    step env PREFIX="$work/installed" c/install
+    archive "$work/installed/lib/libnanorand.a"
 else
-    skip 'the package over the library of cargo' 'there is no cargo'
+    skip 'the package over the library of rustc' 'there is no rustc'
     first=$work/kit
     archive "$kit"
 fi
-step without_cargo pip_installs python3 "$work/archive" "$work/env_of_archive"
+by_other_pythons
+step without_rustc pip_installs python3 "$work/archive" "$work/env_of_archive"
 NANORAND_LIBRARY=$work/archive/lib/libnanorand.a
 export NANORAND_LIBRARY
 step refusing
@@ -231,6 +349,7 @@ if [ -x "$system" ] && "$system" -c 'import ensurepip, venv' 2>/dev/null; then
 else
     skip "the package by the system's Python" "it has no venv"
 fi
+by_newer_pythons
 refused_statuses
 unit_tests 'python/tests/packaging.py' in_repository packaging
 step without_warnings cc

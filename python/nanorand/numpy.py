@@ -18,8 +18,9 @@ use a vetted generator.
 True
 """
 
+import operator
 from collections.abc import Callable, Mapping
-from typing import Any, ClassVar, Optional, SupportsIndex, TypeVar
+from typing import Any, ClassVar, Optional, SupportsIndex, TypeVar, cast
 
 import numpy
 from numpy.random import BitGenerator
@@ -47,7 +48,9 @@ class GeneratorBits(BitGenerator):
     _kind: ClassVar[type[Generator]]
     _seed_length: ClassVar[int]
     _zeros: ClassVar[int] = 0
-    _last_jump: ClassVar[int]
+    # In words: the period, and the length of a jump.
+    _period: ClassVar[int]
+    _jump: ClassVar[int]
     # Attributes of NumPy, which does not declare their types.
     capsule: Any
     _seed_seq: ISeedSequence
@@ -95,8 +98,11 @@ class GeneratorBits(BitGenerator):
     def _now(self) -> "tuple[Generator, Optional[int]]":
         """Return the generator after the words drawn so far, and the half of a word to be drawn next, or None."""
         with self.lock:
-            start, words, half = _native.drawn(self.capsule)
-            generator = start.copy()
+            return self._now_locked()
+
+    def _now_locked(self) -> "tuple[Generator, Optional[int]]":
+        start, words, half = _native.drawn(self.capsule)
+        generator = start.copy()
         generator.bytes(8 * words)
         return generator, half
 
@@ -112,9 +118,10 @@ class GeneratorBits(BitGenerator):
 
     @property  # type: ignore[override]
     def state(self) -> "dict[str, Any]":
-        """The state, in the form that NumPy uses. Assign to it to set the state.
+        """The state, in the form that NumPy uses, which can be stored as JSON. Assign to it to set the state.
 
-        It has the name of the class, the generator's own state, and the half of a word to be drawn next.
+        It has the name of the class, the generator's `state_dict`, and the half of a word to be drawn next. The
+        generator's `state`, as bytes, can be assigned too.
 
         >>> bits = WyRandBits(42)
         >>> saved = bits.state
@@ -126,7 +133,7 @@ class GeneratorBits(BitGenerator):
         generator, half = self._now()
         return {
             "bit_generator": type(self).__name__,
-            "state": generator.state,
+            "state": generator.state_dict,
             "has_uint32": int(half is not None),
             "uinteger": half or 0,
         }
@@ -143,6 +150,30 @@ class GeneratorBits(BitGenerator):
         with self.lock:
             _native.restart(self.capsule, generator, half if with_half else None)
 
+    def advance(self: Bits, delta: SupportsIndex) -> Bits:
+        """Move `delta` words of 64 bits ahead, and return this bit generator.
+
+        A half of a word to be drawn next is dropped, as NumPy's own bit generators drop it. The number is taken modulo
+        the period, so a negative one moves back.
+
+        Parameters
+        ----------
+        delta : int
+            Number of words.
+
+        Examples
+        --------
+        >>> rng, same = Pcg64Bits(42), Pcg64Bits(42)
+        >>> drawn = rng.random_raw(1000)
+        >>> same.advance(1000).random_raw() == rng.random_raw()
+        True
+        """
+        words = operator.index(delta) % self._period
+        with self.lock:
+            generator = self._ahead(self._now_locked()[0], words)
+            _native.restart(self.capsule, generator, None)
+        return self
+
     def jumped(self: Bits, jumps: SupportsIndex = 1) -> Bits:
         """Return a bit generator that is `jumps` jumps ahead, so that it does not repeat the words before that point.
 
@@ -157,12 +188,14 @@ class GeneratorBits(BitGenerator):
         >>> Pcg64Bits(42).jumped(2).random_raw() == Pcg64Bits(42).jumped().jumped().random_raw()
         True
         """
-        count = _native.bounded("jumps", jumps, self._last_jump)
-        return self._at(SeedlessSeedSequence(), self._ahead(self.generator, count))
+        count = _native.bounded("jumps", jumps, self._period // self._jump - 1)
+        return self._at(SeedlessSeedSequence(), self._ahead(self.generator, count * self._jump))
 
     @staticmethod
-    def _ahead(generator: Any, jumps: int) -> Generator:
-        raise NotImplementedError
+    def _ahead(generator: Any, words: int) -> Generator:
+        """Return the generator after a number of words below the period."""
+        generator.jump(words)
+        return cast(Generator, generator)
 
     @classmethod
     def _unpickled(cls: type[Bits], seed: ISeedSequence) -> Bits:
@@ -184,12 +217,8 @@ class WyRandBits(GeneratorBits):
 
     _kind = WyRand
     _seed_length = 8
-    _last_jump = 2**16 - 1
-
-    @staticmethod
-    def _ahead(generator: WyRand, jumps: int) -> WyRand:
-        generator.jump(jumps << 48)
-        return generator
+    _period = 2**64
+    _jump = 2**48
 
 
 class Pcg64Bits(GeneratorBits):
@@ -201,12 +230,8 @@ class Pcg64Bits(GeneratorBits):
 
     _kind = Pcg64
     _seed_length = 16
-    _last_jump = 2**62 - 1
-
-    @staticmethod
-    def _ahead(generator: Pcg64, jumps: int) -> Pcg64:
-        generator.jump(jumps << 64)
-        return generator
+    _period = 2**126
+    _jump = 2**64
 
 
 class StreamBits(GeneratorBits):
@@ -219,12 +244,10 @@ class StreamBits(GeneratorBits):
     _kind = Stream
     _seed_length = 32
     _zeros = 16
-    _last_jump = 2**16 - 1
+    _period = 2**67
+    _jump = 2**51
 
     @staticmethod
-    def _ahead(generator: Stream, jumps: int) -> Stream:
-        begun = len(generator.rest) > 0
-        block = (generator.counter - begun + (jumps << 48)) % 2**64
-        ahead = Stream(generator.key, generator.nonce, block)
-        ahead.bytes(64 - len(generator.rest) if begun else 0)
-        return ahead
+    def _ahead(generator: Stream, words: int) -> Stream:
+        generator.seek((generator.position + 8 * words) % 2**70)
+        return generator

@@ -3,19 +3,16 @@
 `random`, `getrandbits` and `randbytes` take the bytes of the generator. All other methods (`gauss`,
 `shuffle`, `sample`, ..) are Python's own, and their results differ from those in other languages.
 
-The seed of a generator depends on the type of the argument:
+Every seed is mixed: the generator's seed or key is the first bytes of a SHA-256, so that generators
+with the seeds 0, 1, 2, .. are unrelated. What is hashed depends on the type of the argument:
 
-- A nonnegative int of at most 64 bits (`WyRandRandom`) or 128 bits (`Pcg64Random`) is the seed
-  itself. One of at most 256 bits is the key of the other classes, in little-endian order.
-- For any other value, the seed or the key is the first bytes of a SHA-256. For a str it is that of
-  its UTF-8 bytes, and for bytes and bytearray that of the bytes. For a negative or longer int, it is
-  that of the byte 0xFF, `int ` and the number as `hex` writes it. For a float, it is that of the
-  byte 0xFF, `float ` and the number as `float.hex` writes it.
-- None takes a seed from the operating system.
+- For a str, its UTF-8 bytes.
+- For bytes and bytearray, the bytes.
+- For an int, the byte 0xFF, `int ` and the number as `hex` writes it, such as `int 0x2a`.
+- For a float, the byte 0xFF, `float ` and the number as `float.hex` writes it.
 
-An int that is the seed is not mixed: `WyRandRandom` and `Pcg64Random` with neighbouring seeds, such
-as 0, 1, 2, .., draw correlated numbers. A str is mixed by the SHA-256: use
-`Pcg64Random(f"run {number}")`.
+None takes a seed from the operating system. To draw the same words as a generator of the package,
+assign that generator to the attribute `generator`.
 
 None of the classes is a vetted cryptographic generator: for keys, tokens and passwords, or if there
 is an adversary, use a vetted generator.
@@ -26,10 +23,11 @@ is an adversary, use a vetted generator.
 (17154516133070439476, 2)
 """
 
+import copyreg
 import hashlib
 import operator
 import random
-from typing import Any, ClassVar, SupportsIndex, Union
+from typing import Any, ClassVar, NamedTuple, SupportsIndex, Union
 
 from nanorand._native import BaseRandom
 from nanorand.errors import ForeignState
@@ -51,6 +49,9 @@ Seed = Union[None, SupportsIndex, float, str, bytes, bytearray]
 class GeneratorRandom(BaseRandom):
     """Base class of the classes of this module, which draw from `generator`.
 
+    `x` is the seed, as of `seed`; it can also be passed as `seed`. Copies and pickles keep the
+    attributes of a subclass.
+
     >>> WyRandRandom("seed 42").generator
     WyRand(0xd95fc6fdf7c1b745)
     """
@@ -67,11 +68,17 @@ class GeneratorRandom(BaseRandom):
         if "randbytes" not in vars(first):
             setattr(cls, "randbytes", random.Random.randbytes)
 
-    def __init__(self, seed: Seed = None) -> None:
-        super().__init__(seed)
+    def __init__(self, x: Seed = None, *, seed: Seed = None) -> None:
+        if x is not None and seed is not None:
+            raise TypeError(f"{type(self).__name__}() takes x or seed, not both")
+        super().__init__(seed if x is None else x)
 
     def seed(self, a: Seed = None, version: int = 2) -> None:  # type: ignore[override]
         """Restart from a seed, whose types the module's documentation lists. `version` is ignored.
+
+        Python's own generator in the base class is seeded too, from the seed made here. Only calls
+        that name the base class, such as `random.Random.random(rng)`, draw from it. It is not part
+        of the state.
 
         Raises
         ------
@@ -87,27 +94,12 @@ class GeneratorRandom(BaseRandom):
         True
         """
         if a is None:
-            self.generator = self._kind.from_entropy()
+            generator = self._kind.from_entropy()
         else:
-            self.generator = self._kind.from_state(self._seed_bytes(a) + self._rest_of_state)
-        self.gauss_next = None
-
-    def _seed_bytes(self, seed: Union[SupportsIndex, float, str, bytes, bytearray]) -> bytes:
-        if isinstance(seed, str):
-            return self._digest(seed.encode())
-        if isinstance(seed, (bytes, bytearray)):
-            return self._digest(bytes(seed))
-        if isinstance(seed, float):
-            return self._digest(b"\xfffloat " + seed.hex().encode())
-        if not hasattr(type(seed), "__index__"):
-            raise TypeError(f"seed is a {type(seed).__name__}, not an integer, a float, a str, bytes or None")
-        whole = operator.index(seed)
-        if 0 <= whole < 256**self._seed_length:
-            return whole.to_bytes(self._seed_length, "little")
-        return self._digest(b"\xffint " + hex(whole).encode())
-
-    def _digest(self, text: bytes) -> bytes:
-        return hashlib.sha256(text).digest()[: self._seed_length]
+            seed = hashlib.sha256(_hashed(a)).digest()[: self._seed_length]
+            generator = self._kind.from_state(seed + self._rest_of_state)
+        super().seed(generator.state)
+        self.generator = generator
 
     def getstate(self) -> "tuple[Any, ...]":
         """Return the state, for `setstate`: the generator's name, its state, and what `gauss` has kept.
@@ -142,14 +134,54 @@ class GeneratorRandom(BaseRandom):
             raise ForeignState(self._kind.__name__)
         if type(state[2]) not in (float, type(None)):
             raise ForeignState(self._kind.__name__)
-        self.generator = self._kind.from_state(state[1])
+        generator = self._kind.from_state(state[1])
+        super().seed(generator.state)
+        self.generator = generator
         self.gauss_next = state[2]
+
+    def __reduce__(self) -> "tuple[Any, ...]":
+        """Return what copies and pickles are made from."""
+        slots = copyreg._slotnames(type(self))  # type: ignore[attr-defined]
+        kept = {name: getattr(self, name) for name in slots if hasattr(self, name)}
+        return _without_init, (type(self),), _Saved(self.getstate(), {**vars(self), **kept})
+
+    def __setstate__(self, state: "tuple[Any, ...]") -> None:
+        """Restore what a pickle has; one of an earlier version has only the result of `getstate`."""
+        if not isinstance(state, _Saved):
+            self.setstate(state)
+            return
+        self.setstate(state.state)
+        for name, value in state.attributes.items():
+            object.__setattr__(self, name, value)
+
+
+def _without_init(kind: type[GeneratorRandom]) -> GeneratorRandom:
+    """Return an object whose state and attributes a pickle sets: an `__init__` of a subclass may need arguments."""
+    return kind.__new__(kind)
+
+
+class _Saved(NamedTuple):
+    """What a pickle of a generator has: the result of its `getstate`, and its attributes."""
+
+    state: "tuple[Any, ...]"
+    attributes: "dict[str, Any]"
+
+
+def _hashed(seed: Union[SupportsIndex, float, str, bytes, bytearray]) -> bytes:
+    """Return the bytes whose SHA-256 the seed is mixed to. No str has the byte 0xFF in UTF-8."""
+    if isinstance(seed, str):
+        return seed.encode()
+    if isinstance(seed, (bytes, bytearray)):
+        return bytes(seed)
+    if isinstance(seed, float):
+        return b"\xfffloat " + seed.hex().encode()
+    if not hasattr(type(seed), "__index__"):
+        raise TypeError(f"seed is a {type(seed).__name__}, not an integer, a float, a str, bytes or None")
+    return b"\xffint " + hex(operator.index(seed)).encode()
 
 
 class WyRandRandom(GeneratorRandom):
     """`WyRand` as `random.Random`. It is not cryptographically secure.
-
-    An int as the seed is not mixed: generators with neighbouring seeds draw correlated numbers.
 
     >>> WyRandRandom("seed 42").randbytes(4).hex()
     '34045fd5'
@@ -161,8 +193,6 @@ class WyRandRandom(GeneratorRandom):
 
 class Pcg64Random(GeneratorRandom):
     """`Pcg64` as `random.Random`. It is not cryptographically secure.
-
-    An int as the seed is not mixed: generators with neighbouring seeds draw correlated numbers.
 
     >>> Pcg64Random("seed 0").randbytes(4).hex()
     'a0e95bce'

@@ -198,18 +198,37 @@ int halves_of(PyObject *whole, nanorand_pcg64 *number)
     return PyErr_Occurred() ? -1 : fits;
 }
 
-int take_u128(const char *name, PyObject *value, nanorand_pcg64 *number)
+int take_wide(const char *name, PyObject *value, uint64_t highest, const char *bounds, nanorand_pcg64 *number)
 {
     PyObject *whole = take_index(name, value);
     if (whole == NULL) {
         return -1;
     }
     int fits = halves_of(whole, number);
-    if (fits == 0) {
-        raise_out_of_bounds(name, whole, "0..=340282366920938463463374607431768211455");
+    if (fits == 0 || (fits == 1 && number->high > highest)) {
+        raise_out_of_bounds(name, whole, bounds);
+        fits = 0;
     }
     Py_DECREF(whole);
     return fits == 1 ? 0 : -1;
+}
+
+int take_u128(const char *name, PyObject *value, nanorand_pcg64 *number)
+{
+    return take_wide(name, value, UINT64_MAX, "0..=340282366920938463463374607431768211455", number);
+}
+
+PyObject *number_of_halves(uint64_t high, uint64_t low)
+{
+    PyObject *upper = PyLong_FromUnsignedLongLong(high), *lower = PyLong_FromUnsignedLongLong(low);
+    PyObject *width = PyLong_FromLong(64);
+    PyObject *shifted = upper == NULL || width == NULL ? NULL : PyNumber_Lshift(upper, width);
+    PyObject *number = shifted == NULL || lower == NULL ? NULL : PyNumber_Or(shifted, lower);
+    Py_XDECREF(upper);
+    Py_XDECREF(lower);
+    Py_XDECREF(width);
+    Py_XDECREF(shifted);
+    return number;
 }
 
 /* ---- Bytes. ---- */

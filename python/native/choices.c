@@ -15,16 +15,16 @@ typedef struct {
 
 /* ---- Weights. ---- */
 
-/* Adds a weight to the sum, or replaces the sum if cumulative sums are given. */
-static int add_whole(PyObject *weight, int summed, uint64_t *sum)
+/* Adds a weight, or a count, to the sum, or replaces the sum if cumulative sums are given. Errors use the name. */
+static int add_whole(const char *name, PyObject *weight, int summed, uint64_t *sum)
 {
     uint64_t number;
-    if (take_u64("a weight", weight, UINT64_MAX, &number) < 0) {
+    if (take_u64(name, weight, UINT64_MAX, &number) < 0) {
         return -1;
     }
     if (summed ? number < *sum : number > UINT64_MAX - *sum) {
-        const char *text = summed ? "cum_weights has %llu after %llu" : "a weight of %llu after %llu leaves 64 bits";
-        raise_text("OutOfBounds", text, (unsigned long long)number, (unsigned long long)*sum);
+        raise_text("OutOfBounds", summed ? "%s has %llu after %llu" : "%s of %llu after %llu leaves 64 bits",
+                   summed ? "cum_weights" : name, (unsigned long long)number, (unsigned long long)*sum);
         return -1;
     }
     *sum = summed ? number : *sum + number;
@@ -47,13 +47,13 @@ static int add_real(PyObject *weight, int summed, double *sum)
     return 0;
 }
 
-static int read_whole(PyObject *weights, int summed, Shares *shares)
+static int read_whole(const char *name, PyObject *weights, int summed, Shares *shares)
 {
     uint64_t sum = 0;
     shares->whole = new_array(shares->count, sizeof *shares->whole);
     int read = shares->whole == NULL ? -1 : 0;
     for (size_t i = 0; read == 0 && i < shares->count; i++) {
-        read = add_whole(PyTuple_GET_ITEM(weights, (Py_ssize_t)i), summed, &sum);
+        read = add_whole(name, PyTuple_GET_ITEM(weights, (Py_ssize_t)i), summed, &sum) < 0 ? -1 : check_signals(i);
         shares->whole[i] = sum;
     }
     return read;
@@ -65,7 +65,7 @@ static int read_real(PyObject *weights, int summed, Shares *shares)
     shares->real = new_array(shares->count, sizeof *shares->real);
     int read = shares->real == NULL ? -1 : 0;
     for (size_t i = 0; read == 0 && i < shares->count; i++) {
-        read = add_real(PyTuple_GET_ITEM(weights, (Py_ssize_t)i), summed, &sum);
+        read = add_real(PyTuple_GET_ITEM(weights, (Py_ssize_t)i), summed, &sum) < 0 ? -1 : check_signals(i);
         shares->real[i] = sum;
     }
     return read;
@@ -81,6 +81,17 @@ static int are_whole(PyObject *weights)
     return 1;
 }
 
+/* Returns the values of an iterable as a tuple, of which there has to be one for each item. */
+static PyObject *listed_for(const char *name, PyObject *values, size_t items)
+{
+    PyObject *listed = PySequence_Tuple(values);
+    if (listed != NULL && (size_t)PyTuple_GET_SIZE(listed) != items) {
+        raise_text("WrongLength", "%s has %zd items, not %zu", name, PyTuple_GET_SIZE(listed), items);
+        Py_CLEAR(listed);
+    }
+    return listed;
+}
+
 /* Reads the shares from the weights or from their cumulative sums; both may be None. */
 static int read_shares(PyObject *weights, PyObject *sums, Shares *shares)
 {
@@ -93,19 +104,26 @@ static int read_shares(PyObject *weights, PyObject *sums, Shares *shares)
     if (given == Py_None) {
         return 0;
     }
-    PyObject *listed = PySequence_Tuple(given);
+    PyObject *listed = listed_for(summed ? "cum_weights" : "weights", given, shares->count);
     if (listed == NULL) {
         return -1;
     }
-    int read = -1;
-    if ((size_t)PyTuple_GET_SIZE(listed) != shares->count) {
-        raise_text("WrongLength", "%s has %zd items, not %zu", summed ? "cum_weights" : "weights",
-                   PyTuple_GET_SIZE(listed), shares->count);
-    } else {
-        read = (are_whole(listed) ? read_whole : read_real)(listed, summed, shares);
-    }
+    int read = are_whole(listed) ? read_whole("a weight", listed, summed, shares)
+                                 : read_real(listed, summed, shares);
     Py_DECREF(listed);
     return read;
+}
+
+uint64_t *read_counts(PyObject *counts, size_t items)
+{
+    Shares shares = {items, NULL, NULL};
+    PyObject *listed = listed_for("counts", counts, items);
+    if (listed == NULL || read_whole("a count", listed, 0, &shares) < 0) {
+        PyMem_Free(shares.whole);
+        shares.whole = NULL;
+    }
+    Py_XDECREF(listed);
+    return shares.whole;
 }
 
 static int have_none(const Shares *shares)
@@ -117,13 +135,12 @@ static int have_none(const Shares *shares)
 
 /* ---- Draws. ---- */
 
-/* Returns the first item whose sum is above the number. The number is below the last sum. */
-static size_t find_whole(const Shares *shares, uint64_t number)
+size_t find_share(const uint64_t *sums, size_t items, uint64_t number)
 {
-    size_t low = 0, high = shares->count - 1;
+    size_t low = 0, high = items - 1;
     while (low < high) {
         size_t middle = low + (high - low) / 2;
-        if (shares->whole[middle] > number) {
+        if (sums[middle] > number) {
             high = middle;
         } else {
             low = middle + 1;
@@ -132,7 +149,7 @@ static size_t find_whole(const Shares *shares, uint64_t number)
     return low;
 }
 
-/* Does the same for floats. A number that was rounded up to the last sum is treated as if it were just below it. */
+/* Does the same as find_share for floats. A number that was rounded up to the last sum is treated as if it were just below it. */
 static size_t find_real(const Shares *shares, double number)
 {
     size_t low = 0, high = shares->count - 1;
@@ -159,28 +176,39 @@ static uint8_t draw_place(Generator *rng, const Shares *shares, size_t *place)
     uint64_t number;
     uint8_t status = rng->kind->range_u64(rng->state, 0, greatest, &number);
     if (status == NANORAND_OK) {
-        *place = shares->whole == NULL ? number : find_whole(shares, number);
+        *place = shares->whole == NULL ? number : find_share(shares->whole, shares->count, number);
     }
     return status;
 }
 
-/* Draws `count` places in one turn, and saves the state before it. */
-static int draw_all(Generator *rng, const Shares *shares, size_t *places, size_t count, Saved *before)
+/* The shares of the items, and the places to be drawn. */
+typedef struct {
+    const Shares *shares;
+    size_t *places;
+} Choices;
+
+static uint8_t choose(Generator *rng, void *plan, size_t from, size_t end)
 {
-    Turn turn;
+    const Choices *choices = plan;
     uint8_t status = NANORAND_OK;
-    if (begin_turn(rng, count * sizeof *places, &turn) < 0) {
-        return -1;
+    for (size_t i = from; status == NANORAND_OK && i < end; i++) {
+        status = draw_place(rng, choices->shares, &choices->places[i]);
     }
-    keep_state(rng, before);
-    for (size_t i = 0; status == NANORAND_OK && i < count; i++) {
-        status = draw_place(rng, shares, &places[i]);
+    return status;
+}
+
+/* Returns a list of the items drawn. */
+static PyObject *list_of_choices(Generator *rng, PyObject *population, Choices *choices, size_t count)
+{
+    Draw draw;
+    if (begin_draw(rng, count, &draw) < 0) {
+        return NULL;
     }
-    end_turn(rng, &turn);
-    if (status != NANORAND_OK) {
-        raise_status(status);
+    if (draw_steps(rng, &draw, count, choose, choices) < 0) {
+        end_draw(rng, &draw, 0);
+        return NULL;
     }
-    return status == NANORAND_OK ? 0 : -1;
+    return end_with_list(rng, &draw, population, choices->places, count);
 }
 
 static PyObject *draw_items(Generator *rng, PyObject *population, const Shares *shares, size_t count)
@@ -189,13 +217,10 @@ static PyObject *draw_items(Generator *rng, PyObject *population, const Shares *
         raise_text("EmptyRange", shares->count == 0 ? "population is empty" : "no item has a weight");
         return NULL;
     }
-    size_t *places = new_array(count, sizeof *places);
-    Saved before;
-    if (places == NULL || draw_all(rng, shares, places, count, &before) < 0) {
-        PyMem_Free(places);
-        return NULL;
-    }
-    return list_or_restore(rng, items_at(population, places, count), places, &before);
+    Choices choices = {shares, new_array(count, sizeof *choices.places)};
+    PyObject *list = choices.places == NULL ? NULL : list_of_choices(rng, population, &choices, count);
+    PyMem_Free(choices.places);
+    return list;
 }
 
 static PyObject *call_choices(PyObject *self, PyObject *const *given, Py_ssize_t placed, PyObject *names)
@@ -203,7 +228,7 @@ static PyObject *call_choices(PyObject *self, PyObject *const *given, Py_ssize_t
     static const Parameters wanted = {"choices", 1, 2, 4, {"population", "weights", "cum_weights", "k"}};
     PyObject *values[4];
     uint64_t count = 1;
-    if (take_arguments(&wanted, given, placed, names, values) < 0 || require_sequence("population", values[0]) < 0
+    if (take_arguments(&wanted, given, placed, names, values) < 0 || require_sequence(self, "population", values[0]) < 0
         || (values[3] != NULL && take_u64("k", values[3], PY_SSIZE_T_MAX, &count) < 0)) {
         return NULL;
     }
@@ -262,6 +287,8 @@ PyDoc_STRVAR(choices_doc,
 "-----\n"
 "Each call reads and adds all n weights, which takes O(n), and then O(log n) for each of the `k`\n"
 "items. Draw many items by one call.\n"
+"\n"
+"If the population or a signal handler raises an exception, the state of the generator is restored.\n"
 "\n"
 "Examples\n"
 "--------\n"

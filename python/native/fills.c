@@ -60,6 +60,59 @@ static int open_buffer(PyObject *buffer, const char *formats, Py_buffer *view)
     return 0;
 }
 
+/* ---- Words. ---- */
+
+enum { LONGEST_BLOCK = 64, AHEAD = 256 * LONGEST_BLOCK, MOST_AHEAD = AHEAD / sizeof(uint32_t) };
+
+/* Words that are drawn by one request, and the generator before it. Each word begins `step` bytes after the last. */
+typedef struct {
+    uint8_t bytes[AHEAD];
+    size_t step;
+    Saved before;
+} Words;
+
+/* The bytes that a word takes: a whole block, unless requests join without a break. */
+static size_t step_of(const Kind *kind, size_t width)
+{
+    return kind->block_length == 0 ? width : kind->block_length;
+}
+
+/* How many words to draw ahead for the items that are still to be filled. */
+static size_t count_of(size_t items, size_t step)
+{
+    return items < AHEAD / step ? items : AHEAD / step;
+}
+
+/* Draws words for the items that are still to be filled, and returns how many. */
+static size_t draw_words(Words *words, Generator *rng, size_t items)
+{
+    size_t count = count_of(items, words->step);
+    keep_state(rng, &words->before);
+    rng->kind->fill_bytes(rng->state, words->bytes, count * words->step);
+    return count;
+}
+
+/* Leaves the generator after the first `count` of these words. */
+static void return_words(Words *words, Generator *rng, size_t count)
+{
+    memcpy(rng->state, words->before.bytes, rng->kind->size);
+    rng->kind->fill_bytes(rng->state, words->bytes, count * words->step);
+}
+
+static inline uint64_t word_at(const uint8_t *bytes)
+{
+    uint64_t word;
+    memcpy(&word, bytes, sizeof word);
+    return word;
+}
+
+static inline uint32_t short_word_at(const uint8_t *bytes)
+{
+    uint32_t word;
+    memcpy(&word, bytes, sizeof word);
+    return word;
+}
+
 /* ---- Items. ---- */
 
 /* The bounds of a range, as their 64 bits. */
@@ -76,65 +129,167 @@ static uint8_t fill_bytes(Generator *rng, const Py_buffer *view, const Span *Py_
     return NANORAND_OK;
 }
 
-static uint8_t fill_unsigned(Generator *rng, const Py_buffer *view, const Span *span)
+/* ---- Numbers of a range. ---- */
+
+/*
+ * Each number below `size` has as many words as every other one: those whose product with the size has the number as
+ * its upper half. So that they are equally many, `rejects` words are rejected (Daniel Lemire, "Fast Random Integer
+ * Generation in an Interval", 2019). This is the rule of the library's ranges.
+ */
+__extension__ typedef unsigned __int128 Product;
+
+enum { MOST_WORDS = 128 }; /* for one number */
+
+/* Whether a word of 64 bits names a number, which is written. A size of 0 stands for 2^64. */
+static inline int names_wide(uint64_t word, uint64_t size, uint64_t rejects, uint64_t *number)
 {
-    uint8_t status = NANORAND_OK;
-    for (Py_ssize_t at = 0; status == NANORAND_OK && at < view->len; at += 8) {
+    Product product = (Product)word * size;
+    *number = size == 0 ? word : (uint64_t)(product >> 64);
+    return (uint64_t)product >= rejects;
+}
+
+/* The same for a word of 32 bits, and a size of at most 2^32. */
+static inline int names_narrow(uint32_t word, uint64_t size, uint32_t rejects, uint64_t *number)
+{
+    uint64_t product = word * size;
+    *number = product >> 32;
+    return (uint32_t)product >= rejects;
+}
+
+/* Numbers of a range of 64-bit words, or else of 32-bit words, and how many words were rejected since the last one. */
+typedef struct {
+    uint64_t first, size, rejects;
+    unsigned rejected;
+    uint64_t found[MOST_AHEAD];
+} Numbers;
+
+static void begin_numbers(Numbers *numbers, const Span *span, int wide)
+{
+    const uint64_t all = wide ? 0 : (uint64_t)1 << 32; /* 0 stands for 2^64 */
+    numbers->first = span->first;
+    numbers->size = span->last - span->first + 1;
+    numbers->rejects = numbers->size == 0 ? 0 : (all - numbers->size) % numbers->size;
+    numbers->rejected = 0;
+}
+
+/*
+ * Finds the numbers that words name, and returns how many. It ends early if MOST_WORDS in a row were rejected. Each
+ * number is written, and the next one takes its place if the word was rejected: a branch would be mispredicted.
+ */
+static inline __attribute__((always_inline)) size_t find_numbers(Numbers *numbers, const Words *words, size_t *count,
+                                                                 const int wide)
+{
+    const uint64_t size = numbers->size, rejects = numbers->rejects;
+    const size_t step = words->step;
+    size_t found = 0;
+    for (size_t place = 0; place < *count; place++) {
+        const uint8_t *bytes = words->bytes + place * step;
         uint64_t number;
-        status = rng->kind->range_u64(rng->state, span->first, span->last, &number);
-        if (status == NANORAND_OK) {
-            memcpy((uint8_t *)view->buf + at, &number, sizeof number);
+        int named = wide ? names_wide(word_at(bytes), size, rejects, &number)
+                         : names_narrow(short_word_at(bytes), size, (uint32_t)rejects, &number);
+        numbers->found[found] = numbers->first + number;
+        found += (size_t)named;
+        numbers->rejected = named ? 0 : numbers->rejected + 1;
+        if (numbers->rejected == MOST_WORDS) {
+            *count = place + 1;
         }
     }
-    return status;
+    return found;
 }
 
-static uint8_t fill_signed(Generator *rng, const Py_buffer *view, const Span *span)
+/* Writes the lowest bytes of numbers to items of a width that is a constant where this is called. */
+static inline __attribute__((always_inline)) void write_items(uint8_t *items, const size_t width,
+                                                              const uint64_t *numbers, size_t count)
 {
-    uint8_t status = NANORAND_OK;
-    for (Py_ssize_t at = 0; status == NANORAND_OK && at < view->len; at += 8) {
-        int64_t number;
-        status = rng->kind->range_i64(rng->state, (int64_t)span->first, (int64_t)span->last, &number);
-        if (status == NANORAND_OK) {
-            memcpy((uint8_t *)view->buf + at, &number, sizeof number);
-        }
+    for (size_t i = 0; i < count; i++) {
+        memcpy(items + i * width, &numbers[i], width);
     }
-    return status;
 }
 
-/* For items of at most 4 bytes: adds a number from range_u32 to `first`, for unsigned and signed items alike. */
-static uint8_t fill_narrow(Generator *rng, const Py_buffer *view, const Span *span)
+static void write_numbers(uint8_t *items, size_t width, const uint64_t *numbers, size_t count)
 {
-    uint32_t width = (uint32_t)(span->last - span->first);
-    uint8_t status = NANORAND_OK;
-    for (Py_ssize_t at = 0; status == NANORAND_OK && at < view->len; at += view->itemsize) {
-        uint32_t above;
-        status = rng->kind->range_u32(rng->state, 0, width, &above);
-        if (status == NANORAND_OK) {
-            uint64_t number = span->first + above;
-            memcpy((uint8_t *)view->buf + at, &number, (size_t)view->itemsize);
+    switch (width) {
+    case 1:
+        write_items(items, 1, numbers, count);
+        break;
+    case 2:
+        write_items(items, 2, numbers, count);
+        break;
+    case 4:
+        write_items(items, 4, numbers, count);
+        break;
+    default:
+        write_items(items, 8, numbers, count);
+        break;
+    }
+}
+
+static uint8_t fill_range(Generator *rng, const Py_buffer *view, const Span *span)
+{
+    const size_t width = (size_t)view->itemsize, items = (size_t)view->len / width;
+    const int wide = width == sizeof(uint64_t);
+    Words words;
+    Numbers numbers;
+    words.step = step_of(rng->kind, wide ? sizeof(uint64_t) : sizeof(uint32_t));
+    begin_numbers(&numbers, span, wide);
+    for (size_t filled = 0; filled < items;) {
+        size_t count = draw_words(&words, rng, items - filled);
+        size_t found = wide ? find_numbers(&numbers, &words, &count, 1) : find_numbers(&numbers, &words, &count, 0);
+        write_numbers((uint8_t *)view->buf + filled * width, width, numbers.found, found);
+        filled += found;
+        if (numbers.rejected == MOST_WORDS) {
+            return_words(&words, rng, count);
+            return NANORAND_EXHAUSTED;
         }
     }
-    return status;
+    return NANORAND_OK;
+}
+
+/* ---- Floats. ---- */
+
+/* Converts words to items, which may be in the same place. */
+static void convert_doubles(uint8_t *items, const uint8_t *words, size_t step, size_t count)
+{
+    for (size_t i = 0; i < count; i++) {
+        double number = unit_of(word_at(words + i * step));
+        memcpy(items + i * sizeof number, &number, sizeof number);
+    }
+}
+
+/* A float has 24 bits of precision. */
+static void convert_floats(uint8_t *items, const uint8_t *words, size_t step, size_t count)
+{
+    for (size_t i = 0; i < count; i++) {
+        float number = (float)(word_at(words + i * step) >> 40) * 0x1p-24f;
+        memcpy(items + i * sizeof number, &number, sizeof number);
+    }
+}
+
+/* Fills items of one word each. Words that take as many bytes as an item are drawn and converted in place. */
+static uint8_t fill_converted(Generator *rng, const Py_buffer *view,
+                              void convert(uint8_t *items, const uint8_t *words, size_t step, size_t count))
+{
+    const size_t width = (size_t)view->itemsize, items = (size_t)view->len / width;
+    const size_t step = step_of(rng->kind, sizeof(uint64_t));
+    uint8_t scratch[AHEAD];
+    for (size_t filled = 0; filled < items;) {
+        uint8_t *place = (uint8_t *)view->buf + filled * width, *words = step == width ? place : scratch;
+        size_t count = count_of(items - filled, step);
+        rng->kind->fill_bytes(rng->state, words, count * step);
+        convert(place, words, step, count);
+        filled += count;
+    }
+    return NANORAND_OK;
 }
 
 static uint8_t fill_doubles(Generator *rng, const Py_buffer *view, const Span *Py_UNUSED(span))
 {
-    for (Py_ssize_t at = 0; at < view->len; at += sizeof(double)) {
-        double number = unit_of(rng->kind->u64(rng->state));
-        memcpy((uint8_t *)view->buf + at, &number, sizeof number);
-    }
-    return NANORAND_OK;
+    return fill_converted(rng, view, convert_doubles);
 }
 
-/* A float has 24 bits of precision. */
 static uint8_t fill_floats(Generator *rng, const Py_buffer *view, const Span *Py_UNUSED(span))
 {
-    for (Py_ssize_t at = 0; at < view->len; at += sizeof(float)) {
-        float number = (float)(rng->kind->u64(rng->state) >> 40) * 0x1p-24f;
-        memcpy((uint8_t *)view->buf + at, &number, sizeof number);
-    }
-    return NANORAND_OK;
+    return fill_converted(rng, view, convert_floats);
 }
 
 /* Fills a view in one turn, and releases it. */
@@ -201,8 +356,7 @@ static PyObject *call_fill_range(PyObject *self, PyObject *const *given, Py_ssiz
         PyBuffer_Release(&view);
         return NULL;
     }
-    Fill *whole = is_signed(&view) ? fill_signed : fill_unsigned;
-    return fill_view((Generator *)self, &view, view.itemsize == 8 ? whole : fill_narrow, &span);
+    return fill_view((Generator *)self, &view, fill_range, &span);
 }
 
 static PyObject *call_fill_random(PyObject *self, PyObject *const *given, Py_ssize_t placed, PyObject *names)

@@ -52,19 +52,46 @@ Generator *take_generator(const char *name, PyObject *value)
 
 /* ---- Turns. ---- */
 
-static void await_turn(Generator *rng)
+/* How long a thread waits before it checks for signals, in microseconds. */
+enum { WAIT = 30000 };
+
+/* Waits, without Python's lock, until another thread's turn ends or the time is over. */
+static void let_others_run(Generator *rng)
+{
+    Py_BEGIN_ALLOW_THREADS
+    if (PyThread_acquire_lock_timed(rng->lock, WAIT, 0) == PY_LOCK_ACQUIRED) {
+        PyThread_release_lock(rng->lock);
+    }
+    Py_END_ALLOW_THREADS
+}
+
+static int is_own_turn(const Generator *rng)
+{
+    return rng->owner == PyThread_get_thread_ident();
+}
+
+/* Returns when no thread has a turn. Returns -1 if this thread has it, or if a signal handler raised an exception. */
+static int await_turn(Generator *rng)
 {
     while (rng->condition == AWAY) {
-        Py_BEGIN_ALLOW_THREADS
-        PyThread_acquire_lock(rng->lock, WAIT_LOCK);
-        PyThread_release_lock(rng->lock);
-        Py_END_ALLOW_THREADS
+        if (is_own_turn(rng)) {
+            PyErr_Format(PyExc_RuntimeError, "%s is in use by a call that this code interrupts",
+                         type_name((PyObject *)rng));
+            return -1;
+        }
+        let_others_run(rng);
+        if (PyErr_CheckSignals() < 0) {
+            return -1;
+        }
     }
+    return 0;
 }
 
 int await_state(Generator *rng)
 {
-    await_turn(rng);
+    if (await_turn(rng) < 0) {
+        return -1;
+    }
     if (rng->condition == READY) {
         return 0;
     }
@@ -72,9 +99,10 @@ int await_state(Generator *rng)
     return -1;
 }
 
-int begin_turn(Generator *rng, size_t bytes, Turn *turn)
+int hold_turn(Generator *rng, size_t bytes, Turn *turn)
 {
     turn->apart = NULL;
+    turn->held = 0;
     if (ready(rng) < 0) {
         return -1;
     }
@@ -91,17 +119,31 @@ int begin_turn(Generator *rng, size_t bytes, Turn *turn)
     /* A thread that waited for an earlier turn holds the lock only briefly, and needs nothing else to release it. */
     PyThread_acquire_lock(rng->lock, WAIT_LOCK);
     rng->condition = AWAY;
-    turn->apart = PyEval_SaveThread();
+    rng->owner = PyThread_get_thread_ident();
+    turn->held = 1;
     return 0;
 }
 
-void end_turn(Generator *rng, const Turn *turn)
+int begin_turn(Generator *rng, size_t bytes, Turn *turn)
+{
+    if (hold_turn(rng, bytes, turn) < 0) {
+        return -1;
+    }
+    turn->apart = turn->held ? PyEval_SaveThread() : NULL;
+    return 0;
+}
+
+void end_turn(Generator *rng, Turn *turn)
 {
     if (turn->apart != NULL) {
         PyEval_RestoreThread(turn->apart);
+    }
+    if (turn->held) {
         rng->condition = READY;
         PyThread_release_lock(rng->lock);
     }
+    turn->apart = NULL;
+    turn->held = 0;
 }
 
 /* ---- States. ---- */
@@ -113,14 +155,20 @@ void keep_state(const Generator *rng, Saved *saved)
 
 void restore_state(Generator *rng, const Saved *saved)
 {
-    set_state(rng, saved->bytes);
+    while (rng->condition == AWAY && !is_own_turn(rng)) {
+        let_others_run(rng);
+    }
+    memcpy(rng->state, saved->bytes, rng->kind->size);
 }
 
-void set_state(Generator *rng, const void *state)
+int set_state(Generator *rng, const void *state)
 {
-    await_turn(rng);
+    if (await_turn(rng) < 0) {
+        return -1;
+    }
     memcpy(rng->state, state, rng->kind->size);
     rng->condition = READY;
+    return 0;
 }
 
 Py_ssize_t read_state(Generator *rng, uint8_t bytes[LONGEST_STATE])
@@ -140,24 +188,40 @@ static void raise_length(const Kind *kind, Py_ssize_t length)
     }
 }
 
+/* Returns the bytes of a state that `state_dict` returned. */
+static PyObject *octets_of_dict(const Kind *kind, PyObject *dict)
+{
+    PyObject *name = PyDict_GetItemString(dict, "generator"), *digits = PyDict_GetItemString(dict, "state");
+    PyObject *octets = NULL;
+    if (name != NULL && PyUnicode_Check(name) && PyUnicode_CompareWithASCIIString(name, kind->name) == 0
+        && digits != NULL && PyUnicode_Check(digits)) {
+        octets = PyObject_CallMethod((PyObject *)&PyBytes_Type, "fromhex", "O", digits);
+    }
+    if (octets == NULL && (!PyErr_Occurred() || PyErr_ExceptionMatches(PyExc_ValueError))) {
+        PyErr_Clear();
+        raise_made("ForeignState", "(s)", kind->name);
+    }
+    return octets;
+}
+
 static int load_state(Generator *rng, PyObject *value)
 {
     const Kind *kind = rng->kind;
-    PyObject *octets = take_octets("state", value);
+    PyObject *octets = PyDict_Check(value) ? octets_of_dict(kind, value) : take_octets("state", value);
     if (octets == NULL) {
         return -1;
     }
     Py_ssize_t length = PyBytes_GET_SIZE(octets);
-    int fits = kind->shortest <= (size_t)length && (size_t)length <= kind->longest;
-    if (fits) {
-        Saved loaded;
-        kind->load(loaded.bytes, (const uint8_t *)PyBytes_AS_STRING(octets), (size_t)length);
-        set_state(rng, loaded.bytes);
+    int loaded = -1;
+    if (kind->shortest <= (size_t)length && (size_t)length <= kind->longest) {
+        Saved state;
+        kind->load(state.bytes, (const uint8_t *)PyBytes_AS_STRING(octets), (size_t)length);
+        loaded = set_state(rng, state.bytes);
     } else {
         raise_length(kind, length);
     }
     Py_DECREF(octets);
-    return fits ? 0 : -1;
+    return loaded;
 }
 
 static PyObject *get_state(PyObject *self, void *Py_UNUSED(closure))
@@ -165,6 +229,22 @@ static PyObject *get_state(PyObject *self, void *Py_UNUSED(closure))
     uint8_t bytes[LONGEST_STATE];
     Py_ssize_t length = read_state((Generator *)self, bytes);
     return length < 0 ? NULL : PyBytes_FromStringAndSize((const char *)bytes, length);
+}
+
+static PyObject *get_state_dict(PyObject *self, void *Py_UNUSED(closure))
+{
+    PyObject *state = get_state(self, NULL);
+    PyObject *digits = state == NULL ? NULL : PyObject_CallMethod(state, "hex", NULL);
+    PyObject *name = digits == NULL ? NULL : PyUnicode_FromString(((Generator *)self)->kind->name);
+    PyObject *made = name == NULL ? NULL : PyDict_New();
+    if (made != NULL
+        && (PyDict_SetItemString(made, "generator", name) < 0 || PyDict_SetItemString(made, "state", digits) < 0)) {
+        Py_CLEAR(made);
+    }
+    Py_XDECREF(state);
+    Py_XDECREF(digits);
+    Py_XDECREF(name);
+    return made;
 }
 
 static int put_state(PyObject *self, PyObject *value, void *Py_UNUSED(closure))
@@ -186,6 +266,15 @@ static PyObject *new_of(PyObject *class)
     PyObject *made = nothing == NULL ? NULL : type->tp_new(type, nothing, NULL);
     Py_XDECREF(nothing);
     if (made != NULL && take_generator("what __new__ made", made) == NULL) {
+        Py_CLEAR(made);
+    }
+    return made;
+}
+
+/* Sets the state of a new generator and returns it. Frees it if that fails: `__new__` may return one in use. */
+static PyObject *with_state(PyObject *made, const Saved *state)
+{
+    if (set_state((Generator *)made, state->bytes) < 0) {
         Py_CLEAR(made);
     }
     return made;
@@ -220,13 +309,12 @@ static PyObject *call_seed_from_u64(PyObject *class, PyObject *const *given, Py_
         return NULL;
     }
     PyObject *made = new_of(class);
-    if (made != NULL) {
-        Generator *rng = (Generator *)made;
-        Saved seeded = {{0}};
-        rng->kind->seed(seeded.bytes, number);
-        set_state(rng, seeded.bytes);
+    if (made == NULL) {
+        return NULL;
     }
-    return made;
+    Saved seeded = {{0}};
+    ((Generator *)made)->kind->seed(seeded.bytes, number);
+    return with_state(made, &seeded);
 }
 
 /* Returns `count` bytes of os.urandom. */
@@ -247,13 +335,13 @@ static PyObject *call_from_entropy(PyObject *class, PyObject *Py_UNUSED(nothing)
     if (made == NULL) {
         return NULL;
     }
-    Generator *rng = (Generator *)made;
+    const Kind *kind = ((Generator *)made)->kind;
     Saved entropy = {{0}};
-    PyObject *drawn = system_bytes(rng->kind->entropy);
-    if (drawn == NULL || take_octets_of("entropy", drawn, rng->kind->entropy, entropy.bytes) < 0) {
+    PyObject *drawn = system_bytes(kind->entropy);
+    if (drawn == NULL || take_octets_of("entropy", drawn, kind->entropy, entropy.bytes) < 0) {
         Py_CLEAR(made);
     } else {
-        set_state(rng, entropy.bytes);
+        made = with_state(made, &entropy);
     }
     Py_XDECREF(drawn);
     return made;
@@ -272,17 +360,33 @@ static PyObject *call_copy(PyObject *self, PyObject *Py_UNUSED(nothing))
     return made;
 }
 
+/* The parts of one stream whose lengths are multiples of this number are warned of: docs/SCALE.md has the reason. */
+enum { WARNED_FACTOR = 1 << 16 };
+
+static int warn_of_length(const Kind *kind, uint64_t draws)
+{
+    if (!kind->correlated || draws % WARNED_FACTOR != 0) {
+        return 0;
+    }
+    return PyErr_WarnFormat(PyExc_UserWarning, 1,
+                            "parts of %llu draws may be correlated, as a large power of two divides this length: "
+                            "take an odd one, such as %llu",
+                            (unsigned long long)draws, (unsigned long long)draws + 1);
+}
+
 /* Moves a copy, by the copy's own kind: the `__new__` of a subclass may create a generator of another kind. */
 static PyObject *call_part(PyObject *self, PyObject *const *given, Py_ssize_t placed, PyObject *names)
 {
     static const Parameters wanted = {"part", 2, 2, 2, {"index", "draws"}};
     PyObject *values[2];
-    uint64_t index, draws;
+    uint64_t index;
+    Whole length;
     if (take_arguments(&wanted, given, placed, names, values) < 0
         || take_u64("index", values[0], UINT64_MAX, &index) < 0
-        || take_u64("draws", values[1], UINT64_MAX, &draws) < 0) {
+        || take_whole("draws", values[1], 1, UINT64_MAX, &length) < 0) {
         return NULL;
     }
+    const uint64_t draws = length.bits;
     PyObject *made = call_copy(self, NULL);
     if (made == NULL) {
         return NULL;
@@ -291,6 +395,8 @@ static PyObject *call_part(PyObject *self, PyObject *const *given, Py_ssize_t pl
     if (part->kind->part(part->state, index, draws) != NANORAND_OK) {
         raise_text("PastPeriod", "part %llu, of %llu draws, ends past the period", (unsigned long long)index,
                    (unsigned long long)draws);
+        Py_CLEAR(made);
+    } else if (warn_of_length(part->kind, draws) < 0) {
         Py_CLEAR(made);
     }
     return made;
@@ -343,7 +449,7 @@ PyDoc_STRVAR(generator_doc,
 "(True, False, False)\n");
 
 PyDoc_STRVAR(state_doc,
-"The state, as bytes. Assign to it to set the state.\n"
+"The state, as bytes. Assign to it to set the state: these bytes, or a dict of `state_dict`.\n"
 "\n"
 "The bytes are the same in all languages: the column `before` of answers.tsv has them. For `Stream`\n"
 "they are the key, the nonce, the counter, and the 0 to 63 buffered bytes.\n"
@@ -352,6 +458,8 @@ PyDoc_STRVAR(state_doc,
 "------\n"
 "WrongLength\n"
 "    If a state of another length is assigned.\n"
+"ForeignState\n"
+"    If a dict is assigned that is not the `state_dict` of a generator of this class.\n"
 "\n"
 "Examples\n"
 "--------\n"
@@ -365,6 +473,20 @@ PyDoc_STRVAR(state_doc,
 ">>> Stream(bytes(32), rest=b\"abc\").state[48:]\n"
 "b'abc'\n");
 
+PyDoc_STRVAR(state_dict_doc,
+"The state as a dict of strings, for JSON and similar formats. `from_state` and `state` accept it.\n"
+"\n"
+"It has the name of the generator and the hexadecimal digits of `state`.\n"
+"\n"
+"Examples\n"
+"--------\n"
+">>> import json\n"
+">>> from nanorand import WyRand\n"
+">>> WyRand(42).state_dict\n"
+"{'generator': 'WyRand', 'state': '2a00000000000000'}\n"
+">>> WyRand.from_state(json.loads(json.dumps(WyRand(42).state_dict)))\n"
+"WyRand(0x2a)\n");
+
 PyDoc_STRVAR(from_state_doc,
 "from_state($type, /, state)\n"
 "--\n"
@@ -373,13 +495,15 @@ PyDoc_STRVAR(from_state_doc,
 "\n"
 "Parameters\n"
 "----------\n"
-"state : bytes, bytearray or memoryview\n"
-"    The state, as the attribute `state` returns it.\n"
+"state : bytes, bytearray, memoryview or dict\n"
+"    The state, as the attributes `state` and `state_dict` return it.\n"
 "\n"
 "Raises\n"
 "------\n"
 "WrongLength\n"
 "    If the state has another length than the states of this class.\n"
+"ForeignState\n"
+"    If the state is a dict, and not the `state_dict` of a generator of this class.\n"
 "\n"
 "Examples\n"
 "--------\n"
@@ -455,12 +579,16 @@ PyDoc_STRVAR(part_doc,
 "this generator does not change. Parts of the same length do not overlap, as long as no task draws\n"
 "more than `draws` draws.\n"
 "\n"
+"Take an odd length, such as 10**9 + 1 or 2**40 + 1. Two draws of `WyRand` or `Pcg64` are correlated if\n"
+"the distance between them is divisible by a large power of two, and the same places of two parts are\n"
+"a multiple of the length apart.\n"
+"\n"
 "Parameters\n"
 "----------\n"
 "index : int\n"
 "    Index of the part, counted from 0.\n"
 "draws : int\n"
-"    Length of each part, in draws.\n"
+"    Length of each part, in draws, from 1 to 2^64 - 1.\n"
 "\n"
 "Raises\n"
 "------\n"
@@ -468,7 +596,12 @@ PyDoc_STRVAR(part_doc,
 "    If the part ends beyond the period, which is 2^64 draws for `WyRand` and the ChaCha classes,\n"
 "    2^126 for `Pcg64`, and 2^67 for `Stream`.\n"
 "OutOfBounds\n"
-"    If `index` or `draws` is negative, or 2^64 or more.\n"
+"    If `index` or `draws` is negative, or 2^64 or more, or if `draws` is 0.\n"
+"\n"
+"Warns\n"
+"-----\n"
+"UserWarning\n"
+"    If `draws` is a multiple of 2^16, for `WyRand` and `Pcg64`.\n"
 "\n"
 "Examples\n"
 "--------\n"
@@ -493,6 +626,7 @@ static PyMethodDef calls[] = {
 
 static PyGetSetDef parts[] = {
     {"state", get_state, put_state, state_doc, NULL},
+    {"state_dict", get_state_dict, NULL, state_dict_doc, NULL},
     {NULL, NULL, NULL, NULL, NULL},
 };
 

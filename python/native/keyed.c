@@ -27,8 +27,7 @@ static int start_chacha(PyObject *self, PyObject *placed, PyObject *named)
         || take_chacha(key, nonce, counter, &chacha) < 0) {
         return -1;
     }
-    set_state((Generator *)self, &chacha);
-    return 0;
+    return set_state((Generator *)self, &chacha);
 }
 
 /* Reads the buffered bytes, at most 63, which are delivered first. */
@@ -59,8 +58,7 @@ static int start_stream(PyObject *self, PyObject *placed, PyObject *named)
         || take_chacha(key, nonce, counter, &stream.chacha) < 0 || (rest != NULL && take_rest(rest, &stream) < 0)) {
         return -1;
     }
-    set_state((Generator *)self, &stream);
-    return 0;
+    return set_state((Generator *)self, &stream);
 }
 
 /* ---- Parts of the state. ---- */
@@ -112,6 +110,43 @@ static PyObject *get_counter(PyObject *self, void *Py_UNUSED(closure))
     return read_counter(self, &counter, &buffered) < 0 ? NULL : PyLong_FromUnsignedLongLong(counter);
 }
 
+/* ---- Positions in a stream. ---- */
+
+enum { BLOCK = 64 };
+
+/* The buffered bytes are the last ones of the block before the counter. */
+static PyObject *get_position(PyObject *self, void *Py_UNUSED(closure))
+{
+    uint64_t counter;
+    Py_ssize_t buffered;
+    if (read_counter(self, &counter, &buffered) < 0) {
+        return NULL;
+    }
+    uint64_t block = buffered == 0 ? counter : counter - 1;
+    uint64_t place = buffered == 0 ? 0 : BLOCK - (uint64_t)buffered;
+    return number_of_halves(block >> 58, block << 6 | place);
+}
+
+static PyObject *call_seek(PyObject *self, PyObject *const *given, Py_ssize_t placed, PyObject *names)
+{
+    static const Parameters wanted = {"seek", 1, 1, 1, {"position"}};
+    Generator *rng = (Generator *)self;
+    PyObject *value;
+    nanorand_pcg64 position;
+    if (take_arguments(&wanted, given, placed, names, &value) < 0
+        || take_wide("position", value, 63, "0..=1180591620717411303423", &position) < 0 || ready(rng) < 0) {
+        return NULL;
+    }
+    uint8_t before[BLOCK];
+    nanorand_keystream *stream = (nanorand_keystream *)rng->state;
+    stream->chacha.counter = position.high << 58 | position.low >> 6;
+    stream->buffered = 0;
+    rng->kind->fill_bytes(stream, before, position.low % BLOCK);
+    Py_RETURN_NONE;
+}
+
+/* ---- Texts. ---- */
+
 /* The text shows neither the key nor any byte to come. */
 static PyObject *show_chacha(PyObject *self)
 {
@@ -151,7 +186,7 @@ static PyObject *call_jump(PyObject *self, PyObject *const *given, Py_ssize_t pl
 static PyObject *call_block(PyObject *self, PyObject *Py_UNUSED(nothing))
 {
     Generator *rng = (Generator *)self;
-    uint8_t block[64];
+    uint8_t block[BLOCK];
     if (ready(rng) < 0) {
         return NULL;
     }
@@ -200,6 +235,44 @@ PyDoc_STRVAR(rest_doc,
 ">>> byte = rng.bytes(1)\n"
 ">>> len(rng.rest)\n"
 "63\n");
+
+PyDoc_STRVAR(position_doc,
+"The number of bytes of the keystream before the next one: 64 times the block, plus the place in it.\n"
+"\n"
+"It is below 2^70, where the keystream begins again.\n"
+"\n"
+"Examples\n"
+"--------\n"
+">>> from nanorand import Stream\n"
+">>> rng = Stream(bytes(32))\n"
+">>> drawn = rng.bytes(100)\n"
+">>> rng.position\n"
+"100\n");
+
+PyDoc_STRVAR(seek_doc,
+"seek($self, /, position)\n"
+"--\n"
+"\n"
+"Move to a position of the keystream, in constant time. What was buffered is dropped.\n"
+"\n"
+"Parameters\n"
+"----------\n"
+"position : int\n"
+"    Number of bytes of the keystream before the next one, from 0 to 2^70 - 1.\n"
+"\n"
+"Raises\n"
+"------\n"
+"OutOfBounds\n"
+"    If `position` is negative, or 2^70 or more.\n"
+"\n"
+"Examples\n"
+"--------\n"
+">>> from nanorand import Stream\n"
+">>> rng = Stream(bytes(32))\n"
+">>> drawn = rng.bytes(100)\n"
+">>> rng.seek(90)\n"
+">>> rng.bytes(10) == drawn[90:]\n"
+"True\n");
 
 PyDoc_STRVAR(jump_doc,
 "jump($self, /, draws)\n"
@@ -389,6 +462,7 @@ static PyGetSetDef stream_parts[] = {
     {"nonce", get_nonce, NULL, nonce_doc, NULL},
     {"counter", get_counter, NULL, counter_doc, NULL},
     {"rest", get_rest, NULL, rest_doc, NULL},
+    {"position", get_position, NULL, position_doc, NULL},
     {NULL, NULL, NULL, NULL, NULL},
 };
 
@@ -399,6 +473,7 @@ static PyMethodDef chacha_calls[] = {
 };
 
 static PyMethodDef stream_calls[] = {
+    {"seek", CALL(call_seek), METH_FASTCALL | METH_KEYWORDS, seek_doc},
     {NULL, NULL, 0, NULL},
 };
 

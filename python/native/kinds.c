@@ -93,18 +93,29 @@ BLOCKS(chacha20)
 /* The system provides the key and the nonce; the counter is 0. */
 enum { KEY_AND_NONCE = 40 };
 
-const Kind wyrand_kind = {PLAIN(nanorand_wyrand), TABLE(wyrand), .entropy = sizeof(nanorand_wyrand)};
-const Kind pcg64_kind = {PLAIN(nanorand_pcg64), TABLE(pcg64), .entropy = sizeof(nanorand_pcg64)};
-const Kind chacha8_kind = {PLAIN(nanorand_chacha), TABLE(chacha8), .entropy = KEY_AND_NONCE, .block = chacha8_block};
-const Kind chacha12_kind = {PLAIN(nanorand_chacha), TABLE(chacha12), .entropy = KEY_AND_NONCE, .block = chacha12_block};
-const Kind chacha20_kind = {PLAIN(nanorand_chacha), TABLE(chacha20), .entropy = KEY_AND_NONCE, .block = chacha20_block};
+#define SEEDED(class_name, generator)                                                                         \
+    {                                                                                                         \
+        .name = class_name, PLAIN(nanorand_##generator), TABLE(generator),                                    \
+        .entropy = sizeof(nanorand_##generator), .block_length = 8, .correlated = 1,                          \
+    }
+#define CHACHA(class_name, generator)                                                                         \
+    {                                                                                                         \
+        .name = class_name, PLAIN(nanorand_chacha), TABLE(generator), .entropy = KEY_AND_NONCE,               \
+        .block_length = 64, .block = generator##_block,                                                       \
+    }
+
+const Kind wyrand_kind = SEEDED("WyRand", wyrand);
+const Kind pcg64_kind = SEEDED("Pcg64", pcg64);
+const Kind chacha8_kind = CHACHA("ChaCha8", chacha8);
+const Kind chacha12_kind = CHACHA("ChaCha12", chacha12);
+const Kind chacha20_kind = CHACHA("ChaCha20", chacha20);
 const Kind stream_kind = {
+    .name = "Stream",
     TABLE(keystream),
     .size = sizeof(nanorand_keystream),
     .shortest = sizeof(nanorand_chacha),
     .longest = LONGEST_STATE,
     .entropy = KEY_AND_NONCE,
-    .joined = 1,
     .save = save_stream,
     .load = load_stream,
 };

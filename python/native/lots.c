@@ -14,9 +14,9 @@ static PyObject *check_seed(PyObject *Py_UNUSED(module), PyObject *value)
     return take_octets("seed", value);
 }
 
-static PyObject *check_entrants(PyObject *Py_UNUSED(module), PyObject *value)
+static PyObject *check_entrants(PyObject *module, PyObject *value)
 {
-    if (require_sequence("entrants", value) < 0) {
+    if (require_sequence(module, "entrants", value) < 0) {
         return NULL;
     }
     Py_INCREF(value);

@@ -1,6 +1,73 @@
 /* The extension module nanorand._native. */
 #include "native.h"
 
+/* ---- The classes of collections.abc, which are looked up once for each module. ---- */
+
+typedef struct {
+    PyObject *set, *mapping;
+    const PyTypeObject *ordered; /* the last static type that is neither, such as that of NumPy's arrays */
+} Classes;
+
+static struct PyModuleDef definition;
+
+/* Returns the module if this is its type or an object of it, and otherwise the module of the generator's class. */
+static PyObject *module_of(PyObject *self)
+{
+    if (PyModule_Check(self)) {
+        return self;
+    }
+    for (PyTypeObject *type = Py_TYPE(self);; type = type->tp_base) {
+        PyObject *module = ((PyHeapTypeObject *)type)->ht_module;
+        if (module != NULL && PyModule_GetDef(module) == &definition) {
+            return module;
+        }
+    }
+}
+
+/* Whether all objects of a type are of the same classes. The type is never freed. A proxy is of its object's class. */
+static int is_static(const PyTypeObject *type)
+{
+    return (type->tp_flags & Py_TPFLAGS_HEAPTYPE) == 0 && type->tp_getattro == PyObject_GenericGetAttr;
+}
+
+int is_unordered(PyObject *self, PyObject *value)
+{
+    Classes *classes = PyModule_GetState(module_of(self));
+    if (Py_TYPE(value) == classes->ordered) {
+        return 0;
+    }
+    int found = PyObject_IsInstance(value, classes->mapping);
+    if (found == 0) {
+        found = PyObject_IsInstance(value, classes->set);
+    }
+    if (found == 0 && is_static(Py_TYPE(value))) {
+        classes->ordered = Py_TYPE(value);
+    }
+    return found;
+}
+
+static int find_classes(PyObject *module)
+{
+    Classes *classes = PyModule_GetState(module);
+    PyObject *abstract = PyImport_ImportModule("collections.abc");
+    if (abstract == NULL) {
+        return -1;
+    }
+    classes->set = PyObject_GetAttrString(abstract, "Set");
+    classes->mapping = classes->set == NULL ? NULL : PyObject_GetAttrString(abstract, "Mapping");
+    Py_DECREF(abstract);
+    return classes->mapping == NULL ? -1 : 0;
+}
+
+static void free_classes(void *module)
+{
+    Classes *classes = PyModule_GetState(module);
+    Py_CLEAR(classes->set);
+    Py_CLEAR(classes->mapping);
+}
+
+/* ---- The parts of the module. ---- */
+
 PyObject *add_class(PyObject *module, PyType_Spec *spec, PyObject *bases)
 {
     PyObject *class = PyType_FromModuleAndSpec(module, spec, bases);
@@ -45,6 +112,7 @@ int nanorand_add_generators(PyObject *module)
     }
     int added = -1;
     if (add_calls(base, number_calls) == 0 && add_calls(base, sequence_calls) == 0
+        && add_calls(base, shuffle_calls) == 0 && add_calls(base, sample_calls) == 0
         && add_calls(base, choices_calls) == 0 && add_calls(base, fill_calls) == 0) {
         PyObject *bases = PyTuple_Pack(1, base);
         added = bases == NULL ? -1 : add_generators(module, bases);
@@ -80,6 +148,7 @@ static int fill_module(PyObject *module)
 {
     int (*const parts[])(PyObject *) = {
         check_version,
+        find_classes,
         add_version,
         nanorand_add_generators,
         nanorand_add_lots,
@@ -107,8 +176,9 @@ static PyModuleDef definition = {
     PyModuleDef_HEAD_INIT,
     .m_name = "nanorand._native",
     .m_doc = module_doc,
-    .m_size = 0,
+    .m_size = sizeof(Classes),
     .m_slots = slots,
+    .m_free = free_classes,
 };
 
 PyMODINIT_FUNC PyInit__native(void)

@@ -29,10 +29,12 @@
 typedef uint8_t Permutation(void *state, size_t *items, size_t length);
 
 typedef struct {
+    const char *name;         /* of its class, which a saved state has */
     size_t size;              /* of the state's structure, in bytes */
     size_t shortest, longest; /* lengths of the state as bytes */
     size_t entropy;           /* bytes of a state that the system provides; zeros follow */
-    int joined;               /* whether requests join without a break */
+    size_t block_length;      /* bytes that each request takes a multiple of; 0 if requests join without a break */
+    int correlated;           /* whether draws are correlated if a large power of two divides their distance */
     void (*seed)(void *state, uint64_t number);
     uint64_t (*u64)(void *state);
     void (*fill_bytes)(void *state, uint8_t *buffer, size_t length);
@@ -110,6 +112,10 @@ void raise_empty(Whole first, Whole last);
 /* Sets both halves of an int. Returns 1, or 0 if it is negative or has more than 128 bits, or -1 on an exception. */
 int halves_of(PyObject *whole, nanorand_pcg64 *number);
 int take_u128(const char *name, PyObject *value, nanorand_pcg64 *number);
+/* The same for an int whose high half is at most `highest`. Errors show the bounds. */
+int take_wide(const char *name, PyObject *value, uint64_t highest, const char *bounds, nanorand_pcg64 *number);
+/* Returns the number with these 64-bit halves. */
+PyObject *number_of_halves(uint64_t high, uint64_t low);
 /* Raises OutOfBounds for a number. The message gives only the length of a long number. */
 void raise_out_of_bounds(const char *name, PyObject *whole, const char *bounds);
 /* Returns a new bytes object with the contents of a bytes, bytearray or memoryview. */
@@ -118,14 +124,15 @@ int take_octets_of(const char *name, PyObject *value, size_t length, uint8_t *oc
 
 /* ---- generator.c: the object of a generator. ---- */
 
-/* READY to draw; UNMADE if no state was set yet; AWAY while a thread draws from it without Python's lock (the GIL). */
+/* READY to draw; UNMADE if no state was set yet; AWAY while a thread has a long turn. */
 enum { READY, UNMADE, AWAY };
 
 typedef struct {
     PyObject_HEAD
     PyObject *weak_references;
     const Kind *kind;
-    PyThread_type_lock lock; /* created and held by a thread that draws without Python's lock */
+    PyThread_type_lock lock; /* created and held by a thread that has a long turn */
+    unsigned long owner;     /* the thread of the last long turn */
     int condition;
     uint64_t state[]; /* a structure of nanorand.h */
 } Generator;
@@ -139,7 +146,9 @@ int await_state(Generator *rng);
 
 /*
  * Returns when the state may be read and changed. This holds until Python's lock is released, which any call into
- * Python and the next call of this function may do. Python objects may change while it waits.
+ * Python and the next call of this function may do. Python objects may change while it waits. Returns -1 and an
+ * exception if there is no state, if this thread has the turn itself (a signal handler runs in the middle of a call),
+ * or if a signal handler raised an exception meanwhile.
  */
 static inline int ready(Generator *rng)
 {
@@ -149,13 +158,17 @@ static inline int ready(Generator *rng)
 /* A draw of more bytes than this releases Python's lock, so that other threads can run. */
 enum { LONG = 1 << 16 };
 
-/* The turn of one draw. A long draw releases Python's lock; other threads that need the generator wait for its end. */
+/* The turn of one draw. Other threads that need the generator wait until a long turn ends. */
 typedef struct {
-    PyThreadState *apart;
+    PyThreadState *apart; /* while Python's lock is released */
+    int held;             /* whether the turn is long, and has not ended */
 } Turn;
 
+/* Both wait for the generator. For a draw of more than LONG bytes, begin_turn also releases Python's lock. */
+int hold_turn(Generator *rng, size_t bytes, Turn *turn);
 int begin_turn(Generator *rng, size_t bytes, Turn *turn);
-void end_turn(Generator *rng, const Turn *turn);
+/* Takes Python's lock again if it is released. Does nothing if the turn has ended. */
+void end_turn(Generator *rng, Turn *turn);
 
 /* A copy of a state, which is restored if a call into Python fails after a draw. */
 typedef struct {
@@ -163,9 +176,10 @@ typedef struct {
 } Saved;
 
 void keep_state(const Generator *rng, Saved *saved);
+/* Waits for another thread's turn to end, but for no signal: an exception is already set. */
 void restore_state(Generator *rng, const Saved *saved);
-/* Sets a state, after waiting for another thread's turn to end. */
-void set_state(Generator *rng, const void *state);
+/* Sets a state, after waiting as `ready` does. Returns -1 on an exception. */
+int set_state(Generator *rng, const void *state);
 /* Reads the state as bytes, atomically. */
 Py_ssize_t read_state(Generator *rng, uint8_t bytes[LONGEST_STATE]);
 
@@ -173,22 +187,73 @@ Py_ssize_t read_state(Generator *rng, uint8_t bytes[LONGEST_STATE]);
 
 PyObject *draw_bytes(Generator *rng, uint64_t length);
 
+/* ---- turns.c: draws of many places, which signals can interrupt. ---- */
+
+/* The most places that are drawn by one call of the library, with Python's lock. A long draw makes steps of its own. */
+enum { SHORT = LONG / sizeof(uint64_t) };
+
+/* A turn, and the state before it. */
+typedef struct {
+    Turn turn;
+    Saved before;
+} Draw;
+
+/* Makes the steps from `from` to before `end` of a plan, without Python objects. Returns a status of the library. */
+typedef uint8_t Steps(Generator *rng, void *plan, size_t from, size_t end);
+
+/* Begins a draw of `count` places. Python's lock stays held. */
+int begin_draw(Generator *rng, size_t count, Draw *draw);
+/*
+ * Makes `count` steps, and returns a status. A long draw releases Python's lock meanwhile, and checks for signals
+ * several times a second. If a signal handler raised an exception, restores the state and returns -1.
+ */
+int make_steps(Generator *rng, Draw *draw, size_t count, Steps *steps, void *plan);
+/* Does the same, but returns 0, or -1 and an exception. */
+int draw_steps(Generator *rng, Draw *draw, size_t count, Steps *steps, void *plan);
+/* Ends a draw. If it failed, restores the state first. */
+void end_draw(Generator *rng, Draw *draw, int failed);
+
 /* ---- sequences.c: items by their positions. ---- */
 
-/* Raises a TypeError unless the value has a length and items by index. */
-int require_sequence(const char *name, PyObject *value);
-PyObject *item_at(PyObject *items, size_t place);
-/* items_at returns a list of the items at `count` places, and numbers_of a list of the places themselves. */
-PyObject *items_at(PyObject *items, const size_t *places, size_t count);
-PyObject *numbers_of(const size_t *places, size_t count);
-/* Frees the places and returns the list. If the list is NULL, restores the state from before. */
-PyObject *list_or_restore(Generator *rng, PyObject *list, size_t *places, const Saved *before);
+/* Whether the value is a built-in sequence. Reading and assigning its items runs no Python code. */
+int is_built_in(PyObject *value);
+/* Raises a TypeError unless the value has a length and items by index. `self` is a generator or the module. */
+int require_sequence(PyObject *self, const char *name, PyObject *value);
+/* Also requires that items can be assigned. */
+int require_mutable(PyObject *self, const char *name, PyObject *value);
 /* Allocates memory for `count` values of a size, to be freed by PyMem_Free, or returns NULL and a MemoryError. */
 void *new_array(uint64_t count, size_t size);
+/* Raises the exception of a signal handler, if one raised it. Called for item number i, it checks now and then. */
+static inline int check_signals(size_t i)
+{
+    enum { CHECKED = 1 << 10 };
+    return i % CHECKED == CHECKED - 1 ? PyErr_CheckSignals() : 0;
+}
+PyObject *item_at(PyObject *items, size_t place);
+/* These return a list: of the first `count` items, and of the numbers. */
+PyObject *first_items(PyObject *items, size_t count);
+PyObject *numbers_of(const size_t *numbers, size_t count);
+/*
+ * Ends a draw with a list of the items at these places, or of the places themselves if `items` is NULL. If the list
+ * cannot be made, restores the state and returns NULL.
+ */
+PyObject *end_with_list(Generator *rng, Draw *draw, PyObject *items, const size_t *places, size_t count);
+
+/* ---- choices.c: shares of items. ---- */
+
+/* Returns the cumulative sums of the counts of some items, as a new array, or NULL and an exception. */
+uint64_t *read_counts(PyObject *counts, size_t items);
+/* Returns the first of some items whose cumulative sum is above the number, which is below the last sum. */
+size_t find_share(const uint64_t *sums, size_t items, uint64_t number);
+
+/* ---- module.c ---- */
+
+/* Returns whether the value is a set or a mapping, by the classes of collections.abc, or -1 on an exception. */
+int is_unordered(PyObject *self, PyObject *value);
 
 /* ---- The parts of the module. ---- */
 
-extern PyMethodDef number_calls[], sequence_calls[], choices_calls[], fill_calls[];
+extern PyMethodDef number_calls[], sequence_calls[], shuffle_calls[], sample_calls[], choices_calls[], fill_calls[];
 extern PyType_Spec generator_spec, wyrand_spec, pcg64_spec, chacha8_spec, chacha12_spec, chacha20_spec, stream_spec;
 
 /* Defines the class of a kind of generator as KIND_spec. Its docstring is KIND_doc. */

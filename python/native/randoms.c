@@ -44,10 +44,10 @@ static PyObject *call_random(PyObject *self, PyObject *Py_UNUSED(nothing))
     return PyFloat_FromDouble(unit_of(word));
 }
 
-/* Draws a number of at most eight bytes, in little-endian order. A joined generator draws exactly these bytes. */
+/* Draws a number of at most eight bytes, in little-endian order. If requests join, exactly these bytes are taken. */
 static uint64_t draw_word(Generator *rng, size_t bytes)
 {
-    if (!rng->kind->joined) {
+    if (rng->kind->block_length != 0) {
         return bytes == 0 ? 0 : rng->kind->u64(rng->state) << (64 - 8 * bytes) >> (64 - 8 * bytes);
     }
     uint64_t word = 0;
@@ -154,6 +154,10 @@ static int put_generator(PyObject *self, PyObject *value, void *Py_UNUSED(closur
     if (fits != 1) {
         return -1;
     }
+    /* What `gauss` has kept was made from the words of the generator before. */
+    if (PyObject_SetAttrString(self, "gauss_next", Py_None) < 0) {
+        return -1;
+    }
     PyObject *before = *slot_of(self);
     Py_INCREF(value);
     *slot_of(self) = value;
@@ -167,7 +171,8 @@ PyDoc_STRVAR(base_doc,
 "A `random.Random` that draws from `generator`.");
 
 PyDoc_STRVAR(generator_doc,
-"The generator that is drawn from. Another generator of the same kind can be assigned.\n"
+"The generator that is drawn from. Another generator of the same kind can be assigned, which also drops\n"
+"what `gauss` has kept.\n"
 "\n"
 "Examples\n"
 "--------\n"

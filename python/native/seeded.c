@@ -16,8 +16,7 @@ static int start_wyrand(PyObject *self, PyObject *placed, PyObject *named)
     if (take_seed(self, placed, named, &seed) < 0 || take_u64("seed", seed, UINT64_MAX, &state.seed) < 0) {
         return -1;
     }
-    set_state((Generator *)self, &state);
-    return 0;
+    return set_state((Generator *)self, &state);
 }
 
 static int start_pcg64(PyObject *self, PyObject *placed, PyObject *named)
@@ -27,22 +26,7 @@ static int start_pcg64(PyObject *self, PyObject *placed, PyObject *named)
     if (take_seed(self, placed, named, &seed) < 0 || take_u128("seed", seed, &state) < 0) {
         return -1;
     }
-    set_state((Generator *)self, &state);
-    return 0;
-}
-
-/* Returns the number with these 64-bit halves. */
-static PyObject *joined(uint64_t high, uint64_t low)
-{
-    PyObject *upper = PyLong_FromUnsignedLongLong(high), *lower = PyLong_FromUnsignedLongLong(low);
-    PyObject *width = PyLong_FromLong(64);
-    PyObject *shifted = upper == NULL || width == NULL ? NULL : PyNumber_Lshift(upper, width);
-    PyObject *number = shifted == NULL || lower == NULL ? NULL : PyNumber_Or(shifted, lower);
-    Py_XDECREF(upper);
-    Py_XDECREF(lower);
-    Py_XDECREF(width);
-    Py_XDECREF(shifted);
-    return number;
+    return set_state((Generator *)self, &state);
 }
 
 static PyObject *get_seed(PyObject *self, void *Py_UNUSED(closure))
@@ -53,7 +37,7 @@ static PyObject *get_seed(PyObject *self, void *Py_UNUSED(closure))
         return NULL;
     }
     memcpy(&seed, bytes, sizeof seed);
-    return joined(seed.high, seed.low);
+    return number_of_halves(seed.high, seed.low);
 }
 
 static PyObject *show(PyObject *self)
@@ -90,6 +74,53 @@ static PyObject *call_jump_pcg64(PyObject *self, PyObject *const *given, Py_ssiz
     }
     nanorand_pcg64_jump((nanorand_pcg64 *)((Generator *)self)->state, &draws);
     Py_RETURN_NONE;
+}
+
+/* ---- Distances. ---- */
+
+/* Reads this state and that of the argument `other`, a generator of the same kind. */
+static int read_both(PyObject *self, PyObject *const *given, Py_ssize_t placed, PyObject *names, uint8_t *start,
+                     uint8_t *end)
+{
+    static const Parameters wanted = {"distance", 1, 1, 1, {"other"}};
+    Generator *rng = (Generator *)self;
+    PyObject *value;
+    Generator *other = take_arguments(&wanted, given, placed, names, &value) < 0 ? NULL : take_generator("other", value);
+    if (other == NULL) {
+        return -1;
+    }
+    if (other->kind != rng->kind) {
+        PyErr_Format(PyExc_TypeError, "other is a %s, not a %s", type_name(value), rng->kind->name);
+        return -1;
+    }
+    return read_state(rng, start) < 0 || read_state(other, end) < 0 ? -1 : 0;
+}
+
+static PyObject *call_distance_wyrand(PyObject *self, PyObject *const *given, Py_ssize_t placed, PyObject *names)
+{
+    uint8_t start[LONGEST_STATE], end[LONGEST_STATE];
+    nanorand_wyrand rng, other;
+    if (read_both(self, given, placed, names, start, end) < 0) {
+        return NULL;
+    }
+    memcpy(&rng, start, sizeof rng);
+    memcpy(&other, end, sizeof other);
+    return PyLong_FromUnsignedLongLong(nanorand_wyrand_distance(&rng, &other));
+}
+
+static PyObject *call_distance_pcg64(PyObject *self, PyObject *const *given, Py_ssize_t placed, PyObject *names)
+{
+    uint8_t start[LONGEST_STATE], end[LONGEST_STATE];
+    nanorand_pcg64 rng, other, draws;
+    if (read_both(self, given, placed, names, start, end) < 0) {
+        return NULL;
+    }
+    memcpy(&rng, start, sizeof rng);
+    memcpy(&other, end, sizeof other);
+    if (nanorand_pcg64_distance(&rng, &other, &draws) != NANORAND_OK) {
+        Py_RETURN_NONE;
+    }
+    return number_of_halves(draws.high, draws.low);
 }
 
 /* ---- The types. ---- */
@@ -163,8 +194,27 @@ PyDoc_STRVAR(jump_wyrand_doc,
 ">>> rng.u64()\n"
 "4435970483277311118\n");
 
+PyDoc_STRVAR(distance_wyrand_doc,
+"distance($self, /, other)\n"
+"--\n"
+"\n"
+"Return the number of draws, below 2^64, that lead from this state to the state of another `WyRand`.\n"
+"\n"
+"There is exactly one such number. From the start of a task to its end it is how many draws, of\n"
+"`u64`, the task made.\n"
+"\n"
+"Examples\n"
+"--------\n"
+">>> from nanorand import WyRand\n"
+">>> start = WyRand.seed_from_u64(42)\n"
+">>> rng = start.copy()\n"
+">>> rng.shuffle(list(range(1000)))\n"
+">>> start.distance(rng)\n"
+"1000\n");
+
 static PyMethodDef wyrand_calls[] = {
     {"jump", CALL(call_jump_wyrand), METH_FASTCALL | METH_KEYWORDS, jump_wyrand_doc},
+    {"distance", CALL(call_distance_wyrand), METH_FASTCALL | METH_KEYWORDS, distance_wyrand_doc},
     {NULL, NULL, 0, NULL},
 };
 
@@ -224,8 +274,29 @@ PyDoc_STRVAR(jump_pcg64_doc,
 ">>> hex(rng.seed)\n"
 "'0x2a12d4e158f64dd6a4b03e149d4df5'\n");
 
+PyDoc_STRVAR(distance_pcg64_doc,
+"distance($self, /, other)\n"
+"--\n"
+"\n"
+"Return the number of draws, below 2^126, that lead from this state to the state of another `Pcg64`,\n"
+"or None if no number of draws does.\n"
+"\n"
+"There is at most one such number, and there is one for two generators that were made from the same\n"
+"one by draws, jumps, copies and parts. From the start of a task to its end it is how many draws, of\n"
+"`u64`, the task made.\n"
+"\n"
+"Examples\n"
+"--------\n"
+">>> from nanorand import Pcg64\n"
+">>> start = Pcg64.seed_from_u64(42)\n"
+">>> start.distance(start.part(3, 10**9 + 1))\n"
+"3000000003\n"
+">>> print(Pcg64(5).distance(Pcg64(6)))\n"
+"None\n");
+
 static PyMethodDef pcg64_calls[] = {
     {"jump", CALL(call_jump_pcg64), METH_FASTCALL | METH_KEYWORDS, jump_pcg64_doc},
+    {"distance", CALL(call_distance_pcg64), METH_FASTCALL | METH_KEYWORDS, distance_pcg64_doc},
     {NULL, NULL, 0, NULL},
 };
 

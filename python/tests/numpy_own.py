@@ -32,7 +32,7 @@ class Direct(test_direct.Base):
 class Smoke(test_smoke.RNG):
     @classmethod
     def setup_class(cls):
-        cls.advance = None
+        cls.advance = 2**63 + 2**31 + 1
         cls.seed = [12345]
         cls.rg = Generator(cls.bit_generator(*cls.seed))
         cls.initial_state = cls.rg.bit_generator.state

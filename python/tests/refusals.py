@@ -30,11 +30,8 @@ CALLS = {
     "shuffle, any": lambda rng: rng.shuffle(bytearray(3)),
     "shuffle_full": lambda rng: rng.shuffle_full([1, 2, 3]),
     "shuffle_full, any": lambda rng: rng.shuffle_full(bytearray(3)),
-    "fill_range": lambda rng: rng.fill_range(array.array("Q", [0, 0]), 0, 9),
-    "fill_range, signed": lambda rng: rng.fill_range(array.array("q", [0, 0]), 0, 9),
-    "fill_range, narrow": lambda rng: rng.fill_range(array.array("h", [0, 0]), 0, 9),
 }
-PIECES = ["choices", "choices, weighted", "fill_range", "fill_range, signed", "fill_range, narrow"]
+PIECES = ["choices", "choices, weighted"]
 
 
 def refusing(kind, status, after=0):
@@ -92,22 +89,54 @@ class Refusals(unittest.TestCase):
                         getattr(refusing(kind, 2), name)(items)
                     self.assertEqual(bytes(items), b"cba")
 
-    def test_items_before_the_one_that_failed_are_written(self):
+    def test_long_calls(self):
+        """They draw numbers one by one, and stop at the first status."""
+        length = 2**17 + 2
+        for kind in CLASSES:
+            for name in ("shuffle", "shuffle_full"):
+                for items in (list(range(length)), array.array("q", range(length))):
+                    rng, wanted = refusing(kind, 2, after=1), list(range(length))
+                    wanted[0], wanted[(length - 1) // 2] = wanted[(length - 1) // 2], wanted[0]
+                    with self.assertRaises(Exhausted):
+                        getattr(rng, name)(items)
+                    self.assertTrue(list(items) == wanted)
+                    self.assertEqual(rng.state[:3], bytes([2, 0, 1]))
+            for call in (lambda rng: rng.sample_below(10**6, length), lambda rng: rng.choices("abc", k=length),
+                         lambda rng: rng.sample("abc", length, counts=[length] * 3)):
+                rng = refusing(kind, 2, after=3)
+                with self.assertRaises(Exhausted):
+                    call(rng)
+                self.assertEqual(rng.state[:3], bytes([2, 0, 1]))
+
+    def test_items_before_128_rejected_words_are_written(self):
+        """The words up to the last rejected one are consumed, and no item after the written ones is changed."""
         for kind in CLASSES:
             for letter in "BHILQbhilq":
-                for length in (3, 20_000):
-                    items = array.array(letter, [7] * length)
-                    with self.assertRaises(Exhausted):
-                        refusing(kind, 2, after=2).fill_range(items, 1, 3)
-                    self.assertEqual(items.tolist(), [2, 2] + [7] * (length - 2))
+                width = array.array(letter).itemsize
+                word = 8 if width == 8 else 4
+                step = {"wyrand": 8, "pcg64": 8, "stream": word}.get(kind, 64)
+                for after in (0, 1, 2, 8, 100, 128, 255):
+                    good = (16 * after - word) // step + 1 if after else 0
+                    for length in (1, 2, 3, 4, 8, 255, 256, 257, 511, 513, 1000, 20_000):
+                        rng, items = refusing(kind, 2, after), array.array(letter, [7] * length)
+                        if length <= good:
+                            rng.fill_range(items, 1, 3)
+                            words = length
+                        else:
+                            with self.assertRaises(Exhausted) as caught:
+                                rng.fill_range(items, 1, 3)
+                            self.assertIs(type(caught.exception), Exhausted)
+                            stays_itself(self, caught.exception)
+                            words = good + 128
+                        self.assertEqual(items.tolist(), [2] * min(good, length) + [7] * (length - good))
+                        self.assertEqual(int.from_bytes(rng.state[4:8], "little"), words * step, (kind, letter, after))
 
     def test_more_than_two_gib(self):
-        """The number of items is not a multiple of 256, because the state counts them modulo 256."""
         memory = long_memory(self)
         for letter, middle in ("Q", 2), ("q", 3), ("i", 4):
             rng, items = refusing("wyrand", 0), memoryview(memory).cast(letter)[5:]
             rng.fill_range(items, middle - 1, middle + 1)
-            self.assertEqual(rng.state[2], len(items) % 256)
+            self.assertEqual(int.from_bytes(rng.state[4:8], "little"), 8 * len(items) % 2**32)
             self.assertTrue(memory[:WINDOW] == array.array(letter, [middle] * (WINDOW // items.itemsize)).tobytes())
 
     def test_lots(self):

@@ -4,6 +4,10 @@
  *
  * The first byte of a state is the status that its draws return, and the second byte counts the draws that succeed
  * before. The third byte counts the draws that returned the status. refusals.py tests how the Python package reacts.
+ *
+ * Words that are drawn by fill_bytes reject themselves: a word of zeros names no number of a range whose size is not a
+ * power of two. The bytes 4 to 7 of a state are the position in the bytes that it fills, as a number of 32 bits in
+ * little-endian order. The bytes before 16 * the second byte are 0x77, and zeros follow, unless the status is 0.
  */
 #include "nanorand.h"
 
@@ -41,7 +45,20 @@ static uint8_t permuted(void *state, size_t *items, size_t length)
         return status;                                                                                       \
     }
 
-#define GENERATOR(name, state_type)                                                                          \
+/* Fills bytes. A request takes a multiple of `block` bytes. */
+static void fill(void *state, uint8_t *buffer, size_t length, size_t block)
+{
+    uint8_t *bytes = state;
+    uint32_t position;
+    memcpy(&position, bytes + 4, sizeof position);
+    for (size_t i = 0; i < length; i++) {
+        buffer[i] = bytes[0] == NANORAND_OK || position + i < 16 * (uint32_t)bytes[1] ? 0x77 : 0;
+    }
+    position += (uint32_t)((length + block - 1) / block * block);
+    memcpy(bytes + 4, &position, sizeof position);
+}
+
+#define GENERATOR(name, state_type, block)                                                                   \
     void nanorand_##name##_seed_from_u64(state_type *state, uint64_t number)                                 \
     {                                                                                                        \
         memcpy(state, &number, sizeof number);                                                               \
@@ -52,7 +69,7 @@ static uint8_t permuted(void *state, size_t *items, size_t length)
     }                                                                                                        \
     void nanorand_##name##_fill_bytes(state_type *state, uint8_t *buffer, size_t length)                     \
     {                                                                                                        \
-        memset(buffer, drawn(state), length);                                                                \
+        fill(state, buffer, length, block);                                                                  \
     }                                                                                                        \
     RANGE(name, state_type, u32, uint32_t)                                                                   \
     RANGE(name, state_type, u64, uint64_t)                                                                   \
@@ -84,12 +101,12 @@ static uint8_t permuted(void *state, size_t *items, size_t length)
         memset(out, drawn(state), 64);                                                                       \
     }
 
-GENERATOR(wyrand, nanorand_wyrand)
-GENERATOR(pcg64, nanorand_pcg64)
-GENERATOR(chacha8, nanorand_chacha)
-GENERATOR(chacha12, nanorand_chacha)
-GENERATOR(chacha20, nanorand_chacha)
-GENERATOR(keystream, nanorand_keystream)
+GENERATOR(wyrand, nanorand_wyrand, 8)
+GENERATOR(pcg64, nanorand_pcg64, 8)
+GENERATOR(chacha8, nanorand_chacha, 64)
+GENERATOR(chacha12, nanorand_chacha, 64)
+GENERATOR(chacha20, nanorand_chacha, 64)
+GENERATOR(keystream, nanorand_keystream, 1)
 BLOCK(chacha8)
 BLOCK(chacha12)
 BLOCK(chacha20)
@@ -102,6 +119,19 @@ void nanorand_wyrand_jump(nanorand_wyrand *rng, uint64_t draws)
 void nanorand_pcg64_jump(nanorand_pcg64 *rng, const nanorand_pcg64 *draws)
 {
     rng->low += draws->low;
+}
+
+uint64_t nanorand_wyrand_distance(const nanorand_wyrand *rng, const nanorand_wyrand *other)
+{
+    return other->seed - rng->seed;
+}
+
+/* The first byte of the other state is the status. */
+uint8_t nanorand_pcg64_distance(const nanorand_pcg64 *rng, const nanorand_pcg64 *other, nanorand_pcg64 *draws)
+{
+    draws->low = other->low - rng->low;
+    draws->high = 0;
+    return (uint8_t)other->low;
 }
 
 void nanorand_lots_digest(const uint8_t *text, size_t length, uint8_t digest[32])

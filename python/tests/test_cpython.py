@@ -4,8 +4,10 @@ They are in `test.test_random`, for which Debian has the package libpython3.X-te
 """
 
 import random
+import re
 import sys
 import unittest
+from pathlib import Path
 from unittest import mock
 
 from makers import RANDOMS
@@ -15,9 +17,10 @@ try:
 except ImportError as error:
     raise unittest.SkipTest(f"CPython's own tests are not there: {error}") from None
 
+README = Path(__file__).resolve().parents[1] / "README.md"
 GROUPS = ["MersenneTwister_TestBasicOps", "TestDistributions", "TestRandomSubclassing"]
-# Tests that expect what only the Mersenne Twister does, or only earlier versions of Python.
-LEFT_OUT = {
+# Tests that expect what only the Mersenne Twister does. The README lists them with these reasons.
+OF_MERSENNE_TWISTER = {
     "test_bug_1727780": "its pickled states",
     "test_bug_27706": "its numbers, of seeds of version 1",
     "test_bug_31482": "its numbers, of seeds of version 1",
@@ -29,8 +32,9 @@ LEFT_OUT = {
     "test_setstate_middle_arg": "its state, of 625 words",
     "test_strong_reference_implementation": "its numbers",
 }
-if sys.version_info < (3, 11):
-    LEFT_OUT["test_seedargs"] = LEFT_OUT["test_seed_when_randomness_source_not_found"] = "seeds of any type"
+# Tests that expect seeds of any type, as Python had them before version 3.11.
+OF_OLDER_PYTHONS = {"test_seed_when_randomness_source_not_found", "test_seedargs"}
+LEFT_OUT = {*OF_MERSENNE_TWISTER, *(OF_OLDER_PYTHONS if sys.version_info < (3, 11) else ())}
 CALLS = [name for name in random.__all__ if callable(getattr(random.Random, name, None))]
 
 
@@ -71,7 +75,12 @@ class LeftOut(unittest.TestCase):
                 tests(name).run(result)
                 self.assertFalse(result.wasSuccessful(), f"{tests.__name__}.{name}")
                 failed.add(name)
-        self.assertEqual(failed, set(LEFT_OUT))
+        self.assertEqual(failed, LEFT_OUT)
+
+    def test_the_readme_lists_them(self):
+        text = README.read_text(encoding="utf-8").partition("\n## CPython's own tests\n")[2].partition("\n## ")[0]
+        self.assertEqual(dict(re.findall(r"^\| `(test_\w+)` \| (.*) \|$", text, re.M)), OF_MERSENNE_TWISTER)
+        self.assertEqual(set(re.findall(r"`(test_\w+)`", text)), {*OF_MERSENNE_TWISTER, *OF_OLDER_PYTHONS})
 
 
 if __name__ == "__main__":

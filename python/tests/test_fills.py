@@ -4,6 +4,7 @@ import array
 import contextlib
 import ctypes
 import mmap
+import random
 import struct
 import unittest
 
@@ -110,6 +111,33 @@ class Ranges(unittest.TestCase):
                         self.assertIsNone(rng.fill_range(items, first, last))
                         self.assertEqual(items.tolist(), [drawn_of(same, letter, first, last) for _ in range(length)])
                         self.assertEqual(rng, same)
+
+    def test_ranges_that_reject_many_words(self):
+        """Words are drawn ahead. None is lost or drawn twice, wherever some are rejected."""
+        for rng in generators():
+            for letter, sizes in (("Q", [2**63 + 1, 3 * 2**62 + 5, 2**64 - 1]), ("q", [2**63 + 1, 2**64 // 3 + 1]),
+                                  ("I", [2**31 + 1, 3 * 2**30 + 5, 2**32 - 1])):
+                least = bounds_of(letter)[0]
+                for size in sizes:
+                    for length in (1, 255, 256, 257, 513, 2047, 2048, 2049, 4097):
+                        same = rng.copy()
+                        items = array.array(letter, bytes(length * array.array(letter).itemsize))
+                        rng.fill_range(items, least, least + size - 1)
+                        wanted = [drawn_of(same, letter, least, least + size - 1) for _ in range(length)]
+                        self.assertEqual((items.tolist(), rng), (wanted, same), (letter, size, length))
+
+    def test_random_spans(self):
+        numbers = random.Random(7)
+        for rng in generators():
+            for _ in range(300):
+                letter = numbers.choice(WHOLE)
+                least, greatest = bounds_of(letter)
+                first, last = sorted(numbers.randint(least, greatest) for _ in range(2))
+                last = min(greatest, first + numbers.getrandbits(numbers.randrange(1, 65)), last)
+                same, items = rng.copy(), array.array(letter, [0] * numbers.randrange(600))
+                rng.fill_range(items, first, last)
+                wanted = [drawn_of(same, letter, first, last) for _ in items]
+                self.assertEqual((items.tolist(), rng), (wanted, same), (letter, first, last))
 
     def test_unsigned_items_of_four_bytes_are_range32(self):
         for rng in generators():

@@ -75,6 +75,35 @@ class OwnList(collections.abc.MutableSequence):
         raise NotImplementedError
 
 
+class FailsOnce(list):
+    """A list that fails once to assign an item at an index, before or after it has assigned it."""
+
+    def __init__(self, items, at, late):
+        super().__init__(items)
+        self.at, self.late = at, late
+
+    def __setitem__(self, place, item):
+        fails, self.at = place == self.at, None if place == self.at else self.at
+        if not fails or self.late:
+            super().__setitem__(place, item)
+        if fails:
+            raise KeyError(place)
+
+
+class FailsForGood(list):
+    """A list to which nothing can be assigned after some items."""
+
+    def __init__(self, items, room):
+        super().__init__(items)
+        self.room = room
+
+    def __setitem__(self, place, item):
+        if self.room == 0:
+            raise KeyError(place)
+        self.room -= 1
+        super().__setitem__(place, item)
+
+
 class Matrix(OwnList):
     """Rows that are views of one memory, as in NumPy."""
 
@@ -538,6 +567,53 @@ class Lists(unittest.TestCase):
                     items = OwnList(range(9), room, error)
                     refuses(self, rng, error, lambda rng, items=items: rng.shuffle(items))
 
+    def test_items_are_put_back_when_an_assignment_fails(self):
+        """At each index: before the item is replaced, or after."""
+        for rng in generators():
+            for length in (2, 3, 6, 20):
+                for name in ("shuffle", "shuffle_full"):
+                    for at in range(length):
+                        for late in (False, True):
+                            items = FailsOnce(range(length), at, late)
+                            error = refuses(self, rng, KeyError, lambda rng: getattr(rng, name)(items))
+                            self.assertEqual((error.args, items), ((at,), list(range(length))))
+                            getattr(rng, name)(items)
+                            self.assertEqual(sorted(items), list(range(length)))
+
+    def test_a_sequence_that_fails_for_good(self):
+        """The items cannot be put back. The first error propagates, and the state is unchanged."""
+        for rng in generators():
+            for length in (2, 3, 6, 20):
+                for at in range(length):
+                    items = OwnList(range(length), 0)
+                    items.room = at
+                    error = refuses(self, rng, KeyError, lambda rng: rng.shuffle(items))
+                    self.assertEqual((error.args, items.items), ((at,), list(range(length))))
+                    given = FailsForGood(range(length), at)
+                    places = list(range(length))
+                    rng.copy().shuffle(places)
+                    error = refuses(self, rng, KeyError, lambda rng: rng.shuffle(given))
+                    self.assertEqual((error.args, given), ((at,), places[:at] + list(range(at, length))))
+
+    def test_long_shuffles_are_those_of_the_library(self):
+        """Of lists, which make steps of their own above a length, and of other sequences, which hold the same items."""
+        for kind in CLASSES.values():
+            for length in (2**13, 2**13 + 1, 2**17, 2**17 + 1, 2**17 + 31, 2**17 + 2**13 + 33):
+                for name in ("shuffle", "shuffle_full"):
+                    rng = kind.from_entropy()
+                    same, other, items = rng.copy(), rng.copy(), list(range(length))
+                    getattr(rng, name)(items)
+                    wanted = list(range(length))
+                    for place in wanted[:]:
+                        drawn = same.range(0 if name == "shuffle_full" else place, length - 1)
+                        wanted[place], wanted[drawn] = wanted[drawn], wanted[place]
+                    self.assertTrue(items == wanted, (kind, length, name))
+                    self.assertEqual(rng, same)
+                    array_of = array.array("q", range(length))
+                    getattr(other, name)(array_of)
+                    self.assertTrue(array_of.tolist() == wanted)
+                    self.assertEqual(other, same)
+
     def test_a_sequence_of_views(self):
         """Rows that were moved over one another would be lost."""
         for rng in generators():
@@ -589,7 +665,7 @@ class Lists(unittest.TestCase):
     def test_samples_of_every_length(self):
         """Floyd's algorithm: for the last `length` numbers j, j is added if the number drawn from 0 to j is there."""
         for rng in generators():
-            for length in (*range(14, 19), 31, 32, 33, 100, 128, 129, 1000):
+            for length in (*range(14, 19), 31, 32, 33, 100, 128, 129, 1000, 2**13, 2**13 + 1, 3 * 2**13):
                 for count in (length, length + 1, 2 * length, 10**6, 2**63 + 1, LAST):
                     same, wanted = rng.copy(), {}
                     for last in range(count - length, count):
@@ -601,13 +677,65 @@ class Lists(unittest.TestCase):
     def test_samples_in_pieces(self):
         """The first places of a sample are themselves a sample: of fewer numbers, less one for each place left out."""
         for rng in (WyRand(5), Stream(bytes(32))):
-            for length in (2**20 - 1, 2**20, 2**20 + 1, 2**21 + 5):
+            for length in (10**6, 2**20, 2**20 + 1, 2**21 + 5):
                 same = rng.copy()
                 drawn = rng.sample_below(2**40, length)
                 self.assertEqual(len(set(drawn)), length)
                 self.assertLess(max(drawn), 2**40)
                 begun = same.sample_below(2**40 - (length - 10**6), 10**6)
                 self.assertEqual(drawn[:10**6], begun)
+
+    def test_samples_with_counts(self):
+        """They are samples of positions among the repeated items."""
+        for rng in generators():
+            for counts in ([3, 0, 1, 7, 0, 5], [1] * 6, [0, 0, 0, 0, 0, 16], [5, 0, 0, 0, 0, 0], [2**13] * 6):
+                letters = [letter for letter, count in zip("abcdef", counts) for _ in range(count)]
+                for k in {0, 1, len(letters) // 2, len(letters)}:
+                    for given in (counts, tuple(map(Index, counts)), iter(counts)):
+                        same, other = rng.copy(), rng.copy()
+                        drawn = same.sample("abcdef", k, counts=given)
+                        self.assertEqual(drawn, [letters[place] for place in other.sample_below(len(letters), k)])
+                        self.assertEqual(same, other)
+                    self.assertEqual(rng.copy().sample("abcdef", counts=counts, length=k), drawn)
+            self.assertEqual(rng.sample("ab", 0, counts=[0, 0]), [])
+            self.assertEqual(rng.sample([], 0, counts=[]), [])
+            same = rng.copy()
+            self.assertEqual(rng.sample("abc", 2, counts=None), same.sample("abc", k=2))
+            last = rng.copy().sample_below(LAST, 3)
+            drawn = rng.sample(range(2), 3, counts=[2**63, 2**63 - 1])
+            self.assertEqual(drawn, [place >> 63 for place in last])
+
+    def test_refused_counts(self):
+        rows = [([1, -1], OutOfBounds, "a count is -1, not in 0..=18446744073709551615"),
+                ([LAST, 1], OutOfBounds, "a count of 1 after 18446744073709551615 leaves 64 bits"),
+                ([2**64, 0], OutOfBounds, "a count is 18446744073709551616, not in 0..=18446744073709551615"),
+                ([1], WrongLength, "counts has 1 items, not 2"), ([], WrongLength, "counts has 0 items, not 2"),
+                ([1, 2, 3], WrongLength, "counts has 3 items, not 2"),
+                ([1.0, 2], TypeError, "a count is a float, not an integer"),
+                (["1", "2"], TypeError, "a count is a str, not an integer"),
+                (5, TypeError, "'int' object is not iterable"),
+                ([1, 0], EmptyRange, "no sample of 2 from 1"), ([0, 0], EmptyRange, "no sample of 2 from 0")]
+        for rng in generators():
+            for counts, kind, text in rows:
+                error = refuses(self, rng, kind, lambda rng: rng.sample("ab", 2, counts=counts))
+                self.assertEqual(str(error), text)
+
+    def test_the_length_of_a_sample_has_two_names(self):
+        for rng in generators():
+            drawn = rng.copy().sample("abcdef", 3)
+            self.assertEqual(rng.copy().sample("abcdef", k=3), drawn)
+            self.assertEqual(rng.copy().sample(population="abcdef", length=3), drawn)
+            numbers = rng.copy().sample_below(100, 3)
+            self.assertEqual(rng.copy().sample_below(100, k=3), numbers)
+            self.assertEqual(rng.copy().sample_below(count=100, length=3), numbers)
+            for call in (lambda rng, **named: rng.sample("abc", **named),
+                         lambda rng, **named: rng.sample_below(9, **named)):
+                for named in ({}, {"k": 1, "length": 1}, {"k": None}, {"length": None}, {"k": None, "length": None}):
+                    refuses(self, rng, TypeError, lambda rng: call(rng, **named))
+                self.assertEqual(call(rng.copy(), k=None, length=2), call(rng.copy(), k=2, length=None))
+                for name in ("k", "length"):
+                    error = refuses(self, rng, OutOfBounds, lambda rng: call(rng, **{name: -1}))
+                    self.assertRegex(str(error), f"^{name} is -1, not in ")
 
 
 class Errors(unittest.TestCase):

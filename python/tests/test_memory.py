@@ -5,6 +5,7 @@ import array
 import collections
 import contextlib
 import copy
+import functools
 import gc
 import importlib.util
 import pickle
@@ -70,6 +71,7 @@ class Refuses(list):
 LIST, TUPLE, TEXT, BUFFER = ITEMS, tuple(ITEMS), "text", bytearray(16)
 WORDS, DOUBLES, READ_ONLY = array.array("Q", [0] * 9), array.array("d", [0] * 9), memoryview(b"12345678")
 MANY = array.array("Q", range(600))
+LONG_LIST, LONG_WORDS = list(range(9000)), array.array("Q", range(9000))
 FAILS, REFUSES, REALS, WHOLES, OTHER = Fails(), Refuses(ITEMS), [1.5] * 9, [2] * 9, object()
 LATE, NO_LENGTH = FailsLate(ITEMS), NoLength(ITEMS)
 # Sequences other than plain lists, with mutable items.
@@ -90,6 +92,7 @@ SUCCEED = {
     "choice": lambda rng: (rng.choice(LIST), rng.choice(TUPLE), rng.choice(TEXT), rng.choice(WORDS)),
     "choices": lambda rng: (rng.choices(LIST, k=5), rng.choices(TUPLE, WHOLES, k=5), rng.choices(LIST, REALS, k=5)),
     "sample": lambda rng: (rng.sample(LIST, 5), rng.sample(TUPLE, 5), rng.sample(TEXT, 2)),
+    "sample with counts": lambda rng: rng.sample(LIST, 15, counts=WHOLES),
     "sample_below": lambda rng: rng.sample_below(10**6, 5),
     "shuffle": lambda rng: (rng.shuffle(LIST), rng.shuffle(BUFFER), rng.shuffle(WORDS)),
     "shuffle_full": lambda rng: (rng.shuffle_full(LIST), rng.shuffle_full(BUFFER)),
@@ -101,7 +104,7 @@ SUCCEED = {
     "states": lambda rng: (rng.state, setattr(rng, "state", rng.state), type(rng).from_state(rng.state), rng.copy()),
     "from_entropy": lambda rng: type(rng).from_entropy(),
     "seed_from_u64": lambda rng: (type(rng).seed_from_u64(7), type(rng).seed_from_u64(number=2**64 - 1)),
-    "part": lambda rng: (rng.part(2**60, 3), rng.part(index=1, draws=2**60)),
+    "part": lambda rng: (rng.part(2**60, 3), rng.part(index=1, draws=2**60 + 1)),
     "compared": lambda rng: (rng == rng.copy(), rng != rng.copy(), rng == 5, rng < rng.copy() if False else None),
     "pickled": lambda rng: pickle.loads(pickle.dumps(rng)),
     "shown": lambda rng: repr(rng),
@@ -141,6 +144,9 @@ FAIL = {
     "sample": [lambda rng: rng.sample(LIST, 10), lambda rng: rng.sample(FAILS, 2), lambda rng: rng.sample(LATE, 9),
                lambda rng: rng.sample(NO_LENGTH, 2),
                lambda rng: rng.sample(OTHER, 2),
+               lambda rng: rng.sample(LIST, 2, counts=WHOLES[1:]), lambda rng: rng.sample(LIST, 2, counts=[OTHER] * 9),
+               lambda rng: rng.sample(LIST, 99, counts=WHOLES), lambda rng: rng.sample(LIST, 2, counts=FAILS),
+               lambda rng: rng.sample(LIST), lambda rng: rng.sample(LIST, 2, length=2),
                lambda rng: rng.sample(LIST, BIG), lambda rng: rng.sample_below(5, 1000),
                lambda rng: rng.sample_below(2**63, 2**62),
                lambda rng: rng.sample_below(BIG, 1)],
@@ -156,7 +162,8 @@ FAIL = {
                lambda rng: delattr(rng, "state"),
                lambda rng: type(rng).from_state(b"short"), lambda rng: type(rng).from_state(OTHER),
                lambda rng: hash(rng),
-               lambda rng: Generator(), lambda rng: Generator.from_entropy(), lambda rng: rng < rng],
+               lambda rng: Generator(), lambda rng: Generator.from_entropy(), lambda rng: rng < rng,
+               lambda rng: Generator.seed_from_u64(5)],
     "made": [lambda rng: type(rng)(OTHER), lambda rng: type(rng)(BIG), lambda rng: type(rng)(b"short"),
              lambda rng: type(rng)(LONG), lambda rng: rng.below(LONG), lambda rng: rng.range(LONG, -LONG),
              lambda rng: rng.bytes(LONG), lambda rng: type(rng).seed_from_u64(-LONG),
@@ -283,6 +290,8 @@ class Leaks(unittest.TestCase):
             lambda: rng.shuffle(items),
             lambda: rng.shuffle(buffer[:50_000]),
             lambda: rng.sample_below(10**6, 3000),
+            lambda: rng.sample_below(10**6, 20_000),
+            lambda: rng.sample(items[:2], 9000, counts=[9000, 9000]),
             lambda: rng.choices(items, k=50_000),
             lambda: rng.choices(items, [1] * 50_000),
             lambda: rng.choices(items, [1.5] * 50_000),
@@ -338,8 +347,18 @@ class NoMemory(unittest.TestCase):
         "sample": lambda rng: rng.sample(LIST, 5),
         "sample_below": lambda rng: rng.sample_below(10**6, 5),
         "shuffle": lambda rng: rng.shuffle(ITEMS[:]),
+        "sample with counts": lambda rng: rng.sample(LIST, 5, counts=WHOLES),
+        "sample_below, long": lambda rng: rng.sample_below(10**6, 9000),
+        "sample, long": lambda rng: rng.sample(range(10**6), 9000, counts=None),
+        "choices, long": lambda rng: rng.choices(LIST, k=9000),
+        "shuffle, long": lambda rng: rng.shuffle(LONG_LIST),
+        "shuffle, any": lambda rng: rng.shuffle(WORDS),
+        "shuffle, long, any": lambda rng: rng.shuffle(LONG_WORDS),
         "part": lambda rng: rng.part(1, 5),
         "copy": lambda rng: rng.copy(),
+        "state_dict": lambda rng: setattr(rng, "state", rng.part(1, 5).state_dict),
+        "distance": lambda rng: getattr(rng, "distance", lambda other: other)(rng.part(1, 2**40 + 1)),
+        "seek": lambda rng: getattr(rng, "seek", lambda position: rng.copy())(2**69 + 5),
     }
 
     def test_the_generator_is_as_it_was(self):
@@ -369,7 +388,7 @@ class NoMemory(unittest.TestCase):
         return False
 
     def test_nothing_is_kept(self):
-        """Only calls without Python code, which keeps some references itself."""
+        """Only calls without Python code, which keeps some references itself. Python has others to None meanwhile."""
         for rng in (WyRand(1), Pcg64(1), ChaCha8(KEY), Stream(KEY)):
             calls = [
                 *[(rng.u64,), (rng.random,), (rng.bytes, 100), (rng.below, 1000), (rng.below, 2**64), (rng.__repr__,)],
@@ -382,8 +401,14 @@ class NoMemory(unittest.TestCase):
                 *[(rng.__eq__, rng.copy()), (rng.__reduce__,), (type(rng).from_state, rng.state), (rng.below, OTHER)],
                 *[(rng.choice, ()), (rng.range, 5, 1), (rng.range, 1, BIG), (rng.sample, LIST, 10), (rng.fill, OTHER)],
                 *[(rng.choices, LIST, [-1] * 9), (rng.choices, LIST, WHOLES[1:]), (type(rng).from_state, b"short")],
-                *[(getattr, rng, name, None) for name in ("state", "seed", "key", "nonce", "counter", "rest")],
+                *[(getattr, rng, name, OTHER) for name in ("state", "state_dict", "seed", "key", "nonce", "counter")],
+                *[(getattr, rng, name, OTHER) for name in ("rest", "position")], (type(rng).from_state, rng.state_dict),
+                *[(getattr(rng, "distance", rng.copy), rng), (getattr(rng, "seek", rng.copy), 2**65 + 5)],
+                *[(type(rng).from_state, {"generator": "other"})],
                 *[(getattr(rng, "jump", rng.copy),), (type(rng), KEY), (type(rng), 5), (type(rng), 2**100)],
+                *[(rng.shuffle, LONG_LIST), (rng.shuffle_full, LONG_LIST), (rng.sample, LIST, 10**9)],
+                *[(functools.partial(rng.choices, LIST, k=9000),)],
+                *[(functools.partial(rng.sample, LIST, 9000, counts=[2000] * 9),)],
                 *[(rng.copy().bytes, 100_000), (rng.shuffle, MANY), (rng.choice, MANY), (rng.sample, MANY, 300)],
             ]
             for call, *arguments in calls:
@@ -394,7 +419,7 @@ class NoMemory(unittest.TestCase):
         """Python may fail to create a class without saying why, with a SystemError."""
         spec = importlib.util.spec_from_file_location("nanorand._native", _native.__file__)
         refusals = [self.is_refused(request, self.loads, importlib.util.module_from_spec(spec))
-                    for request in range(500)]
+                    for request in range(700)]
         self.assertGreater(sum(refusals), 100)
         self.assertFalse(any(refusals[-50:]))
 
@@ -540,11 +565,12 @@ class Changing(unittest.TestCase):
                      lambda rng: rng.range32(1, 2), lambda rng: rng.range(-1, 2), lambda rng: rng.bytes(5),
                      lambda rng: rng.range(1, 2), lambda rng: rng.random(), lambda rng: rng.below(5),
                      lambda rng: rng.below(2**64), lambda rng: rng.randint(1, 2), lambda rng: rng.sample_below(5, 2),
-                     lambda rng: rng.part(1, 2), lambda rng: rng.part(1, draws=0), lambda rng: copy.copy(rng),
+                     lambda rng: rng.part(1, 2), lambda rng: rng.part(1, draws=1), lambda rng: copy.copy(rng),
                      lambda rng: rng.fill_range(bytearray(5), 1, 6), lambda rng: rng.fill_random(DOUBLES)]
-            own = ("seed", "key", "nonce", "counter", "rest", "jump", "block")
-            calls += [lambda rng, name=name: getattr(rng, name) for name in own[:5] if hasattr(kind, name)]
-            calls += [lambda rng, name=name: getattr(rng, name)(*[1] * (name == "jump")) for name in own[5:]
+            own = ("seed", "key", "nonce", "counter", "rest", "position", "state_dict")
+            calls += [lambda rng, name=name: getattr(rng, name) for name in own if hasattr(kind, name)]
+            own = {"jump": [1], "seek": [1], "block": [], "distance": [kind.from_entropy()]}
+            calls += [lambda rng, name=name, given=given: getattr(rng, name)(*given) for name, given in own.items()
                       if hasattr(kind, name)]
             for call in calls:
                 with self.assertRaisesRegex(RuntimeError, "^Own has no state: its __init__ was not called$"):

@@ -2,15 +2,17 @@
 
 import copy
 import gc
+import json
 import pickle
 import random
 import subprocess
 import sys
 import threading
 import unittest
+import weakref
 from array import array
 
-from makers import KEY, NONCE, stays_itself
+from makers import KEY, NONCE, Index, stays_itself
 from test_answers import octets, rows
 
 from nanorand import ChaCha20, Pcg64, Stream, WyRand, _native, lots
@@ -86,7 +88,8 @@ DRAWS = {
 def state_of(bits):
     """The state, in the form of the model's state."""
     state = bits.state
-    return state["state"], state["uinteger"] if state["has_uint32"] else None
+    kind = BITS[next(kind for kind in type(bits).__mro__ if kind in BITS)]
+    return kind.from_state(state["state"]).state, state["uinteger"] if state["has_uint32"] else None
 
 
 class Words(unittest.TestCase):
@@ -170,7 +173,8 @@ class States(unittest.TestCase):
                 *[({}, ForeignState), ({"bit_generator": state["bit_generator"]}, ForeignState)],
                 *[({**state, "bit_generator": name}, ForeignState) for name in ("PCG64", "", None, "GeneratorBits")],
                 *[({**state, "state": text}, WrongLength) for text in (b"", b"1234567", bytes(200))],
-                *[({**state, "state": text}, TypeError) for text in (None, 5, "state", {})],
+                *[({**state, "state": text}, TypeError) for text in (None, 5, "state")],
+                *[({**state, "state": wrong}, ForeignState) for wrong in ({}, {"generator": "ChaCha20", "state": ""})],
                 *[({**state, "uinteger": half}, OutOfBounds) for half in (-1, 2**32, 2**64)],
                 *[({**state, "has_uint32": half}, OutOfBounds) for half in (-1, 2)],
                 *[({**state, name: None}, TypeError) for name in ("uinteger", "has_uint32")],
@@ -184,6 +188,18 @@ class States(unittest.TestCase):
                 self.assertEqual(bits.state, before)
             for draw in (DRAWS[Model.half_word], *DRAWS.values()):
                 self.assertEqual(draw(bits), draw(same))
+
+    def test_a_state_as_json(self):
+        for start in STARTS:
+            bits, same = bits_of(start), bits_of(start)
+            for draws in range(4):
+                saved = json.loads(json.dumps(bits.state))
+                self.assertEqual(saved, bits.state)
+                self.assertEqual(saved["state"], bits.generator.state_dict)
+                drawn = [DRAWS[Model.half_word](bits) for _ in range(5)]
+                for state in (saved, {**saved, "state": bytes.fromhex(saved["state"]["state"])}):
+                    same.state = state
+                    self.assertEqual([DRAWS[Model.half_word](same) for _ in range(5)], drawn)
 
     def test_every_half_word_is_one(self):
         for start in STARTS:
@@ -253,24 +269,51 @@ class States(unittest.TestCase):
             self.assertEqual(done.stdout.decode().strip(), str(rng.integers(0, 2**63, 5).tolist()))
 
 
+class Items(unittest.TestCase):
+    def test_arrays_are_sequences(self):
+        """Also after other types, and other types after them."""
+        for rng in (WyRand(5), Stream(KEY)):
+            array_of, numbers, mapping, letters = numpy.arange(100), range(100), Proxied({0: 1}), Plain("abc")
+            for _ in range(2):
+                for call in (lambda rng, items: rng.choice(items), lambda rng, items: rng.choices(items, k=30),
+                             lambda rng, items: rng.sample(items, 30)):
+                    self.assertEqual(call(rng.copy(), array_of), call(rng.copy(), numbers))
+                    for wrong in ({0: 1}, {0}, mapping, weakref.proxy(mapping)):
+                        self.assertRaises(TypeError, call, rng, wrong)
+                for name in ("shuffle", "shuffle_full"):
+                    items, wanted = array_of.copy(), list(numbers)
+                    getattr(rng.copy(), name)(items)
+                    getattr(rng.copy(), name)(wanted)
+                    self.assertEqual(items.tolist(), wanted)
+            self.assertIn(rng.copy().choice(weakref.proxy(letters)), "abc")
+
+
+class Plain(list):
+    """A list to which there are weak references."""
+
+
+class Proxied(dict):
+    """A dictionary to which there are weak references."""
+
+
 class Seeds(unittest.TestCase):
     def test_as_numpys_take_them(self):
         for kind in BITS:
             equal = [(5, [5]), (2**200, [0, 0, 0, 0, 0, 0, 2**8]), (SeedSequence(5), 5)]
             for one, other in equal:
                 self.assertEqual(kind(one).state, kind(other).state)
-            different = [kind(seed).state["state"] for seed in (0, 1, 2**32, 2**64, [1, 2], None, None)]
+            different = [kind(seed).generator.state for seed in (0, 1, 2**32, 2**64, [1, 2], None, None)]
             self.assertEqual(len(set(different)), len(different))
             for seed, error in [(-1, ValueError), ("1", TypeError), (1.5, TypeError), ([None], TypeError)]:
                 self.assertRaises(error, kind, seed)
 
     def test_the_state_is_the_sequence_words(self):
         for kind, made in BITS.items():
-            length = 32 if made is Stream else len(kind(0).state["state"])
+            length = 32 if made is Stream else len(kind(0).generator.state)
             words = SeedSequence(42).generate_state(length // 8, numpy.uint64)
             wanted = b"".join(int(word).to_bytes(8, "little") for word in words)
-            self.assertEqual(kind(42).state["state"][:length], wanted)
-            self.assertFalse(any(kind(42).state["state"][length:]))
+            self.assertEqual(kind(42).generator.state[:length], wanted)
+            self.assertFalse(any(kind(42).generator.state[length:]))
 
     def test_spawn(self):
         for kind in BITS:
@@ -308,6 +351,54 @@ class Octets(unittest.TestCase):
         key = bytes(range(32))
         view = memoryview(numpy.asfortranarray(numpy.frombuffer(key, "u1").reshape(4, 8)))
         self.assertEqual(Stream(view), Stream(key))
+
+
+class Advances(unittest.TestCase):
+    PERIODS = {WyRandBits: 2**64, Pcg64Bits: 2**126, StreamBits: 2**67}
+    # Bytes that are buffered, and not those of the keystream, are lost.
+    STARTS = [WyRand(42), Pcg64(2**64 + 42), Stream(KEY), Stream(KEY, NONCE, 5), Stream(KEY, counter=2**64 - 1)]
+
+    def test_as_many_words(self):
+        for start in self.STARTS:
+            for words in (0, 1, 2, 7, 8, 9, 63, 64, 65, 1000, 100_003):
+                for before in ([], [Model.word], [Model.half_word]):
+                    bits, model = bits_of(start), Model(start)
+                    for draw in before:
+                        self.assertEqual(DRAWS[draw](bits), draw(model))
+                    self.assertIs(bits.advance(words), bits)
+                    model.generator.bytes(8 * words)
+                    model.half = None
+                    self.assertEqual(state_of(bits), model.state())
+                    self.assertEqual(DRAWS[Model.half_word](bits), model.half_word())
+
+    def test_modulo_the_period(self):
+        for start in self.STARTS:
+            bits = bits_of(start)
+            period = self.PERIODS[type(bits)]
+            there = bits_of(start).advance(10**9 + 7)
+            for words in (10**9 + 7 - period, 10**9 + 7 + period, 10**9 + 7 - 5 * period):
+                self.assertEqual(bits_of(start).advance(words).random_raw(9).tolist(), there.random_raw(9).tolist())
+                there.advance(-9)
+            self.assertEqual(bits.advance(period - 1).advance(1).random_raw(), bits_of(start).random_raw())
+            self.assertEqual(bits_of(start).advance(5).advance(-5).random_raw(), bits_of(start).random_raw())
+
+    def test_refused(self):
+        bits = bits_of(WyRand(42))
+        before = bits.state
+        for delta in (1.0, "1", None):
+            self.assertRaises(TypeError, bits.advance, delta)
+        self.assertEqual(bits.state, before)
+        self.assertEqual(bits.advance(Index(5)).state, bits_of(WyRand(42)).advance(5).state)
+
+    def test_waits_for_who_draws(self):
+        bits = bits_of(WyRand(42))
+        thread = threading.Thread(target=bits.advance, args=[5])
+        with bits.lock:
+            thread.start()
+            thread.join(0.05)
+            self.assertTrue(thread.is_alive())
+        thread.join()
+        self.assertEqual(bits.state, bits_of(WyRand(42)).advance(5).state)
 
 
 class Jumps(unittest.TestCase):

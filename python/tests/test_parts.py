@@ -1,8 +1,10 @@
 """Parts of a stream, for every class: each begins where the one before it ends, and none ends past the period."""
 
+import contextlib
 import pickle
 import random
 import unittest
+import warnings
 
 from makers import CHACHAS, CLASSES, KEY, NONCE, generators, refuses
 
@@ -30,11 +32,46 @@ def ahead(rng, draws):
 
 
 class Parts(unittest.TestCase):
+    @contextlib.contextmanager
+    def quiet(self):
+        """Lengths of parts are not warned of."""
+        with warnings.catch_warnings():
+            warnings.simplefilter("ignore", UserWarning)
+            yield
+
+    def test_a_length_of_0(self):
+        for rng in [*generators(), *LATE]:
+            for index in (0, 1, LAST):
+                error = refuses(self, rng, OutOfBounds, lambda rng, i=index: rng.part(i, 0))
+                self.assertEqual(str(error), f"draws is 0, not in 1..={LAST}")
+
+    def test_lengths_that_are_warned_of(self):
+        """Multiples of 2^16 are, for the generators whose draws are correlated. An error leaves out the warning."""
+        warned = [2**16, 2**44, 3 * 2**16, 2**63, LAST - 2**16 + 1]
+        others = [1, 10**6, 10**9 + 1, 2**15, 3 * 2**15, 2**44 + 1, LAST]
+        for rng in generators():
+            correlated = type(rng) in (WyRand, Pcg64)
+            for draws in warned + others:
+                with warnings.catch_warnings(record=True) as caught:
+                    warnings.simplefilter("always")
+                    self.assertEqual(rng.part(0, draws), rng)
+                    self.assertEqual(len(caught), int(correlated and draws in warned), draws)
+                for one in caught:
+                    self.assertIs(one.category, UserWarning)
+                    self.assertEqual(one.filename, __file__)
+                    self.assertEqual(str(one.message), f"parts of {draws} draws may be correlated, as a large power of "
+                                     f"two divides this length: take an odd one, such as {draws + 1}")
+            with warnings.catch_warnings():
+                warnings.simplefilter("error")
+                if correlated:
+                    refuses(self, rng, UserWarning, lambda rng: rng.part(1, 2**44))
+                refuses(self, rng, PastPeriod, lambda rng: rng.part(LAST, LAST - 2**16 + 1))
+
     def test_a_part_begins_where_the_one_before_it_ends(self):
         for start in [*generators(), *LATE]:
             for taken in (0, 1, 8, 63, 64, 65, 500, 512):
                 start.bytes(taken)
-                for draws in (0, 1, 7, 8, 9, 64, 65):
+                for draws in (1, 7, 8, 9, 64, 65):
                     drawn = start.copy()
                     for index in range(12):
                         self.assertEqual(start.part(index, draws), drawn, (taken, index, draws))
@@ -47,7 +84,7 @@ class Parts(unittest.TestCase):
             words = rng.copy().bytes(8 * 80)
             for index in range(70):
                 self.assertEqual(rng.part(index, 1).bytes(80), words[8 * index : 8 * index + 80])
-                self.assertEqual(rng.part(1, index), ahead(rng, index))
+                self.assertEqual(rng.part(1, index + 1), ahead(rng, index + 1))
 
     def test_far_parts(self):
         numbers = random.Random(5)
@@ -55,8 +92,9 @@ class Parts(unittest.TestCase):
             for _ in range(300):
                 bits = numbers.randrange(65)
                 index = numbers.getrandbits(bits)
-                draws = numbers.randrange(min(2**64, PERIODS[type(rng)] // (index + 1) + 1))
-                self.assertEqual(rng.part(index, draws), ahead(rng, index * draws), (index, draws))
+                draws = numbers.randrange(1, min(2**64, PERIODS[type(rng)] // (index + 1) + 1))
+                with self.quiet():
+                    self.assertEqual(rng.part(index, draws), ahead(rng, index * draws), (index, draws))
 
     def test_the_period_is_the_end(self):
         """For each index, the longest part within the period, and one that is a draw longer."""
@@ -64,8 +102,8 @@ class Parts(unittest.TestCase):
         for rng in [*generators(), *LATE]:
             for index in indices:
                 longest = min(PERIODS[type(rng)] // (index + 1), LAST)
-                self.assertEqual(rng.part(index, longest), ahead(rng, index * longest))
-                self.assertEqual(rng.part(index, 0), rng)
+                with self.quiet():
+                    self.assertEqual(rng.part(index, longest), ahead(rng, index * longest))
                 for draws in {longest + 1, LAST} - {longest, LAST + 1}:
                     refuses(self, rng, PastPeriod, lambda rng, i=index, n=draws: rng.part(i, n))
 
@@ -74,7 +112,7 @@ class Parts(unittest.TestCase):
         for rng in generators():
             for number in (-1, -(2**64), LAST + 1, 2**64 + 1, 10**40):
                 for other in (0, 1, LAST):
-                    refuses(self, rng, OutOfBounds, lambda rng, n=number, o=other: rng.part(n, o))
+                    refuses(self, rng, OutOfBounds, lambda rng, n=number, o=other: rng.part(n, o or 1))
                     refuses(self, rng, OutOfBounds, lambda rng, n=number, o=other: rng.part(o, n))
             for other in (1.0, "1", None, b"1", [1], 1j):
                 for arguments in ((other, 1), (1, other)):
@@ -115,6 +153,43 @@ class Parts(unittest.TestCase):
         for rng in generators():
             part = rng.part(3, 1000)
             self.assertEqual(pickle.loads(pickle.dumps(part)), part)
+
+    def test_distances(self):
+        numbers = random.Random(7)
+        for kind, period in ((WyRand, 2**64), (Pcg64, 2**126)):
+            for start in (kind(42), kind(0), kind(256 ** len(kind(0).state) - 1)):
+                for bits in range(period.bit_length() + 1):
+                    draws = numbers.getrandbits(bits) % period
+                    other = start.copy()
+                    other.jump(draws)
+                    before = start.state, other.state
+                    self.assertEqual(start.distance(other), draws)
+                    self.assertEqual(other.distance(other=start), -draws % period)
+                    self.assertEqual((start.state, other.state), before)
+            self.assertEqual(start.distance(start), 0)
+            own = type("Own", (kind,), {})
+            self.assertEqual(kind(7).distance(own(7)), 0)
+            self.assertEqual(own(7).distance(kind(7).part(3, 5)), 15)
+
+    def test_states_in_another_cycle(self):
+        """Two seeds of Pcg64 are in one cycle if and only if they are equal or opposite modulo 8."""
+        for one in range(16):
+            for two in range(2**100, 2**100 + 16):
+                distance = Pcg64(one).distance(Pcg64(two))
+                self.assertEqual(distance is not None, one % 8 == two % 8 or (one + two) % 8 == 7)
+                if distance is not None:
+                    there = Pcg64(one)
+                    there.jump(distance)
+                    self.assertEqual(there, Pcg64(two))
+
+    def test_distances_to_other_things(self):
+        for rng in (WyRand(42), Pcg64(42)):
+            for other in [None, 5, "WyRand", object(), *(one for one in generators() if type(one) is not type(rng))]:
+                error = refuses(self, rng, TypeError, lambda rng, other=other: rng.distance(other))
+                self.assertRegex(str(error), f"^other is a {type(other).__name__}, not a")
+            empty = type(rng).__new__(type(rng))
+            refuses(self, rng, RuntimeError, lambda rng, empty=empty: rng.distance(empty))
+            self.assertRaises(RuntimeError, empty.distance, rng)
 
     def test_a_refusal_says_what_was_asked_for(self):
         for index, draws in ((1, LAST), (LAST, 2), (2**32, 2**32)):

@@ -12,7 +12,7 @@ import sys
 import unittest
 import weakref
 
-from makers import COPIES, KEY, RANDOMS, refuses, stays_itself
+from makers import COPIES, KEY, RANDOMS, Index, refuses, stays_itself
 
 from nanorand import OutOfBounds, Pcg64, Stream, WrongLength, WyRand
 from nanorand.errors import ForeignState
@@ -70,6 +70,21 @@ class Unseeded:
 # A subclass of each class, in this module, where pickles find them.
 UNSEEDED = {kind: type(f"Unseeded{kind.__name__}", (Unseeded, kind), {}) for kind in RANDOMS}
 globals().update({own.__name__: own for own in UNSEEDED.values()})
+
+
+def attributed(kind):
+    """A user's subclass of a class: its `__init__` needs an argument, and it has attributes and slots of its own."""
+
+    def __init__(self, name):
+        kind.__init__(self, name)
+        self.name, self.steps, self.slot = name, [], "slot"
+
+    members = {"__init__": __init__, "__slots__": ("slot", "empty"), "__module__": __name__}
+    return type(f"Attributed{kind.__name__}", (kind,), members)
+
+
+ATTRIBUTED = {kind: attributed(kind) for kind in RANDOMS}
+globals().update({own.__name__: own for own in ATTRIBUTED.values()})
 
 
 class Twin(random.Random):
@@ -166,26 +181,23 @@ class Randoms(unittest.TestCase):
                 self.assertEqual(rng.randbytes(length), same.generator.bytes(length))
                 self.assertEqual(rng.randbytes(length), same.getrandbits(8 * length).to_bytes(length, "little"))
 
-    def test_whole_numbers_are_seeds(self):
+    def test_seeds_of_other_types(self):
         for kind, generator in RANDOMS.items():
-            length = SEED_LENGTHS.get(kind.__name__, 32)
-            for seed in (0, 1, 42, 2 ** (8 * length) - 1):
-                made = kind(seed).generator
-                self.assertIs(type(made), generator)
-                self.assertEqual(made.state[:length], seed.to_bytes(length, "little"))
-                self.assertEqual(set(made.state[length:]), {0} if made.state[length:] else set())
+            self.assertIs(type(kind(1).generator), generator)
             self.assertEqual(kind(True).generator, kind(1).generator)
+            self.assertEqual(kind(Index(5)).generator, kind(5).generator)
             for seed in ([1], (1,), {1: 1}, 1j, object(), fractions.Fraction(1)):
                 with self.assertRaisesRegex(TypeError, f"^seed is a {type(seed).__name__}, not "):
                     kind(seed)
 
-    def test_other_numbers_are_seeds(self):
+    def test_numbers_are_mixed(self):
         floats = [0.0, -0.0, 1.0, 1.5, -1.5, 1e300, 5e-324, math.inf, -math.inf, math.nan]
         for kind in RANDOMS:
             length = SEED_LENGTHS.get(kind.__name__, 32)
             limit = 256**length
-            seeds = [-1, -2, -limit, limit, limit + 1, 10**5000, -(10**5000), *floats]
-            seen = {kind(seed).generator.state for seed in (0, 1, 2, limit - 1, "-1", "-0x1", "1.5", b"\xff")}
+            seeds = [0, 1, 2, 42, -1, -2, limit - 1, -limit, limit, limit + 1, 10**5000, -(10**5000), *floats]
+            texts = ("0", "0x0", "-1", "-0x1", "1.5", b"\xff", b"\xffint", "int 0x0")
+            seen = {kind(text).generator.state for text in texts}
             self.assertEqual(len(seen), 8)
             for seed in seeds:
                 text = f"float {seed.hex()}" if isinstance(seed, float) else f"int {seed:#x}"
@@ -194,6 +206,37 @@ class Randoms(unittest.TestCase):
                 self.assertEqual(set(made.state[length:]), {0} if made.state[length:] else set())
                 seen.add(made.state)
             self.assertEqual(len(seen), 8 + len(seeds))
+
+    def test_neighbouring_seeds_are_unrelated(self):
+        """The first numbers of the seeds 0, 1, 2, .. vary together by no more than the noise of 10^5 seeds."""
+        count = 100_000
+        for kind in (WyRandRandom, Pcg64Random):
+            rng, firsts = kind(0), []
+            for seed in range(count):
+                rng.seed(seed)
+                firsts.append(rng.random())
+            mean = statistics.fmean(firsts)
+            self.assertAlmostEqual(mean, 0.5, delta=5 / math.sqrt(12 * count))
+            square = statistics.fmean((first - mean) ** 2 for first in firsts)
+            for apart in (1, 2, 3, 1000, 2**16):
+                product = statistics.fmean((one - mean) * (two - mean) for one, two in zip(firsts, firsts[apart:]))
+                self.assertLess(abs(product / square), 5 / math.sqrt(count - apart), (kind, apart))
+
+    def test_python_s_own_generator_is_seeded_too(self):
+        """A call that names the base class does not return 0.0 for ever."""
+        for kind in RANDOMS:
+            rng, same, other = kind(5), kind(5), kind(6)
+            drawn = [random.Random.random(rng) for _ in range(5)]
+            self.assertEqual(len(set(drawn)), 5)
+            self.assertEqual([random.Random.random(same) for _ in range(5)], drawn)
+            self.assertNotEqual([random.Random.random(other) for _ in range(5)], drawn)
+            self.assertEqual(rng.generator, kind(5).generator)
+            state = kind(5).getstate()
+            for again in (pickle.loads(pickle.dumps(kind(5))), copy.copy(kind(5))):
+                self.assertEqual([random.Random.random(again) for _ in range(5)], drawn)
+            other.setstate(state)
+            self.assertEqual([random.Random.random(other) for _ in range(5)], drawn)
+            self.assertNotEqual(random.Random.random(kind()), random.Random.random(kind()))
 
     def test_seeds_of_subclasses(self):
         """The text, the number or the bytes count, whatever texts the subclass has."""
@@ -369,7 +412,7 @@ class Randoms(unittest.TestCase):
             b"\x8c\x06WyRand\x94C\x08*\0\0\0\0\0\0\0\x94N\x87\x94b."
         )
         for text in (oldest, newer):
-            self.assertEqual(pickle.loads(text).getstate(), WyRandRandom(42).getstate())
+            self.assertEqual(pickle.loads(text).getstate(), ("WyRand", WyRand(42).state, None))
 
     def test_refused_bits(self):
         for kind in RANDOMS:
@@ -404,9 +447,15 @@ class Randoms(unittest.TestCase):
             GeneratorRandom()
 
     def test_seeds_by_their_name(self):
-        self.assertEqual(WyRandRandom(seed=42).generator, WyRandRandom(42).generator)
-        self.assertEqual(Pcg64Random(seed=2**127).generator.seed, 2**127)
-        self.assertEqual(StreamRandom(seed=0).generator.key, bytes(32))
+        for kind in RANDOMS:
+            for seed in (42, 0, "text", b"bytes", 1.5):
+                self.assertEqual(kind(x=seed).generator, kind(seed).generator)
+                self.assertEqual(kind(seed=seed).generator, kind(seed).generator)
+                self.assertEqual(kind(None, seed=seed).generator, kind(seed).generator)
+                for arguments in ({"x": 1, "seed": seed}, {"x": seed, "version": 2}):
+                    self.assertRaises(TypeError, kind, **arguments)
+            self.assertRaises(TypeError, kind, 1, 2)
+            self.assertNotEqual(kind(x=None).generator, kind(seed=None).generator)
 
 
 class Generators(unittest.TestCase):
@@ -474,6 +523,36 @@ class Generators(unittest.TestCase):
                 rng.random()
                 self.assertEqual(first.state, before)
 
+    def test_another_generator_begins_anew(self):
+        """What `gauss` has kept was made from the words of the generator before."""
+        for kind in RANDOMS:
+            rng, same = kind(7), kind(7)
+            rng.gauss(0, 1)
+            self.assertIsNotNone(rng.gauss_next)
+            before = rng.getstate()
+            with self.assertRaises(TypeError):
+                rng.generator = 5
+            self.assertEqual(rng.getstate(), before)
+            rng.generator, same.generator = kind(8).generator, kind(8).generator
+            self.assertIsNone(rng.gauss_next)
+            self.assertEqual([rng.gauss(0, 1) for _ in range(4)], [same.gauss(0, 1) for _ in range(4)])
+
+    def test_a_class_that_keeps_what_gauss_has_kept(self):
+        """If its attribute cannot be set, the generator is not replaced either."""
+        for kind in RANDOMS:
+            class Own(kind):
+                def __setattr__(self, name, value):
+                    if name == "gauss_next" and name in vars(self):
+                        raise ValueError(name)
+                    super().__setattr__(name, value)
+
+            rng = Own.__new__(Own)
+            rng.generator = kind(7).generator
+            own = rng.generator
+            with self.assertRaisesRegex(ValueError, "^gauss_next$"):
+                rng.generator = kind(8).generator
+            self.assertIs(rng.generator, own)
+
     def test_without_a_generator(self):
         for kind in RANDOMS:
             class Own(kind):
@@ -495,7 +574,7 @@ class Generators(unittest.TestCase):
             self.assertNotIn("_generator", vars(one))
         rng = WyRandRandom(7)
         rng._generator = 5
-        self.assertEqual(rng.random(), WyRand(7).random())
+        self.assertEqual(rng.random(), WyRandRandom(7).random())
 
     def test_objects_in_circles_are_freed(self):
         class Own(WyRand):
@@ -519,7 +598,26 @@ class Subclasses(unittest.TestCase):
                 super().__init__(7)
 
         for made in (Own(), Own(newarg=1), Own(1, 2, 3, newarg=4)):
-            self.assertEqual(made.random(), WyRand(7).random())
+            self.assertEqual(made.random(), WyRandRandom(7).random())
+
+    def test_copies_keep_attributes(self):
+        for own in ATTRIBUTED.values():
+            rng = own("run 7")
+            rng.gauss(0, 1)
+            rng.steps.append(3)
+            rng.owner = [rng]
+            for way in COPIES:
+                made = way(rng)
+                self.assertIs(type(made), own)
+                self.assertEqual((made.name, made.steps, made.slot, made.getstate()),
+                                 ("run 7", [3], "slot", rng.getstate()))
+                self.assertFalse(hasattr(made, "empty"))
+                self.assertIsNot(made.generator, rng.generator)
+                deep = way is not copy.copy
+                self.assertIs(made.owner[0], made if deep else rng)
+                self.assertEqual(made.steps is rng.steps, not deep)
+                twin = copy.copy(rng)
+                self.assertEqual((made.gauss(0, 1), made.random()), (twin.gauss(0, 1), twin.random()))
 
     def test_copies_of_one_made_of_nothing(self):
         """They keep what its own `getstate` returns, like copies of a subclass of `random.Random`."""

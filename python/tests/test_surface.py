@@ -21,23 +21,27 @@ HUGE = 10**5000  # more digits than Python converts to text
 SPECIAL = {
     "Generator": {"__new__", "__hash__", "__copy__", "__deepcopy__", "__reduce__", *COMPARISONS},
     **{kind.__name__: {"__new__", "__init__", "__repr__"} for kind in CLASSES.values()},
-    "GeneratorRandom": {"__init__", "__init_subclass__"},
+    "GeneratorRandom": {"__init__", "__init_subclass__", "__reduce__", "__setstate__"},
     "BaseRandom": {"__new__"},
 }
 # Attributes that Python itself adds to each class.
 OF_EVERY_CLASS = {
     *("__module__", "__doc__", "__dict__", "__weakref__", "__annotations__", "__qualname__"),
-    *("__static_attributes__", "__firstlineno__", "__annotate_func__", "__annotations_cache__"),
+    *("__static_attributes__", "__firstlineno__", "__annotate_func__", "__annotations_cache__", "__slotnames__"),
 }
 # The calls of generators that raise errors of this package, by name. The error after 128 words is in refusals.py.
 RAISING = {
-    "state": [("WrongLength", lambda rng: setattr(rng, "state", b"short"))],
-    "from_state": [("WrongLength", lambda rng: rng.from_state(b"short"))],
+    "state": [("WrongLength", lambda rng: setattr(rng, "state", b"short")),
+              ("ForeignState", lambda rng: setattr(rng, "state", {}))],
+    "from_state": [("WrongLength", lambda rng: rng.from_state(b"short")),
+                   ("ForeignState", lambda rng: rng.from_state({}))],
     "seed_from_u64": [("OutOfBounds", lambda rng: rng.seed_from_u64(-1)),
                       ("OutOfBounds", lambda rng: rng.seed_from_u64(2**64))],
     "part": [("OutOfBounds", lambda rng: rng.part(-1, 1)), ("OutOfBounds", lambda rng: rng.part(1, 2**64)),
+             ("OutOfBounds", lambda rng: rng.part(0, 0)),
              ("PastPeriod", lambda rng: rng.part(2**64 - 1, 2**64 - 1))],
     "jump": [("OutOfBounds", lambda rng: rng.jump(-1))],
+    "seek": [("OutOfBounds", lambda rng: rng.seek(-1)), ("OutOfBounds", lambda rng: rng.seek(2**70))],
     "bytes": [("OutOfBounds", lambda rng: rng.bytes(-1))],
     "below": [("EmptyRange", lambda rng: rng.below(0)), ("OutOfBounds", lambda rng: rng.below(HUGE))],
     "range": [("EmptyRange", lambda rng: rng.range(2, 1)), ("EmptyRange", lambda rng: rng.range(-1, -2)),
@@ -52,13 +56,16 @@ RAISING = {
                 ("OutOfBounds", lambda rng: rng.choices("ab", [1.0, -1.0])),
                 ("OutOfBounds", lambda rng: rng.choices("ab", cum_weights=[2, 1])),
                 ("WrongLength", lambda rng: rng.choices("ab", cum_weights=[1]))],
-    "sample": [("EmptyRange", lambda rng: rng.sample("ab", 3)), ("OutOfBounds", lambda rng: rng.sample("ab", -1))],
+    "sample": [("EmptyRange", lambda rng: rng.sample("ab", 3)), ("OutOfBounds", lambda rng: rng.sample("ab", -1)),
+               ("WrongLength", lambda rng: rng.sample("ab", 1, counts=[1])),
+               ("OutOfBounds", lambda rng: rng.sample("ab", 1, counts=[-1, 1]))],
     "sample_below": [("EmptyRange", lambda rng: rng.sample_below(2, 3)),
                      ("OutOfBounds", lambda rng: rng.sample_below(-1, 0))],
     "fill_range": [("EmptyRange", lambda rng: rng.fill_range(bytearray(2), 2, 1)),
                    ("OutOfBounds", lambda rng: rng.fill_range(bytearray(2), 0, 256))],
 }
-NEVER_RAISING = {"u64", "random", "uniform", "copy", "from_entropy", "fill", "fill_random", "shuffle", "shuffle_full"}
+NEVER_RAISING = {"u64", "random", "uniform", "copy", "from_entropy", "fill", "fill_random", "shuffle", "shuffle_full",
+                 "state_dict"}
 # The arguments of errors. All other errors are made from their text.
 ARGUMENTS = {
     "EmptySeed": lambda error: (),
@@ -73,6 +80,12 @@ def parameters(call):
     return [name for name in inspect.signature(call).parameters if name != "self"]
 
 
+def required(call):
+    """The parameters without a default, and the length of a sample, which may be given by another name."""
+    found = inspect.signature(call).parameters.values()
+    return [one.name for one in found if one.default is one.empty or one.name == "k" and "sample" in call.__name__]
+
+
 def has_signature(call):
     """Whether Python knows the signature. Python 3.9 does not keep that of a class written in C."""
     return sys.version_info >= (3, 10) or not inspect.isclass(call)
@@ -81,7 +94,7 @@ def has_signature(call):
 class Arguments(unittest.TestCase):
     def test_the_readme_names_them_as_the_calls_do(self):
         """So a caller can pass each argument by name."""
-        kind = {"block": ChaCha20, "jump": Pcg64}
+        kind = {"block": ChaCha20, "jump": Pcg64, "seek": Stream}
         rows = re.findall(r"^\| ((?:`\w+\([^`]*\)`(?:, )?)+) \|", README.read_text(encoding="utf-8"), re.M)
         found = {call: names for row in rows for call, names in re.findall(r"`(\w+)\(([^)]*)\)`", row)}
         self.assertGreaterEqual(len(found), 14)
@@ -96,12 +109,13 @@ class Arguments(unittest.TestCase):
 
     def test_an_error_names_the_argument(self):
         good = {"first": 0, "last": 9, "count": 9, "length": 1, "population": "abc", "end": 5, "index": 1, "draws": 1,
-                "number": 7}
+                "number": 7, "position": 9, "k": 1}
         for rng in generators():
-            calls = "seed_from_u64", "bytes", "below", "range", "range32", "sample", "sample_below", "jump", "part"
+            calls = ("seed_from_u64", "bytes", "below", "range", "range32", "sample", "sample_below", "jump", "part",
+                     "seek")
             for call in calls:
-                for name in parameters(getattr(rng, call, lambda: None)):
-                    given = {other: good[other] for other in parameters(getattr(rng, call))}
+                for name in required(getattr(rng, call, lambda: None)):
+                    given = {other: good[other] for other in required(getattr(rng, call))}
                     for bad, kind in ((None, TypeError), (HUGE, OutOfBounds), (-HUGE, OutOfBounds)):
                         if name == "population" and bad is not None:
                             continue
@@ -111,15 +125,18 @@ class Arguments(unittest.TestCase):
     def test_arguments_that_do_not_fit(self):
         """For each call: too few and too many arguments, one twice, and one with another name."""
         good = {"first": 0, "last": 9, "count": 9, "length": 1, "population": "abc", "end": 5, "draws": 1, "a": 1,
-                "b": 2, "index": 1, "items": [1, 2], "buffer": b"", "state": b"", "number": 7}
+                "b": 2, "index": 1, "items": [1, 2], "buffer": b"", "state": b"", "number": 7, "position": 9,
+                "other": None, "k": 1}
         members = [name for name in dir(kinds.Generator) if not name.startswith("_")]
         calls = [name for name in members if callable(getattr(kinds.Generator, name))]
         self.assertGreater(len(calls), 18)
         for rng in generators():
-            for name in [*calls, *(name for name in ("jump", "block") if hasattr(rng, name))]:
+            own_calls = ("jump", "block", "distance", "seek")
+            for name in [*calls, *(name for name in own_calls if hasattr(rng, name))]:
                 call = getattr(rng, name)
-                names = [one.name for one in inspect.signature(call).parameters.values() if one.default is one.empty]
-                own = {"state": rng.state, "buffer": array.array("d" if name == "fill_random" else "Q", [0])}
+                names = required(call)
+                own = {"state": rng.state, "buffer": array.array("d" if name == "fill_random" else "Q", [0]),
+                       "other": rng.copy()}
                 values = [{**good, **own}[one] for one in names]
                 for arguments, named in (
                     ((*values, *range(5)), {}),
@@ -136,7 +153,8 @@ class Arguments(unittest.TestCase):
         """For each call and constructor: by position and by name, including optional arguments."""
         good = {"first": 0, "last": 9, "count": 9, "length": 1, "population": "abc", "end": 5, "draws": 1, "a": 1,
                 "b": 2, "index": 1, "items": [1, 2], "buffer": b"", "state": b"", "number": 7, "weights": None,
-                "k": 1, "cum_weights": None, "key": KEY, "nonce": NONCE, "counter": 0, "rest": b"", "seed": 5}
+                "k": 1, "cum_weights": None, "key": KEY, "nonce": NONCE, "counter": 0, "rest": b"", "seed": 5,
+                "other": None, "position": 9}
         for rng in generators():
             calls = [getattr(rng, name) for name in dir(rng) if not name.startswith("_")]
             for call in (*(call for call in calls if callable(call) and has_signature(call)), type(rng)):
@@ -148,18 +166,19 @@ class Arguments(unittest.TestCase):
                     values = [good[one] for one in places[:place + 1]]
                     with self.assertRaisesRegex(TypeError, "multiple values|keyword arg|takes at most|given by name"):
                         call(*values, **{name: good[name]})
+                if "length" in parameters(call) and "k" in parameters(call):
+                    self.assertRaisesRegex(TypeError, "takes k or length", call, *values, length=1)
 
     def test_each_whole_number_by_its_index(self):
         """For each argument of each call: an object counts as the number of its `__index__`, whatever else it is."""
         good = {"first": 0, "last": 9, "count": 9, "length": 3, "population": "abc", "end": 5, "draws": 1, "a": 1,
                 "b": 2,
-                "index": 1, "number": 7, "k": 2, "buffer": None}
+                "index": 1, "number": 7, "k": 2, "buffer": None, "position": 9}
         tried = set()
         for rng in generators():
             calls = [name for name in dir(rng) if not name.startswith("_") and name != "uniform"]
             for call in (name for name in calls if callable(getattr(rng, name)) and has_signature(getattr(rng, name))):
-                names = [one.name for one in inspect.signature(getattr(rng, call)).parameters.values()
-                         if one.default is one.empty or one.name == "k"]
+                names = required(getattr(rng, call)) + ["k"] * (call == "choices")
                 for name in (one for one in names if good.keys() >= set(names) and type(good[one]) is int):
                     tried.add((call, name))
                     found, wanted = [], []
@@ -337,7 +356,7 @@ class Errors(unittest.TestCase):
         rows = [("below", 0), ("below", HUGE), ("range", 2, 1), ("range", 0, HUGE), ("range32", 2, 1), ("bytes", -1),
                 ("choices", "ab", [1, -1]), ("sample", "ab", 3), ("sample", "ab", -1),
                 ("sample_below", 2, 3), ("sample_below", -1, 0), ("fill_range", bytearray(2), 0, 256),
-                ("part", -1, 1), ("part", 2**64 - 1, 2**64 - 1), ("jump", -1)]
+                ("part", -1, 1), ("part", 1, 0), ("part", 2**64 - 1, 2**64 - 1), ("jump", -1), ("seek", -1)]
         calls += [(getattr(rng, name), *given) for rng in generators() for name, *given in rows if hasattr(rng, name)]
         calls += [(lambda k, rng=rng: rng.choices("ab", k=k), -1) for rng in generators()]
         for rng in (kind(1) for kind in RANDOMS):
@@ -374,7 +393,7 @@ class Imports(unittest.TestCase):
         code = f"import sys; sys.path[:] = {sys.path}\n" \
                "import nanorand\n" \
                "assert nanorand.WyRand(42).range(1, 100) == 69\n" \
-               "assert nanorand.randoms.WyRandRandom(42).generator == nanorand.WyRand(42)\n" \
+               "assert nanorand.randoms.WyRandRandom('seed 42').randint(1, 6) == 2\n" \
                "try:\n    nanorand.WyRand(-1)\nexcept nanorand.OutOfBounds:\n    pass\n"
         for _ in range(3):
             other = _xxsubinterpreters.create()

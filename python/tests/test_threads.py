@@ -81,6 +81,9 @@ LONG_CALLS = {
     "fill_random, floats": lambda rng: rng.fill_random(FLOATS),
     "sample_below": lambda rng: rng.sample_below(10**9, 300_000),
     "sample": lambda rng: rng.sample(range(10**9), 300_000),
+    "shuffle": lambda rng: rng.shuffle(list(range(300_000))),
+    "shuffle_full": lambda rng: rng.shuffle_full(list(range(300_000))),
+    "shuffle, any": lambda rng: rng.shuffle(bytearray(300_000)),
 }
 
 
@@ -193,6 +196,45 @@ class Turns(Threads):
                     self.assertRaises((KeyError, OverflowError), call, shared)
                     other.thread.join()
                     self.assertEqual(shared.state, after.state)
+
+    def test_a_call_that_fails_while_another_thread_draws(self):
+        """It restores the state when the other thread's turn has ended."""
+        class Draws(Failing):
+            def __getitem__(self, place):
+                self.other = Meanwhile(lambda: shared.shuffle(numbers))
+                time.sleep(0.03)
+                raise KeyError(place)
+
+        for shared in (*[ChaCha20(bytes(32))] * 3, WyRand(5)):
+            before, items, numbers = shared.state, Draws(9), list(range(500_000))
+            self.assertRaises(KeyError, shared.choice, items)
+            items.other.thread.join()
+            self.assertIn(shared.state, (before, self.after_a_shuffle(shared, before)))
+
+    def after_a_shuffle(self, shared, state):
+        """If the shuffle began after that."""
+        same = type(shared).from_state(state)
+        same.shuffle(list(range(500_000)))
+        return same.state
+
+    def test_calls_that_wait_for_long_calls(self):
+        """Each waits until the other has ended, even if that takes long."""
+        longs = {
+            "shuffle": lambda rng: shuffled(rng.shuffle, list(range(500_000))),
+            "sample_below": lambda rng: rng.sample_below(2**60, 500_000),
+            "choices": lambda rng: rng.choices("abc", k=500_000),
+        }
+        for name, call in longs.items():
+            shared, found = ChaCha20(bytes(32)), []
+            other = Meanwhile(lambda: found.append(call(shared)))
+            time.sleep(0.005)
+            word = shared.u64()
+            other.thread.join()
+            same, later = ChaCha20(bytes(32)), ChaCha20(bytes(32))
+            first = call(same), same.u64()
+            second = later.u64(), call(later)
+            self.assertTrue((found[0], word) == first or (word, found[0]) == second, name)
+            self.assertEqual(shared, same if (found[0], word) == first else later)
 
     def test_the_calls_of_random(self):
         for kind in RANDOMS:
@@ -326,6 +368,29 @@ class Turns(Threads):
         stop.set()
         thread.join()
         self.assertEqual(sorted(items), list(range(1000)))
+
+    def test_a_long_list_of_another_thread_s(self):
+        """A shuffle that finds another length has no effect. All others are atomic."""
+        rng, items, stop = WyRand(5), list(range(200_000)), threading.Event()
+
+        def swap():
+            while not stop.is_set():
+                items.append(items.pop())
+
+        thread = threading.Thread(target=swap)
+        thread.start()
+        done = 0
+        for _ in range(60):
+            before = rng.state
+            try:
+                rng.shuffle(items)
+                done += 1
+            except ValueError:
+                self.assertEqual(rng.state, before)
+        stop.set()
+        thread.join()
+        self.assertGreater(done, 0)
+        self.assertTrue(sorted(items) == list(range(200_000)))
 
 
 def clear_the_list():

@@ -24,7 +24,15 @@ def makes() -> None:
     assert_type(Stream.seed_from_u64(number=True), Stream)
     WyRand.seed_from_u64(4.2)  # type: ignore[arg-type]
     assert_type(Pcg64(1).copy(), Pcg64)
-    assert_type(Pcg64(1).part(3, draws=2**40), Pcg64)
+    assert_type(Pcg64(1).part(3, draws=2**40 + 1), Pcg64)
+    assert_type(WyRand(1).distance(WyRand(2)), int)
+    assert_type(Pcg64(1).distance(other=Pcg64(2)), "int | None")
+    WyRand(1).distance(Pcg64(2))  # type: ignore[arg-type]
+    Stream(bytes(32)).seek(5)
+    assert_type(Stream(bytes(32)).position, int)
+    ChaCha20(bytes(32)).seek(5)  # type: ignore[attr-defined]
+    assert_type(WyRand.from_state(WyRand(1).state_dict), WyRand)
+    WyRand.from_state("state")  # type: ignore[arg-type]
     Stream(bytes(32)).part(1)  # type: ignore[call-arg]
     WyRand(1).part(0.5, 1)  # type: ignore[arg-type]
     WyRand()  # type: ignore[call-arg]
@@ -45,6 +53,8 @@ def draws(rng: Generator) -> None:
     assert_type(rng.uniform(1, 2.5), float)
     assert_type(rng.state, bytes)
     rng.state = rng.state
+    assert_type(rng.state_dict, dict[str, str])
+    rng.state_dict = {}  # type: ignore[misc]
     rng.below(5.0)  # type: ignore[arg-type]
     rng.range(1)  # type: ignore[call-arg]
     rng.uniform("a", 1)  # type: ignore[arg-type]
@@ -60,7 +70,11 @@ def items(rng: WyRand) -> None:
     assert_type(rng.choices(range(2), cum_weights=[Fraction(1), 2]), list[int])
     assert_type(rng.sample(b"abc", 2), list[int])
     assert_type(rng.sample(population=["a"], length=1), list[str])
+    assert_type(rng.sample(["a", "b"], k=3, counts=[2, 5]), list[str])
     assert_type(rng.sample_below(10, 3), list[int])
+    assert_type(rng.sample_below(count=10, length=3), list[int])
+    rng.sample("abc", 2, length=2)  # type: ignore[call-overload]
+    rng.sample("abc", 2, counts=[1.5])  # type: ignore[list-item]
     rng.shuffle([1, 2])
     rng.shuffle(bytearray(5))
     rng.shuffle_full(array.array("q", [1, 2]))
@@ -99,7 +113,7 @@ def randoms(rng: GeneratorRandom) -> None:
     assert_type(rng.generator, Generator)
     for made in (WyRandRandom(5), WyRandRandom(1.5), WyRandRandom("text"), WyRandRandom(b"bytes"), WyRandRandom(None)):
         made.seed(True, version=1)
-    StreamRandom(seed=5).setstate(StreamRandom().getstate())
+    StreamRandom(seed=5).setstate(StreamRandom(x=5).getstate())
     Pcg64Random([])  # type: ignore[arg-type]
 
 

@@ -42,7 +42,7 @@ class Wheel(unittest.TestCase):
     def test_files(self):
         """It has the package's files and its own, uncompressed, and without times."""
         modules = {f"nanorand/{path.name}" for path in (ROOT / "python/nanorand").iterdir() if path.is_file()}
-        own = {f"{self.folder}/{name}" for name in ("METADATA", "WHEEL", "LICENSE", "RECORD")}
+        own = {f"{self.folder}/{name}" for name in ("METADATA", "WHEEL", "licenses/LICENSE", "RECORD")}
         self.assertEqual(set(self.files), modules | own | {NATIVE})
         self.assertLessEqual({"nanorand/py.typed", "nanorand/_native.pyi"}, modules)
         kinds = {(entry.date_time, entry.compress_type) for entry in self.entries}
@@ -64,8 +64,8 @@ class Wheel(unittest.TestCase):
         number = int(re.search(r"^#define NANORAND_VERSION (\d+)$", header, re.M)[1])
         self.assertEqual(self.version, f"{number // 10000}.{number // 100 % 100}.{number % 100}")
         self.assertEqual(self.metadata["Requires-Python"], f">={re.search(r'Python (3[.][0-9]+)', readme)[1]}")
-        self.assertEqual(self.metadata["License"], "Zlib")
-        self.assertEqual(self.of_itself("LICENSE"), (ROOT / "LICENSE").read_bytes())
+        self.assertEqual((self.metadata["License-Expression"], self.metadata["License-File"]), ("Zlib", "LICENSE"))
+        self.assertEqual(self.of_itself("licenses/LICENSE"), (ROOT / "LICENSE").read_bytes())
         self.assertEqual(self.metadata.get_payload(), readme)
 
     def test_module_names_no_source(self):
