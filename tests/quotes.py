@@ -9,8 +9,8 @@ A quoted block follows a line that names its file, relative to the document's fo
     ```
 
 An item is the name of a function, type or constant, quoted with its comment and without attributes. `imports` stands
-for the lines that import. `the whole file` stands for a whole file of Rattle or Rust, or of definitions, in a block of
-`antt`.
+for the lines that import. `the whole file` stands for a whole file of Rattle or Rust, of definitions, in a block of
+`antt`, or of C or C++, in a block of `c` or `cpp`. In C++ an item is the name of a struct.
 
 In a table whose first column links a file of `specs/`, the second column names definitions. Each has to be declared in
 that file. In docs/PROMISES.md, each clause (`function: clause, clause`) and mutant has to exist, and each promise has
@@ -31,13 +31,15 @@ from rattle import bare, items_at  # noqa: E402
 
 DOCUMENTS = [
     "README.md",
+    "c/README.md",
     "crates/nanorand/CALLING.md",
     "crates/nanorand/CONTRACTS.md",
     "crates/nanorand/TASKS.md",
+    "docs/FAQ.md",
     "docs/LANGUAGES.md",
     "rust/nanorand-rand-core/README.md",
 ]
-MARK = re.compile(r"^<!-- (?P<path>\S+\.(rt|rs|antt)): (?P<items>.+) -->$")
+MARK = re.compile(r"^<!-- (?P<path>\S+\.(?P<kind>rt|rs|antt|cpp|c)): (?P<items>.+) -->$")
 WORDS = re.compile(r"^\| \[[^\]]*\]\((?P<path>\S+\.antt)\) \| (?P<words>[^|]*) \|")
 
 
@@ -56,10 +58,20 @@ def quoted(items, name):
     raise Missing(name)
 
 
+def struct_of(path, name):
+    """The struct of C++ with this name."""
+    found = re.search(rf"^struct {re.escape(name)} {{.*?^}};$", path.read_text(encoding="utf-8"), re.M | re.S)
+    if not found:
+        raise Missing(name)
+    return found[0]
+
+
 def quote(path, selected):
     """The text of a block: the selected items of a file, or the whole file."""
     if selected == "the whole file":
         return path.read_text(encoding="utf-8").rstrip("\n")
+    if path.suffix == ".cpp":
+        return "\n\n".join(struct_of(path, name) for name in selected.split(", "))
     items = items_at(path)
     return "\n\n".join(quoted(items, name) for name in selected.split(", "))
 
@@ -100,7 +112,7 @@ def check(document, write):
         marked = bool(mark)
         if not mark:
             continue
-        fence = "```antt" if mark["path"].endswith(".antt") else "```rust"
+        fence = f"```{mark['kind']}" if mark["kind"] in ("antt", "c", "cpp") else "```rust"
         if i >= len(lines) or lines[i] != fence:
             wrong.append(f"{place}: no block {fence} follows")
             continue
