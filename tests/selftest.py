@@ -549,6 +549,18 @@ def missing(counts, room):
         counts.same(f"tests/{name}.sh kit without its build", refused, True)
 
 
+def browsers(counts, room):
+    """web/tests/run.py tries three times to start a browser. One that does not start is a failure."""
+    built = room / "web/dist"
+    for name in ("nanorand.html", "nanorand_c.wasm", "nanorand_c32.wasm"):
+        (built / name).write_bytes(b"")
+    program(room / "chromedriver", "echo begun >>begun\n")
+    done = ran(["web/tests/run.py", "lots", "chromium"], room, PATH=f"{room}:{os.environ['PATH']}")
+    begun = (room / "begun").read_text(encoding="utf-8").split()
+    counts.same("a browser that does not start", (done.returncode, done.stdout.splitlines()[-1:], len(begun)),
+                (1, ["0 passed, 1 failed"], 3))
+
+
 def main():
     counts = Counts()
     with tempfile.TemporaryDirectory() as name:
@@ -558,7 +570,7 @@ def main():
             part(counts, room / part.__name__)
         copy_of_repository(room / "copy")
         ran(["git", "init", "-q"], room / "copy")
-        for part in (changes, writers, page, missing):
+        for part in (changes, writers, page, browsers, missing):
             part(counts, room / "copy")
     print(f"{counts.passed} passed, {counts.failed} failed")
     return 1 if counts.failed else 0

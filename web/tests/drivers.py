@@ -16,7 +16,7 @@ import time
 import urllib.error
 import urllib.request
 from pathlib import Path
-from typing import Any, Dict, List, Optional
+from typing import Any, Dict, List, Optional, Type
 
 # The milliseconds that a script and loading a page may take. Checking a million entrants takes long.
 TIMEOUTS = {"script": 120_000, "pageLoad": 120_000}
@@ -132,6 +132,13 @@ class Chromium(Browser):
         self.process = subprocess.Popen(
             ["chromedriver", "--port=0"], stdout=subprocess.PIPE, stderr=subprocess.DEVNULL,
             stdin=subprocess.DEVNULL, text=True, start_new_session=True)
+        try:
+            self._begin(downloads)
+        except (DriverError, OSError):
+            stop(self.process)
+            raise
+
+    def _begin(self, downloads: Path) -> None:
         self.address = self._address()
         arguments = ["--headless=new", "--no-sandbox", "--disable-gpu", "--disable-dev-shm-usage"]
         options = {"args": arguments, "prefs": {"download.default_directory": str(downloads)}}
@@ -206,6 +213,13 @@ class Firefox(Browser):
              "-profile", str(self.profile)],
             stdout=subprocess.DEVNULL, stderr=subprocess.DEVNULL, stdin=subprocess.DEVNULL,
             env={**os.environ, "HOME": str(self.profile)}, start_new_session=True)
+        try:
+            self._begin()
+        except (DriverError, OSError):
+            self._end()
+            raise
+
+    def _begin(self) -> None:
         self.socket = self._connect()
         self.rest = b""
         self.number = 0
@@ -313,5 +327,18 @@ class Firefox(Browser):
         except (DriverError, OSError):
             pass
         self.socket.close()
+        self._end()
+
+    def _end(self) -> None:
         stop(self.process)
         shutil.rmtree(self.profile, ignore_errors=True)
+
+
+def start(kind: Type[Browser], downloads: Path, tries: int = 3) -> Browser:
+    """Starts a browser. If it does not start, as may happen on a busy machine, says why and tries again."""
+    for _ in range(tries - 1):
+        try:
+            return kind(downloads)
+        except (DriverError, OSError) as error:
+            print(f"{kind.name} did not start, {type(error).__name__}: {error}", flush=True)
+    return kind(downloads)

@@ -11,7 +11,7 @@ from urllib.request import url2pathname
 import checks
 import draws
 from counts import VERSION, Counts
-from drivers import Browser
+from drivers import Browser, start
 from looks import EMPTY
 from page import Page
 
@@ -88,7 +88,7 @@ def run(counts: Counts, kind: Type[Browser], address: str, folder: Path, program
         "memory64": lambda page: with_module32(counts, page, program, digests),
     }
     for lost, part in tries.items():
-        browser = kind(folder)
+        browser = start(kind, folder)
         try:
             if lost:
                 browser.lose(lost)

@@ -31,7 +31,7 @@ import refusals
 import said
 import steps
 from counts import Counts, sha256
-from drivers import Chromium, Firefox
+from drivers import Chromium, DriverError, Firefox, start
 from page import Page
 
 OUT = Path(__file__).resolve().parent.parent / "dist"
@@ -49,7 +49,12 @@ def in_browser(kind: type, program: str, pictures: Path, only: str) -> Counts:
         folder = Path(name)
         downloads = folder / "downloads"
         downloads.mkdir()
-        browser = kind(downloads)
+        try:
+            browser = start(kind, downloads)
+        except (DriverError, OSError) as error:
+            counts.place = kind.name
+            counts.case("starts", f"{type(error).__name__}: {error}")
+            return counts
         page = Page(browser, address, folder)
         parts = {
             "answers": lambda: answers.run(counts, page, modules),
