@@ -1,6 +1,7 @@
 //! ChaCha with 8 rounds, fewer than the standard's 20. Each request starts with a new block.
-ghost use Rattle.std.specs.Prelude.{◌≡◌, ◌≢◌, ◌<◌, ◌≤◌, ◌≤ℤ◌, ◌+◌, ◌%◌, ◌^◌, ◌*◌, ◌-◌};
+ghost use Rattle.std.specs.Prelude.{◌/◌, drop, ◌≡◌, ◌≢◌, ◌<◌, ◌≤◌, ◌≤ℤ◌, ◌+◌, ◌%◌, ◌^◌, ◌*◌, ◌-◌};
 ghost use Rattle.std.specs.Prelude.{All, IsPermutation, length, ℕ, take};
+ghost use Rattle.std.specs.Float.{◌≤ᶠ◌, ◌<ᶠ◌, float_one, float_zero};
 ghost use Rattle.std.specs.List.{AllPairs};
 ghost use Rattle.nanorand_core.specs.values.Draws.{after_words};
 ghost use Rattle.nanorand_core.specs.shuffles.Shuffles.{from_all, from_itself, shuffled};
@@ -10,6 +11,8 @@ ghost use Rattle.nanorand.specs.generators.ChaCha.{chacha_block, chacha_requests
 ghost use Rattle.nanorand.specs.generators.SplitMix.{seed_from};
 ghost use Rattle.nanorand_calls.specs.Between.{between, between_signed};
 ghost use Rattle.nanorand_calls.specs.ChaChaStates.{chacha_at};
+ghost use Rattle.nanorand_calls.specs.Fractions.{IsFractionOf};
+ghost use Rattle.nanorand_calls.specs.Items.{items_of};
 ghost use Rattle.nanorand_calls.specs.Parts.{parting};
 ghost use Rattle.nanorand_core.specs.samples.Samples.{DifferentBelow};
 ghost use Rattle.nanorand_calls.specs.Sampling.{extending, sampling};
@@ -17,6 +20,7 @@ ghost use Rattle.nanorand_calls.specs.Status.{drawn_or, status};
 ghost use Rattle.nanorand_calls.specs.Words.{IsAfterAtMost};
 
 use nanorand_calls::chacha::{self, ChaChaState};
+use nanorand_calls::status::Status;
 
 /// Makes the state from a number, which may be small: 0, 1, 2, .., a port, a year. Different
 /// numbers produce different states.
@@ -26,283 +30,363 @@ use nanorand_calls::chacha::{self, ChaChaState};
 /// Sebastiano Vigna). For ChaCha and its streams, the seed is the key followed by the nonce, the
 /// counter is 0, and a stream has nothing buffered.
 #[unsafe(no_mangle)]
-pub extern "C" fn nanorand_v1_chacha8_seed_from_u64(state: &mut ChaChaState, number: u64)
-    ensures { chacha_at state.new ≡ seeded_state (seed_from 40 number) }
+pub extern "C" fn nanorand_v1_chacha8_seed_from_u64(rng: &mut ChaChaState, number: u64)
+    ensures { chacha_at rng.new ≡ seeded_state (seed_from 40 number) }
 {
-    chacha::seed_from_u64::<8>(state, number);
+    chacha::seed_from_u64::<8>(rng, number);
 }
 
 /// Writes the block at the counter to `out`, and adds 1 to the counter, modulo 2^64.
 #[unsafe(no_mangle)]
-pub extern "C" fn nanorand_v1_chacha8_block(state: &mut ChaChaState, out: &mut [u8; 64])
-    ensures block { out.new ≡ chacha_block 8 (chacha_at state.old) }
-    ensures counter { state.new.counter ≡ (state.old.counter + 1) % 2 ^ 64 }
-    ensures key { state.new.key ≡ state.old.key }
-    ensures nonce { state.new.nonce ≡ state.old.nonce }
-    ensures state { chacha_at state.new ≡ next_state (chacha_at state.old) }
+pub extern "C" fn nanorand_v1_chacha8_block(rng: &mut ChaChaState, out: &mut [u8; 64])
+    ensures block { out.new ≡ chacha_block 8 (chacha_at rng.old) }
+    ensures counter { rng.new.counter ≡ (rng.old.counter + 1) % 2 ^ 64 }
+    ensures key { rng.new.key ≡ rng.old.key }
+    ensures nonce { rng.new.nonce ≡ rng.old.nonce }
+    ensures state { chacha_at rng.new ≡ next_state (chacha_at rng.old) }
 {
-    chacha::block::<8>(state, out);
+    chacha::block::<8>(rng, out);
 }
 
-/// Draws a 64-bit number: the next 8 bytes, in little-endian order.
+/// Draws a 64-bit number: the first 8 bytes of the block at the counter, in little-endian order. The
+/// rest of the block is dropped, and the counter advances by 1.
 #[unsafe(no_mangle)]
-pub extern "C" fn nanorand_v1_chacha8_u64(state: &mut ChaChaState) -> u64
-    ensures value { result ≡ number_of ((chacha_requests 8).bytes (chacha_at state.old) 8) }
-    ensures key { state.new.key ≡ state.old.key }
-    ensures nonce { state.new.nonce ≡ state.old.nonce }
-    ensures state { chacha_at state.new ≡ (chacha_requests 8).after (chacha_at state.old) 8 }
+pub extern "C" fn nanorand_v1_chacha8_u64(rng: &mut ChaChaState) -> u64
+    ensures value { result ≡ number_of ((chacha_requests 8).bytes (chacha_at rng.old) 8) }
+    ensures key { rng.new.key ≡ rng.old.key }
+    ensures nonce { rng.new.nonce ≡ rng.old.nonce }
+    ensures state { chacha_at rng.new ≡ (chacha_requests 8).after (chacha_at rng.old) 8 }
 {
-    chacha::number::<8>(state)
+    chacha::number::<8>(rng)
+}
+
+/// Draws a number from 0 to below 1, a multiple of 2^-53: the top 53 bits of a 64-bit word, divided
+/// by 2^53. Each of the 2^53 numbers is produced by the same number of words.
+#[unsafe(no_mangle)]
+pub extern "C" fn nanorand_v1_chacha8_f64(rng: &mut ChaChaState) -> f64
+    ensures value { let word = number_of ((chacha_requests 8).bytes (chacha_at rng.old) 8) in
+        IsFractionOf word result }
+    ensures within { (float_zero ≤ᶠ result) × (result <ᶠ float_one) }
+    ensures key { rng.new.key ≡ rng.old.key }
+    ensures nonce { rng.new.nonce ≡ rng.old.nonce }
+    ensures state { chacha_at rng.new ≡ (chacha_requests 8).after (chacha_at rng.old) 8 }
+{
+    chacha::float::<8>(rng)
 }
 
 /// Fills the slice with blocks, by one request. The first one is the block at the counter. The
 /// counter advances by the number of blocks; a last block of which only a part is used counts as a
 /// whole one, and the rest of it is dropped. A length of 0 draws nothing.
 #[unsafe(no_mangle)]
-pub extern "C" fn nanorand_v1_chacha8_fill_bytes(state: &mut ChaChaState, buffer: &mut [u8])
-    ensures bytes { let start = chacha_at state.old in
+pub extern "C" fn nanorand_v1_chacha8_fill_bytes(rng: &mut ChaChaState, buffer: &mut [u8])
+    ensures bytes { let start = chacha_at rng.old in
         buffer.new ≡ (chacha_requests 8).bytes start (length buffer.old) }
     ensures counter { let blocks = div_ceil (length buffer.old) 64 in
-        state.new.counter ≡ (state.old.counter + blocks) % 2 ^ 64 }
-    ensures key { state.new.key ≡ state.old.key }
-    ensures nonce { state.new.nonce ≡ state.old.nonce }
-    ensures state { let left = (chacha_requests 8).after (chacha_at state.old) in
-        chacha_at state.new ≡ left (length buffer.old) }
+        rng.new.counter ≡ (rng.old.counter + blocks) % 2 ^ 64 }
+    ensures key { rng.new.key ≡ rng.old.key }
+    ensures nonce { rng.new.nonce ≡ rng.old.nonce }
+    ensures state { let left = (chacha_requests 8).after (chacha_at rng.old) in
+        chacha_at rng.new ≡ left (length buffer.old) }
 {
-    chacha::fill_bytes::<8>(state, buffer);
+    chacha::fill_bytes::<8>(rng, buffer);
 }
 
 /// Draws a number from `first..=last`, by rejection sampling of 32-bit words, and writes it to
-/// `number`. Returns 0, or 1 if the range is empty, or 2 if 128 words in a row were rejected. After
-/// 1 and 2, `number` is unchanged. After 1, nothing was drawn; after 2, the words stay consumed.
+/// `number`. Returns NANORAND_OK; or NANORAND_EMPTY if the range is empty, and then draws nothing;
+/// or NANORAND_EXHAUSTED if 128 words in a row were rejected, which stay consumed. After the last
+/// two, `number` is unchanged.
 #[unsafe(no_mangle)]
 pub extern "C" fn nanorand_v1_chacha8_range_u32(
-    state: &mut ChaChaState,
+    rng: &mut ChaChaState,
     first: u32,
     last: u32,
     number: &mut u32,
-) -> u8
-    ensures status { let draw = between (chacha_requests 8) 32 first last (chacha_at state.old) in
+) -> Status
+    ensures status { let draw = between (chacha_requests 8) 32 first last (chacha_at rng.old) in
         result ≡ status draw.0 }
-    ensures number { let draw = between (chacha_requests 8) 32 first last (chacha_at state.old) in
+    ensures number { let draw = between (chacha_requests 8) 32 first last (chacha_at rng.old) in
         number.new ≡ drawn_or number.old draw.0 }
     ensures within { result ≡ 0 → (first ≤ number.new) × (number.new ≤ last) }
-    ensures state { let draw = between (chacha_requests 8) 32 first last (chacha_at state.old) in
-        chacha_at state.new ≡ draw.1 }
-    ensures words { let start = chacha_at state.old in
+    ensures state { let draw = between (chacha_requests 8) 32 first last (chacha_at rng.old) in
+        chacha_at rng.new ≡ draw.1 }
+    ensures words { let start = chacha_at rng.old in
         let after = λ (n : ℕ). after_words (chacha_requests 8) 32 n start in
-        IsAfterAtMost 128 after (chacha_at state.new) }
+        IsAfterAtMost 128 after (chacha_at rng.new) }
 {
-    chacha::range_u32::<8>(state, first, last, number)
+    chacha::range_u32::<8>(rng, first, last, number)
 }
 
-/// Draws a number from `first..=last`, by rejection sampling of 64-bit words, and otherwise as
-/// `range_u32` does.
+/// Draws a number from `first..=last`, by rejection sampling of 64-bit words, and writes it to
+/// `number`. Returns NANORAND_OK; or NANORAND_EMPTY if the range is empty, and then draws nothing;
+/// or NANORAND_EXHAUSTED if 128 words in a row were rejected, which stay consumed. After the last
+/// two, `number` is unchanged.
 #[unsafe(no_mangle)]
 pub extern "C" fn nanorand_v1_chacha8_range_u64(
-    state: &mut ChaChaState,
+    rng: &mut ChaChaState,
     first: u64,
     last: u64,
     number: &mut u64,
-) -> u8
-    ensures status { let draw = between (chacha_requests 8) 64 first last (chacha_at state.old) in
+) -> Status
+    ensures status { let draw = between (chacha_requests 8) 64 first last (chacha_at rng.old) in
         result ≡ status draw.0 }
-    ensures number { let draw = between (chacha_requests 8) 64 first last (chacha_at state.old) in
+    ensures number { let draw = between (chacha_requests 8) 64 first last (chacha_at rng.old) in
         number.new ≡ drawn_or number.old draw.0 }
     ensures within { result ≡ 0 → (first ≤ number.new) × (number.new ≤ last) }
-    ensures state { let draw = between (chacha_requests 8) 64 first last (chacha_at state.old) in
-        chacha_at state.new ≡ draw.1 }
-    ensures words { let start = chacha_at state.old in
+    ensures state { let draw = between (chacha_requests 8) 64 first last (chacha_at rng.old) in
+        chacha_at rng.new ≡ draw.1 }
+    ensures words { let start = chacha_at rng.old in
         let after = λ (n : ℕ). after_words (chacha_requests 8) 64 n start in
-        IsAfterAtMost 128 after (chacha_at state.new) }
+        IsAfterAtMost 128 after (chacha_at rng.new) }
 {
-    chacha::range_u64::<8>(state, first, last, number)
+    chacha::range_u64::<8>(rng, first, last, number)
 }
 
-/// Draws a signed number from `first..=last`, by rejection sampling of 64-bit words, and otherwise
-/// as `range_u32` does.
+/// Draws a signed number from `first..=last`, by rejection sampling of 64-bit words, and writes it
+/// to `number`. Returns NANORAND_OK; or NANORAND_EMPTY if the range is empty, and then draws
+/// nothing; or NANORAND_EXHAUSTED if 128 words in a row were rejected, which stay consumed. After
+/// the last two, `number` is unchanged.
 #[unsafe(no_mangle)]
 pub extern "C" fn nanorand_v1_chacha8_range_i64(
-    state: &mut ChaChaState,
+    rng: &mut ChaChaState,
     first: i64,
     last: i64,
     number: &mut i64,
-) -> u8
-    ensures status { let start = chacha_at state.old in
+) -> Status
+    ensures status { let start = chacha_at rng.old in
         let draw = between_signed (chacha_requests 8) 64 first last start in
         result ≡ status draw.0 }
-    ensures number { let start = chacha_at state.old in
+    ensures number { let start = chacha_at rng.old in
         let draw = between_signed (chacha_requests 8) 64 first last start in
         number.new ≡ drawn_or number.old draw.0 }
     ensures within { result ≡ 0 → (first ≤ℤ number.new) × (number.new ≤ℤ last) }
-    ensures state { let start = chacha_at state.old in
+    ensures state { let start = chacha_at rng.old in
         let draw = between_signed (chacha_requests 8) 64 first last start in
-        chacha_at state.new ≡ draw.1 }
-    ensures words { let start = chacha_at state.old in
+        chacha_at rng.new ≡ draw.1 }
+    ensures words { let start = chacha_at rng.old in
         let after = λ (n : ℕ). after_words (chacha_requests 8) 64 n start in
-        IsAfterAtMost 128 after (chacha_at state.new) }
+        IsAfterAtMost 128 after (chacha_at rng.new) }
 {
-    chacha::range_i64::<8>(state, first, last, number)
+    chacha::range_i64::<8>(rng, first, last, number)
 }
 
 /// Draws an index or a length from `first..=last`, by rejection sampling of 64-bit words, and
-/// otherwise as `range_u32` does.
+/// writes it to `number`. Returns NANORAND_OK; or NANORAND_EMPTY if the range is empty, and then
+/// draws nothing; or NANORAND_EXHAUSTED if 128 words in a row were rejected, which stay consumed.
+/// After the last two, `number` is unchanged.
 #[unsafe(no_mangle)]
 pub extern "C" fn nanorand_v1_chacha8_range_usize(
-    state: &mut ChaChaState,
+    rng: &mut ChaChaState,
     first: usize,
     last: usize,
     number: &mut usize,
-) -> u8
-    ensures status { let draw = between (chacha_requests 8) 64 first last (chacha_at state.old) in
+) -> Status
+    ensures status { let draw = between (chacha_requests 8) 64 first last (chacha_at rng.old) in
         result ≡ status draw.0 }
-    ensures number { let draw = between (chacha_requests 8) 64 first last (chacha_at state.old) in
+    ensures number { let draw = between (chacha_requests 8) 64 first last (chacha_at rng.old) in
         number.new ≡ drawn_or number.old draw.0 }
     ensures within { result ≡ 0 → (first ≤ number.new) × (number.new ≤ last) }
-    ensures state { let draw = between (chacha_requests 8) 64 first last (chacha_at state.old) in
-        chacha_at state.new ≡ draw.1 }
-    ensures words { let start = chacha_at state.old in
+    ensures state { let draw = between (chacha_requests 8) 64 first last (chacha_at rng.old) in
+        chacha_at rng.new ≡ draw.1 }
+    ensures words { let start = chacha_at rng.old in
         let after = λ (n : ℕ). after_words (chacha_requests 8) 64 n start in
-        IsAfterAtMost 128 after (chacha_at state.new) }
+        IsAfterAtMost 128 after (chacha_at rng.new) }
 {
-    chacha::range_usize::<8>(state, first, last, number)
+    chacha::range_usize::<8>(rng, first, last, number)
+}
+
+/// Draws a number below `n`, by rejection sampling of 64-bit words, and returns it. It is the
+/// number that `range_u64` draws from 0 to `n - 1`. If `n` is 0, it returns 0 and draws nothing. If
+/// 128 words in a row were rejected, which happens with probability below 2^-128, it returns `n`,
+/// and the words stay consumed.
+#[unsafe(no_mangle)]
+pub extern "C" fn nanorand_v1_chacha8_below(rng: &mut ChaChaState, n: u64) -> u64
+    ensures zero { n ≡ 0 → (result ≡ 0) × (chacha_at rng.new ≡ chacha_at rng.old) }
+    ensures number { let draw = between (chacha_requests 8) 64 0 (n - 1) (chacha_at rng.old) in
+        n ≢ 0 → result ≡ drawn_or n draw.0 }
+    ensures within { result ≤ n }
+    ensures state { let draw = between (chacha_requests 8) 64 0 (n - 1) (chacha_at rng.old) in
+        n ≢ 0 → chacha_at rng.new ≡ draw.1 }
+    ensures words { let start = chacha_at rng.old in
+        let after = λ (k : ℕ). after_words (chacha_requests 8) 64 k start in
+        IsAfterAtMost 128 after (chacha_at rng.new) }
+{
+    chacha::below::<8>(rng, n)
 }
 
 /// Shuffles the items, by Fisher-Yates: swaps each item, from the first on, with one drawn from it
-/// and the items after it. Returns 0, or 2 if 128 words in a row were rejected for one index; the
-/// swaps before that stay, and the words stay consumed. A length of 0 draws nothing.
+/// and the items after it. A length of 0 draws nothing. Returns NANORAND_OK, or NANORAND_EXHAUSTED
+/// if 128 words in a row were rejected for one index; the swaps before that stay, and the words
+/// stay consumed.
 #[unsafe(no_mangle)]
-pub extern "C" fn nanorand_v1_chacha8_shuffle(state: &mut ChaChaState, items: &mut [usize]) -> u8
-    ensures status { let start = chacha_at state.old in
+pub extern "C" fn nanorand_v1_chacha8_shuffle(rng: &mut ChaChaState, items: &mut [usize]) -> Status
+    ensures status { let start = chacha_at rng.old in
         let shuffle = shuffled (chacha_requests 8) from_itself start items.old in
         result ≡ status shuffle.answer }
-    ensures items { let start = chacha_at state.old in
+    ensures items { let start = chacha_at rng.old in
         let shuffle = shuffled (chacha_requests 8) from_itself start items.old in
         items.new ≡ shuffle.items }
-    ensures state { let start = chacha_at state.old in
+    ensures state { let start = chacha_at rng.old in
         let shuffle = shuffled (chacha_requests 8) from_itself start items.old in
-        chacha_at state.new ≡ shuffle.state }
-    ensures words { let start = chacha_at state.old in
+        chacha_at rng.new ≡ shuffle.state }
+    ensures words { let start = chacha_at rng.old in
         let after = λ (n : ℕ). after_words (chacha_requests 8) 64 n start in
-        IsAfterAtMost (128 * length items.old) after (chacha_at state.new) }
+        IsAfterAtMost (128 * length items.old) after (chacha_at rng.new) }
     ensures arrangement { IsPermutation items.old items.new }
 {
-    chacha::shuffle::<8>(state, items)
+    chacha::shuffle::<8>(rng, items)
 }
 
 /// Shuffles the items as the Rust crate nanorand 0.7.0 does: swaps each item, from the first on,
 /// with one drawn from all items. This is biased: for three or more items, not all orders are
-/// equally frequent. Statuses are those of `shuffle`.
+/// equally frequent. Returns NANORAND_OK, or NANORAND_EXHAUSTED if 128 words in a row were rejected
+/// for one index; the swaps before that stay, and the words stay consumed.
 #[unsafe(no_mangle)]
 pub extern "C" fn nanorand_v1_chacha8_shuffle_full(
-    state: &mut ChaChaState,
+    rng: &mut ChaChaState,
     items: &mut [usize],
-) -> u8
-    ensures status { let start = chacha_at state.old in
+) -> Status
+    ensures status { let start = chacha_at rng.old in
         let shuffle = shuffled (chacha_requests 8) from_all start items.old in
         result ≡ status shuffle.answer }
-    ensures items { let start = chacha_at state.old in
+    ensures items { let start = chacha_at rng.old in
         let shuffle = shuffled (chacha_requests 8) from_all start items.old in
         items.new ≡ shuffle.items }
-    ensures state { let start = chacha_at state.old in
+    ensures state { let start = chacha_at rng.old in
         let shuffle = shuffled (chacha_requests 8) from_all start items.old in
-        chacha_at state.new ≡ shuffle.state }
-    ensures words { let start = chacha_at state.old in
+        chacha_at rng.new ≡ shuffle.state }
+    ensures words { let start = chacha_at rng.old in
         let after = λ (n : ℕ). after_words (chacha_requests 8) 64 n start in
-        IsAfterAtMost (128 * length items.old) after (chacha_at state.new) }
+        IsAfterAtMost (128 * length items.old) after (chacha_at rng.new) }
     ensures arrangement { IsPermutation items.old items.new }
 {
-    chacha::shuffle_full::<8>(state, items)
+    chacha::shuffle_full::<8>(rng, items)
+}
+
+/// Shuffles items of any type, which are `size` bytes each, one after another: `length` is the
+/// number of all their bytes. The draws and the order are those of `shuffle` for that many items.
+/// Bytes after the last whole item stay where they are. If `size` is 0, there is no item, and
+/// nothing is drawn. From C and C++, `shuffle_items` is easier, since it takes the number of items.
+/// Returns NANORAND_OK, or NANORAND_EXHAUSTED if 128 words in a row were rejected for one index;
+/// the swaps before that stay, and the words stay consumed.
+#[unsafe(no_mangle)]
+pub extern "C" fn nanorand_v1_chacha8_shuffle_bytes(
+    rng: &mut ChaChaState,
+    items: &mut [u8],
+    size: usize,
+) -> Status
+    ensures status { let start = chacha_at rng.old in
+        let shuffle = shuffled (chacha_requests 8) from_itself start (items_of size items.old) in
+        result ≡ status shuffle.answer }
+    ensures items { let start = chacha_at rng.old in
+        let shuffle = shuffled (chacha_requests 8) from_itself start (items_of size items.old) in
+        items_of size items.new ≡ shuffle.items }
+    ensures rest { let whole = length items.old / size * size in
+        drop whole items.new ≡ drop whole items.old }
+    ensures state { let start = chacha_at rng.old in
+        let shuffle = shuffled (chacha_requests 8) from_itself start (items_of size items.old) in
+        chacha_at rng.new ≡ shuffle.state }
+    ensures words { let start = chacha_at rng.old in
+        let after = λ (n : ℕ). after_words (chacha_requests 8) 64 n start in
+        IsAfterAtMost (128 * length (items_of size items.old)) after (chacha_at rng.new) }
+    ensures arrangement { IsPermutation (items_of size items.old) (items_of size items.new) }
+{
+    chacha::shuffle_items::<8>(rng, items, size)
 }
 
 /// Draws a sample without replacement, by Floyd's algorithm: writes different numbers below
-/// `count`, one to each place. Each set of numbers is produced by the same number of sequences of
-/// words. The order of the places is not uniform: shuffle them if it matters. The time is O(k^2)
-/// for k places, since each number drawn is compared with those before it.
+/// `population`, one to each of the `wanted` places. Each set of numbers is produced by the same
+/// number of sequences of words. The order of the places is not uniform: shuffle them if it
+/// matters. The time is O(k^2) for k places, since each number drawn is compared with those before
+/// it.
 ///
-/// Returns 0, or 1 if there are more places than numbers, or 2 if 128 words in a row were rejected
-/// for one place. After 1, nothing was drawn or written. After 2, the places before that one are
-/// written, the others are unchanged, and the words stay consumed. A length of 0 draws nothing.
+/// Returns NANORAND_OK; or NANORAND_EMPTY if more numbers are wanted than the population has, and
+/// then draws and writes nothing; or NANORAND_EXHAUSTED if 128 words in a row were rejected for one
+/// place. Then the places before that one are written, the others are unchanged, and the words stay
+/// consumed. If 0 numbers are wanted, nothing is drawn.
 #[unsafe(no_mangle)]
 pub extern "C" fn nanorand_v1_chacha8_sample(
-    state: &mut ChaChaState,
-    count: usize,
+    rng: &mut ChaChaState,
+    population: usize,
     places: &mut [usize],
-) -> u8
-    ensures status { let start = chacha_at state.old in
-        let sampling = sampling (chacha_requests 8) count start places.old in
+) -> Status
+    ensures status { let start = chacha_at rng.old in
+        let sampling = sampling (chacha_requests 8) population start places.old in
         result ≡ sampling.status }
-    ensures places { let start = chacha_at state.old in
-        let sampling = sampling (chacha_requests 8) count start places.old in
+    ensures places { let start = chacha_at rng.old in
+        let sampling = sampling (chacha_requests 8) population start places.old in
         places.new ≡ sampling.places }
-    ensures state { let start = chacha_at state.old in
-        let sample = sampling (chacha_requests 8) count start places.old in
-        chacha_at state.new ≡ sample.state }
-    ensures words { let start = chacha_at state.old in
+    ensures state { let start = chacha_at rng.old in
+        let sample = sampling (chacha_requests 8) population start places.old in
+        chacha_at rng.new ≡ sample.state }
+    ensures words { let start = chacha_at rng.old in
         let after = λ (n : ℕ). after_words (chacha_requests 8) 64 n start in
-        IsAfterAtMost (128 * length places.old) after (chacha_at state.new) }
-    ensures below { result ≡ 0 → All (λ number. number < count) places.new }
+        IsAfterAtMost (128 * length places.old) after (chacha_at rng.new) }
+    ensures below { result ≡ 0 → All (λ number. number < population) places.new }
     ensures apart { result ≡ 0 → AllPairs (λ number other. number ≢ other) places.new }
 {
-    chacha::sample::<8>(state, count, places)
+    chacha::sample::<8>(rng, population, places)
 }
 
-/// Continues a sample: keeps the first `filled` places and fills the others, in expected time O(k)
-/// for k places, by a table that the caller provides. If `filled` is 0, it draws a whole sample,
-/// with the same results as `sample`.
+/// Continues a sample: keeps the first `filled` of the `wanted` places and fills the others, in
+/// expected time O(k) for k places, by a table that the caller provides. If `filled` is 0, it draws
+/// a whole sample, with the same results as `sample`.
 ///
 /// The length and the contents of the table change only the time. With 3k items, a number drawn is
 /// compared with at most one place on average; with k items or fewer, with all of them. The table
 /// must not overlap the places. Its contents are unspecified afterwards.
 ///
-/// To draw a long sample in pieces, first pass only the first places, and a `count` that is smaller
-/// by the number of places left out; then continue. After 0, all places hold different numbers
-/// below `count`, provided that the places kept held different numbers below `count` minus the
-/// number of the other places.
+/// To draw a long sample in pieces, first pass only the first places, and a `population` that is
+/// smaller by the number of places left out; then continue. After NANORAND_OK, all places hold
+/// different numbers below `population`, provided that the places kept held different numbers below
+/// `population` minus the number of the other places.
 ///
-/// Returns 0, or 1 if there are more places than numbers or fewer places than `filled`, or 2 if 128
-/// words in a row were rejected for one place. After 1, nothing was drawn or written. After 2, the
-/// places before that one are written, the others are unchanged, and the words stay consumed.
+/// Returns NANORAND_OK; or NANORAND_EMPTY if more numbers are wanted than the population has, or
+/// fewer than `filled`, and then draws and writes nothing; or NANORAND_EXHAUSTED if 128 words in a
+/// row were rejected for one place. Then the places before that one are written, the others are
+/// unchanged, and the words stay consumed.
 #[unsafe(no_mangle)]
 pub extern "C" fn nanorand_v1_chacha8_extend_sample(
-    state: &mut ChaChaState,
-    count: usize,
+    rng: &mut ChaChaState,
+    population: usize,
     places: &mut [usize],
     filled: usize,
     table: &mut [usize],
-) -> u8
-    ensures status { let start = chacha_at state.old in
-        let sampling = extending (chacha_requests 8) count start places.old filled in
+) -> Status
+    ensures status { let start = chacha_at rng.old in
+        let sampling = extending (chacha_requests 8) population start places.old filled in
         result ≡ sampling.status }
-    ensures places { let start = chacha_at state.old in
-        let sampling = extending (chacha_requests 8) count start places.old filled in
+    ensures places { let start = chacha_at rng.old in
+        let sampling = extending (chacha_requests 8) population start places.old filled in
         places.new ≡ sampling.places }
-    ensures state { let start = chacha_at state.old in
-        let sample = extending (chacha_requests 8) count start places.old filled in
-        chacha_at state.new ≡ sample.state }
-    ensures words { let start = chacha_at state.old in
+    ensures state { let start = chacha_at rng.old in
+        let sample = extending (chacha_requests 8) population start places.old filled in
+        chacha_at rng.new ≡ sample.state }
+    ensures words { let start = chacha_at rng.old in
         let after = λ (n : ℕ). after_words (chacha_requests 8) 64 n start in
-        IsAfterAtMost (128 * length places.old) after (chacha_at state.new) }
-    ensures different { let limit = count - length places.old + filled in
+        IsAfterAtMost (128 * length places.old) after (chacha_at rng.new) }
+    ensures different { let limit = population - length places.old + filled in
         DifferentBelow limit (take filled places.old)
-        → result ≡ 0 → DifferentBelow count places.new }
+        → result ≡ 0 → DifferentBelow population places.new }
 {
-    chacha::extend_sample::<8>(state, count, places, filled, table)
+    chacha::extend_sample::<8>(rng, population, places, filled, table)
 }
 
-/// Moves to the beginning of part `index`, counted from 0, where each part is `draws` draws long:
-/// moves ahead by `index * draws` draws. A draw is what a `u64` takes: 8 bytes for WyRand, Pcg64
-/// and the keystream, a block of 64 bytes for ChaCha. Parts of the same length from copies of the
-/// same state do not overlap, as long as no task draws more than `draws` draws.
+/// Moves to the beginning of part `index`, counted from 0 and from the present state, where each
+/// part is `draws` draws long: moves ahead by `index * draws` draws. A draw is what a `u64` takes:
+/// 8 bytes for WyRand, Pcg64 and the keystream, a block of 64 bytes for ChaCha. Parts of the same
+/// length from copies of the same state do not overlap, as long as no task draws more than `draws`
+/// draws. Take an odd length: with an even one, the numbers of WyRand and Pcg64 in different parts
+/// are correlated.
 ///
-/// Returns 0, or 3 if the part ends past the period; the state does not move then. The period is
-/// 2^64 draws for WyRand and ChaCha, 2^126 for Pcg64, and 2^67 for the keystream.
+/// Returns NANORAND_OK, or NANORAND_PAST_PERIOD if the part ends past the period; the state does
+/// not move then. The period is 2^64 draws for WyRand and ChaCha, 2^126 for Pcg64, and 2^67 for the
+/// keystream.
 #[unsafe(no_mangle)]
-pub extern "C" fn nanorand_v1_chacha8_part(state: &mut ChaChaState, index: u64, draws: u64) -> u8
-    ensures status { let start = chacha_at state.old in
+pub extern "C" fn nanorand_v1_chacha8_part(rng: &mut ChaChaState, index: u64, draws: u64) -> Status
+    ensures status { let start = chacha_at rng.old in
         result ≡ (parting (chacha_requests 8) (2 ^ 64) draws index start).0 }
-    ensures state { let start = chacha_at state.old in
-        chacha_at state.new ≡ (parting (chacha_requests 8) (2 ^ 64) draws index start).1 }
+    ensures state { let start = chacha_at rng.old in
+        chacha_at rng.new ≡ (parting (chacha_requests 8) (2 ^ 64) draws index start).1 }
 {
-    chacha::part::<8>(state, index, draws)
+    chacha::part::<8>(rng, index, draws)
 }

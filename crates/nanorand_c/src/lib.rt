@@ -6,6 +6,7 @@
 //! interface, so that two versions can be linked into one program.
 #![tactic(auto)]
 
+pub mod chacha;
 pub mod chacha12;
 pub mod chacha20;
 pub mod chacha8;

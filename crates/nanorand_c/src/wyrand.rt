@@ -1,5 +1,6 @@
 //! WyRand. The generator itself is in the caller's memory. Not cryptographically secure.
-ghost use Rattle.std.specs.Prelude.{◌≡◌, ◌≢◌, ◌<◌, ◌≤◌, ◌≤ℤ◌, ◌^◌, ◌*◌, ◌+◌, ◌-◌, All, IsPermutation, length, ℕ, take};
+ghost use Rattle.std.specs.Prelude.{◌/◌, drop, ◌≡◌, ◌≢◌, ◌<◌, ◌≤◌, ◌≤ℤ◌, ◌^◌, ◌*◌, ◌+◌, ◌-◌, All, IsPermutation, length, ℕ, take};
+ghost use Rattle.std.specs.Float.{◌≤ᶠ◌, ◌<ᶠ◌, float_one, float_zero};
 ghost use Rattle.std.specs.List.{AllPairs};
 ghost use Rattle.nanorand_core.specs.values.Draws.{after_words};
 ghost use Rattle.nanorand_core.specs.shuffles.Shuffles.{from_all, from_itself, shuffled};
@@ -7,6 +8,8 @@ ghost use Rattle.nanorand_core.specs.values.Values.{number_of};
 ghost use Rattle.nanorand.specs.generators.SplitMix.{seed_from};
 ghost use Rattle.nanorand.specs.generators.WyRand.{seed_after, wyrand_requests};
 ghost use Rattle.nanorand_calls.specs.Between.{between, between_signed};
+ghost use Rattle.nanorand_calls.specs.Fractions.{IsFractionOf};
+ghost use Rattle.nanorand_calls.specs.Items.{items_of};
 ghost use Rattle.nanorand_calls.specs.Parts.{parting};
 ghost use Rattle.nanorand_core.specs.samples.Samples.{DifferentBelow};
 ghost use Rattle.nanorand_calls.specs.Sampling.{extending, sampling};
@@ -15,9 +18,10 @@ ghost use Rattle.nanorand_calls.specs.Words.{IsAfterAtMost};
 
 use nanorand::{Rng, WyRand};
 use nanorand_calls::calls::{
-    extend_sample, part, range_i64, range_u32, range_u64, range_usize, sample, shuffle,
-    shuffle_full,
+    extend_sample, float, part, range_i64, sample, shuffle, shuffle_full, shuffle_items,
 };
+use nanorand_calls::status::Status;
+use nanorand_calls::wyrand::{below, range_u32, range_u64, range_usize};
 
 /// Makes the state from a number, which may be small: 0, 1, 2, .., a port, a year. Different
 /// numbers produce different states.
@@ -53,6 +57,17 @@ pub extern "C" fn nanorand_v1_wyrand_u64(rng: &mut WyRand) -> u64
     rng.generate()
 }
 
+/// Draws a number from 0 to below 1, a multiple of 2^-53: the top 53 bits of a 64-bit word, divided
+/// by 2^53. Each of the 2^53 numbers is produced by the same number of words.
+#[unsafe(no_mangle)]
+pub extern "C" fn nanorand_v1_wyrand_f64(rng: &mut WyRand) -> f64
+    ensures value { IsFractionOf (number_of (wyrand_requests.bytes rng.old 8)) result }
+    ensures within { (float_zero ≤ᶠ result) × (result <ᶠ float_one) }
+    ensures state { rng.new ≡ wyrand_requests.after rng.old 8 }
+{
+    float(rng)
+}
+
 /// Fills the slice with the next bytes, by one request. A length of 0 draws nothing.
 #[unsafe(no_mangle)]
 pub extern "C" fn nanorand_v1_wyrand_fill_bytes(rng: &mut WyRand, buffer: &mut [u8])
@@ -63,15 +78,16 @@ pub extern "C" fn nanorand_v1_wyrand_fill_bytes(rng: &mut WyRand, buffer: &mut [
 }
 
 /// Draws a number from `first..=last`, by rejection sampling of 32-bit words, and writes it to
-/// `number`. Returns 0, or 1 if the range is empty, or 2 if 128 words in a row were rejected. After
-/// 1 and 2, `number` is unchanged. After 1, nothing was drawn; after 2, the words stay consumed.
+/// `number`. Returns NANORAND_OK; or NANORAND_EMPTY if the range is empty, and then draws nothing;
+/// or NANORAND_EXHAUSTED if 128 words in a row were rejected, which stay consumed. After the last
+/// two, `number` is unchanged.
 #[unsafe(no_mangle)]
 pub extern "C" fn nanorand_v1_wyrand_range_u32(
     rng: &mut WyRand,
     first: u32,
     last: u32,
     number: &mut u32,
-) -> u8
+) -> Status
     ensures status { let draw = between wyrand_requests 32 first last rng.old in
         result ≡ status draw.0 }
     ensures number { let draw = between wyrand_requests 32 first last rng.old in
@@ -83,15 +99,17 @@ pub extern "C" fn nanorand_v1_wyrand_range_u32(
     range_u32(rng, first, last, number)
 }
 
-/// Draws a number from `first..=last`, by rejection sampling of 64-bit words, and otherwise as
-/// `range_u32` does.
+/// Draws a number from `first..=last`, by rejection sampling of 64-bit words, and writes it to
+/// `number`. Returns NANORAND_OK; or NANORAND_EMPTY if the range is empty, and then draws nothing;
+/// or NANORAND_EXHAUSTED if 128 words in a row were rejected, which stay consumed. After the last
+/// two, `number` is unchanged.
 #[unsafe(no_mangle)]
 pub extern "C" fn nanorand_v1_wyrand_range_u64(
     rng: &mut WyRand,
     first: u64,
     last: u64,
     number: &mut u64,
-) -> u8
+) -> Status
     ensures status { let draw = between wyrand_requests 64 first last rng.old in
         result ≡ status draw.0 }
     ensures number { let draw = between wyrand_requests 64 first last rng.old in
@@ -103,15 +121,17 @@ pub extern "C" fn nanorand_v1_wyrand_range_u64(
     range_u64(rng, first, last, number)
 }
 
-/// Draws a signed number from `first..=last`, by rejection sampling of 64-bit words, and otherwise
-/// as `range_u32` does.
+/// Draws a signed number from `first..=last`, by rejection sampling of 64-bit words, and writes it
+/// to `number`. Returns NANORAND_OK; or NANORAND_EMPTY if the range is empty, and then draws
+/// nothing; or NANORAND_EXHAUSTED if 128 words in a row were rejected, which stay consumed. After
+/// the last two, `number` is unchanged.
 #[unsafe(no_mangle)]
 pub extern "C" fn nanorand_v1_wyrand_range_i64(
     rng: &mut WyRand,
     first: i64,
     last: i64,
     number: &mut i64,
-) -> u8
+) -> Status
     ensures status { let draw = between_signed wyrand_requests 64 first last rng.old in
         result ≡ status draw.0 }
     ensures number { let draw = between_signed wyrand_requests 64 first last rng.old in
@@ -124,14 +144,16 @@ pub extern "C" fn nanorand_v1_wyrand_range_i64(
 }
 
 /// Draws an index or a length from `first..=last`, by rejection sampling of 64-bit words, and
-/// otherwise as `range_u32` does.
+/// writes it to `number`. Returns NANORAND_OK; or NANORAND_EMPTY if the range is empty, and then
+/// draws nothing; or NANORAND_EXHAUSTED if 128 words in a row were rejected, which stay consumed.
+/// After the last two, `number` is unchanged.
 #[unsafe(no_mangle)]
 pub extern "C" fn nanorand_v1_wyrand_range_usize(
     rng: &mut WyRand,
     first: usize,
     last: usize,
     number: &mut usize,
-) -> u8
+) -> Status
     ensures status { let draw = between wyrand_requests 64 first last rng.old in
         result ≡ status draw.0 }
     ensures number { let draw = between wyrand_requests 64 first last rng.old in
@@ -143,11 +165,31 @@ pub extern "C" fn nanorand_v1_wyrand_range_usize(
     range_usize(rng, first, last, number)
 }
 
-/// Shuffles the items, by Fisher-Yates: swaps each item, from the first on, with one drawn from it
-/// and the items after it. Returns 0, or 2 if 128 words in a row were rejected for one index; the
-/// swaps before that stay, and the words stay consumed. A length of 0 draws nothing.
+/// Draws a number below `n`, by rejection sampling of 64-bit words, and returns it. It is the
+/// number that `range_u64` draws from 0 to `n - 1`. If `n` is 0, it returns 0 and draws nothing. If
+/// 128 words in a row were rejected, which happens with probability below 2^-128, it returns `n`,
+/// and the words stay consumed.
 #[unsafe(no_mangle)]
-pub extern "C" fn nanorand_v1_wyrand_shuffle(rng: &mut WyRand, items: &mut [usize]) -> u8
+pub extern "C" fn nanorand_v1_wyrand_below(rng: &mut WyRand, n: u64) -> u64
+    ensures zero { n ≡ 0 → (result ≡ 0) × (rng.new ≡ rng.old) }
+    ensures number { let draw = between wyrand_requests 64 0 (n - 1) rng.old in
+        n ≢ 0 → result ≡ drawn_or n draw.0 }
+    ensures within { result ≤ n }
+    ensures state { let draw = between wyrand_requests 64 0 (n - 1) rng.old in
+        n ≢ 0 → rng.new ≡ draw.1 }
+    ensures words { let start = rng.old in
+        let after = λ (k : ℕ). after_words wyrand_requests 64 k start in
+        IsAfterAtMost 128 after rng.new }
+{
+    below(rng, n)
+}
+
+/// Shuffles the items, by Fisher-Yates: swaps each item, from the first on, with one drawn from it
+/// and the items after it. A length of 0 draws nothing. Returns NANORAND_OK, or NANORAND_EXHAUSTED
+/// if 128 words in a row were rejected for one index; the swaps before that stay, and the words
+/// stay consumed.
+#[unsafe(no_mangle)]
+pub extern "C" fn nanorand_v1_wyrand_shuffle(rng: &mut WyRand, items: &mut [usize]) -> Status
     ensures status { let shuffle = shuffled wyrand_requests from_itself rng.old items.old in
         result ≡ status shuffle.answer }
     ensures items { let shuffle = shuffled wyrand_requests from_itself rng.old items.old in
@@ -162,9 +204,10 @@ pub extern "C" fn nanorand_v1_wyrand_shuffle(rng: &mut WyRand, items: &mut [usiz
 
 /// Shuffles the items as the Rust crate nanorand 0.7.0 does: swaps each item, from the first on,
 /// with one drawn from all items. This is biased: for three or more items, not all orders are
-/// equally frequent. Statuses are those of `shuffle`.
+/// equally frequent. Returns NANORAND_OK, or NANORAND_EXHAUSTED if 128 words in a row were rejected
+/// for one index; the swaps before that stay, and the words stay consumed.
 #[unsafe(no_mangle)]
-pub extern "C" fn nanorand_v1_wyrand_shuffle_full(rng: &mut WyRand, items: &mut [usize]) -> u8
+pub extern "C" fn nanorand_v1_wyrand_shuffle_full(rng: &mut WyRand, items: &mut [usize]) -> Status
     ensures status { let shuffle = shuffled wyrand_requests from_all rng.old items.old in
         result ≡ status shuffle.answer }
     ensures items { let shuffle = shuffled wyrand_requests from_all rng.old items.old in
@@ -177,69 +220,106 @@ pub extern "C" fn nanorand_v1_wyrand_shuffle_full(rng: &mut WyRand, items: &mut 
     shuffle_full(rng, items)
 }
 
+/// Shuffles items of any type, which are `size` bytes each, one after another: `length` is the
+/// number of all their bytes. The draws and the order are those of `shuffle` for that many items.
+/// Bytes after the last whole item stay where they are. If `size` is 0, there is no item, and
+/// nothing is drawn. From C and C++, `shuffle_items` is easier, since it takes the number of items.
+/// Returns NANORAND_OK, or NANORAND_EXHAUSTED if 128 words in a row were rejected for one index;
+/// the swaps before that stay, and the words stay consumed.
+#[unsafe(no_mangle)]
+pub extern "C" fn nanorand_v1_wyrand_shuffle_bytes(
+    rng: &mut WyRand,
+    items: &mut [u8],
+    size: usize,
+) -> Status
+    ensures status { let start = rng.old in
+        let shuffle = shuffled wyrand_requests from_itself start (items_of size items.old) in
+        result ≡ status shuffle.answer }
+    ensures items { let start = rng.old in
+        let shuffle = shuffled wyrand_requests from_itself start (items_of size items.old) in
+        items_of size items.new ≡ shuffle.items }
+    ensures rest { let whole = length items.old / size * size in
+        drop whole items.new ≡ drop whole items.old }
+    ensures state { let start = rng.old in
+        let shuffle = shuffled wyrand_requests from_itself start (items_of size items.old) in
+        rng.new ≡ shuffle.state }
+    ensures words { let start = rng.old in
+        let after = λ (n : ℕ). after_words wyrand_requests 64 n start in
+        IsAfterAtMost (128 * length (items_of size items.old)) after rng.new }
+    ensures arrangement { IsPermutation (items_of size items.old) (items_of size items.new) }
+{
+    shuffle_items(rng, items, size)
+}
+
 /// Draws a sample without replacement, by Floyd's algorithm: writes different numbers below
-/// `count`, one to each place. Each set of numbers is produced by the same number of sequences of
-/// words. The order of the places is not uniform: shuffle them if it matters. The time is O(k^2)
-/// for k places, since each number drawn is compared with those before it.
+/// `population`, one to each of the `wanted` places. Each set of numbers is produced by the same
+/// number of sequences of words. The order of the places is not uniform: shuffle them if it
+/// matters. The time is O(k^2) for k places, since each number drawn is compared with those before
+/// it.
 ///
-/// Returns 0, or 1 if there are more places than numbers, or 2 if 128 words in a row were rejected
-/// for one place. After 1, nothing was drawn or written. After 2, the places before that one are
-/// written, the others are unchanged, and the words stay consumed. A length of 0 draws nothing.
+/// Returns NANORAND_OK; or NANORAND_EMPTY if more numbers are wanted than the population has, and
+/// then draws and writes nothing; or NANORAND_EXHAUSTED if 128 words in a row were rejected for one
+/// place. Then the places before that one are written, the others are unchanged, and the words stay
+/// consumed. If 0 numbers are wanted, nothing is drawn.
 #[unsafe(no_mangle)]
 pub extern "C" fn nanorand_v1_wyrand_sample(
     rng: &mut WyRand,
-    count: usize,
+    population: usize,
     places: &mut [usize],
-) -> u8
-    ensures status { let sampling = sampling wyrand_requests count rng.old places.old in
+) -> Status
+    ensures status { let sampling = sampling wyrand_requests population rng.old places.old in
         result ≡ sampling.status }
-    ensures places { let sampling = sampling wyrand_requests count rng.old places.old in
+    ensures places { let sampling = sampling wyrand_requests population rng.old places.old in
         places.new ≡ sampling.places }
-    ensures state { rng.new ≡ (sampling wyrand_requests count rng.old places.old).state }
+    ensures state { rng.new ≡ (sampling wyrand_requests population rng.old places.old).state }
     ensures words { let after = λ (n : ℕ). after_words wyrand_requests 64 n rng.old in
         IsAfterAtMost (128 * length places.old) after rng.new }
-    ensures below { result ≡ 0 → All (λ number. number < count) places.new }
+    ensures below { result ≡ 0 → All (λ number. number < population) places.new }
     ensures apart { result ≡ 0 → AllPairs (λ number other. number ≢ other) places.new }
 {
-    sample(rng, count, places)
+    sample(rng, population, places)
 }
 
-/// Continues a sample: keeps the first `filled` places and fills the others, in expected time O(k)
-/// for k places, by a table that the caller provides. If `filled` is 0, it draws a whole sample,
-/// with the same results as `sample`.
+/// Continues a sample: keeps the first `filled` of the `wanted` places and fills the others, in
+/// expected time O(k) for k places, by a table that the caller provides. If `filled` is 0, it draws
+/// a whole sample, with the same results as `sample`.
 ///
 /// The length and the contents of the table change only the time. With 3k items, a number drawn is
 /// compared with at most one place on average; with k items or fewer, with all of them. The table
 /// must not overlap the places. Its contents are unspecified afterwards.
 ///
-/// To draw a long sample in pieces, first pass only the first places, and a `count` that is smaller
-/// by the number of places left out; then continue. After 0, all places hold different numbers
-/// below `count`, provided that the places kept held different numbers below `count` minus the
-/// number of the other places.
+/// To draw a long sample in pieces, first pass only the first places, and a `population` that is
+/// smaller by the number of places left out; then continue. After NANORAND_OK, all places hold
+/// different numbers below `population`, provided that the places kept held different numbers below
+/// `population` minus the number of the other places.
 ///
-/// Returns 0, or 1 if there are more places than numbers or fewer places than `filled`, or 2 if 128
-/// words in a row were rejected for one place. After 1, nothing was drawn or written. After 2, the
-/// places before that one are written, the others are unchanged, and the words stay consumed.
+/// Returns NANORAND_OK; or NANORAND_EMPTY if more numbers are wanted than the population has, or
+/// fewer than `filled`, and then draws and writes nothing; or NANORAND_EXHAUSTED if 128 words in a
+/// row were rejected for one place. Then the places before that one are written, the others are
+/// unchanged, and the words stay consumed.
 #[unsafe(no_mangle)]
 pub extern "C" fn nanorand_v1_wyrand_extend_sample(
     rng: &mut WyRand,
-    count: usize,
+    population: usize,
     places: &mut [usize],
     filled: usize,
     table: &mut [usize],
-) -> u8
-    ensures status { let sampling = extending wyrand_requests count rng.old places.old filled in
+) -> Status
+    ensures status { let start = rng.old in
+        let sampling = extending wyrand_requests population start places.old filled in
         result ≡ sampling.status }
-    ensures places { let sampling = extending wyrand_requests count rng.old places.old filled in
+    ensures places { let start = rng.old in
+        let sampling = extending wyrand_requests population start places.old filled in
         places.new ≡ sampling.places }
-    ensures state { rng.new ≡ (extending wyrand_requests count rng.old places.old filled).state }
+    ensures state { let start = rng.old in
+        rng.new ≡ (extending wyrand_requests population start places.old filled).state }
     ensures words { let after = λ (n : ℕ). after_words wyrand_requests 64 n rng.old in
         IsAfterAtMost (128 * length places.old) after rng.new }
-    ensures different { let limit = count - length places.old + filled in
+    ensures different { let limit = population - length places.old + filled in
         DifferentBelow limit (take filled places.old)
-        → result ≡ 0 → DifferentBelow count places.new }
+        → result ≡ 0 → DifferentBelow population places.new }
 {
-    extend_sample(rng, count, places, filled, table)
+    extend_sample(rng, population, places, filled, table)
 }
 
 /// Jumps ahead by `draws` draws, by one multiplication.
@@ -250,15 +330,18 @@ pub extern "C" fn nanorand_v1_wyrand_jump(rng: &mut WyRand, draws: u64)
     rng.jump(draws);
 }
 
-/// Moves to the beginning of part `index`, counted from 0, where each part is `draws` draws long:
-/// moves ahead by `index * draws` draws. A draw is what a `u64` takes: 8 bytes for WyRand, Pcg64
-/// and the keystream, a block of 64 bytes for ChaCha. Parts of the same length from copies of the
-/// same state do not overlap, as long as no task draws more than `draws` draws.
+/// Moves to the beginning of part `index`, counted from 0 and from the present state, where each
+/// part is `draws` draws long: moves ahead by `index * draws` draws. A draw is what a `u64` takes:
+/// 8 bytes for WyRand, Pcg64 and the keystream, a block of 64 bytes for ChaCha. Parts of the same
+/// length from copies of the same state do not overlap, as long as no task draws more than `draws`
+/// draws. Take an odd length: with an even one, the numbers of WyRand and Pcg64 in different parts
+/// are correlated.
 ///
-/// Returns 0, or 3 if the part ends past the period; the state does not move then. The period is
-/// 2^64 draws for WyRand and ChaCha, 2^126 for Pcg64, and 2^67 for the keystream.
+/// Returns NANORAND_OK, or NANORAND_PAST_PERIOD if the part ends past the period; the state does
+/// not move then. The period is 2^64 draws for WyRand and ChaCha, 2^126 for Pcg64, and 2^67 for the
+/// keystream.
 #[unsafe(no_mangle)]
-pub extern "C" fn nanorand_v1_wyrand_part(rng: &mut WyRand, index: u64, draws: u64) -> u8
+pub extern "C" fn nanorand_v1_wyrand_part(rng: &mut WyRand, index: u64, draws: u64) -> Status
     ensures status { let parting = parting wyrand_requests (2 ^ 64) draws index rng.old in
         result ≡ parting.0 }
     ensures state { let parting = parting wyrand_requests (2 ^ 64) draws index rng.old in
@@ -268,7 +351,8 @@ pub extern "C" fn nanorand_v1_wyrand_part(rng: &mut WyRand, index: u64, draws: u
 }
 
 /// Returns the number of draws, below 2^64, that lead from the state `rng` to the state `other`.
-/// There is exactly one such number.
+/// There is exactly one such number, since the period is 2^64: from a state to an earlier one, it is
+/// 2^64 minus the draws between them.
 #[unsafe(no_mangle)]
 pub extern "C" fn nanorand_v1_wyrand_distance(rng: &WyRand, other: &WyRand) -> u64
     ensures leads { seed_after result rng.now ≡ other.now }

@@ -1,5 +1,7 @@
 pub mod Status
 pub mod Between
+pub mod Fractions
+pub mod Items
 pub mod Sampling
 pub mod ChaChaStates
 pub mod Parts

@@ -2,18 +2,21 @@
 //! starts with a new block.
 //!
 //! The docs of `nanorand::ChaCha` say what it is suitable for and what not.
-ghost use Rattle.std.specs.Prelude.{◌≡◌, ◌+◌, ◌%◌, ◌^◌, ◌≢◌, ◌<◌, ◌≤◌, ◌≤ℤ◌, ◌*◌, ◌-◌};
-ghost use Rattle.std.specs.Prelude.{ℕ, length, All, IsPermutation, take};
+ghost use Rattle.std.specs.Prelude.{◌≡◌, ◌+◌, ◌%◌, ◌^◌, ◌≢◌, ◌<◌, ◌≤◌, ◌≤ℤ◌, ◌*◌, ◌/◌, ◌-◌};
+ghost use Rattle.std.specs.Prelude.{ℕ, drop, length, All, IsPermutation, take};
 ghost use Rattle.std.specs.Fn.{iterate};
 ghost use Rattle.std.specs.Int.{div_ceil};
 ghost use Rattle.nanorand_core.specs.values.Values.{number_of};
 ghost use Rattle.nanorand.specs.generators.ChaCha.{chacha_block, chacha_requests, counter, key_of, next_state, nonce_of, seeded_state};
 ghost use Rattle.nanorand.specs.generators.SplitMix.{seed_from};
 ghost use Rattle.nanorand_calls.specs.ChaChaStates.{chacha_at};
+ghost use Rattle.std.specs.Float.{◌≤ᶠ◌, ◌<ᶠ◌, float_one, float_zero};
 ghost use Rattle.std.specs.List.{AllPairs};
 ghost use Rattle.nanorand_core.specs.values.Draws.{after_words};
 ghost use Rattle.nanorand_core.specs.shuffles.Shuffles.{from_all, from_itself, shuffled};
 ghost use Rattle.nanorand_calls.specs.Between.{between, between_signed};
+ghost use Rattle.nanorand_calls.specs.Fractions.{IsFractionOf};
+ghost use Rattle.nanorand_calls.specs.Items.{items_of};
 ghost use Rattle.nanorand_calls.specs.Parts.{parting};
 ghost use Rattle.nanorand_core.specs.samples.Samples.{DifferentBelow};
 ghost use Rattle.nanorand_calls.specs.Sampling.{extending, sampling};
@@ -21,6 +24,7 @@ ghost use Rattle.nanorand_calls.specs.Status.{drawn_or, status};
 ghost use Rattle.nanorand_calls.specs.Words.{IsAfterAtMost};
 
 use crate::calls;
+use crate::status::Status;
 use nanorand::laws::chacha_counter;
 use nanorand::{Blocks, ChaCha, Rng};
 
@@ -115,6 +119,46 @@ pub fn fill_bytes<const ROUNDS: u8>(state: &mut ChaChaState, buffer: &mut [u8])
     store(state, &rng);
 }
 
+/// Draws a number in [0, 1): the top 53 bits of a 64-bit word as a fraction, floor(word / 2^11) /
+/// 2^53. The word is the next 8 bytes, in little-endian order.
+pub fn float<const ROUNDS: u8>(state: &mut ChaChaState) -> f64
+    requires { ROUNDS % 2 ≡ 0 }
+    ensures value { let word = number_of ((chacha_requests ROUNDS).bytes (chacha_at state.old) 8) in
+        IsFractionOf word result }
+    ensures within { (float_zero ≤ᶠ result) × (result <ᶠ float_one) }
+    ensures key { state.new.key ≡ state.old.key }
+    ensures nonce { state.new.nonce ≡ state.old.nonce }
+    ensures state { chacha_at state.new ≡ (chacha_requests ROUNDS).after (chacha_at state.old) 8 }
+{
+    let mut rng = loaded::<ROUNDS>(state);
+    let number = calls::float(&mut rng);
+    store(state, &rng);
+    number
+}
+
+/// Draws a number below `n`, by rejection sampling of 64-bit words, and returns the number itself.
+/// If `n` is 0, the function returns 0 and draws nothing. If 128 words in a row were rejected, it
+/// returns `n`; the words stay consumed. The probability of that is below 2^-128.
+pub fn below<const ROUNDS: u8>(state: &mut ChaChaState, n: u64) -> u64
+    requires { ROUNDS % 2 ≡ 0 }
+    ensures zero { n ≡ 0 → (result ≡ 0) × (chacha_at state.new ≡ chacha_at state.old) }
+    ensures number { let start = chacha_at state.old in
+        let draw = between (chacha_requests ROUNDS) 64 0 (n - 1) start in
+        n ≢ 0 → result ≡ drawn_or n draw.0 }
+    ensures within { result ≤ n }
+    ensures state { let start = chacha_at state.old in
+        let draw = between (chacha_requests ROUNDS) 64 0 (n - 1) start in
+        n ≢ 0 → chacha_at state.new ≡ draw.1 }
+    ensures words { let start = chacha_at state.old in
+        let after = λ (k : ℕ). after_words (chacha_requests ROUNDS) 64 k start in
+        IsAfterAtMost 128 after (chacha_at state.new) }
+{
+    let mut rng = loaded::<ROUNDS>(state);
+    let number = calls::below(&mut rng, n);
+    store(state, &rng);
+    number
+}
+
 /// Draws a number from `first..=last`, by rejection sampling of 32-bit words. Returns the status 0,
 /// 1 or 2, and writes `number` only if the status is 0.
 pub fn range_u32<const ROUNDS: u8>(
@@ -122,7 +166,7 @@ pub fn range_u32<const ROUNDS: u8>(
     first: u32,
     last: u32,
     number: &mut u32,
-) -> u8
+) -> Status
     requires { ROUNDS % 2 ≡ 0 }
     ensures status { let start = chacha_at state.old in
         let draw = between (chacha_requests ROUNDS) 32 first last start in
@@ -150,7 +194,7 @@ pub fn range_u64<const ROUNDS: u8>(
     first: u64,
     last: u64,
     number: &mut u64,
-) -> u8
+) -> Status
     requires { ROUNDS % 2 ≡ 0 }
     ensures status { let start = chacha_at state.old in
         let draw = between (chacha_requests ROUNDS) 64 first last start in
@@ -178,7 +222,7 @@ pub fn range_i64<const ROUNDS: u8>(
     first: i64,
     last: i64,
     number: &mut i64,
-) -> u8
+) -> Status
     requires { ROUNDS % 2 ≡ 0 }
     ensures status { let start = chacha_at state.old in
         let draw = between_signed (chacha_requests ROUNDS) 64 first last start in
@@ -206,7 +250,7 @@ pub fn range_usize<const ROUNDS: u8>(
     first: usize,
     last: usize,
     number: &mut usize,
-) -> u8
+) -> Status
     requires { ROUNDS % 2 ≡ 0 }
     ensures status { let start = chacha_at state.old in
         let draw = between (chacha_requests ROUNDS) 64 first last start in
@@ -230,7 +274,7 @@ pub fn range_usize<const ROUNDS: u8>(
 
 /// Shuffles the items as `Rng::shuffle` does. Returns the status 0 or 2; after 2, the swaps that
 /// were made stay.
-pub fn shuffle<const ROUNDS: u8>(state: &mut ChaChaState, items: &mut [usize]) -> u8
+pub fn shuffle<const ROUNDS: u8>(state: &mut ChaChaState, items: &mut [usize]) -> Status
     requires { ROUNDS % 2 ≡ 0 }
     ensures status { let start = chacha_at state.old in
         let shuffle = shuffled (chacha_requests ROUNDS) from_itself start items.old in
@@ -254,7 +298,7 @@ pub fn shuffle<const ROUNDS: u8>(state: &mut ChaChaState, items: &mut [usize]) -
 
 /// Shuffles the items as the crate `nanorand` 0.7.0 does: see `shuffles::shuffle_full`. Returns the
 /// status 0 or 2, as `shuffle` does.
-pub fn shuffle_full<const ROUNDS: u8>(state: &mut ChaChaState, items: &mut [usize]) -> u8
+pub fn shuffle_full<const ROUNDS: u8>(state: &mut ChaChaState, items: &mut [usize]) -> Status
     requires { ROUNDS % 2 ≡ 0 }
     ensures status { let start = chacha_at state.old in
         let shuffle = shuffled (chacha_requests ROUNDS) from_all start items.old in
@@ -276,10 +320,47 @@ pub fn shuffle_full<const ROUNDS: u8>(state: &mut ChaChaState, items: &mut [usiz
     status
 }
 
+/// Shuffles items of any type, which are given as the bytes that they are in memory: items of
+/// `size` bytes each, one after another. Bytes at the end that are fewer than `size` are no item,
+/// and stay. The items are shuffled as `shuffle` shuffles as many numbers, by the same draws.
+/// Returns the status 0 or 2; after 2, the swaps that were made stay. If `size` is 0, there is no
+/// item, and nothing is drawn.
+pub fn shuffle_items<const ROUNDS: u8>(
+    state: &mut ChaChaState,
+    items: &mut [u8],
+    size: usize,
+) -> Status
+    requires { ROUNDS % 2 ≡ 0 }
+    ensures status { let before = items_of size items.old in
+        let shuffle = shuffled (chacha_requests ROUNDS) from_itself (chacha_at state.old) before in
+        result ≡ status shuffle.answer }
+    ensures items { let before = items_of size items.old in
+        let shuffle = shuffled (chacha_requests ROUNDS) from_itself (chacha_at state.old) before in
+        items_of size items.new ≡ shuffle.items }
+    ensures rest { let whole = length items.old / size * size in
+        drop whole items.new ≡ drop whole items.old }
+    ensures state { let before = items_of size items.old in
+        let shuffle = shuffled (chacha_requests ROUNDS) from_itself (chacha_at state.old) before in
+        chacha_at state.new ≡ shuffle.state }
+    ensures words { let start = chacha_at state.old in
+        let after = λ (n : ℕ). after_words (chacha_requests ROUNDS) 64 n start in
+        IsAfterAtMost (128 * length (items_of size items.old)) after (chacha_at state.new) }
+    ensures arrangement { IsPermutation (items_of size items.old) (items_of size items.new) }
+{
+    let mut rng = loaded::<ROUNDS>(state);
+    let status = calls::shuffle_items(&mut rng, items, size);
+    store(state, &rng);
+    status
+}
+
 /// Draws a sample as `samples::sample` does: different numbers below `count`, one into each place.
 /// Returns the status 0, 1 or 2. The status is 1, and nothing is drawn, if there are more places
 /// than numbers.
-pub fn sample<const ROUNDS: u8>(state: &mut ChaChaState, count: usize, places: &mut [usize]) -> u8
+pub fn sample<const ROUNDS: u8>(
+    state: &mut ChaChaState,
+    count: usize,
+    places: &mut [usize],
+) -> Status
     requires { ROUNDS % 2 ≡ 0 }
     ensures status { let start = chacha_at state.old in
         let sampling = sampling (chacha_requests ROUNDS) count start places.old in
@@ -311,7 +392,7 @@ pub fn extend_sample<const ROUNDS: u8>(
     places: &mut [usize],
     filled: usize,
     table: &mut [usize],
-) -> u8
+) -> Status
     requires { ROUNDS % 2 ≡ 0 }
     ensures status { let start = chacha_at state.old in
         let sampling = extending (chacha_requests ROUNDS) count start places.old filled in
@@ -337,7 +418,7 @@ pub fn extend_sample<const ROUNDS: u8>(
 
 /// Moves to the beginning of part `index` of parts of `draws` draws each. Returns the status 0, or
 /// 3 if the part ends past the period; the generator does not move then.
-pub fn part<const ROUNDS: u8>(state: &mut ChaChaState, index: u64, draws: u64) -> u8
+pub fn part<const ROUNDS: u8>(state: &mut ChaChaState, index: u64, draws: u64) -> Status
     requires { ROUNDS % 2 ≡ 0 }
     ensures status { let start = chacha_at state.old in
         result ≡ (parting (chacha_requests ROUNDS) (2 ^ 64) draws index start).0 }

@@ -2,8 +2,9 @@
 //!
 //! Starting with the same state and nothing buffered, it delivers the same bytes as `Stream`, by
 //! the law `nanorand::laws::streams_deliver_chacha`.
-ghost use Rattle.std.specs.Prelude.{◌≡◌, ◌≢◌, ◌<◌, ◌≤◌, ◌≤ℤ◌, ◌^◌, ◌*◌, ◌+◌, ◌-◌, All, IsPermutation, length, ℕ, take};
+ghost use Rattle.std.specs.Prelude.{◌≡◌, ◌≢◌, ◌<◌, ◌≤◌, ◌≤ℤ◌, ◌^◌, ◌*◌, ◌/◌, ◌+◌, ◌-◌, All, IsPermutation, drop, length, ℕ, take};
 ghost use Rattle.std.specs.Bool.{OnFalse, OnTrue};
+ghost use Rattle.std.specs.Float.{◌≤ᶠ◌, ◌<ᶠ◌, float_one, float_zero};
 ghost use Rattle.std.specs.List.{AllPairs};
 ghost use Rattle.nanorand_core.specs.values.Draws.{after_words};
 ghost use Rattle.nanorand_core.specs.shuffles.Shuffles.{from_all, from_itself, shuffled};
@@ -11,7 +12,9 @@ ghost use Rattle.nanorand_core.specs.values.Values.{number_of};
 ghost use Rattle.nanorand.specs.generators.ChaCha.{seeded_state};
 ghost use Rattle.nanorand.specs.generators.SplitMix.{seed_from};
 ghost use Rattle.nanorand_calls.specs.Between.{between, between_signed};
+ghost use Rattle.nanorand_calls.specs.Fractions.{IsFractionOf};
 ghost use Rattle.nanorand_calls.specs.ChaChaStates.{fresh_stream, groups_at, by_groups};
+ghost use Rattle.nanorand_calls.specs.Items.{items_of};
 ghost use Rattle.nanorand_calls.specs.Parts.{parting};
 ghost use Rattle.nanorand_core.specs.samples.Samples.{DifferentBelow};
 ghost use Rattle.nanorand_calls.specs.Sampling.{extending, sampling};
@@ -20,6 +23,7 @@ ghost use Rattle.nanorand_calls.specs.Words.{IsAfterAtMost};
 
 use crate::calls;
 use crate::chacha::{self, ChaChaState};
+use crate::status::Status;
 use nanorand::{BufferedRng, ChaCha20Stream, ChaChaGroups, Rng};
 
 /// A stream that computes eight blocks at once: the state of its ChaCha, and a group of eight
@@ -119,9 +123,41 @@ pub fn fill_bytes(stream: &mut GroupStream, buffer: &mut [u8])
     store(stream, &rng);
 }
 
+/// Draws a number in [0, 1): the top 53 bits of a 64-bit word as a fraction, floor(word / 2^11) /
+/// 2^53. The word is the next 8 bytes, in little-endian order.
+pub fn float(stream: &mut GroupStream) -> f64
+    ensures value { IsFractionOf (number_of (by_groups.bytes (groups_at stream.old) 8)) result }
+    ensures within { (float_zero ≤ᶠ result) × (result <ᶠ float_one) }
+    ensures state { groups_at stream.new ≡ by_groups.after (groups_at stream.old) 8 }
+    ensures buffered { stream.new.buffered < 512 }
+{
+    calls::fraction(number(stream))
+}
+
+/// Draws a number below `n`, by rejection sampling of 64-bit words, and returns the number itself.
+/// If `n` is 0, the function returns 0 and draws nothing. If 128 words in a row were rejected, it
+/// returns `n`; the words stay consumed. The probability of that is below 2^-128.
+pub fn below(stream: &mut GroupStream, n: u64) -> u64
+    ensures zero { n ≡ 0 → (result ≡ 0) × (groups_at stream.new ≡ groups_at stream.old) }
+    ensures number { let draw = between by_groups 64 0 (n - 1) (groups_at stream.old) in
+        n ≢ 0 → result ≡ drawn_or n draw.0 }
+    ensures within { result ≤ n }
+    ensures state { let draw = between by_groups 64 0 (n - 1) (groups_at stream.old) in
+        n ≢ 0 → groups_at stream.new ≡ draw.1 }
+    ensures words { let start = groups_at stream.old in
+        let after = λ (k : ℕ). after_words by_groups 64 k start in
+        IsAfterAtMost 128 after (groups_at stream.new) }
+    ensures buffered { stream.new.buffered < 512 }
+{
+    let mut rng = loaded(stream);
+    let number = calls::below(&mut rng, n);
+    store(stream, &rng);
+    number
+}
+
 /// Draws a number from `first..=last`, by rejection sampling of 32-bit words. Returns the status 0,
 /// 1 or 2, and writes `number` only if the status is 0.
-pub fn range_u32(stream: &mut GroupStream, first: u32, last: u32, number: &mut u32) -> u8
+pub fn range_u32(stream: &mut GroupStream, first: u32, last: u32, number: &mut u32) -> Status
     ensures status { let draw = between by_groups 32 first last (groups_at stream.old) in
         result ≡ status draw.0 }
     ensures number { let draw = between by_groups 32 first last (groups_at stream.old) in
@@ -141,7 +177,7 @@ pub fn range_u32(stream: &mut GroupStream, first: u32, last: u32, number: &mut u
 }
 
 /// Draws a number from `first..=last` as `range_u32` does, but by 64-bit words.
-pub fn range_u64(stream: &mut GroupStream, first: u64, last: u64, number: &mut u64) -> u8
+pub fn range_u64(stream: &mut GroupStream, first: u64, last: u64, number: &mut u64) -> Status
     ensures status { let draw = between by_groups 64 first last (groups_at stream.old) in
         result ≡ status draw.0 }
     ensures number { let draw = between by_groups 64 first last (groups_at stream.old) in
@@ -161,7 +197,7 @@ pub fn range_u64(stream: &mut GroupStream, first: u64, last: u64, number: &mut u
 }
 
 /// Draws a signed number from `first..=last` as `range_u32` does, but by 64-bit words.
-pub fn range_i64(stream: &mut GroupStream, first: i64, last: i64, number: &mut i64) -> u8
+pub fn range_i64(stream: &mut GroupStream, first: i64, last: i64, number: &mut i64) -> Status
     ensures status { let start = groups_at stream.old in
         let draw = between_signed by_groups 64 first last start in
         result ≡ status draw.0 }
@@ -184,7 +220,12 @@ pub fn range_i64(stream: &mut GroupStream, first: i64, last: i64, number: &mut i
 }
 
 /// Draws an index or a length from `first..=last` as `range_u32` does, but by 64-bit words.
-pub fn range_usize(stream: &mut GroupStream, first: usize, last: usize, number: &mut usize) -> u8
+pub fn range_usize(
+    stream: &mut GroupStream,
+    first: usize,
+    last: usize,
+    number: &mut usize,
+) -> Status
     ensures status { let draw = between by_groups 64 first last (groups_at stream.old) in
         result ≡ status draw.0 }
     ensures number { let draw = between by_groups 64 first last (groups_at stream.old) in
@@ -205,7 +246,7 @@ pub fn range_usize(stream: &mut GroupStream, first: usize, last: usize, number: 
 
 /// Shuffles the items as `Rng::shuffle` does. Returns the status 0 or 2; after 2, the swaps that
 /// were made stay.
-pub fn shuffle(stream: &mut GroupStream, items: &mut [usize]) -> u8
+pub fn shuffle(stream: &mut GroupStream, items: &mut [usize]) -> Status
     ensures status { let start = groups_at stream.old in
         let shuffle = shuffled by_groups from_itself start items.old in
         result ≡ status shuffle.answer }
@@ -229,7 +270,7 @@ pub fn shuffle(stream: &mut GroupStream, items: &mut [usize]) -> u8
 
 /// Shuffles the items as the crate `nanorand` 0.7.0 does: see `shuffles::shuffle_full`. Returns the
 /// status 0 or 2, as `shuffle` does.
-pub fn shuffle_full(stream: &mut GroupStream, items: &mut [usize]) -> u8
+pub fn shuffle_full(stream: &mut GroupStream, items: &mut [usize]) -> Status
     ensures status { let start = groups_at stream.old in
         let shuffle = shuffled by_groups from_all start items.old in
         result ≡ status shuffle.answer }
@@ -251,10 +292,39 @@ pub fn shuffle_full(stream: &mut GroupStream, items: &mut [usize]) -> u8
     status
 }
 
+/// Shuffles items of any type, which are given as the bytes that they are in memory: items of
+/// `size` bytes each, one after another. Bytes at the end that are fewer than `size` are no item,
+/// and stay. The items are shuffled as `shuffle` shuffles as many numbers, by the same draws.
+/// Returns the status 0 or 2; after 2, the swaps that were made stay. If `size` is 0, there is no
+/// item, and nothing is drawn.
+pub fn shuffle_items(stream: &mut GroupStream, items: &mut [u8], size: usize) -> Status
+    ensures status { let before = items_of size items.old in
+        let shuffle = shuffled by_groups from_itself (groups_at stream.old) before in
+        result ≡ status shuffle.answer }
+    ensures items { let before = items_of size items.old in
+        let shuffle = shuffled by_groups from_itself (groups_at stream.old) before in
+        items_of size items.new ≡ shuffle.items }
+    ensures rest { let whole = length items.old / size * size in
+        drop whole items.new ≡ drop whole items.old }
+    ensures state { let before = items_of size items.old in
+        let shuffle = shuffled by_groups from_itself (groups_at stream.old) before in
+        groups_at stream.new ≡ shuffle.state }
+    ensures words { let start = groups_at stream.old in
+        let after = λ (n : ℕ). after_words by_groups 64 n start in
+        IsAfterAtMost (128 * length (items_of size items.old)) after (groups_at stream.new) }
+    ensures arrangement { IsPermutation (items_of size items.old) (items_of size items.new) }
+    ensures buffered { stream.new.buffered < 512 }
+{
+    let mut rng = loaded(stream);
+    let status = calls::shuffle_items(&mut rng, items, size);
+    store(stream, &rng);
+    status
+}
+
 /// Draws a sample as `samples::sample` does: different numbers below `count`, one into each place.
 /// Returns the status 0, 1 or 2. The status is 1, and nothing is drawn, if there are more places
 /// than numbers.
-pub fn sample(stream: &mut GroupStream, count: usize, places: &mut [usize]) -> u8
+pub fn sample(stream: &mut GroupStream, count: usize, places: &mut [usize]) -> Status
     ensures status { let start = groups_at stream.old in
         let sampling = sampling by_groups count start places.old in
         result ≡ sampling.status }
@@ -285,7 +355,7 @@ pub fn extend_sample(
     places: &mut [usize],
     filled: usize,
     table: &mut [usize],
-) -> u8
+) -> Status
     ensures status { let start = groups_at stream.old in
         let sampling = extending by_groups count start places.old filled in
         result ≡ sampling.status }
@@ -311,7 +381,7 @@ pub fn extend_sample(
 
 /// Moves to the beginning of part `index` of parts of `draws` draws each. Returns the status 0, or
 /// 3 if the part ends past the period; the generator does not move then.
-pub fn part(stream: &mut GroupStream, index: u64, draws: u64) -> u8
+pub fn part(stream: &mut GroupStream, index: u64, draws: u64) -> Status
     ensures status { let start = groups_at stream.old in
         result ≡ (parting by_groups (2 ^ 67) draws index start).0 }
     ensures state { let start = groups_at stream.old in

@@ -9,8 +9,11 @@
 
 pub mod calls;
 pub mod chacha;
+mod first_word;
+mod items;
 pub mod keystream;
 pub mod pcg64;
-mod status;
+pub mod status;
 pub mod stream;
 pub mod wide;
+pub mod wyrand;

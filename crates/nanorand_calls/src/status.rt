@@ -4,8 +4,11 @@ ghost use Rattle.nanorand_calls.specs.Status.{drawn_or, status};
 
 use nanorand::RangeError;
 
+/// The status of a call: 0, or the reason why it failed, such as 1 or 2.
+pub type Status = u32;
+
 // Returns 0 on success, 1 if the range is empty, and 2 if 128 words in a row were rejected.
-pub(crate) fn status<T>(outcome: &Result<T, RangeError>) -> u8
+pub(crate) fn status<T>(outcome: &Result<T, RangeError>) -> Status
     ensures { result ≡ status outcome.now }
 {
     match outcome {
@@ -16,7 +19,7 @@ pub(crate) fn status<T>(outcome: &Result<T, RangeError>) -> u8
 }
 
 // Writes the number if one was drawn, and returns the status.
-pub(crate) fn hand_over<T: Copy>(outcome: &Result<T, RangeError>, number: &mut T) -> u8
+pub(crate) fn hand_over<T: Copy>(outcome: &Result<T, RangeError>, number: &mut T) -> Status
     ensures status { result ≡ status outcome.now }
     ensures number { number.new ≡ drawn_or number.old outcome.now }
     ensures drawn { result ≡ 0 → outcome.now ≡ Ok number.new }

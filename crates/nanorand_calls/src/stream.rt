@@ -1,6 +1,7 @@
 //! The keystream of ChaCha with 20 rounds as one unbroken stream: a generator that buffers the
 //! bytes that a request leaves over.
-ghost use Rattle.std.specs.Prelude.{◌≡◌, ◌≢◌, ◌<◌, ◌≤◌, ◌≤ℤ◌, ◌*◌, ◌+◌, ◌-◌, All, IsPermutation, length, ℕ, take};
+ghost use Rattle.std.specs.Prelude.{◌≡◌, ◌≢◌, ◌<◌, ◌≤◌, ◌≤ℤ◌, ◌*◌, ◌/◌, ◌+◌, ◌-◌, All, IsPermutation, drop, length, ℕ, take};
+ghost use Rattle.std.specs.Float.{◌≤ᶠ◌, ◌<ᶠ◌, float_one, float_zero};
 ghost use Rattle.std.specs.List.{AllPairs};
 ghost use Rattle.nanorand_core.specs.values.Draws.{after_words};
 ghost use Rattle.nanorand_core.specs.shuffles.Shuffles.{from_all, from_itself, shuffled};
@@ -8,7 +9,9 @@ ghost use Rattle.nanorand_core.specs.values.Values.{number_of};
 ghost use Rattle.nanorand.specs.generators.ChaCha.{seeded_state};
 ghost use Rattle.nanorand.specs.generators.SplitMix.{seed_from};
 ghost use Rattle.nanorand_calls.specs.Between.{between, between_signed};
+ghost use Rattle.nanorand_calls.specs.Fractions.{IsFractionOf};
 ghost use Rattle.nanorand_calls.specs.ChaChaStates.{fresh_stream, stream_at, stream_requests};
+ghost use Rattle.nanorand_calls.specs.Items.{items_of};
 ghost use Rattle.nanorand_core.specs.samples.Samples.{DifferentBelow};
 ghost use Rattle.nanorand_calls.specs.Sampling.{extending, sampling};
 ghost use Rattle.nanorand_calls.specs.Status.{drawn_or, status};
@@ -16,6 +19,7 @@ ghost use Rattle.nanorand_calls.specs.Words.{IsAfterAtMost};
 
 use crate::calls;
 use crate::chacha::{self, ChaChaState};
+use crate::status::Status;
 use nanorand::{BufferedRng, ChaCha20, Rng};
 
 /// A stream: the state of its ChaCha, and a block whose last `buffered` bytes are delivered first.
@@ -83,9 +87,45 @@ pub fn fill_bytes(stream: &mut Stream, buffer: &mut [u8])
     store(stream, &rng);
 }
 
+/// Draws a number in [0, 1): the top 53 bits of a 64-bit word as a fraction, floor(word / 2^11) /
+/// 2^53. The word is the next 8 bytes, in little-endian order.
+pub fn float(stream: &mut Stream) -> f64
+    ensures value { let word = number_of (stream_requests.bytes (stream_at stream.old) 8) in
+        IsFractionOf word result }
+    ensures within { (float_zero ≤ᶠ result) × (result <ᶠ float_one) }
+    ensures state { stream_at stream.new ≡ stream_requests.after (stream_at stream.old) 8 }
+    ensures buffered { stream.new.buffered < 64 }
+{
+    let mut rng = loaded(stream);
+    let number = calls::float(&mut rng);
+    store(stream, &rng);
+    number
+}
+
+/// Draws a number below `n`, by rejection sampling of 64-bit words, and returns the number itself.
+/// If `n` is 0, the function returns 0 and draws nothing. If 128 words in a row were rejected, it
+/// returns `n`; the words stay consumed. The probability of that is below 2^-128.
+pub fn below(stream: &mut Stream, n: u64) -> u64
+    ensures zero { n ≡ 0 → (result ≡ 0) × (stream_at stream.new ≡ stream_at stream.old) }
+    ensures number { let draw = between stream_requests 64 0 (n - 1) (stream_at stream.old) in
+        n ≢ 0 → result ≡ drawn_or n draw.0 }
+    ensures within { result ≤ n }
+    ensures state { let draw = between stream_requests 64 0 (n - 1) (stream_at stream.old) in
+        n ≢ 0 → stream_at stream.new ≡ draw.1 }
+    ensures words { let start = stream_at stream.old in
+        let after = λ (k : ℕ). after_words stream_requests 64 k start in
+        IsAfterAtMost 128 after (stream_at stream.new) }
+    ensures buffered { stream.new.buffered < 64 }
+{
+    let mut rng = loaded(stream);
+    let number = calls::below(&mut rng, n);
+    store(stream, &rng);
+    number
+}
+
 /// Draws a number from `first..=last`, by rejection sampling of 32-bit words. Returns the status 0,
 /// 1 or 2, and writes `number` only if the status is 0.
-pub fn range_u32(stream: &mut Stream, first: u32, last: u32, number: &mut u32) -> u8
+pub fn range_u32(stream: &mut Stream, first: u32, last: u32, number: &mut u32) -> Status
     ensures status { let draw = between stream_requests 32 first last (stream_at stream.old) in
         result ≡ status draw.0 }
     ensures number { let draw = between stream_requests 32 first last (stream_at stream.old) in
@@ -105,7 +145,7 @@ pub fn range_u32(stream: &mut Stream, first: u32, last: u32, number: &mut u32) -
 }
 
 /// Draws a number from `first..=last` as `range_u32` does, but by 64-bit words.
-pub fn range_u64(stream: &mut Stream, first: u64, last: u64, number: &mut u64) -> u8
+pub fn range_u64(stream: &mut Stream, first: u64, last: u64, number: &mut u64) -> Status
     ensures status { let draw = between stream_requests 64 first last (stream_at stream.old) in
         result ≡ status draw.0 }
     ensures number { let draw = between stream_requests 64 first last (stream_at stream.old) in
@@ -125,7 +165,7 @@ pub fn range_u64(stream: &mut Stream, first: u64, last: u64, number: &mut u64) -
 }
 
 /// Draws a signed number from `first..=last` as `range_u32` does, but by 64-bit words.
-pub fn range_i64(stream: &mut Stream, first: i64, last: i64, number: &mut i64) -> u8
+pub fn range_i64(stream: &mut Stream, first: i64, last: i64, number: &mut i64) -> Status
     ensures status { let start = stream_at stream.old in
         let draw = between_signed stream_requests 64 first last start in
         result ≡ status draw.0 }
@@ -148,7 +188,7 @@ pub fn range_i64(stream: &mut Stream, first: i64, last: i64, number: &mut i64) -
 }
 
 /// Draws an index or a length from `first..=last` as `range_u32` does, but by 64-bit words.
-pub fn range_usize(stream: &mut Stream, first: usize, last: usize, number: &mut usize) -> u8
+pub fn range_usize(stream: &mut Stream, first: usize, last: usize, number: &mut usize) -> Status
     ensures status { let draw = between stream_requests 64 first last (stream_at stream.old) in
         result ≡ status draw.0 }
     ensures number { let draw = between stream_requests 64 first last (stream_at stream.old) in
@@ -169,7 +209,7 @@ pub fn range_usize(stream: &mut Stream, first: usize, last: usize, number: &mut 
 
 /// Shuffles the items as `Rng::shuffle` does. Returns the status 0 or 2; after 2, the swaps that
 /// were made stay.
-pub fn shuffle(stream: &mut Stream, items: &mut [usize]) -> u8
+pub fn shuffle(stream: &mut Stream, items: &mut [usize]) -> Status
     ensures status { let start = stream_at stream.old in
         let shuffle = shuffled stream_requests from_itself start items.old in
         result ≡ status shuffle.answer }
@@ -193,7 +233,7 @@ pub fn shuffle(stream: &mut Stream, items: &mut [usize]) -> u8
 
 /// Shuffles the items as the crate `nanorand` 0.7.0 does: see `shuffles::shuffle_full`. Returns the
 /// status 0 or 2, as `shuffle` does.
-pub fn shuffle_full(stream: &mut Stream, items: &mut [usize]) -> u8
+pub fn shuffle_full(stream: &mut Stream, items: &mut [usize]) -> Status
     ensures status { let start = stream_at stream.old in
         let shuffle = shuffled stream_requests from_all start items.old in
         result ≡ status shuffle.answer }
@@ -215,10 +255,39 @@ pub fn shuffle_full(stream: &mut Stream, items: &mut [usize]) -> u8
     status
 }
 
+/// Shuffles items of any type, which are given as the bytes that they are in memory: items of
+/// `size` bytes each, one after another. Bytes at the end that are fewer than `size` are no item,
+/// and stay. The items are shuffled as `shuffle` shuffles as many numbers, by the same draws.
+/// Returns the status 0 or 2; after 2, the swaps that were made stay. If `size` is 0, there is no
+/// item, and nothing is drawn.
+pub fn shuffle_items(stream: &mut Stream, items: &mut [u8], size: usize) -> Status
+    ensures status { let before = items_of size items.old in
+        let shuffle = shuffled stream_requests from_itself (stream_at stream.old) before in
+        result ≡ status shuffle.answer }
+    ensures items { let before = items_of size items.old in
+        let shuffle = shuffled stream_requests from_itself (stream_at stream.old) before in
+        items_of size items.new ≡ shuffle.items }
+    ensures rest { let whole = length items.old / size * size in
+        drop whole items.new ≡ drop whole items.old }
+    ensures state { let before = items_of size items.old in
+        let shuffle = shuffled stream_requests from_itself (stream_at stream.old) before in
+        stream_at stream.new ≡ shuffle.state }
+    ensures words { let start = stream_at stream.old in
+        let after = λ (n : ℕ). after_words stream_requests 64 n start in
+        IsAfterAtMost (128 * length (items_of size items.old)) after (stream_at stream.new) }
+    ensures arrangement { IsPermutation (items_of size items.old) (items_of size items.new) }
+    ensures buffered { stream.new.buffered < 64 }
+{
+    let mut rng = loaded(stream);
+    let status = calls::shuffle_items(&mut rng, items, size);
+    store(stream, &rng);
+    status
+}
+
 /// Draws a sample as `samples::sample` does: different numbers below `count`, one into each place.
 /// Returns the status 0, 1 or 2. The status is 1, and nothing is drawn, if there are more places
 /// than numbers.
-pub fn sample(stream: &mut Stream, count: usize, places: &mut [usize]) -> u8
+pub fn sample(stream: &mut Stream, count: usize, places: &mut [usize]) -> Status
     ensures status { let start = stream_at stream.old in
         let sampling = sampling stream_requests count start places.old in
         result ≡ sampling.status }
@@ -249,7 +318,7 @@ pub fn extend_sample(
     places: &mut [usize],
     filled: usize,
     table: &mut [usize],
-) -> u8
+) -> Status
     ensures status { let start = stream_at stream.old in
         let sampling = extending stream_requests count start places.old filled in
         result ≡ sampling.status }
