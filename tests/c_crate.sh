@@ -19,11 +19,21 @@ laid_out_as_in_c() {
         src/*.rs | grep .
 }
 
+# The functions that the header declares.
+declared() {
+    sed -n 's/^#define nanorand_.* \(nanorand_v1_\)/\1/p' ../../c/include/nanorand.h | sort
+}
+
 # The shared library that cargo links exports the header's functions and no others.
 exports_the_header() {
     cargo build --offline --release &&
-        diff <(nm -D --defined-only target/release/libnanorand.so | awk '{ print $3 }' | sort) \
-            <(sed -n 's/^#define nanorand_.* \(nanorand_v1_\)/\1/p' ../../c/include/nanorand.h | sort)
+        diff <(nm -D --defined-only target/release/libnanorand.so | awk '{ print $3 }' | sort) <(declared)
+}
+
+# The same for the archive that c/install builds with the oldest compiler.
+oldest_exports_the_header() {
+    RUSTC=$oldest_bin/rustc PREFIX=$PWD/target/oldest/installed ../../c/install &&
+        diff <(nm -g --defined-only target/oldest/installed/lib/libnanorand.a | awk 'NF == 3 { print $3 }' | sort) <(declared)
 }
 
 step cargo test --offline
@@ -34,7 +44,7 @@ step exports_the_header
 step runs_on_every_processor target/release/libnanorand.so
 if is_version "$oldest" "$oldest_bin/rustc"; then
     step env RUSTC="$oldest_bin/rustc" "$oldest_bin/cargo" test --offline --target-dir target/oldest
-    step env RUSTC="$oldest_bin/rustc" PREFIX="$PWD/target/oldest/installed" ../../c/install
+    step oldest_exports_the_header
 else
     skip "the C library by rustc $oldest, the oldest that Cargo.toml names" "$oldest_bin has none"
 fi

@@ -185,11 +185,25 @@ path_without_kit() {
     (IFS=: && printf '%s\n' "${kept[*]}")
 }
 
-# Whether a library runs on every x86-64 processor: it has no AVX instructions, and none that x86-64-v2 and v3 add for
-# bytes, counts, products and shifts. Prints the first one that it has.
+# Whether a library runs on every x86-64 processor: AVX instructions, and those that x86-64-v2 and v3 add for bytes,
+# counts, products and shifts, are only in the functions for AVX2, which the library calls after it has asked the
+# processor: `with_avx2` for three numbers of rounds, and `next_with_avx2`. Prints the functions that have some.
+#
+# In a file without names, a function begins where a `call` leads, and only the number of such functions is compared. It
+# is $2, by default 4; what is linked from several objects may have a function twice.
 runs_on_every_processor() {
-    local later='\<(v[a-z0-9]+ .*%[xyz]mm|pshufb|p(ins|ext)r[bdq]|popcnt|mulx|rorx|andn|s[ahl][lr]x)\>'
-    objdump -d --no-show-raw-insn "$1" >"$work/code" && ! grep -m 1 -E "$later" "$work/code"
+    local later='\<v[a-z0-9]+ .*%[xyz]mm[0-9]|\<(vzeroupper|pshufb|p(ins|ext)r[bdq]|popcnt|mulx|rorx|andn|s[ahl][lr]x)\>'
+    local named='<.*avx2.*with_avx2.*>:$'
+    objdump -d --no-show-raw-insn "$1" >"$work/code" || return
+    if grep -q "$named" "$work/code"; then
+        grep -E "^[0-9a-f]+ <.*>:\$|$later" "$work/code" | awk '/>:$/ { name = $2; next } { print name }'
+    else
+        { sed -nE 's/.*\tcall +([0-9a-f]+)( .*)?$/\1 begins/p' "$work/code"
+            grep -E "$later" "$work/code" | sed -E 's/^ *([0-9a-f]+):.*/\1 later/'; } |
+            awk '{ printf "%16s %s\n", $1, $2 }' | sort |
+            awk '$2 == "begins" { name = $1 } $2 == "later" { print name }'
+    fi | sort -u | tee "$work/later"
+    [ "$(wc -l <"$work/later")" -eq "${2:-4}" ] && { ! grep -q "$named" "$work/code" || ! grep -v "$named" "$work/later"; }
 }
 
 # Whether the version of the command $2 is $1 and any patch number, such as 1.63.0 for 1.63.

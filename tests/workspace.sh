@@ -211,10 +211,18 @@ rm -rf "$coverage/profiles"
 covered "$coverage" --workspace --lib --bins --tests
 covered "$coverage" --release -p nanorand-proved --no-default-features --lib --test chacha_lanes
 sources=(rust/{nanorand-program,lots,draw}/src)
-if grep -qw avx2 /proc/cpuinfo 2>/dev/null; then
-    sources+=("$library/src")
-else
+# Without std, the file with vectors asks the processor itself. Its tests compare the answer with that of std, on
+# processors with AVX2, without it, without AVX, and on one whose system does not save the vectors of AVX.
+if ! grep -qw avx2 /proc/cpuinfo 2>/dev/null; then
     skip 'whether tests run all code of the library' 'this processor has no AVX2'
+elif ! available qemu-x86_64 qemu-user; then
+    skip 'processors without AVX2, and whether tests run all code of the library' 'there is no qemu-x86_64'
+else
+    sources+=("$library/src")
+    for processor in max max,-avx2 max,-avx max,-xsave Nehalem; do
+        NANORAND_STATES=200 covered "$coverage" --release -p nanorand-proved --no-default-features --lib \
+            --config "target.\"cfg(all())\".runner=[\"qemu-x86_64\", \"-cpu\", \"$processor\"]" -- simd::
+    done
 fi
 all_covered "$coverage" "${sources[@]}"
 cargo_tests cargo test --offline --workspace --doc

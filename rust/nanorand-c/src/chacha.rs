@@ -12,14 +12,19 @@ pub struct ChaChaState<const ROUNDS: u8> {
 }
 
 impl<const ROUNDS: u8> ChaChaState<ROUNDS> {
+    /// Returns the state of this key and nonce, at its first block.
+    pub fn new_key(key: [u8; 32], nonce: [u8; 8]) -> Self {
+        ChaChaState {
+            key,
+            nonce,
+            counter: 0,
+        }
+    }
+
     /// Returns the state that is made from a number, at its first block.
     pub fn seed_from_u64(number: u64) -> Self {
         let rng = ChaCha::<ROUNDS>::seed_from_u64(number);
-        ChaChaState {
-            key: rng.key(),
-            nonce: rng.nonce(),
-            counter: 0,
-        }
+        ChaChaState::new_key(rng.key(), rng.nonce())
     }
 }
 
@@ -41,6 +46,12 @@ export_calls!("chacha20", ChaChaState<20>);
 export_part!("chacha8", ChaChaState<8>);
 export_part!("chacha12", ChaChaState<12>);
 export_part!("chacha20", ChaChaState<20>);
+
+/// The three numbers of rounds share one struct in C, and so this function.
+#[no_mangle]
+extern "C" fn nanorand_v1_chacha_new_key(key: &[u8; 32], nonce: &[u8; 8]) -> ChaChaState<20> {
+    ChaChaState::new_key(*key, *nonce)
+}
 
 #[no_mangle]
 extern "C" fn nanorand_v1_chacha8_seed_from_u64(state: &mut ChaChaState<8>, number: u64) {
@@ -70,4 +81,12 @@ extern "C" fn nanorand_v1_chacha12_block(state: &mut ChaChaState<12>, out: &mut 
 #[no_mangle]
 extern "C" fn nanorand_v1_chacha20_block(state: &mut ChaChaState<20>, out: &mut [u8; 64]) {
     *out = state.call(Rng::rand);
+}
+
+#[test]
+fn a_new_key_begins_with_its_first_block() {
+    let mut state = nanorand_v1_chacha_new_key(&[1; 32], &[2; 8]);
+    assert_eq!(state.counter, 0);
+    let block = ChaCha::<20>::new_key([1; 32], [2; 8]).rand();
+    assert_eq!(state.call(Rng::rand), block);
 }

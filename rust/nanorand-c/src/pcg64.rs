@@ -22,6 +22,11 @@ impl Wide {
             high: (number >> 64) as u64,
         }
     }
+
+    /// Returns the seed that is made from a number.
+    pub fn seed_from_u64(number: u64) -> Wide {
+        Wide::split(Pcg64::seed_from_u64(number).seed())
+    }
 }
 
 impl State<8> for Wide {
@@ -39,8 +44,13 @@ export_calls!("pcg64", Wide);
 export_part!("pcg64", Wide);
 
 #[no_mangle]
+extern "C" fn nanorand_v1_pcg64_new_seed(low: u64, high: u64) -> Wide {
+    Wide { low, high }
+}
+
+#[no_mangle]
 extern "C" fn nanorand_v1_pcg64_seed_from_u64(seed: &mut Wide, number: u64) {
-    *seed = Wide::split(Pcg64::seed_from_u64(number).seed());
+    *seed = Wide::seed_from_u64(number);
 }
 
 #[no_mangle]
@@ -51,7 +61,7 @@ extern "C" fn nanorand_v1_pcg64_jump(seed: &mut Wide, draws: &Wide) {
 /// Returns `NANORAND_OK`, or `NANORAND_OTHER_CYCLE` if no number of draws leads to the other seed;
 /// `draws` is unchanged then.
 #[no_mangle]
-extern "C" fn nanorand_v1_pcg64_distance(seed: &Wide, other: &Wide, draws: &mut Wide) -> u8 {
+extern "C" fn nanorand_v1_pcg64_distance(seed: &Wide, other: &Wide, draws: &mut Wide) -> u32 {
     match Pcg64::new_seed(seed.joined()).distance(&Pcg64::new_seed(other.joined())) {
         Some(number) => {
             *draws = Wide::split(number);
@@ -59,4 +69,10 @@ extern "C" fn nanorand_v1_pcg64_distance(seed: &Wide, other: &Wide, draws: &mut 
         }
         None => 4,
     }
+}
+
+#[test]
+fn a_new_seed_has_these_halves() {
+    let seed = nanorand_v1_pcg64_new_seed(1, 2);
+    assert_eq!((seed.low, seed.high, seed.joined()), (1, 2, (2 << 64) | 1));
 }

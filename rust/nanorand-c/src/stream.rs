@@ -29,6 +29,17 @@ pub struct Gapless<C, const OUTPUT: usize> {
     buffered: u64,
 }
 
+impl<C, const OUTPUT: usize> Gapless<C, OUTPUT> {
+    /// Returns the stream of this generator, with no bytes buffered.
+    fn new(chacha: C) -> Self {
+        Gapless {
+            chacha,
+            block: [0; OUTPUT],
+            buffered: 0,
+        }
+    }
+}
+
 impl<C: State<OUTPUT>, const OUTPUT: usize> Gapless<C, OUTPUT> {
     /// Returns where the buffered bytes begin. They are always fewer than a block.
     #[allow(clippy::cast_possible_truncation)]
@@ -107,6 +118,16 @@ impl Parts<512> for GroupStream {
 }
 
 #[no_mangle]
+extern "C" fn nanorand_v1_stream_new_key(key: &[u8; 32], nonce: &[u8; 8]) -> Stream {
+    Gapless::new(ChaChaState::new_key(*key, *nonce))
+}
+
+#[no_mangle]
+extern "C" fn nanorand_v1_keystream_new_key(key: &[u8; 32], nonce: &[u8; 8]) -> GroupStream {
+    Gapless::new(Groups(ChaChaState::new_key(*key, *nonce)))
+}
+
+#[no_mangle]
 extern "C" fn nanorand_v1_stream_seed_from_u64(stream: &mut Stream, number: u64) {
     stream.chacha = ChaChaState::seed_from_u64(number);
     stream.buffered = 0;
@@ -122,20 +143,40 @@ export_calls!("stream", Stream);
 export_calls!("keystream", GroupStream);
 export_part!("keystream", GroupStream);
 
-#[test]
-fn a_block_is_the_next_bytes() {
-    let stream = || Stream {
-        chacha: ChaChaState {
-            key: [1; 32],
-            nonce: [2; 8],
-            counter: 3,
-        },
-        block: [0; 64],
-        buffered: 0,
-    };
-    let (mut rng, mut bytes) = (stream(), [0; 70]);
-    stream().fill_bytes(&mut bytes);
-    rng.fill_bytes(&mut [0; 5]);
-    assert_eq!(rng.rand(), bytes[5..69]);
-    assert_eq!(rng.generate::<u8>(), bytes[69]);
+#[cfg(test)]
+mod tests {
+    use super::*;
+    use crate::calls;
+
+    #[test]
+    fn a_block_is_the_next_bytes() {
+        let stream = || Stream::new(ChaChaState::new_key([1; 32], [2; 8]));
+        let (mut rng, mut bytes) = (stream(), [0; 70]);
+        stream().fill_bytes(&mut bytes);
+        rng.fill_bytes(&mut [0; 5]);
+        assert_eq!(rng.rand(), bytes[5..69]);
+        assert_eq!(rng.generate::<u8>(), bytes[69]);
+    }
+
+    #[test]
+    fn new_streams_begin_with_the_first_byte() {
+        let (key, nonce) = ([1; 32], [2; 8]);
+        let mut bytes = [[0; 600]; 3];
+        nanorand_v1_stream_new_key(&key, &nonce).fill_bytes(&mut bytes[0]);
+        nanorand_v1_keystream_new_key(&key, &nonce).fill_bytes(&mut bytes[1]);
+        ChaCha20Stream::new_key(key, nonce).fill_bytes(&mut bytes[2]);
+        assert!(bytes[0] == bytes[2] && bytes[1] == bytes[2]);
+    }
+
+    #[test]
+    fn a_count_above_the_greatest_is_clamped_even_if_nothing_is_drawn() {
+        let stream = || Stream {
+            buffered: 64,
+            ..Stream::new(ChaChaState::new_key([1; 32], [2; 8]))
+        };
+        let (mut one, mut other, mut number) = (stream(), stream(), 0_u64);
+        assert_eq!(calls::below(&mut one, 0), 0);
+        assert_eq!(calls::range(&mut other, 2, 1, &mut number), 1);
+        assert_eq!((one.buffered, other.buffered), (63, 63));
+    }
 }

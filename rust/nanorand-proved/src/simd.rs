@@ -4,7 +4,7 @@
 //! Vectors of four words use SSE2 on x86-64, NEON on little-endian `AArch64`, and scalar code
 //! elsewhere. Every processor of these targets has SSE2 or NEON, so nothing is detected at run
 //! time. Vectors of eight words use AVX2, and are available only if the processor has it:
-//! [`EightLanes::find`] detects it. The results are the same everywhere; the tests compare them
+//! [`EightLanes::find`] detects it, with and without std. The results are the same everywhere; the tests compare them
 //! with scalar code.
 //!
 //! This is one of the two files with unsafe code; `system.rs` is the other.
@@ -232,8 +232,9 @@ impl BitXor for U32x8 {
 // Only the methods of `EightLanes` and `U32x8` call them, and a value of these types exists only on
 // such a processor:
 // - The fields of both types are private to this file. `EightLanes::find` alone makes an
-//   `EightLanes`, and only if `is_here` returned true: the processor was asked, or the program was
-//   compiled for processors with AVX2. The features of a processor do not change.
+//   `EightLanes`, and only if `is_here` returned true: the processor was asked, by std or by the
+//   module `processor`, or the program was compiled for processors with AVX2. The features of a
+//   processor do not change.
 // - `EightLanes::vector` alone makes a `U32x8` from words. The other functions that return one have
 //   been given one.
 #[cfg(all(target_arch = "x86_64", target_feature = "sse2"))]
@@ -272,11 +273,11 @@ mod avx2 {
         std::is_x86_feature_detected!("avx2")
     }
 
-    // Without std, the features of the processor cannot be detected.
+    // Without std, this file asks the processor itself.
     #[cfg(not(feature = "std"))]
     #[inline]
     pub(super) fn is_here() -> bool {
-        cfg!(target_feature = "avx2")
+        cfg!(target_feature = "avx2") || super::processor::has_avx2()
     }
 
     #[inline(always)]
@@ -374,6 +375,65 @@ mod avx2 {
             let right = _mm256_srl_epi32(words, _mm_cvtsi64_si128(i64::from(32 - bits)));
             _mm256_or_si256(left, right)
         }
+    }
+}
+
+// Asks the processor for AVX2, as `is_x86_feature_detected!` does, which only std has. The answer is
+// kept, since the question takes hundreds of nanoseconds or, in a virtual machine, microseconds.
+#[cfg(all(
+    any(test, not(feature = "std")),
+    target_arch = "x86_64",
+    target_feature = "sse2"
+))]
+mod processor {
+    #[cfg(not(any(miri, target_env = "sgx")))]
+    use core::arch::x86_64::{__cpuid, __cpuid_count, _xgetbv};
+    use core::sync::atomic::{AtomicU8, Ordering};
+
+    const NOT_ASKED: u8 = 0;
+    const ABSENT: u8 = 1;
+    const PRESENT: u8 = 2;
+
+    // Threads that ask at the same time get the same answer and store it twice. Nothing else depends
+    // on it, so the order of the stores does not matter.
+    static AVX2: AtomicU8 = AtomicU8::new(NOT_ASKED);
+
+    #[inline]
+    pub(super) fn has_avx2() -> bool {
+        let mut known = AVX2.load(Ordering::Relaxed);
+        if known == NOT_ASKED {
+            known = [ABSENT, PRESENT][usize::from(asked())];
+            AVX2.store(known, Ordering::Relaxed);
+        }
+        known == PRESENT
+    }
+
+    // Leaf 0 of `cpuid` returns the number of the last leaf. Bits 27 and 28 of `ecx` in leaf 1 say that
+    // the system has turned on `xgetbv` and that the processor has AVX. Bits 1 and 2 of register 0 of
+    // `xgetbv` say that the system saves the vectors of 16 and of 32 bytes when it switches threads.
+    // Bit 5 of `ebx` in leaf 7 says that the processor has AVX2.
+    #[cfg(not(any(miri, target_env = "sgx")))]
+    #[cold]
+    pub(super) fn asked() -> bool {
+        const XGETBV_AND_AVX: u32 = 1 << 27 | 1 << 28;
+        const SAVED: u64 = 1 << 1 | 1 << 2;
+        const AVX2: u32 = 1 << 5;
+        // SAFETY: `__cpuid` and `__cpuid_count` need a processor that has the instruction `cpuid`; every
+        // x86-64 processor has it, and programs may use it except in SGX, for which this function is
+        // not compiled. `_xgetbv` needs that the system has turned it on; it is called only after bit
+        // 27 of leaf 1 said so. Register 0 always exists.
+        unsafe {
+            __cpuid(0).eax >= 7
+                && __cpuid(1).ecx & XGETBV_AND_AVX == XGETBV_AND_AVX
+                && _xgetbv(0) & SAVED == SAVED
+                && __cpuid_count(7, 0).ebx & AVX2 == AVX2
+        }
+    }
+
+    // Miri and SGX do not have `cpuid`.
+    #[cfg(any(miri, target_env = "sgx"))]
+    pub(super) fn asked() -> bool {
+        false
     }
 }
 
@@ -843,10 +903,12 @@ mod tests {
     // Runs only if the processor has AVX2. Without it, nothing calls these operations.
     #[test]
     fn eight_words_are_plain_words() {
-        let lanes = match EightLanes::find() {
-            Some(lanes) => lanes,
-            None => return,
-        };
+        if let Some(lanes) = EightLanes::find() {
+            operations_on_eight_are_those_of_plain_words(lanes);
+        }
+    }
+
+    fn operations_on_eight_are_those_of_plain_words(lanes: EightLanes) {
         for_eight(|a, b| {
             let (x, y) = (lanes.vector(a), lanes.vector(b));
             assert_eq!(x.to_array(), a);
@@ -891,12 +953,16 @@ mod tests {
         }
     }
 
-    // Without std, nothing is detected at run time, so the target decides.
-    #[cfg(not(feature = "std"))]
+    // Without std, this file finds what std would find.
+    #[cfg(all(target_arch = "x86_64", target_feature = "sse2", not(miri)))]
     #[test]
-    fn leave_of_the_target_alone() {
-        let target = cfg!(target_feature = "avx2");
-        assert_eq!(EightLanes::find().is_some(), target);
+    fn the_processor_answers_as_to_std() {
+        use super::processor::{asked, has_avx2};
+        extern crate std;
+        let here = std::is_x86_feature_detected!("avx2");
+        assert_eq!(asked(), here);
+        assert_eq!((has_avx2(), has_avx2()), (here, here));
+        assert_eq!(EightLanes::find().is_some(), here);
     }
 
     #[test]
