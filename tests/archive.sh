@@ -80,7 +80,7 @@ table_of_files() {
 sources() {
     local pair
     for pair in c/include/nanorand.h:include/nanorand.h tests/answers/answers.tsv:answers/answers.tsv LICENSE:LICENSE \
-        c/examples/deck.c:c/deck.c \
+        c/include/nanorand.hpp:include/nanorand.hpp c/examples/deck.c:c/deck.c c/examples/shuffle.cpp:c/shuffle.cpp \
         crates/nanorand_c/out/libnanorand_c.a:lib/libnanorand.a web/dist/nanorand.html:web/nanorand.html; do
         check "${pair#*:}" "$(cmp "${pair%%:*}" "$root/${pair#*:}" 2>&1)"
     done

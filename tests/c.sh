@@ -8,16 +8,19 @@
 #
 # The header must declare the exports and the archives' symbols. With four compilers, and warnings as errors, the header
 # compiles alone and warns of mistakes, and structs have the declared layout in memory. The table of known answers, the
-# edge cases and the examples are compiled once and linked with both libraries. Then come two releases in one program,
-# what c/install installs, the crate of the exports, and a check that the tests run all its code. The last line is N
-# passed, M failed.
+# edge cases, the classes of C++ and the examples are compiled once and linked with both libraries. Then come two
+# releases in one program, what c/install installs, the crate of the exports, and a check that the tests run all its
+# code. The last line is N passed, M failed.
 # shellcheck source=tests/lib.sh
 source "$(dirname "${BASH_SOURCE[0]}")/lib.sh"
 # The static library that each of cargo and kit built.
 declare -A archives=()
 warnings=(-Wall -Wextra -pedantic -Werror)
 # Each compiler and the standards to test. All tests use the first standard, some use the others.
-standards=('gcc c99 c11 c17' 'clang c99 c11 c17' 'g++ c++11 c++17' 'clang++ c++11 c++17')
+standards=('gcc c99 c11 c17' 'clang c99 c11 c17' 'g++ c++11 c++17 c++20' 'clang++ c++11 c++17 c++20')
+# The standards of nanorand.hpp, and the warnings that it is free of.
+class_standards=(c++17 c++20 c++2b)
+class_warnings=(-Wshadow -Wconversion -Wsign-conversion -Wold-style-cast)
 sanitizers=(-g '-fsanitize=address,undefined' -fno-sanitize-recover=all)
 
 # Builds and installs the library with rustc and cc.
@@ -42,13 +45,16 @@ by_the_kit() {
     fi
 }
 
+# How compilers find the header. In a system folder, as below /usr/local, gcc reports nothing about macros.
+included=-I
+
 # Compiles with the compiler and the standard in $1, such as 'gcc c99'. The rest are files and flags.
 compile() {
     local words=$1 language=c
     shift
     set -- "${words#* }" "$@"
     [[ $1 == c++* ]] && language=c++
-    "${words%% *}" -x "$language" "-std=$1" "${warnings[@]}" "${@:2}" -Ic/include -Ic/tests \
+    "${words%% *}" -x "$language" "-std=$1" "${warnings[@]}" "${@:2}" "$included" c/include -Ic/tests \
         2>"$work/errors"
 }
 
@@ -76,10 +82,10 @@ tests_of() {
     done
 }
 
-# The program of the source $2, built as $1 says, prints the content of the file $3.
+# The program of the source $2, built as $1 says with the flags from $4 on, prints the content of the file $3.
 prints() {
     local library
-    if ! build "$1" "$2"; then
+    if ! build "$1" "$2" "${@:4}"; then
         check "$1 ${2##*/}" "$(head -n 5 "$work/errors")"
         return
     fi
@@ -102,14 +108,38 @@ compiler() {
         prints "$name $standard" c/tests/alone.c /dev/null
         prints "$name $standard" c/examples/roll.c c/examples/roll.out
         prints "$name $standard" c/examples/deck.c c/examples/deck.out
-        [[ $standard != c++* ]] || prints "$name $standard" c/examples/shuffle.cpp c/examples/shuffle.out
         tests_of "$name $standard" c/tests/layout.c
         tests_of "$name $standard" c/tests/edges.c -O2
         tests_of "$name $standard" c/tests/guards.c -O2
+        tests_of "$name $standard" c/tests/numbers.c -O2
+        tests_of "$name $standard" c/tests/items.c -O2
     done
     tests_of "$name $first" "$work/answers.c"
     ! asked_for cargo || warnings_of "$name $first"
+    [[ $first != c++* ]] || classes "$name"
     sanitized "$name $first"
+}
+
+# The classes of C++, with the compiler $1. The last standard is tested by the example alone.
+classes() {
+    local standard flags=("${class_warnings[@]}")
+    [ "$1" != g++ ] || flags+=(-Wuseless-cast)
+    for standard in "${class_standards[@]}"; do
+        prints "$1 $standard" c/examples/shuffle.cpp c/examples/shuffle.out
+        prints "$1 $standard" c/examples/threads.cpp c/examples/threads.out -pthread
+        [ "$standard" = c++2b ] || tests_of "$1 $standard" c/tests/cpp.cpp "${flags[@]}"
+    done
+    ! asked_for cargo || header_of_classes "$1 c++17"
+    ! asked_for cargo || warnings_of_classes "$1 c++17"
+}
+
+# The header alone compiles to no function that two files of a program would both define, and leaves no macro of its own.
+header_of_classes() {
+    check "$1: nanorand.hpp alone" \
+        "$(compile "$1" -c -o "$work/classes.o" c/include/nanorand.hpp || head -n 5 "$work/errors")"
+    check "$1: inline functions only" "$(nm "$work/classes.o" | grep ' [BDRT] ')"
+    check "$1: macros of nanorand.hpp" \
+        "$(compile "$1" -E -dM -o - c/include/nanorand.hpp | grep NANORAND_CALL)"
 }
 
 # The same with sanitizers, if the compiler has them.
@@ -122,11 +152,16 @@ sanitized() {
     tests_of "$1" c/tests/layout.c "${sanitizers[@]}"
     tests_of "$1" c/tests/edges.c "${sanitizers[@]}"
     tests_of "$1" c/tests/guards.c "${sanitizers[@]}"
+    tests_of "$1" c/tests/numbers.c "${sanitizers[@]}"
+    tests_of "$1" c/tests/items.c "${sanitizers[@]}"
     tests_of "$1" "$work/answers.c" "${sanitizers[@]}"
+    [[ $1 != *c++* ]] || tests_of "${1%% *} c++17" c/tests/cpp.cpp "${sanitizers[@]}"
 }
 
-# The compiler in $1 warns of the statement $2 with the text $3, or does not warn if $3 is empty.
+# The compiler in $1 warns of the statement $2 with the text $3, or does not warn if $3 is empty, also if the header is
+# in a system folder.
 warns() {
+    local included
     cat >"$work/warns.c" <<END
 #include "nanorand.h"
 void run(nanorand_pcg64 *rng, nanorand_chacha *state, size_t *items, uint8_t *text);
@@ -136,6 +171,13 @@ void run(nanorand_pcg64 *rng, nanorand_chacha *state, size_t *items, uint8_t *te
     $2
 }
 END
+    for included in -I -isystem; do
+        warned "$@"
+    done
+}
+
+# The compiler reports the text $3 for $work/warns.c, in which the statement $2 is, or nothing if $3 is empty.
+warned() {
     if compile "$1" -c -o "$work/warns.o" "$work/warns.c"; then
         check "$1: $2" "${3:+the compiler does not warn}"
     elif [ -z "$3" ] || ! grep -qF "$3" "$work/errors"; then
@@ -149,25 +191,90 @@ END
 # warn of a null pointer to an empty array.
 warnings_of() {
     local call
-    for call in 'pcg64_u64(NULL)' 'pcg64_fill_bytes(NULL, text, 1)' 'pcg64_jump(rng, NULL)' \
-        'chacha8_block(state, NULL)' 'lots_digest(text, 1, NULL)'; do
+    for call in 'pcg64_u64(NULL)' 'pcg64_f64(NULL)' 'pcg64_below(NULL, 6)' 'pcg64_fill_bytes(NULL, text, 1)' \
+        'pcg64_jump(rng, NULL)' 'chacha8_block(state, NULL)' 'stream_new_key(NULL, text)' \
+        'chacha_new_key(text, NULL)' 'lots_digest(text, 1, NULL)'; do
         warns "$1" "nanorand_$call;" nonnull
     done
-    for call in 'pcg64_range_usize(rng, 1, 6, NULL)' 'pcg64_shuffle(NULL, items, 1)' 'pcg64_part(NULL, 1, 1)' \
+    for call in 'pcg64_range_usize(rng, 1, 6, NULL)' 'pcg64_shuffle(NULL, items, 1)' \
+        'pcg64_shuffle_items(NULL, text, 1, 1)' 'pcg64_shuffle_bytes(NULL, text, 1, 1)' 'pcg64_part(NULL, 1, 1)' \
         'pcg64_distance(rng, NULL, rng)' 'lots_count(text, 1, NULL)'; do
         warns "$1" "if (nanorand_$call != 0) { return; }" nonnull
     done
     for call in 'pcg64_range_usize(rng, 1, 6, items)' 'pcg64_shuffle(rng, items, 1)' \
+        'pcg64_shuffle_items(rng, text, 1, 1)' 'pcg64_shuffle_bytes(rng, text, 1, 1)' \
         'pcg64_sample(rng, 1, items, 1)' 'pcg64_part(rng, 1, 1)' 'pcg64_distance(rng, rng, rng)' \
         'lots_count(text, 1, items)' 'lots_draw(text, 1, items, 1, 1)'; do
         warns "$1" "nanorand_$call;" unused-result
     done
-    for call in 'pcg64_shuffle(rng, NULL, 0)' 'pcg64_sample(rng, 1, NULL, 0)' 'lots_count(NULL, 0, items)' \
-        'lots_draw(NULL, 0, NULL, 0, 0)'; do
+    for call in 'pcg64_shuffle(rng, NULL, 0)' 'pcg64_shuffle_items(rng, NULL, 0, 8)' \
+        'pcg64_sample(rng, 1, NULL, 0)' 'lots_count(NULL, 0, items)' 'lots_draw(NULL, 0, NULL, 0, 0)'; do
         warns "$1" "if (nanorand_$call != 0) { return; }" ''
     done
     warns "$1" 'nanorand_pcg64_fill_bytes(rng, NULL, 0);' ''
     warns "$1" 'nanorand_lots_digest(NULL, 0, text);' ''
+}
+
+# The compiler in $1 reports the text $3 for the statement $2 in C++, or nothing if $3 is empty.
+warns_in_cpp() {
+    cat >"$work/warns.c" <<END
+#include "nanorand.hpp"
+#include <list>
+void run(nanorand::WyRand& rng, nanorand::Stream& stream, std::vector<int>& items);
+void run(nanorand::WyRand& rng, nanorand::Stream& stream, std::vector<int>& items)
+{
+    (void)rng, (void)stream, (void)items;
+    $2
+}
+END
+    warned "$@"
+}
+
+# The same, and the compiler in $1 reports no other error.
+only_error() {
+    warns_in_cpp "$@"
+    check "$1: $2: the only error" "$(grep 'error:' "$work/errors" | grep -vF "$3")"
+}
+
+# The compiler warns if a number is drawn and not used. Mistakes in types are errors with a text for users.
+warnings_of_classes() {
+    local call
+    for call in 'rng.range(1, 6)' 'rng.try_range(1, 6)' 'rng.below(6)' 'rng.f64()' 'rng.choose(items)' \
+        'rng.sample(6, 2)' 'rng.part(1, 1)' 'rng.distance(rng)' 'rng.state()' 'nanorand::WyRand::from_seed(1)' \
+        'nanorand::Stream::from_key({})' 'nanorand::lots::draw("seed", 3, 1)' 'nanorand::lots::count("")'; do
+        warns_in_cpp "$1" "$call;" unused-result
+    done
+    for call in 'rng()' 'rng.shuffle(items)' 'rng.discard(1)' 'rng.fill(items.data(), 4)'; do
+        warns_in_cpp "$1" "$call;" ''
+    done
+    warns_in_cpp "${1% *} c++11" 'rng();' 'needs C++17'
+    for call in WyRand Pcg64 ChaCha8 ChaCha12 ChaCha20 Keystream Stream; do
+        warns_in_cpp "$1" "nanorand::$call unseeded;" "a seed is needed, such as $call rng(42)"
+    done
+    warns_in_cpp "$1" 'nanorand::WyRand converted = 42;' 'conversion'
+    warns_in_cpp "$1" '(void)stream.part(1, 1);' 'a Stream has no parts: use Keystream'
+    warns_in_cpp "$1" 'rng.fill(items);' 'fill takes bytes that can be written'
+    warns_in_cpp "$1" 'const char text[4] = ""; rng.fill(text);' 'fill takes bytes that can be written'
+    warns_in_cpp "$1" '(void)rng.range(0, items.size());' 'no matching'
+    warns_in_cpp "$1" '(void)rng.choose(std::vector<int>{1, 2});' 'a temporary would dangle: give the container a name'
+    # The text for users is the only error.
+    local integers='range draws integers of at most 64 bits; for a'
+    only_error "$1" '(void)rng.range(1.0, 2.0);' "$integers floating-point number, use f64()"
+    only_error "$1" '(void)rng.try_range(1.0f, 2.0f);' "$integers floating-point number, use f64()"
+    only_error "$1" '(void)rng.range(false, true);' "$integers bool or an enum, draw an integer and convert it"
+    only_error "$1" 'enum class coin { head, tail }; (void)rng.range(coin::head, coin::tail);' \
+        "$integers bool or an enum, draw an integer and convert it"
+    only_error "$1" '(void)rng.below(true);' 'below takes an integer of at most 64 bits'
+    only_error "$1" '(void)rng.below(6.0);' \
+        'below takes an integer of at most 64 bits; for a floating-point number, use f64()'
+    for call in 'std::list<int> list{1, 2}; rng.shuffle(list);' \
+        'std::list<int> list{1, 2}; rng.shuffle(list.begin(), list.end());'; do
+        only_error "$1" "$call" 'shuffle needs random access: copy the items to a std::vector'
+    done
+    for call in 'const std::vector<int> fixed{1, 2}; rng.shuffle(fixed);' 'rng.shuffle(items.cbegin(), items.cend());' \
+        'const int fixed[] = {1, 2}; rng.shuffle(fixed);' 'const std::vector<bool> bits(2); rng.shuffle(bits);'; do
+        only_error "$1" "$call" 'shuffle moves the items, so they must not be const'
+    done
 }
 
 # If size_t has 32 bits, the header reports an error of its own. A compiler without attributes finds none in it.
@@ -230,7 +337,7 @@ all_exports_run() {
     export LLVM_PROFILE_FILE=$target/profiles/%m-%p.profraw
     RUSTFLAGS=-Cinstrument-coverage cargo build --quiet --offline --target-dir "$target" --manifest-path rust/nanorand-c/Cargo.toml
     # The crate has no std, so nothing unwinds.
-    for source in c/tests/edges.c c/tests/guards.c c/tests/layout.c "$work/answers.c"; do
+    for source in c/tests/{edges,guards,items,layout,numbers}.c "$work/answers.c"; do
         cc -DFEW -Ic/include -Ic/tests -o "$target/debug/deps/$(basename "$source" .c)" "$source" "$target/debug/libnanorand.a" \
             -Wl,--defsym=rust_eh_personality=0 -Wl,--undefined=__llvm_profile_runtime
         quiet_part "$source, counted" "$target/debug/deps/$(basename "$source" .c)"
@@ -249,6 +356,10 @@ for words in "${standards[@]}"; do
     compiler "$words"
 done
 ! asked_for cargo || other_compilers
+# So the classes of two releases have other symbols too.
+expect 'the version of the classes' \
+    "$(sed -n 's/^#define nanorand_version nanorand_\(v[0-9]*\)_version$/\1/p' c/include/nanorand.h)" \
+    "$(sed -n 's/^inline namespace \(v[0-9]*\) {$/\1/p' c/include/nanorand.hpp)"
 if available cc gcc; then
     two_releases
 fi

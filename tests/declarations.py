@@ -24,7 +24,13 @@ C_NUMBERS = {
     "uint64_t": "u64",
     "int64_t": "i64",
     "size_t": "usize",
+    "double": "f64",
+    "void": "u8",
+    "nanorand_status": "Status",
+    "nanorand_lots_status": "LotsStatus",
 }
+# The enums of C, which are numbers in Rust.
+STATUSES = {"Status": "u32", "LotsStatus": "u32"}
 C_STRUCTS = {
     "nanorand_wyrand": "WyRand",
     "nanorand_pcg64": "Wide",
@@ -188,24 +194,34 @@ def c_declarations(path):
     for name, result, arguments, _ in c_prototypes(path):
         kind = "()" if result == "void" else c_base(result)
         listed = [] if arguments.strip() == "void" else arguments.split(",")
-        found.append((name, ([c_parameter(part) for part in listed], kind)))
+        found.append((name, (with_lengths([c_parameter(part) for part in listed]), kind)))
     return found
 
 
+def with_lengths(pairs):
+    """The parameters, in which a number after an array of numbers is called a length."""
+    arrays = [kind.split()[-1] not in STRUCTS and kind.startswith(("mut ", "const ")) and "[" not in kind
+              for _, kind in pairs]
+    return [("length" if array and kind == "usize" else name, kind)
+            for (name, kind), array in zip(pairs, [False, *arrays])]
+
+
 def wanted_attributes(signature):
-    """The attributes that a function needs: a pointer without a length is not null, and a returned byte is a status."""
+    """The attributes that a function needs: a pointer without a length is not null, and a status is used."""
     passed, result = signature
     after = [name for name, _ in passed[1:]] + [""]
     places = [str(place) for place, ((_, kind), name) in enumerate(zip(passed, after), 1)
               if kind.startswith(("mut ", "const ")) and name != "length"]
     words = [f"NANORAND_NOT_NULL(({', '.join(places)}))"] if places else []
-    return words + ["NANORAND_USE_STATUS"] * (result == "u8")
+    return words + ["NANORAND_USE_STATUS"] * (result in STATUSES)
 
 
 def attribute_problems(path, exported):
+    """The prototypes without their symbol or without an attribute."""
     known = dict(exported)
     for name, _, _, attributes in c_prototypes(path):
-        found, wanted = " ".join(attributes.split()), " ".join(wanted_attributes(known[name]))
+        symbol = f"NANORAND_SYMBOL({name.removeprefix('nanorand_v1_')})"
+        found, wanted = " ".join(attributes.split()), " ".join([symbol, *wanted_attributes(known[name])])
         yield [] if found == wanted else [f"{path}: {name} has {found or 'no attributes'}, not {wanted}"]
 
 
@@ -311,7 +327,7 @@ def name_problems(header):
     words = set(re.findall(r"\bnanorand_(\w+)", text))
     words |= {name.split("_", 1)[1] for name in words if "_range_" in name}
     words |= {word[: word.rindex("_") + 1] for word in words if "_" in word}
-    numbers = set(re.findall(r"^#define NANORAND_(\w+) (\d+)", text, re.M))
+    numbers = set(re.findall(r"^ *NANORAND_(\w+) = (\d+)", text, re.M))
     for path, pattern in NAMES.items():
         names = set(re.findall(pattern, read(path)))
         statuses = {(status, number) for number, status in re.findall(STATUS, read(path), re.M)}
@@ -338,10 +354,11 @@ def main():
         sys.exit(__doc__)
     library, bench, header = exports("nanorand_c"), exports("nanorand_bench"), "c/include/nanorand.h"
     cases = [exported_twice(library + bench), macro_problems(header)]
-    cases += problems(CALLED, called_declarations(), library, comparable)
+    in_rust = [(name, (passed, STATUSES.get(result, result))) for name, (passed, result) in library]
+    cases += problems(CALLED, called_declarations(), in_rust, comparable)
     cases += problems(header, c_declarations(header), library, comparable)
     cases += attribute_problems(header, library)
-    cases += problems(BY_CARGO, exports_by_cargo(), library, comparable)
+    cases += problems(BY_CARGO, exports_by_cargo(), in_rust, comparable)
     cases += problems("bench/kit/src/calls.rs", rust_declarations("bench/kit/src/calls.rs"), bench, types)
     # The structs of `nanorand_calls`, and `WyRand` of `nanorand`.
     calls = sorted((ROOT / "crates/nanorand_calls/src").rglob("*.rt"))

@@ -42,9 +42,10 @@ environment() {
     "$1" -m venv "${@:4}" "$2" && "$2/bin/pip" install "${pip[@]}" "$3"/*.whl
 }
 
-# The wheel's module runs on every processor that the wheel's tag names.
+# The wheel's module runs on every processor that the wheel's tag names. The objects of chacha20 and of keystream both
+# have one of the functions for AVX2.
 runs_everywhere() {
-    python3 -m zipfile -e "$1"/*.whl "$1/files" && runs_on_every_processor "$1"/files/nanorand/_native*.so
+    python3 -m zipfile -e "$1"/*.whl "$1/files" && runs_on_every_processor "$1"/files/nanorand/_native*.so 5
 }
 
 same_bytes() {

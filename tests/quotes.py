@@ -10,7 +10,8 @@ A quoted block follows a line that names its file, relative to the document's fo
 
 An item is the name of a function, type or constant, quoted with its comment and without attributes. `imports` stands
 for the lines that import. `the whole file` stands for a whole file of Rattle or Rust, of definitions, in a block of
-`antt`, or of C or C++, in a block of `c` or `cpp`. In C++ an item is the name of a struct.
+`antt`, or of C, C++, Python or CMake, in a block of `c`, `cpp`, `python` or `cmake`. In C++ an item is the name of a
+struct.
 
 In a table whose first column links a file of `specs/`, the second column names definitions. Each has to be declared in
 that file. In docs/PROMISES.md, each clause (`function: clause, clause`) and mutant has to exist, and each promise has
@@ -39,7 +40,9 @@ DOCUMENTS = [
     "docs/LANGUAGES.md",
     "rust/nanorand-rand-core/README.md",
 ]
-MARK = re.compile(r"^<!-- (?P<path>\S+\.(?P<kind>rt|rs|antt|cpp|c)): (?P<items>.+) -->$")
+MARK = re.compile(r"^<!-- (?P<path>\S+\.(?P<kind>rt|rs|antt|cpp|c|py|txt)): (?P<items>.+) -->$")
+# The name of a block of a file of this kind; other blocks are called rust.
+BLOCKS = {"antt": "antt", "c": "c", "cpp": "cpp", "py": "python", "txt": "cmake"}
 WORDS = re.compile(r"^\| \[[^\]]*\]\((?P<path>\S+\.antt)\) \| (?P<words>[^|]*) \|")
 
 
@@ -112,7 +115,7 @@ def check(document, write):
         marked = bool(mark)
         if not mark:
             continue
-        fence = f"```{mark['kind']}" if mark["kind"] in ("antt", "c", "cpp") else "```rust"
+        fence = f"```{BLOCKS.get(mark['kind'], 'rust')}"
         if i >= len(lines) or lines[i] != fence:
             wrong.append(f"{place}: no block {fence} follows")
             continue

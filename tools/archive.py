@@ -64,11 +64,12 @@ def fill(source: Path, target: Path) -> None:
 
 
 def put_c(root: Path) -> None:
-    """Both libraries, the header, the pkg-config file and the example."""
-    copy(TOP / "c/include/nanorand.h", root / "include/nanorand.h")
+    """Both libraries, the headers, the pkg-config file and the examples."""
+    for name in ["nanorand.h", "nanorand.hpp"]:
+        copy(TOP / "c/include" / name, root / "include" / name)
     copy(LIBRARY, root / "lib/libnanorand.a")
     fill(TOP / "c/nanorand.pc.in", root / "lib/pkgconfig/nanorand.pc")
-    for name in ["deck.c", "deck.out"]:
+    for name in ["deck.c", "deck.out", "shuffle.cpp", "shuffle.out"]:
         copy(TOP / "c/examples" / name, root / "c" / name)
     run("cc", "-shared", "-nostdlib", "-s", "-o", str(root / "lib/libnanorand.so.1"),
         "-Wl,-soname,libnanorand.so.1", "-Wl,--version-script=c/nanorand.map",

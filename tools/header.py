@@ -30,14 +30,19 @@ HEADER = ROOT / "c/include/nanorand.h"
 FRAME = ROOT / "c/include/nanorand.h.in"
 
 PREFIX = "nanorand_v1_"
-NUMBERS = {"u8": "uint8_t", "u32": "uint32_t", "u64": "uint64_t", "i64": "int64_t", "usize": "size_t"}
+NUMBERS = {"u8": "uint8_t", "u32": "uint32_t", "u64": "uint64_t", "i64": "int64_t", "usize": "size_t", "f64": "double"}
+STATUSES = {"Status": "nanorand_status", "LotsStatus": "nanorand_lots_status"}
 STRUCTS = {"WyRand": "wyrand", "Wide": "pcg64", "ChaChaState": "chacha", "Stream": "stream",
            "GroupStream": "keystream"}
+
+# The length of a slice is a parameter of its own. Some lengths have a name that says what they count.
+LENGTHS = {("sample", "places"): "wanted", ("extend_sample", "places"): "wanted", ("draw", "places"): "population"}
 
 # The description of each generator above its functions. The states are described at their structs.
 SECTIONS = {
     "wyrand": "WyRand: 64 bits of state, the fastest generator. Not cryptographically secure.",
     "pcg64": "Pcg64: a 128-bit seed. Not cryptographically secure.",
+    "chacha": "The state of ChaCha with 8, 12 and 20 rounds.",
     "chacha8": "ChaCha with 8 rounds. Even a single number takes a new block: fill many bytes at once.",
     "chacha12": "ChaCha with 12 rounds. Even a single number takes a new block: fill many bytes at once.",
     "chacha20": "ChaCha with 20 rounds. Even a single number takes a new block: for many, use keystream.",
@@ -46,7 +51,6 @@ SECTIONS = {
     "lots": "The public draw by lot.",
     "version": "The version.",
 }
-GENERATORS = [name for name in SECTIONS if name not in ("lots", "version")]
 
 # The words of the sources' comments and the words for a C programmer. What has none is an error: see `in_c_words`.
 WORDS = [
@@ -102,13 +106,14 @@ def in_c_words(name: str, comment: str) -> str:
 
 
 def parameter(name: str, kind: str, length: str) -> str:
-    """A parameter in C. A slice becomes a pointer and then a length."""
+    """A parameter in C. A slice becomes a pointer and then a length; bytes named `items` may be items of any type."""
     constant = "" if kind.startswith("&mut ") or not kind.startswith("&") else "const "
     inner = re.sub(r"^&(mut )?", "", kind)
     if match := re.fullmatch(r"\[(\w+); (\d+)\]", inner):
         return f"{constant}{c_type(match[1])} {name}[{match[2]}]"
     if match := re.fullmatch(r"\[(\w+)\]", inner):
-        return f"{constant}{c_type(match[1])} *{name}, size_t {length}"
+        item = "void" if (name, match[1]) == ("items", "u8") else c_type(match[1])
+        return f"{constant}{item} *{name}, size_t {length}"
     return f"{constant}{c_type(inner)} {'*' if kind.startswith('&') else ''}{name}"
 
 
@@ -116,11 +121,12 @@ def is_slice(kind: str) -> bool:
     return re.fullmatch(r"&(mut )?\[\w+\]", kind) is not None
 
 
-def parameters(pairs: list[tuple[str, str]]) -> str:
-    """The parameters in C. The length of the last slice is `length`. That of another slice has the slice's name."""
+def parameters(call: str, pairs: list[tuple[str, str]]) -> str:
+    """The parameters in C. The length of the only slice is `length`. Of several, each length has its slice's name."""
     slices = [name for name, kind in pairs if is_slice(kind)]
-    lengths = {name: f"{name}_length" for name in slices[:-1]}
-    written = [parameter(name, kind, lengths.get(name, "length")) for name, kind in pairs]
+    lengths = {name: "length" if len(slices) == 1 else f"{name}_length" for name in slices}
+    lengths.update({name: LENGTHS[call, name] for name in slices if (call, name) in LENGTHS})
+    written = [parameter(name, kind, lengths.get(name, "")) for name, kind in pairs]
     return ", ".join(written) or "void"
 
 
@@ -132,14 +138,15 @@ def attributes(pairs: list[tuple[str, str]], result: str) -> str:
             places.append(str(place))
         place += 2 if is_slice(kind) else 1
     words = [f"NANORAND_NOT_NULL(({', '.join(places)}))"] if places else []
-    # A byte that is returned is a status.
-    words += ["NANORAND_USE_STATUS"] if result == "u8" else []
+    words += ["NANORAND_USE_STATUS"] if result in STATUSES else []
     return " ".join(words)
 
 
 def c_type(kind: str) -> str:
     if kind in STRUCTS:
         return f"nanorand_{STRUCTS[kind]}"
+    if kind in STATUSES:
+        return STATUSES[kind]
     if kind not in NUMBERS:
         sys.exit(f"tools/header.py: the C interface cannot pass the type {kind}")
     return NUMBERS[kind]
@@ -151,7 +158,8 @@ def functions() -> list[Function]:
     for export in (export for path in SOURCES for export in exports_of(items_at(path))):
         words, result = in_c_words(export.name, paragraphs_of(export.docs)), text_of(export.result)
         returned, pairs = c_type(result) if result else "void", list(map(name_and_type, export.parameters))
-        found.append(Function(export.name, words, parameters(pairs), attributes(pairs, result), returned))
+        call = export.name.removeprefix(PREFIX).partition("_")[2]
+        found.append(Function(export.name, words, parameters(call, pairs), attributes(pairs, result), returned))
     if len(found) != sum(path.read_text(encoding="utf-8").count("no_mangle") for path in SOURCES):
         sys.exit("tools/header.py: not every export is a function of a file")
     if odd := [function.symbol for function in found if function.section not in SECTIONS]:
@@ -182,7 +190,7 @@ def comment_of(text: str) -> str:
 def declaration(function: Function) -> str:
     """The declaration: on one line, or with the parameters and the attributes on lines of their own."""
     start = f"{function.result} {function.name}("
-    end = f" {function.attributes}".rstrip() + ";"
+    end = f" NANORAND_SYMBOL({function.symbol.removeprefix(PREFIX)}) {function.attributes}".rstrip() + ";"
     if len(line := f"{start}{function.parameters}){end}") <= 100:
         return line
     if len(line := f"    {function.parameters}){end}") <= 100:
@@ -194,25 +202,21 @@ def declaration(function: Function) -> str:
     return f"{start}\n{lines}\n   {end}"
 
 
-def lacking(found: list[Function], call: str) -> list[str]:
-    """The generators that do not have this call."""
-    having = {one.section for one in found if one.call == call}
-    return [name for name in GENERATORS if name not in having]
-
-
-def shared_comments(found: list[Function]) -> dict[str, str]:
-    """The calls that all generators, or all but one, have. Each has the comment of the first generator's call."""
-    return {one.call: one.comment for one in found
-            if one.section == GENERATORS[0] and len(lacking(found, one.call)) <= 1}
-
-
-def shared_text(found: list[Function], shared: dict[str, str]) -> str:
-    """One comment for all generators, a paragraph for each call."""
-    names = ", ".join(GENERATORS[:-1])
-    first = [f"`..` stands for the name of a generator: {names} or {GENERATORS[-1]}."]
-    first += [f"There is no nanorand_{name}_{call}." for call in shared for name in lacking(found, call)]
-    calls = [f"nanorand_.._{call}: {comment}" for call, comment in shared.items()]
-    return comment_of("\n".join([" ".join(first), *calls]))
+def of_items(function: Function) -> str:
+    """The call that shuffles items of any type, given their number: an inline function over that for bytes."""
+    name, state = function.name.replace("_bytes", "_items"), function.parameters.split(",")[0]
+    comment = comment_of("Shuffles `length` items of any type, which are `size` bytes each, with the draws and the "
+                         f"order of `shuffle`. For an array: {name}(&rng, items, sizeof items / sizeof *items, "
+                         "sizeof *items). Returns NANORAND_OK, or NANORAND_EXHAUSTED if 128 words in a row were "
+                         "rejected for one index; every item is still there then, in another order.")
+    return f"""{comment}
+NANORAND_NOT_NULL((1)) NANORAND_USE_STATUS
+static inline nanorand_status {name}(
+    {state}, void *items, size_t length, size_t size)
+{{
+    return {function.name}(rng, items, length * size, size);
+}}
+"""
 
 
 def struct_text(struct: Struct) -> str:
@@ -234,27 +238,23 @@ def version() -> str:
     return sys.exit("tools/header.py: no version is exported")
 
 
-def section(name: str, members: list[Function], shared: dict[str, str]) -> str:
-    """The declarations of a section. Those with a comment of their own are set apart."""
+def section(name: str, members: list[Function]) -> str:
+    """The declarations of a section, each after its comment."""
     lines = [f"/* ---- {SECTIONS[name]} ---- */", ""]
-    for one, after in zip(members, [*members[1:], None]):
-        if (own := one.comment != shared.get(one.call)):
-            lines.append(comment_of(one.comment))
-        lines.append(declaration(one))
-        if own or after is None or after.comment != shared.get(after.call):
-            lines.append("")
+    for one in members:
+        lines += [comment_of(one.comment), declaration(one), ""]
+        lines += [of_items(one)] if one.call == "shuffle_bytes" else []
     return "\n".join(lines) + "\n"
 
 
 def header() -> str:
     found = functions()
-    shared = shared_comments(found)
-    sections = [section(name, members, shared) for name in SECTIONS
+    sections = [section(name, members) for name in SECTIONS
                 if (members := [function for function in found if function.section == name])]
     names = "\n".join(f"#define {function.name} {function.symbol}" for function in found)
     text = FRAME.read_text(encoding="utf-8")
-    for mark, part in [("VERSION", version()), ("NAMES", names), ("CALLS", shared_text(found, shared)),
-                       ("FUNCTIONS", "".join(sections)), ("STRUCTS", "\n".join(map(struct_text, structs())))]:
+    for mark, part in [("VERSION", version()), ("NAMES", names), ("FUNCTIONS", "".join(sections)),
+                       ("STRUCTS", "\n".join(map(struct_text, structs())))]:
         text = text.replace(f"@{mark}@", part)
     return text
 
@@ -267,10 +267,9 @@ def archived(archive: str) -> set[str]:
 
 
 def is_explained(function: Function, words: str) -> bool:
-    """Whether the header has the function's comment, above the declaration or at its call in the shared comment."""
+    """Whether the header has the function's comment above the declaration."""
     comment = " ".join(function.comment.split())
-    places = f"{comment} {function.result} {function.name}(", f"nanorand_.._{function.call}: {comment}"
-    return any(place in words for place in places)
+    return f"{comment} {function.result} {function.name}(" in words
 
 
 def check(archives: list[str]) -> int:

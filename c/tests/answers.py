@@ -81,13 +81,13 @@ def ranges(row: Row) -> list[str]:
     first, last = (literal(kind, number) for number in row.numbers)
     wanted = literal(kind, str(UNTOUCHED) if row.result == "-" else row.result)
     return [f"{C_TYPES[kind]} number = {UNTOUCHED};",
-            f"uint8_t status = {row.function}(&state, {first}, {last}, &number);",
+            f"nanorand_status status = {row.function}(&state, {first}, {last}, &number);",
             f"holds = status == {row.status} && number == {wanted};"]
 
 
 def shuffles(row: Row) -> list[str]:
     return [item_array(row.result), f"begin({row.arguments});",
-            f"uint8_t status = {row.function}(&state, inner_items, {row.arguments});",
+            f"nanorand_status status = {row.function}(&state, inner_items, {row.arguments});",
             f"holds = status == {row.status} && items_are(wanted, {row.arguments});"]
 
 
@@ -96,7 +96,7 @@ def sample(row: Row) -> list[str]:
     numbers, length = row.numbers
     wanted = ",".join(map(str, range(int(length)))) if refused else row.result
     return [item_array(wanted or "-"), f"const nanorand_{kind_of(row)} start = state;", f"begin({length});",
-            f"uint8_t status = {row.function}(&state, UINT64_C({numbers}), inner_items, {length});",
+            f"nanorand_status status = {row.function}(&state, UINT64_C({numbers}), inner_items, {length});",
             f"holds = status == {row.status} && items_are(wanted, {length});", *extend_sample(row)]
 
 
@@ -126,7 +126,7 @@ def jump(row: Row) -> list[str]:
 
 def part(row: Row) -> list[str]:
     index, draws = row.numbers
-    return [f"uint8_t status = {row.function}(&state, UINT64_C({index}), UINT64_C({draws}));",
+    return [f"nanorand_status status = {row.function}(&state, UINT64_C({index}), UINT64_C({draws}));",
             f"holds = status == {row.status};"]
 
 
@@ -139,7 +139,7 @@ def digest(row: Row) -> list[str]:
 def count_lines(row: Row) -> list[str]:
     length = len(bytes.fromhex("" if row.arguments == "-" else row.arguments))
     return [byte_array("list", row.arguments), f"size_t number = {UNTOUCHED};",
-            f"uint8_t status = {row.function}(list, {length}, &number);",
+            f"nanorand_lots_status status = {row.function}(list, {length}, &number);",
             f"holds = status == {row.status} && number == {row.result};"]
 
 
@@ -149,7 +149,7 @@ def draw(row: Row) -> list[str]:
     length = len(bytes.fromhex("" if seed == "-" else seed))
     lines = [byte_array("seed", seed), "begin(0);",
              f"const size_t count = UINT64_C({drawn});",
-             f"uint8_t status = {row.function}(seed, {length}, inner_items, {places}, count);"]
+             f"nanorand_lots_status status = {row.function}(seed, {length}, inner_items, {places}, count);"]
     if row.status == "2":
         return [*lines, f"holds = status == 2 && are_untouched({places});"]
     if row.status != "0":

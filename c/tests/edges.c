@@ -20,6 +20,7 @@ HOLDS(empty, NANORAND_EMPTY == 1);
 HOLDS(exhausted, NANORAND_EXHAUSTED == 2);
 HOLDS(past_period, NANORAND_PAST_PERIOD == 3);
 HOLDS(other_cycle, NANORAND_OTHER_CYCLE == 4);
+HOLDS(lots_ok, NANORAND_LOTS_OK == 0);
 HOLDS(lots_bad_seed, NANORAND_LOTS_BAD_SEED == 2);
 HOLDS(lots_too_few, NANORAND_LOTS_TOO_FEW == 3);
 HOLDS(lots_empty_line, NANORAND_LOTS_EMPTY_LINE == 4);
@@ -159,7 +160,7 @@ static int are_below(const size_t *places, size_t length, size_t count)
         check(#G, "it is the one", narrow == 9);                                                   \
         check(#G, "a word is drawn", memcmp(&state, &other, sizeof state) != 0);                   \
         for (int count = 0; count < 1000; count++) {                                               \
-            uint8_t status = nanorand_##G##_range_i64(&state, -3, 3, &sign);                       \
+            nanorand_status status = nanorand_##G##_range_i64(&state, -3, 3, &sign);               \
             if (status != NANORAND_OK || sign < -3 || sign > 3) {                                  \
                 check(#G, "within -3..3", 0);                                                      \
             }                                                                                      \
@@ -420,7 +421,7 @@ static void cycles_of_pcg64(void)
         const nanorand_pcg64 end = {one / 8, 99};
         const int joined = one % 8 == one / 8 || one % 8 + one / 8 == 7;
         nanorand_pcg64 draws = {77, 99};
-        const uint8_t status = nanorand_pcg64_distance(&start, &end, &draws);
+        const nanorand_status status = nanorand_pcg64_distance(&start, &end, &draws);
         holds = holds && status == (joined ? NANORAND_OK : NANORAND_OTHER_CYCLE)
             && (joined || (draws.low == 77 && draws.high == 99));
         nanorand_pcg64 reached = start;
@@ -472,9 +473,9 @@ static void digests(void)
 static void lists(void)
 {
     size_t number = 7;
-    check("lots", "no list", nanorand_lots_count(NULL, 0, &number) == NANORAND_OK && number == 0);
+    check("lots", "no list", nanorand_lots_count(NULL, 0, &number) == NANORAND_LOTS_OK && number == 0);
     number = 7;
-    check("lots", "two lines", nanorand_lots_count(text_of("a\nb"), 3, &number) == NANORAND_OK);
+    check("lots", "two lines", nanorand_lots_count(text_of("a\nb"), 3, &number) == NANORAND_LOTS_OK);
     check("lots", "are two", number == 2);
     check("lots", "an empty line",
           nanorand_lots_count(text_of("a\n\nb\n"), 5, &number) == NANORAND_LOTS_EMPTY_LINE);
@@ -503,11 +504,11 @@ static void draws(void)
     for (const char *const *odd = seeds; *odd != NULL; odd++) {
         const uint8_t *text = text_of(*odd + 1);
         const size_t length = (size_t)(**odd - '0');
-        check("lots", "an odd seed", nanorand_lots_draw(text, length, places, 3, 2) == NANORAND_OK);
+        check("lots", "an odd seed", nanorand_lots_draw(text, length, places, 3, 2) == NANORAND_LOTS_OK);
     }
-    check("lots", "none of none", nanorand_lots_draw(seed, 1, NULL, 0, 0) == NANORAND_OK);
+    check("lots", "none of none", nanorand_lots_draw(seed, 1, NULL, 0, 0) == NANORAND_LOTS_OK);
     check("lots", "one of none", nanorand_lots_draw(seed, 1, NULL, 0, 1) == NANORAND_LOTS_TOO_FEW);
-    check("lots", "all of three", nanorand_lots_draw(seed, 1, places, 3, 3) == NANORAND_OK);
+    check("lots", "all of three", nanorand_lots_draw(seed, 1, places, 3, 3) == NANORAND_LOTS_OK);
     check("lots", "each once", is_permutation(places, 3));
 }
 

@@ -12,7 +12,7 @@ root=$work/'a prefix'
 tools() {
     local tool
     mkdir "$work/bin"
-    for tool in rustc cc ld ar objcopy bash dirname realpath mktemp sed rm ln install; do
+    for tool in rustc cc ld ar objcopy bash dirname realpath mktemp mkdir sed rm ln install; do
         ln -s "$(command -v "$tool")" "$work/bin/"
     done
 }
@@ -30,6 +30,7 @@ files() {
 installed_files() {
     cat >"$work/wanted" <<'END'
 include/nanorand.h 644 
+include/nanorand.hpp 644 
 lib/libnanorand.a 644 
 lib/libnanorand.so 777 libnanorand.so.1
 lib/libnanorand.so.1 644 
@@ -37,6 +38,7 @@ lib/pkgconfig/nanorand.pc 644
 END
     check 'the files' "$(files "$root" | diff - "$work/wanted")"
     check 'the header' "$(cmp c/include/nanorand.h "$root/include/nanorand.h" 2>&1)"
+    check 'the header of C++' "$(cmp c/include/nanorand.hpp "$root/include/nanorand.hpp" 2>&1)"
     check 'the file for pkg-config' \
         "$(grep -v '^Version: ' "$root/lib/pkgconfig/nanorand.pc" | diff - <(grep -v '^Version: ' c/nanorand.pc.in))"
 }
@@ -55,14 +57,62 @@ libraries() {
     check 'the symbols of the shared library' "$(nm -D --defined-only "$shared" | symbols | diff - "$work/names")"
     check 'their version' "$(nm -D --with-symbol-versions --defined-only "$shared" | grep -v '@@NANORAND_1$\| A NANORAND_1$')"
     check 'what the archive needs' "$(nm -u "$archive" | grep ' U ' | grep -vE ' (abort|mem(cpy|move|set|cmp)|bcmp)$')"
-    check 'a panic ends the process' "$(nm -u "$archive" | grep -q ' U abort$' || echo 'nothing calls abort')"
+    check 'a panic ends the process' "$(nm -u "$archive" | grep ' U abort$' >/dev/null || echo 'nothing calls abort')"
     check 'what the shared library needs' "$(readelf -d "$shared" | grep NEEDED | grep -v '\[libc\.so\.6\]')"
     check 'soname' \
         "$(readelf -d "$shared" | grep -q 'soname: \[libnanorand.so.1\]' || echo 'it is another')"
     check 'no other names' "$(readelf -SW "$shared" | grep -F .symtab)"
-    check 'every processor' "$(runs_on_every_processor "$shared" || echo 'it is not for each')"
+    check 'the shared library on every processor' "$(runs_on_every_processor "$shared" >"$work/found" || cat "$work/found")"
+    check 'the archive on every processor' "$(runs_on_every_processor "$archive" >"$work/found" || cat "$work/found")"
     check 'no code on the stack' "$(readelf -lW "$shared" | grep GNU_STACK | grep -v 'RW  ')"
     check 'no path of this machine' "$(grep -rlF -e "$PWD" -e "$work" "$root")"
+}
+
+# The archive has an object for each generator, the draw by lot and the version. The global symbols of an object are its
+# own exports: those whose names begin with its name. A program gets only the objects that it calls.
+members() {
+    local archive=$root/lib/libnanorand.a member bytes
+    ar t "$archive" >"$work/members"
+    check 'the members' "$(sed -E 's/^nanorand_v1_([a-z0-9]+).*/\1.o/' "$work/names" | LC_ALL=C sort -u |
+        diff - <(LC_ALL=C sort "$work/members"))"
+    mkdir "$work/objects"
+    (cd "$work/objects" && ar x "$archive")
+    while read -r member; do
+        check "the symbols of $member" "$(nm -g --defined-only "$work/objects/$member" | grep ' ' | symbols |
+            diff - <(grep -E "^nanorand_v1_${member%.o}(_|\$)" "$work/names"))"
+    done <"$work/members"
+    printf 'int main(void) { return 0; }\n' >"$work/empty.c"
+    printf '#include "nanorand.h"\nint main(void) { nanorand_wyrand rng = { 1 }; return (int)nanorand_wyrand_u64(&rng); }\n' \
+        >"$work/one.c"
+    cc -O2 -o "$work/empty" "$work/empty.c"
+    cc -O2 "-I$root/include" -o "$work/one" "$work/one.c" "$archive"
+    bytes=$(($(code_of "$work/one") - $(code_of "$work/empty")))
+    check 'a program with one call' "$([ "$bytes" -le 8192 ] || echo "it has $bytes bytes more than an empty program")"
+}
+
+# The number of bytes of a program's code and constants.
+code_of() {
+    size "$1" | awk 'NR == 2 { print $1 }'
+}
+
+# Programs fill bytes in the same way on processors with AVX2, without it, without AVX, and on one whose system does not
+# save the vectors of AVX. Where a processor lacks an instruction, it ends the program.
+processors() {
+    local library processor
+    if ! available qemu-x86_64 qemu-user; then
+        skip 'processors with and without AVX2' 'there is no qemu-x86_64'
+        return
+    fi
+    for library in libnanorand.a libnanorand.so.1; do
+        cc -std=c11 "-I$root/include" -o "$work/fills" c/tests/fills.c "$root/lib/$library" "-Wl,-rpath,$root/lib"
+        "$work/fills" >"$work/fills.out"
+        check "$library: one stream" "$(grep 'stream$' "$work/fills.out" | cut -d ' ' -f 1 | uniq -c |
+            grep -qx ' *2 [0-9a-f]\{64\}' || cat "$work/fills.out")"
+        for processor in max max,-avx2 max,-avx max,-xsave Nehalem; do
+            check "$library on the processor $processor" \
+                "$(qemu-x86_64 -cpu "$processor" "$work/fills" 2>&1 | diff - "$work/fills.out")"
+        done
+    done
 }
 
 # Builds the example as the program $1, with the flags that follow and those of pkg-config, and compares what it prints.
@@ -78,6 +128,49 @@ example() {
     fi
 }
 
+# Builds the example in the folder $1 by CMake with the arguments that follow, and compares what it prints without
+# LD_LIBRARY_PATH.
+by_cmake() {
+    rm -rf "$1/build"
+    cmake -S "$1" -B "$1/build" "${@:2}" >"$work/errors" 2>&1 && cmake --build "$1/build" >>"$work/errors" 2>&1 ||
+        cat "$work/errors"
+    check "CMake: ${*:2}" "$(env -u LD_LIBRARY_PATH "$1/build/shuffle" 2>&1 | diff - c/examples/shuffle.out)"
+}
+
+# A program in C++, with the flags of pkg-config alone, and the same program by CMake: as c/README.md says it, the folder
+# is in PKG_CONFIG_PATH or is named, and the library is shared or static.
+programs_in_cpp() {
+    local flags
+    if ! available c++ g++; then
+        skip 'programs in C++ by the installed library' 'there is no c++'
+        return
+    fi
+    eval "flags=($(pkg-config --cflags --libs nanorand))"
+    c++ -std=c++17 -Wall -Wextra -pedantic -Werror -o "$work/shuffle" c/examples/shuffle.cpp "${flags[@]}" 2>"$work/errors"
+    check 'C++' "$(head -n 5 "$work/errors"; "$work/shuffle" 2>&1 | diff - c/examples/shuffle.out)"
+    if ! available cmake cmake; then
+        skip 'a program by CMake' 'there is no cmake'
+        return
+    fi
+    mkdir "$work/cmake"
+    cp c/examples/{CMakeLists.txt,shuffle.cpp} "$work/cmake"
+    by_cmake "$work/cmake"
+    (unset PKG_CONFIG_PATH && by_cmake "$work/cmake" "-DCMAKE_PREFIX_PATH=$root")
+    sed -i '/^target_link_libraries/d' "$work/cmake/CMakeLists.txt"
+    sed -n '/^target_include_directories/,/^```/p' c/README.md | sed '$d' >>"$work/cmake/CMakeLists.txt"
+    by_cmake "$work/cmake" -Wno-dev
+    check 'the static library by CMake' "$(readelf -d "$work/cmake/build/shuffle" | grep libnanorand)"
+}
+
+# The shared library by Python's ctypes.
+other_languages() {
+    if ! available python3 python3; then
+        skip 'the library from ctypes' 'there is no python3'
+        return
+    fi
+    check 'ctypes' "$(python3 c/examples/dice.py 2>&1 | diff - c/examples/roll.out)"
+}
+
 programs() {
     local flags folder version
     if ! available pkg-config pkg-config; then
@@ -89,6 +182,8 @@ programs() {
     example shared "${flags[@]}"
     check 'it needs the library' \
         "$(readelf -d "$work/shared" | grep -q '\[libnanorand.so.1\]' || echo 'it does not')"
+    programs_in_cpp
+    other_languages
     unset LD_LIBRARY_PATH
     eval "folder=$(pkg-config --variable=libdir nanorand)"
     example static "$folder/libnanorand.a"
@@ -113,7 +208,7 @@ another_folder() {
 # Installing over another release replaces every file and the link.
 over_an_older_one() {
     local file
-    for file in include/nanorand.h lib/libnanorand.{a,so.1} lib/pkgconfig/nanorand.pc; do
+    for file in include/nanorand.h{,pp} lib/libnanorand.{a,so.1} lib/pkgconfig/nanorand.pc; do
         echo older >"$root/$file"
     done
     ln -sf libnanorand.so.0 "$root/lib/libnanorand.so"
@@ -145,6 +240,8 @@ tools
 check 'c/install' "$(install_from . PREFIX="$root")"
 installed_files
 libraries
+members
+processors
 programs
 another_folder
 over_an_older_one

@@ -373,8 +373,35 @@ static void check_stream(void)
     check("stream_u64: 55 are left", stream_is(&memory, counter, 55));
 }
 
+/* Each constructor returns its struct by value. Key, nonce and halves have different bytes. */
+static void check_constructors(void)
+{
+    const struct guarded_stream wanted = stream_of(0, 0);
+    const uint8_t *key = wanted.stream.chacha.key, *nonce = wanted.stream.chacha.nonce;
+
+    const nanorand_pcg64 seed = nanorand_pcg64_new_seed(0x0102030405060708, 0x1112131415161718);
+    check("pcg64_new_seed: the low half", seed.low == 0x0102030405060708);
+    check("pcg64_new_seed: the high half", seed.high == 0x1112131415161718);
+
+    const nanorand_chacha chacha = nanorand_chacha_new_key(key, nonce);
+    check("chacha_new_key", memcmp(&chacha, &wanted.stream.chacha, sizeof chacha) == 0);
+
+    struct guarded_stream memory = stream_of(7, 7);
+    memory.stream = nanorand_stream_new_key(key, nonce);
+    check("stream_new_key", stream_is(&memory, 0, 0));
+
+    struct { uint64_t before; nanorand_keystream stream; uint64_t after; } group;
+    memset(&group, 0x5a, sizeof group);
+    group.stream = nanorand_keystream_new_key(key, nonce);
+    check("keystream_new_key: the cipher", memcmp(&group.stream.chacha, &chacha, sizeof chacha) == 0);
+    check("keystream_new_key: nothing buffered", group.stream.buffered == 0);
+    check("keystream_new_key: no byte more", group.before == GUARD && group.after == GUARD);
+    check("both streams", nanorand_keystream_u64(&group.stream) == nanorand_stream_u64(&memory.stream));
+}
+
 int main(void)
 {
+    check_constructors();
     check_pcg64_words();
     check_pcg64_fills();
     check_pcg64_jumps();

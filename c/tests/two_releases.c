@@ -11,7 +11,7 @@
 
 typedef uint32_t version_function(void);
 typedef uint64_t word_function(nanorand_wyrand *);
-typedef uint8_t shuffle_function(nanorand_pcg64 *, size_t *, size_t);
+typedef nanorand_status shuffle_function(nanorand_pcg64 *, size_t *, size_t);
 
 struct release {
     version_function *version;

@@ -165,7 +165,7 @@ static size_t find_real(const Shares *shares, double number)
     return low;
 }
 
-static uint8_t draw_place(Generator *rng, const Shares *shares, size_t *place)
+static nanorand_status draw_place(Generator *rng, const Shares *shares, size_t *place)
 {
     const size_t last = shares->count - 1;
     if (shares->real != NULL) {
@@ -174,7 +174,7 @@ static uint8_t draw_place(Generator *rng, const Shares *shares, size_t *place)
     }
     const uint64_t greatest = shares->whole == NULL ? last : shares->whole[last] - 1;
     uint64_t number;
-    uint8_t status = rng->kind->range_u64(rng->state, 0, greatest, &number);
+    nanorand_status status = rng->kind->range_u64(rng->state, 0, greatest, &number);
     if (status == NANORAND_OK) {
         *place = shares->whole == NULL ? number : find_share(shares->whole, shares->count, number);
     }
@@ -187,10 +187,10 @@ typedef struct {
     size_t *places;
 } Choices;
 
-static uint8_t choose(Generator *rng, void *plan, size_t from, size_t end)
+static nanorand_status choose(Generator *rng, void *plan, size_t from, size_t end)
 {
     const Choices *choices = plan;
-    uint8_t status = NANORAND_OK;
+    nanorand_status status = NANORAND_OK;
     for (size_t i = from; status == NANORAND_OK && i < end; i++) {
         status = draw_place(rng, choices->shares, &choices->places[i]);
     }

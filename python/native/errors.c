@@ -43,12 +43,12 @@ void raise_made(const char *error, const char *format, ...)
     raise_with(error, arguments);
 }
 
-void raise_status(uint8_t status)
+void raise_status(nanorand_status status)
 {
     raise_made(status == NANORAND_EMPTY ? "EmptyRange" : "Exhausted", "()");
 }
 
-PyObject *none_of(uint8_t status)
+PyObject *none_of(nanorand_status status)
 {
     if (status != NANORAND_OK) {
         raise_status(status);

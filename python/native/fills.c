@@ -121,9 +121,9 @@ typedef struct {
 } Span;
 
 /* Fills the items of a view, and returns a status. */
-typedef uint8_t Fill(Generator *rng, const Py_buffer *view, const Span *span);
+typedef nanorand_status Fill(Generator *rng, const Py_buffer *view, const Span *span);
 
-static uint8_t fill_bytes(Generator *rng, const Py_buffer *view, const Span *Py_UNUSED(span))
+static nanorand_status fill_bytes(Generator *rng, const Py_buffer *view, const Span *Py_UNUSED(span))
 {
     rng->kind->fill_bytes(rng->state, view->buf, (size_t)view->len);
     return NANORAND_OK;
@@ -224,7 +224,7 @@ static void write_numbers(uint8_t *items, size_t width, const uint64_t *numbers,
     }
 }
 
-static uint8_t fill_range(Generator *rng, const Py_buffer *view, const Span *span)
+static nanorand_status fill_range(Generator *rng, const Py_buffer *view, const Span *span)
 {
     const size_t width = (size_t)view->itemsize, items = (size_t)view->len / width;
     const int wide = width == sizeof(uint64_t);
@@ -266,7 +266,7 @@ static void convert_floats(uint8_t *items, const uint8_t *words, size_t step, si
 }
 
 /* Fills items of one word each. Words that take as many bytes as an item are drawn and converted in place. */
-static uint8_t fill_converted(Generator *rng, const Py_buffer *view,
+static nanorand_status fill_converted(Generator *rng, const Py_buffer *view,
                               void convert(uint8_t *items, const uint8_t *words, size_t step, size_t count))
 {
     const size_t width = (size_t)view->itemsize, items = (size_t)view->len / width;
@@ -282,12 +282,12 @@ static uint8_t fill_converted(Generator *rng, const Py_buffer *view,
     return NANORAND_OK;
 }
 
-static uint8_t fill_doubles(Generator *rng, const Py_buffer *view, const Span *Py_UNUSED(span))
+static nanorand_status fill_doubles(Generator *rng, const Py_buffer *view, const Span *Py_UNUSED(span))
 {
     return fill_converted(rng, view, convert_doubles);
 }
 
-static uint8_t fill_floats(Generator *rng, const Py_buffer *view, const Span *Py_UNUSED(span))
+static nanorand_status fill_floats(Generator *rng, const Py_buffer *view, const Span *Py_UNUSED(span))
 {
     return fill_converted(rng, view, convert_floats);
 }
@@ -298,7 +298,7 @@ static PyObject *fill_view(Generator *rng, Py_buffer *view, Fill *fill, const Sp
     Turn turn;
     PyObject *done = NULL;
     if (begin_turn(rng, (size_t)view->len, &turn) == 0) {
-        uint8_t status = fill(rng, view, span);
+        nanorand_status status = fill(rng, view, span);
         end_turn(rng, &turn);
         done = none_of(status);
     }

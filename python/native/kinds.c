@@ -15,7 +15,8 @@
         nanorand_##name##_##call arguments;                                                                   \
     }
 #define RANGE(name, call, type)                                                                               \
-    FUNCTION(uint8_t, name, call, (void *state, type first, type last, type *number), (state, first, last, number))
+    FUNCTION(nanorand_status, name, call, (void *state, type first, type last, type *number),                 \
+             (state, first, last, number))
 
 /* The functions that every kind has. */
 #define FUNCTIONS(name)                                                                                       \
@@ -25,12 +26,15 @@
     RANGE(name, range_u32, uint32_t)                                                                          \
     RANGE(name, range_u64, uint64_t)                                                                          \
     RANGE(name, range_i64, int64_t)                                                                           \
-    FUNCTION(uint8_t, name, shuffle, (void *state, size_t *items, size_t length), (state, items, length))     \
-    FUNCTION(uint8_t, name, shuffle_full, (void *state, size_t *items, size_t length), (state, items, length))\
-    FUNCTION(uint8_t, name, extend_sample, (void *state, size_t count, size_t *places, size_t length,         \
-                                            size_t filled, size_t *table, size_t room),                       \
-             (state, count, places, length, filled, table, room))                                             \
-    FUNCTION(uint8_t, name, part, (void *state, uint64_t index, uint64_t draws), (state, index, draws))
+    FUNCTION(nanorand_status, name, shuffle, (void *state, size_t *items, size_t length),                     \
+             (state, items, length))                                                                          \
+    FUNCTION(nanorand_status, name, shuffle_full, (void *state, size_t *items, size_t length),                \
+             (state, items, length))                                                                          \
+    FUNCTION(nanorand_status, name, extend_sample,                                                            \
+             (void *state, size_t population, size_t *places, size_t wanted, size_t filled, size_t *table,    \
+              size_t room),                                                                                   \
+             (state, population, places, wanted, filled, table, room))                                        \
+    FUNCTION(nanorand_status, name, part, (void *state, uint64_t index, uint64_t draws), (state, index, draws))
 
 #define BLOCKS(name) PROCEDURE(name, block, (void *state, uint8_t *block), (state, block))
 

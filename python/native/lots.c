@@ -45,7 +45,7 @@ static PyObject *lots_count(PyObject *Py_UNUSED(module), PyObject *text)
         return NULL;
     }
     const uint8_t *list = (const uint8_t *)PyBytes_AS_STRING(octets);
-    uint8_t status = nanorand_lots_count(list, (size_t)PyBytes_GET_SIZE(octets), &number);
+    nanorand_lots_status status = nanorand_lots_count(list, (size_t)PyBytes_GET_SIZE(octets), &number);
     Py_DECREF(octets);
     if (status == NANORAND_LOTS_EMPTY_LINE) {
         raise_made("EmptyLine", "(n)", (Py_ssize_t)number);
@@ -54,7 +54,7 @@ static PyObject *lots_count(PyObject *Py_UNUSED(module), PyObject *text)
     return PyLong_FromSize_t(number);
 }
 
-static void raise_lots_status(uint8_t status, uint64_t entrants, uint64_t count)
+static void raise_lots_status(nanorand_lots_status status, uint64_t entrants, uint64_t count)
 {
     switch (status) {
     case NANORAND_LOTS_BAD_SEED:
@@ -76,9 +76,9 @@ static PyObject *draw_places(PyObject *seed, uint64_t entrants, uint64_t count)
         return NULL;
     }
     const uint8_t *text = (const uint8_t *)PyBytes_AS_STRING(seed);
-    uint8_t status = nanorand_lots_draw(text, (size_t)PyBytes_GET_SIZE(seed), places, entrants, count);
+    nanorand_lots_status status = nanorand_lots_draw(text, (size_t)PyBytes_GET_SIZE(seed), places, entrants, count);
     PyObject *list = NULL;
-    if (status == NANORAND_OK) {
+    if (status == NANORAND_LOTS_OK) {
         list = numbers_of(places, count);
     } else {
         raise_lots_status(status, entrants, count);

@@ -26,7 +26,7 @@
 
 /* ---- kinds.c: the differences between the generators. ---- */
 
-typedef uint8_t Permutation(void *state, size_t *items, size_t length);
+typedef nanorand_status Permutation(void *state, size_t *items, size_t length);
 
 typedef struct {
     const char *name;         /* of its class, which a saved state has */
@@ -38,13 +38,13 @@ typedef struct {
     void (*seed)(void *state, uint64_t number);
     uint64_t (*u64)(void *state);
     void (*fill_bytes)(void *state, uint8_t *buffer, size_t length);
-    uint8_t (*range_u32)(void *state, uint32_t first, uint32_t last, uint32_t *number);
-    uint8_t (*range_u64)(void *state, uint64_t first, uint64_t last, uint64_t *number);
-    uint8_t (*range_i64)(void *state, int64_t first, int64_t last, int64_t *number);
+    nanorand_status (*range_u32)(void *state, uint32_t first, uint32_t last, uint32_t *number);
+    nanorand_status (*range_u64)(void *state, uint64_t first, uint64_t last, uint64_t *number);
+    nanorand_status (*range_i64)(void *state, int64_t first, int64_t last, int64_t *number);
     Permutation *shuffle, *shuffle_full;
-    uint8_t (*extend_sample)(void *state, size_t count, size_t *places, size_t length, size_t filled, size_t *table,
-                             size_t room);
-    uint8_t (*part)(void *state, uint64_t index, uint64_t draws);
+    nanorand_status (*extend_sample)(void *state, size_t population, size_t *places, size_t wanted, size_t filled,
+                                     size_t *table, size_t room);
+    nanorand_status (*part)(void *state, uint64_t index, uint64_t draws);
     void (*block)(void *state, uint8_t *block); /* ChaCha only */
     /* `save` writes the state as bytes and returns their number. `load` reads a state from a valid number of bytes. */
     size_t (*save)(const void *state, size_t size, uint8_t *bytes);
@@ -67,9 +67,9 @@ static inline double unit_of(uint64_t word)
 void raise_text(const char *error, const char *format, ...);
 void raise_made(const char *error, const char *format, ...);
 /* Raises the error of a status other than 0. The caller has already checked the range and the length of the draw. */
-void raise_status(uint8_t status);
+void raise_status(nanorand_status status);
 /* Returns None, or raises the error of a status. */
-PyObject *none_of(uint8_t status);
+PyObject *none_of(nanorand_status status);
 /* The name of a type, as `__name__` is, and the name of a value's type. */
 const char *name_of(PyTypeObject *type);
 const char *type_name(PyObject *value);
@@ -199,7 +199,7 @@ typedef struct {
 } Draw;
 
 /* Makes the steps from `from` to before `end` of a plan, without Python objects. Returns a status of the library. */
-typedef uint8_t Steps(Generator *rng, void *plan, size_t from, size_t end);
+typedef nanorand_status Steps(Generator *rng, void *plan, size_t from, size_t end);
 
 /* Begins a draw of `count` places. Python's lock stays held. */
 int begin_draw(Generator *rng, size_t count, Draw *draw);

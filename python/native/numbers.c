@@ -51,7 +51,7 @@ static PyObject *draw_u64(Generator *rng, uint64_t first, uint64_t last)
     if (ready(rng) < 0) {
         return NULL;
     }
-    uint8_t status = rng->kind->range_u64(rng->state, first, last, &number);
+    nanorand_status status = rng->kind->range_u64(rng->state, first, last, &number);
     if (status != NANORAND_OK) {
         raise_status(status);
         return NULL;
@@ -65,7 +65,7 @@ static PyObject *draw_i64(Generator *rng, int64_t first, int64_t last)
     if (ready(rng) < 0) {
         return NULL;
     }
-    uint8_t status = rng->kind->range_i64(rng->state, first, last, &number);
+    nanorand_status status = rng->kind->range_i64(rng->state, first, last, &number);
     if (status != NANORAND_OK) {
         raise_status(status);
         return NULL;
@@ -173,7 +173,7 @@ static PyObject *call_range32(PyObject *self, PyObject *const *given, Py_ssize_t
     if (ready(rng) < 0) {
         return NULL;
     }
-    uint8_t status = rng->kind->range_u32(rng->state, (uint32_t)first.bits, (uint32_t)last.bits, &number);
+    nanorand_status status = rng->kind->range_u32(rng->state, (uint32_t)first.bits, (uint32_t)last.bits, &number);
     if (status != NANORAND_OK) {
         raise_status(status);
         return NULL;

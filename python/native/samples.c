@@ -66,7 +66,7 @@ static int add_number(const Sample *sample, uint64_t number)
 
 /* ---- Steps. ---- */
 
-static uint8_t short_sample(Generator *rng, void *plan, size_t from, size_t end)
+static nanorand_status short_sample(Generator *rng, void *plan, size_t from, size_t end)
 {
     const Sample *sample = plan;
     return rng->kind->extend_sample(rng->state, sample->count, sample->places, end, from, sample->table, sample->room);
@@ -76,10 +76,10 @@ static uint8_t short_sample(Generator *rng, void *plan, size_t from, size_t end)
  * Makes steps of the library's sample, which is Robert Floyd's algorithm. The library could continue a sample, too, but
  * would link all places before it again, which takes too long without a check for signals.
  */
-static uint8_t long_sample(Generator *rng, void *plan, size_t from, size_t end)
+static nanorand_status long_sample(Generator *rng, void *plan, size_t from, size_t end)
 {
     const Sample *sample = plan;
-    uint8_t status = NANORAND_OK;
+    nanorand_status status = NANORAND_OK;
     for (size_t i = from; status == NANORAND_OK && i < end; i++) {
         const uint64_t last = sample->count - sample->length + i;
         uint64_t number;
@@ -96,7 +96,7 @@ static uint8_t long_sample(Generator *rng, void *plan, size_t from, size_t end)
 }
 
 /* Replaces each place among the repeated items by that of its item. */
-static uint8_t find_items(Generator *Py_UNUSED(rng), void *plan, size_t from, size_t end)
+static nanorand_status find_items(Generator *Py_UNUSED(rng), void *plan, size_t from, size_t end)
 {
     const Sample *sample = plan;
     for (size_t i = from; i < end; i++) {

@@ -162,7 +162,7 @@ static PyObject *call_choice(PyObject *self, PyObject *const *given, Py_ssize_t 
     Saved before;
     uint64_t place;
     keep_state(rng, &before);
-    uint8_t status = rng->kind->range_u64(rng->state, 0, (uint64_t)length - 1, &place);
+    nanorand_status status = rng->kind->range_u64(rng->state, 0, (uint64_t)length - 1, &place);
     if (status != NANORAND_OK) {
         raise_status(status);
         return NULL;

@@ -10,7 +10,7 @@ typedef struct {
 } Shuffle;
 
 /* The library's shuffle. */
-static uint8_t permute(Generator *rng, int full, size_t *numbers, size_t count)
+static nanorand_status permute(Generator *rng, int full, size_t *numbers, size_t count)
 {
     return (full ? rng->kind->shuffle_full : rng->kind->shuffle)(rng->state, numbers, count);
 }
@@ -19,10 +19,10 @@ static uint8_t permute(Generator *rng, int full, size_t *numbers, size_t count)
 enum { AHEAD = 32 };
 
 /* Draws the places with which `count` places from `first` on are swapped. Sets how many were drawn. */
-static uint8_t draw_others(Generator *rng, const Shuffle *shuffle, size_t first, size_t count, uint64_t *others,
+static nanorand_status draw_others(Generator *rng, const Shuffle *shuffle, size_t first, size_t count, uint64_t *others,
                            size_t *drawn)
 {
-    uint8_t status = NANORAND_OK;
+    nanorand_status status = NANORAND_OK;
     for (*drawn = 0; *drawn < count; ++*drawn) {
         uint64_t least = shuffle->full ? 0 : first + *drawn;
         status = rng->kind->range_u64(rng->state, least, shuffle->count - 1, &others[*drawn]);
@@ -35,12 +35,12 @@ static uint8_t draw_others(Generator *rng, const Shuffle *shuffle, size_t first,
 }
 
 /* Makes some steps of the library's shuffle, which itself makes all of them at once. */
-static uint8_t long_shuffle(Generator *rng, void *plan, size_t from, size_t end)
+static nanorand_status long_shuffle(Generator *rng, void *plan, size_t from, size_t end)
 {
     const Shuffle *shuffle = plan;
     size_t *numbers = shuffle->numbers, drawn;
     uint64_t others[AHEAD];
-    uint8_t status = NANORAND_OK;
+    nanorand_status status = NANORAND_OK;
     for (size_t place = from; status == NANORAND_OK && place < end; place += drawn) {
         size_t count = end - place < AHEAD ? end - place : AHEAD;
         status = draw_others(rng, shuffle, place, count, others, &drawn);
@@ -54,7 +54,7 @@ static uint8_t long_shuffle(Generator *rng, void *plan, size_t from, size_t end)
 }
 
 /* Makes all steps in one call of the library, which is faster, but ends only after them. */
-static uint8_t short_shuffle(Generator *rng, void *plan, size_t Py_UNUSED(from), size_t Py_UNUSED(end))
+static nanorand_status short_shuffle(Generator *rng, void *plan, size_t Py_UNUSED(from), size_t Py_UNUSED(end))
 {
     const Shuffle *shuffle = plan;
     return permute(rng, shuffle->full, shuffle->numbers, shuffle->count);
@@ -73,7 +73,7 @@ static int shuffle_numbers(Generator *rng, Draw *draw, Shuffle *shuffle)
 }
 
 /* Writes the numbers from `from` to before `end`, each at its own place. */
-static uint8_t number_steps(Generator *Py_UNUSED(rng), void *plan, size_t from, size_t end)
+static nanorand_status number_steps(Generator *Py_UNUSED(rng), void *plan, size_t from, size_t end)
 {
     const Shuffle *shuffle = plan;
     for (size_t place = from; place < end; place++) {
@@ -99,7 +99,7 @@ static PyObject **items_of(PyObject *list)
 }
 
 /* Does not call into Python, so the shuffle is atomic. */
-static uint8_t shuffle_in_place(Generator *rng, PyObject *list, int full)
+static nanorand_status shuffle_in_place(Generator *rng, PyObject *list, int full)
 {
     return permute(rng, full, (size_t *)items_of(list), (size_t)PyList_GET_SIZE(list));
 }
@@ -174,7 +174,7 @@ static PyObject *permute_list(Generator *rng, PyObject *list, int full)
     end_draw(rng, &draw, status < 0);
     PyMem_Free(shuffle.numbers);
     PyMem_Free(before);
-    return status < 0 ? NULL : none_of((uint8_t)status);
+    return status < 0 ? NULL : none_of((nanorand_status)status);
 }
 
 /* ---- Other sequences: their places are shuffled, and then items are assigned to the places. ---- */
@@ -267,7 +267,7 @@ static PyObject *permute_places(Generator *rng, PyObject *items, PyObject *befor
         status = -1;
     }
     end_draw(rng, &draw, status < 0);
-    return status < 0 ? NULL : none_of((uint8_t)status);
+    return status < 0 ? NULL : none_of((nanorand_status)status);
 }
 
 /* Returns the items as a tuple, which no other code can change. */

@@ -31,11 +31,11 @@ void end_draw(Generator *rng, Draw *draw, int failed)
 }
 
 /* Makes the steps after the first `done`, for a moment, and adds them to `done`. Releases Python's lock. */
-static uint8_t make_pieces(Generator *rng, size_t *done, size_t count, Steps *steps, void *plan)
+static nanorand_status make_pieces(Generator *rng, size_t *done, size_t count, Steps *steps, void *plan)
 {
     PyThreadState *apart = PyEval_SaveThread();
     const int64_t end = now() + MOMENT;
-    uint8_t status;
+    nanorand_status status;
     do {
         size_t first = *done;
         *done = count - first < PIECE ? count : first + PIECE;
@@ -50,7 +50,7 @@ int make_steps(Generator *rng, Draw *draw, size_t count, Steps *steps, void *pla
     if (!draw->turn.held) {
         return steps(rng, plan, 0, count);
     }
-    uint8_t status = NANORAND_OK;
+    nanorand_status status = NANORAND_OK;
     size_t done = 0;
     while (status == NANORAND_OK && done < count) {
         status = make_pieces(rng, &done, count, steps, plan);
@@ -66,7 +66,7 @@ int draw_steps(Generator *rng, Draw *draw, size_t count, Steps *steps, void *pla
 {
     int status = make_steps(rng, draw, count, steps, plan);
     if (status > NANORAND_OK) {
-        raise_status((uint8_t)status);
+        raise_status((nanorand_status)status);
     }
     return status == NANORAND_OK ? 0 : -1;
 }

@@ -15,7 +15,7 @@
 #include <string.h>
 
 /* Counts a draw. */
-static uint8_t drawn(void *state)
+static nanorand_status drawn(void *state)
 {
     uint8_t *bytes = state;
     if (bytes[1] > 0) {
@@ -26,7 +26,7 @@ static uint8_t drawn(void *state)
     return bytes[0];
 }
 
-static uint8_t permuted(void *state, size_t *items, size_t length)
+static nanorand_status permuted(void *state, size_t *items, size_t length)
 {
     size_t first = items[0];
     items[0] = items[length - 1];
@@ -35,10 +35,10 @@ static uint8_t permuted(void *state, size_t *items, size_t length)
 }
 
 #define RANGE(name, state_type, size, number_type)                                                           \
-    uint8_t nanorand_##name##_range_##size(state_type *state, number_type first, number_type last,           \
+    nanorand_status nanorand_##name##_range_##size(state_type *state, number_type first, number_type last,   \
                                            number_type *number)                                              \
     {                                                                                                        \
-        uint8_t status = drawn(state);                                                                       \
+        nanorand_status status = drawn(state);                                                               \
         if (status == NANORAND_OK) {                                                                         \
             *number = first + (last - first) / 2;                                                            \
         }                                                                                                    \
@@ -74,22 +74,22 @@ static void fill(void *state, uint8_t *buffer, size_t length, size_t block)
     RANGE(name, state_type, u32, uint32_t)                                                                   \
     RANGE(name, state_type, u64, uint64_t)                                                                   \
     RANGE(name, state_type, i64, int64_t)                                                                    \
-    uint8_t nanorand_##name##_shuffle(state_type *state, size_t *items, size_t length)                       \
+    nanorand_status nanorand_##name##_shuffle(state_type *state, size_t *items, size_t length)               \
     {                                                                                                        \
         return permuted(state, items, length);                                                               \
     }                                                                                                        \
-    uint8_t nanorand_##name##_shuffle_full(state_type *state, size_t *items, size_t length)                  \
+    nanorand_status nanorand_##name##_shuffle_full(state_type *state, size_t *items, size_t length)          \
     {                                                                                                        \
         return permuted(state, items, length);                                                               \
     }                                                                                                        \
-    uint8_t nanorand_##name##_extend_sample(state_type *state, size_t count, size_t *places, size_t length,  \
-                                            size_t filled, size_t *table, size_t room)                       \
+    nanorand_status nanorand_##name##_extend_sample(state_type *state, size_t population, size_t *places,    \
+                                                    size_t wanted, size_t filled, size_t *table, size_t room) \
     {                                                                                                        \
-        (void)count, (void)table, (void)room;                                                                \
-        memset(places + filled, 0, (length - filled) * sizeof *places);                                      \
+        (void)population, (void)table, (void)room;                                                           \
+        memset(places + filled, 0, (wanted - filled) * sizeof *places);                                      \
         return drawn(state);                                                                                 \
     }                                                                                                        \
-    uint8_t nanorand_##name##_part(state_type *state, uint64_t index, uint64_t draws)                        \
+    nanorand_status nanorand_##name##_part(state_type *state, uint64_t index, uint64_t draws)                \
     {                                                                                                        \
         (void)index, (void)draws;                                                                            \
         return drawn(state);                                                                                 \
@@ -127,11 +127,11 @@ uint64_t nanorand_wyrand_distance(const nanorand_wyrand *rng, const nanorand_wyr
 }
 
 /* The first byte of the other state is the status. */
-uint8_t nanorand_pcg64_distance(const nanorand_pcg64 *rng, const nanorand_pcg64 *other, nanorand_pcg64 *draws)
+nanorand_status nanorand_pcg64_distance(const nanorand_pcg64 *rng, const nanorand_pcg64 *other, nanorand_pcg64 *draws)
 {
     draws->low = other->low - rng->low;
     draws->high = 0;
-    return (uint8_t)other->low;
+    return (nanorand_status)(uint8_t)other->low;
 }
 
 void nanorand_lots_digest(const uint8_t *text, size_t length, uint8_t digest[32])
@@ -140,18 +140,19 @@ void nanorand_lots_digest(const uint8_t *text, size_t length, uint8_t digest[32]
 }
 
 /* The first byte of the list is the status. */
-uint8_t nanorand_lots_count(const uint8_t *list, size_t length, size_t *number)
+nanorand_lots_status nanorand_lots_count(const uint8_t *list, size_t length, size_t *number)
 {
     *number = length;
     return list[0];
 }
 
 /* The first byte of the seed is the status. */
-uint8_t nanorand_lots_draw(const uint8_t *seed, size_t seed_length, size_t *places, size_t length, size_t count)
+nanorand_lots_status nanorand_lots_draw(const uint8_t *seed, size_t seed_length, size_t *places, size_t population,
+                                        size_t wanted)
 {
-    (void)count;
-    memset(places, 0, length * sizeof *places);
-    return seed_length == 0 ? NANORAND_OK : seed[0];
+    (void)wanted;
+    memset(places, 0, population * sizeof *places);
+    return seed_length == 0 ? NANORAND_LOTS_OK : seed[0];
 }
 
 /* Returns the variable NANORAND_TEST_VERSION, or else the version in the header. */

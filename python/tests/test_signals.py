@@ -14,6 +14,7 @@ import unittest
 from nanorand import ChaCha20, Pcg64, Stream, WyRand
 
 LENGTH = 200_000  # more than the library shuffles at once
+ATTEMPTS = 10
 LIST, OTHER = list(range(LENGTH)), [[place] for place in range(LENGTH // 2)]
 
 
@@ -87,16 +88,23 @@ class Signals(unittest.TestCase):
         whole = time.perf_counter() - begun
         return [whole * part / 16 for part in range(1, 16)]
 
+    def in_time(self, attempt, name):
+        """Asserts that an attempt succeeds. On a busy machine a signal may come too late, so there are several."""
+        self.assertTrue(any(attempt() for _ in range(ATTEMPTS)), name)
+
     def test_an_exception_of_a_handler_ends_a_call(self):
         for name, call in CALLS.items():
             kinds = SEQUENCES if name.startswith("shuffle") else ["list"]
             for sequence in kinds:
                 items = SEQUENCES[sequence](LIST if name.startswith("shuffle") else [])
                 rng = ChaCha20(bytes(32)) if sequence == "list" else WyRand(5)
-                with self.subTest(call=name, sequence=sequence):
+
+                def some_end():
                     moments = self.moments(rng, call, items)
-                    ended = [self.interrupted(rng, call, items, seconds) for seconds in moments]
-                    self.assertGreater(sum(ended), 1)
+                    return sum(self.interrupted(rng, call, items, seconds) for seconds in moments) > 1
+
+                with self.subTest(call=name, sequence=sequence):
+                    self.in_time(some_end, name)
 
     def test_it_ends_soon(self):
         """Within 0.1 s, if the machine has time. The median of several calls has it."""
@@ -104,14 +112,16 @@ class Signals(unittest.TestCase):
         for name, call in {"shuffle": CALLS["shuffle"],
                            "sample_below": lambda rng, items: rng.sample_below(2**60, 20 * LENGTH),
                            "choices": lambda rng, items: rng.choices(LIST, k=20 * LENGTH)}.items():
-            times = []
-            for seconds in (0.02, 0.05, 0.08, 0.11, 0.14):
-                begun = time.perf_counter()
-                if self.interrupted(ChaCha20(bytes(32)), call, items, seconds):
-                    times.append(time.perf_counter() - begun - seconds)
-            self.assertGreater(len(times), 2, name)
-            # Most of the time is that of this test, which copies and compares the list.
-            self.assertLess(sorted(times)[len(times) // 2], 0.5, name)
+            def end_soon():
+                times = []
+                for seconds in (0.02, 0.05, 0.08, 0.11, 0.14):
+                    begun = time.perf_counter()
+                    if self.interrupted(ChaCha20(bytes(32)), call, items, seconds):
+                        times.append(time.perf_counter() - begun - seconds)
+                # Most of the time is that of this test, which copies and compares the list.
+                return len(times) > 2 and sorted(times)[len(times) // 2] < 0.5
+
+            self.in_time(end_soon, name)
 
     def test_while_the_items_of_a_list_are_copied(self):
         items = list(range(2_000_000))
@@ -122,17 +132,19 @@ class Signals(unittest.TestCase):
 
     def test_a_call_that_waits_for_another_thread(self):
         """An exception of a handler ends it, too."""
-        rng, ended = ChaCha20(bytes(32)), 0
-        for _ in range(5):
-            thread = threading.Thread(target=rng.sample_below, args=(2**60, 10 * LENGTH))
+        rng = ChaCha20(bytes(32))
+
+        def ends():
+            ended, thread = True, threading.Thread(target=rng.sample_below, args=(2**60, 10 * LENGTH))
             thread.start()
             with contextlib.suppress(Raised), handled_by(fail, 0.08):
                 time.sleep(0.01)
                 rng.u64()
-                ended -= 1
-            ended += 1
+                ended = False
             thread.join()
-        self.assertGreater(ended, 0)
+            return ended
+
+        self.in_time(ends, "u64")
 
     def test_an_exception_while_a_long_call_repeats(self):
         for length in (2**13 + 1, 2**17, 2**17 + 1):
@@ -167,19 +179,23 @@ class Signals(unittest.TestCase):
                 lambda rng: rng.sample_below(2**60, 20_000)]
         for name in ("shuffle", "sample_below", "choices"):
             call = CALLS[name]
-            moments = self.moments(Stream(bytes(32)), call, LIST[:])
             for use in uses:
-                used, items, refused = [Stream(bytes(32))], LIST[:], 0
-                for seconds in moments[1::3]:
-                    used[0].state = before = bytes(48)
-                    try:
-                        with handled_by(lambda *_: use(used[0]), seconds):
-                            call(used[0], items)
-                    except RuntimeError as error:
-                        self.assertEqual(str(error), "Stream is in use by a call that this code interrupts")
-                        self.assertEqual(used[0].state, before)
-                        refused += 1
-                self.assertGreater(refused, 0, name)
+                used, items = [Stream(bytes(32))], LIST[:]
+
+                def is_refused():
+                    refused = 0
+                    for seconds in self.moments(Stream(bytes(32)), call, LIST[:])[1::3]:
+                        used[0].state = before = bytes(48)
+                        try:
+                            with handled_by(lambda *_: use(used[0]), seconds):
+                                call(used[0], items)
+                        except RuntimeError as error:
+                            self.assertEqual(str(error), "Stream is in use by a call that this code interrupts")
+                            self.assertEqual(used[0].state, before)
+                            refused += 1
+                    return refused > 0
+
+                self.in_time(is_refused, name)
                 self.assertTrue(sorted(items) == LIST, name)
 
     def test_a_handler_that_uses_another_generator(self):
@@ -190,7 +206,7 @@ class Signals(unittest.TestCase):
 
     def test_a_list_whose_length_a_handler_changes(self):
         """The shuffle has no effect on the list or on the generator."""
-        for name in ("shuffle", "shuffle_full"):
+        def is_noticed(name):
             raised = 0
             for seconds in self.moments(Stream(bytes(32)), CALLS[name], LIST[:]):
                 items, rng = LIST[:], Stream(bytes(32))
@@ -201,27 +217,33 @@ class Signals(unittest.TestCase):
                         self.assertEqual((str(error), items), ("list modified during shuffle", []))
                         self.assertEqual(rng, Stream(bytes(32)))
                         raised += 1
-            self.assertGreater(raised, 0)
+            return raised > 0
+
+        for name in ("shuffle", "shuffle_full"):
+            self.in_time(lambda: is_noticed(name), name)
 
     def test_a_list_whose_items_a_handler_replaces(self):
         """The items that are there when the shuffle ends are shuffled."""
-        def replace(*_):
+        def replace(items):
             items[0] = items[-1] = -1
 
-        for name in ("shuffle", "shuffle_full"):
+        def are_shuffled(name):
             places, same, replaced = LIST[:], Stream(bytes(32)), 0
             getattr(same, name)(places)
             whole = [-1, *LIST[1:-1], -1]
             for seconds in self.moments(Stream(bytes(32)), CALLS[name], LIST[:]):
                 items, rng = LIST[:], Stream(bytes(32))
-                with handled_by(replace, seconds):
+                with handled_by(lambda *_: replace(items), seconds):
                     CALLS[name](rng, items)
                 self.assertEqual(rng, same)
                 if items[0] == items[-1] == -1:
                     continue
                 replaced += -1 in items
                 self.assertTrue(items == ([whole[place] for place in places] if -1 in items else places))
-            self.assertGreater(replaced, 0)
+            return replaced > 0
+
+        for name in ("shuffle", "shuffle_full"):
+            self.in_time(lambda: are_shuffled(name), name)
 
     def test_a_collector_that_draws(self):
         """An object that is freed in the middle of a call cannot draw either, and the call continues."""

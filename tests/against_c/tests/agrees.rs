@@ -14,7 +14,7 @@ use nanorand_proved::{
 use std::fmt::{Debug, Display};
 
 /// The result of the crate that corresponds to a status of the library.
-fn answer<T>(status: u8, value: T) -> Result<T, RangeError> {
+fn answer<T>(status: u32, value: T) -> Result<T, RangeError> {
     match status {
         0 => Ok(value),
         1 => Err(RangeError::Empty),
@@ -46,6 +46,12 @@ impl<G: Rng<N>, S: PartialEq + Debug, const N: usize> Pair<G, S, N> {
             self.rng.generate::<u64>(),
             (self.calls.u64)(&mut self.state)
         );
+        let fraction = (self.calls.f64)(&mut self.state);
+        assert_eq!(
+            self.rng.generate::<f64>().to_bits(),
+            fraction.to_bits(),
+            "{fraction}"
+        );
     }
 
     fn items(&mut self, count: usize) {
@@ -63,6 +69,11 @@ impl<G: Rng<N>, S: PartialEq + Debug, const N: usize> Pair<G, S, N> {
         let status = (self.calls.sample)(&mut self.state, 2 * count, &mut others);
         assert_eq!(self.rng.sample(2 * count, &mut some), answer(status, ()));
         assert_eq!(some, others);
+        let mut arrays: Vec<[u8; 3]> = (0..count).map(|item| [item as u8; 3]).collect();
+        let mut bytes = arrays.concat();
+        let status = (self.calls.shuffle_bytes)(&mut self.state, &mut bytes, 3);
+        assert_eq!(self.rng.shuffle(&mut arrays), answer(status, ()));
+        assert_eq!(arrays.concat(), bytes);
         let (filled, mut table) = (count / 3, vec![7; 3 * count]);
         let status =
             (self.calls.extend_sample)(&mut self.state, count, &mut others, filled, &mut table);
@@ -76,7 +87,7 @@ impl<G: Rng<N>, S: PartialEq + Debug, const N: usize> Pair<G, S, N> {
 
     fn range<T: RandomRange<G, N> + Copy + PartialEq + Debug>(
         &mut self,
-        draw: fn(&mut S, T, T, &mut T) -> u8,
+        draw: fn(&mut S, T, T, &mut T) -> u32,
         [first, last]: [T; 2],
     ) {
         let mut number = first;
@@ -86,7 +97,18 @@ impl<G: Rng<N>, S: PartialEq + Debug, const N: usize> Pair<G, S, N> {
         self.same(format_args!("{first:?} to {last:?}"));
     }
 
+    fn below(&mut self, n: u64) {
+        let number = (self.calls.below)(&mut self.state, n);
+        match self.rng.generate_range(0..n) {
+            Ok(drawn) => assert_eq!(drawn, number, "below {n}"),
+            Err(RangeError::Empty) => assert_eq!(number, 0, "below {n}"),
+            Err(RangeError::Exhausted) => assert_eq!(number, n, "below {n}"),
+        }
+        self.same(format_args!("below {n}"));
+    }
+
     fn ranges(&mut self, chooser: &mut Chooser) {
+        self.below(chooser.end());
         let mut ends = || [chooser.end(), chooser.end()];
         self.range(self.calls.range_u32, ends().map(|end| end as u32));
         self.range(self.calls.range_u64, ends());

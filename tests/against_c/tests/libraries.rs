@@ -40,14 +40,15 @@ fn beside(chooser: &mut Chooser, number: usize) -> usize {
     }
 }
 
-/// Makes one of ten or eleven calls. The result also has the memory around what the call writes.
-fn call<S>(library: &Calls<S>, state: &mut S, mut chooser: Chooser) -> (u8, Vec<u8>, Vec<usize>) {
+/// Makes one of thirteen or fourteen calls. The result also has the memory around what the call
+/// writes.
+fn call<S>(library: &Calls<S>, state: &mut S, mut chooser: Chooser) -> (u32, Vec<u8>, Vec<usize>) {
     let (mut bytes, mut items) = (vec![0xee; 2100], (0..80).collect::<Vec<_>>());
     let [first, last] = [chooser.end(), chooser.end()];
     let mut narrow = first as u32;
     let mut signed = first as i64;
     let mut number = first;
-    let chosen = chooser.below(if library.part.is_some() { 11 } else { 10 });
+    let chosen = chooser.below(if library.part.is_some() { 14 } else { 13 });
     let places = 7..7 + count(&mut chooser);
     let status = match chosen {
         0 => {
@@ -76,7 +77,22 @@ fn call<S>(library: &Calls<S>, state: &mut S, mut chooser: Chooser) -> (u8, Vec<
             let mut table = vec![count; chooser.below(4 * places.len() + 2)];
             (library.extend_sample)(state, count, &mut items[places], filled, &mut table)
         }
-        _ => library.part.expect("the eleventh call")(state, first, last),
+        10 => {
+            number = (library.f64)(state).to_bits();
+            0
+        }
+        11 => {
+            number = (library.below)(state, first);
+            0
+        }
+        12 => {
+            let size = chooser.below(40);
+            let end = 5 + chooser.below(2000);
+            let numbers = bytes.iter_mut().enumerate();
+            numbers.for_each(|(place, byte)| *byte = (place * 37) as u8);
+            (library.shuffle_bytes)(state, &mut bytes[5..end], size)
+        }
+        _ => library.part.expect("the last call")(state, first, last),
     };
     items.extend([narrow as usize, signed as usize, number as usize]);
     (status, bytes, items)
@@ -202,7 +218,21 @@ fn seeds_and_jumps() {
         let (mut rng, mut seed) = ((library.new_seed)(chooser.end()), wide(&mut chooser));
         (library.wyrand_jump)(&mut rng, chooser.end());
         (library.pcg64_jump)(&mut seed, &wide(&mut chooser));
-        (rng, seed)
+        let made = (library.pcg64_new_seed)(chooser.end(), chooser.end());
+        (rng, seed, made)
+    });
+}
+
+#[test]
+fn keys() {
+    both(2000, |library, mut chooser| {
+        let (key, nonce) = (chooser.bytes(), chooser.bytes());
+        let (stream, groups) = (
+            (library.stream_new_key)(&key, &nonce),
+            (library.keystream_new_key)(&key, &nonce),
+        );
+        assert_eq!((stream.buffered, groups.buffered), (0, 0));
+        ((library.chacha_new_key)(&key, &nonce), stream, groups)
     });
 }
 

@@ -6,14 +6,14 @@ use nanorand_proved::{Rng, WyRand};
 
 extern "C" {
     fn nanorand_v1_lots_digest(text: *const u8, length: usize, digest: &mut [u8; 32]);
-    fn nanorand_v1_lots_count(list: *const u8, length: usize, number: &mut usize) -> u8;
+    fn nanorand_v1_lots_count(list: *const u8, length: usize, number: &mut usize) -> u32;
     fn nanorand_v1_lots_draw(
         seed: *const u8,
         seed_length: usize,
         places: *mut usize,
         length: usize,
-        count: usize,
-    ) -> u8;
+        wanted: usize,
+    ) -> u32;
 }
 
 /// Asserts that both compute the same digest of the text.
@@ -77,7 +77,7 @@ fn counts_of_entrants() {
         let status = unsafe { nanorand_v1_lots_count(list.as_ptr(), list.len(), &mut number) };
         let wanted = match count_entrants(list) {
             Ok(count) => (0, count),
-            Err(LotsError::EmptyLine(line)) => (LotsError::EmptyLine(line).status(), line),
+            Err(LotsError::EmptyLine(line)) => (LotsError::EmptyLine(line).status().into(), line),
             Err(error) => panic!("{error} of {list:?}"),
         };
         assert_eq!((status, number), wanted, "{list:?}");
@@ -106,7 +106,7 @@ fn draws_of_places() {
             )
         };
         assert_eq!(
-            outcome.map_err(LotsError::status),
+            outcome.map_err(|error| error.status().into()),
             if status == 0 { Ok(()) } else { Err(status) }
         );
         assert_eq!(places, others, "{seed:?}, {count} of {length}");

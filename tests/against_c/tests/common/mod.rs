@@ -55,56 +55,72 @@ impl PartialEq for GroupStream {
     }
 }
 
-/// The ten calls that every generator has, with its state in C, and `part` if it has that.
+/// The thirteen calls that every generator has, with its state in C, and `part` if it has that.
 pub struct Calls<S> {
     pub u64: fn(&mut S) -> u64,
+    pub f64: fn(&mut S) -> f64,
+    pub below: fn(&mut S, u64) -> u64,
     pub fill_bytes: fn(&mut S, &mut [u8]),
-    pub range_u32: fn(&mut S, u32, u32, &mut u32) -> u8,
-    pub range_u64: fn(&mut S, u64, u64, &mut u64) -> u8,
-    pub range_i64: fn(&mut S, i64, i64, &mut i64) -> u8,
-    pub range_usize: fn(&mut S, usize, usize, &mut usize) -> u8,
-    pub shuffle: fn(&mut S, &mut [usize]) -> u8,
-    pub shuffle_full: fn(&mut S, &mut [usize]) -> u8,
-    pub sample: fn(&mut S, usize, &mut [usize]) -> u8,
-    pub extend_sample: fn(&mut S, usize, &mut [usize], usize, &mut [usize]) -> u8,
-    pub part: Option<fn(&mut S, u64, u64) -> u8>,
+    pub range_u32: fn(&mut S, u32, u32, &mut u32) -> u32,
+    pub range_u64: fn(&mut S, u64, u64, &mut u64) -> u32,
+    pub range_i64: fn(&mut S, i64, i64, &mut i64) -> u32,
+    pub range_usize: fn(&mut S, usize, usize, &mut usize) -> u32,
+    pub shuffle: fn(&mut S, &mut [usize]) -> u32,
+    pub shuffle_full: fn(&mut S, &mut [usize]) -> u32,
+    pub shuffle_bytes: fn(&mut S, &mut [u8], usize) -> u32,
+    pub sample: fn(&mut S, usize, &mut [usize]) -> u32,
+    pub extend_sample: fn(&mut S, usize, &mut [usize], usize, &mut [usize]) -> u32,
+    pub part: Option<fn(&mut S, u64, u64) -> u32>,
 }
 
-/// The ten calls of a generator in the library with a prefix.
+/// The thirteen calls of a generator in the library with a prefix.
 macro_rules! calls {
     ($prefix:literal, $generator:literal, $state:ty) => {{
         extern "C" {
             #[link_name = concat!($prefix, $generator, "_u64")]
             fn u64(rng: &mut $state) -> u64;
+            #[link_name = concat!($prefix, $generator, "_f64")]
+            fn f64(rng: &mut $state) -> f64;
+            #[link_name = concat!($prefix, $generator, "_below")]
+            fn below(rng: &mut $state, n: u64) -> u64;
             #[link_name = concat!($prefix, $generator, "_fill_bytes")]
             fn fill_bytes(rng: &mut $state, buffer: *mut u8, length: usize);
             #[link_name = concat!($prefix, $generator, "_range_u32")]
-            fn range_u32(rng: &mut $state, first: u32, last: u32, number: &mut u32) -> u8;
+            fn range_u32(rng: &mut $state, first: u32, last: u32, number: &mut u32) -> u32;
             #[link_name = concat!($prefix, $generator, "_range_u64")]
-            fn range_u64(rng: &mut $state, first: u64, last: u64, number: &mut u64) -> u8;
+            fn range_u64(rng: &mut $state, first: u64, last: u64, number: &mut u64) -> u32;
             #[link_name = concat!($prefix, $generator, "_range_i64")]
-            fn range_i64(rng: &mut $state, first: i64, last: i64, number: &mut i64) -> u8;
+            fn range_i64(rng: &mut $state, first: i64, last: i64, number: &mut i64) -> u32;
             #[link_name = concat!($prefix, $generator, "_range_usize")]
-            fn range_usize(rng: &mut $state, first: usize, last: usize, number: &mut usize) -> u8;
+            fn range_usize(rng: &mut $state, first: usize, last: usize, number: &mut usize) -> u32;
             #[link_name = concat!($prefix, $generator, "_shuffle")]
-            fn shuffle(rng: &mut $state, items: *mut usize, length: usize) -> u8;
+            fn shuffle(rng: &mut $state, items: *mut usize, length: usize) -> u32;
             #[link_name = concat!($prefix, $generator, "_shuffle_full")]
-            fn shuffle_full(rng: &mut $state, items: *mut usize, length: usize) -> u8;
+            fn shuffle_full(rng: &mut $state, items: *mut usize, length: usize) -> u32;
+            #[link_name = concat!($prefix, $generator, "_shuffle_bytes")]
+            fn shuffle_bytes(rng: &mut $state, items: *mut u8, length: usize, size: usize) -> u32;
             #[link_name = concat!($prefix, $generator, "_sample")]
-            fn sample(rng: &mut $state, count: usize, places: *mut usize, length: usize) -> u8;
+            fn sample(
+                rng: &mut $state,
+                population: usize,
+                places: *mut usize,
+                length: usize,
+            ) -> u32;
             #[link_name = concat!($prefix, $generator, "_extend_sample")]
             fn extend_sample(
                 rng: &mut $state,
-                count: usize,
+                population: usize,
                 places: *mut usize,
                 places_length: usize,
                 filled: usize,
                 table: *mut usize,
                 length: usize,
-            ) -> u8;
+            ) -> u32;
         }
         Calls::<$state> {
             u64: |rng| u64(rng),
+            f64: |rng| f64(rng),
+            below: |rng, n| below(rng, n),
             fill_bytes: |rng, buffer| fill_bytes(rng, buffer.as_mut_ptr(), buffer.len()),
             range_u32: |rng, first, last, number| range_u32(rng, first, last, number),
             range_u64: |rng, first, last, number| range_u64(rng, first, last, number),
@@ -112,11 +128,16 @@ macro_rules! calls {
             range_usize: |rng, first, last, number| range_usize(rng, first, last, number),
             shuffle: |rng, items| shuffle(rng, items.as_mut_ptr(), items.len()),
             shuffle_full: |rng, items| shuffle_full(rng, items.as_mut_ptr(), items.len()),
-            sample: |rng, count, places| sample(rng, count, places.as_mut_ptr(), places.len()),
-            extend_sample: |rng, count, places, filled, table| {
+            shuffle_bytes: |rng, items, size| {
+                shuffle_bytes(rng, items.as_mut_ptr(), items.len(), size)
+            },
+            sample: |rng, population, places| {
+                sample(rng, population, places.as_mut_ptr(), places.len())
+            },
+            extend_sample: |rng, population, places, filled, table| {
                 let (slots, items) = (places.len(), table.len());
                 let (places, table) = (places.as_mut_ptr(), table.as_mut_ptr());
-                extend_sample(rng, count, places, slots, filled, table, items)
+                extend_sample(rng, population, places, slots, filled, table, items)
             },
             part: None,
         }
@@ -128,7 +149,7 @@ macro_rules! part {
     ($prefix:literal, $generator:literal, $state:ty) => {{
         extern "C" {
             #[link_name = concat!($prefix, $generator, "_part")]
-            fn part(rng: &mut $state, index: u64, draws: u64) -> u8;
+            fn part(rng: &mut $state, index: u64, draws: u64) -> u32;
         }
         Some(|rng, index, draws| part(rng, index, draws))
     }};
@@ -144,6 +165,10 @@ pub struct Library {
     pub stream: Calls<Stream>,
     pub keystream: Calls<GroupStream>,
     pub new_seed: fn(u64) -> WyRand,
+    pub pcg64_new_seed: fn(u64, u64) -> Wide,
+    pub chacha_new_key: fn(&[u8; 32], &[u8; 8]) -> ChaChaState,
+    pub stream_new_key: fn(&[u8; 32], &[u8; 8]) -> Stream,
+    pub keystream_new_key: fn(&[u8; 32], &[u8; 8]) -> GroupStream,
     pub wyrand_seed: fn(&mut WyRand, u64),
     pub pcg64_seed: fn(&mut Wide, u64),
     pub chacha_seeds: [fn(&mut ChaChaState, u64); 3],
@@ -152,11 +177,11 @@ pub struct Library {
     pub wyrand_jump: fn(&mut WyRand, u64),
     pub pcg64_jump: fn(&mut Wide, &Wide),
     pub wyrand_distance: fn(&WyRand, &WyRand) -> u64,
-    pub pcg64_distance: fn(&Wide, &Wide, &mut Wide) -> u8,
+    pub pcg64_distance: fn(&Wide, &Wide, &mut Wide) -> u32,
     pub blocks: [fn(&mut ChaChaState, &mut [u8; 64]); 3],
     pub digest: fn(&[u8], &mut [u8; 32]),
-    pub count: fn(&[u8], &mut usize) -> u8,
-    pub draw: fn(&[u8], &mut [usize], usize) -> u8,
+    pub count: fn(&[u8], &mut usize) -> u32,
+    pub draw: fn(&[u8], &mut [usize], usize) -> u32,
     pub version: fn() -> u32,
 }
 
@@ -166,6 +191,14 @@ macro_rules! library {
         extern "C" {
             #[link_name = concat!($prefix, "wyrand_new_seed")]
             fn new_seed(seed: u64) -> WyRand;
+            #[link_name = concat!($prefix, "pcg64_new_seed")]
+            fn pcg64_new_seed(low: u64, high: u64) -> Wide;
+            #[link_name = concat!($prefix, "chacha_new_key")]
+            fn chacha_new_key(key: &[u8; 32], nonce: &[u8; 8]) -> ChaChaState;
+            #[link_name = concat!($prefix, "stream_new_key")]
+            fn stream_new_key(key: &[u8; 32], nonce: &[u8; 8]) -> Stream;
+            #[link_name = concat!($prefix, "keystream_new_key")]
+            fn keystream_new_key(key: &[u8; 32], nonce: &[u8; 8]) -> GroupStream;
             #[link_name = concat!($prefix, "wyrand_seed_from_u64")]
             fn wyrand_seed(rng: &mut WyRand, number: u64);
             #[link_name = concat!($prefix, "pcg64_seed_from_u64")]
@@ -187,7 +220,7 @@ macro_rules! library {
             #[link_name = concat!($prefix, "wyrand_distance")]
             fn wyrand_distance(rng: &WyRand, other: &WyRand) -> u64;
             #[link_name = concat!($prefix, "pcg64_distance")]
-            fn pcg64_distance(seed: &Wide, other: &Wide, draws: &mut Wide) -> u8;
+            fn pcg64_distance(seed: &Wide, other: &Wide, draws: &mut Wide) -> u32;
             #[link_name = concat!($prefix, "chacha8_block")]
             fn chacha8_block(state: &mut ChaChaState, out: &mut [u8; 64]);
             #[link_name = concat!($prefix, "chacha12_block")]
@@ -197,15 +230,15 @@ macro_rules! library {
             #[link_name = concat!($prefix, "lots_digest")]
             fn digest(text: *const u8, length: usize, digest: &mut [u8; 32]);
             #[link_name = concat!($prefix, "lots_count")]
-            fn count(list: *const u8, length: usize, number: &mut usize) -> u8;
+            fn count(list: *const u8, length: usize, number: &mut usize) -> u32;
             #[link_name = concat!($prefix, "lots_draw")]
             fn draw(
                 seed: *const u8,
                 seed_length: usize,
                 places: *mut usize,
                 length: usize,
-                count: usize,
-            ) -> u8;
+                wanted: usize,
+            ) -> u32;
             #[link_name = concat!($prefix, "version")]
             fn version() -> u32;
         }
@@ -238,6 +271,10 @@ macro_rules! library {
                     ..calls!($prefix, "keystream", GroupStream)
                 },
                 new_seed: |seed| new_seed(seed),
+                pcg64_new_seed: |low, high| pcg64_new_seed(low, high),
+                chacha_new_key: |key, nonce| chacha_new_key(key, nonce),
+                stream_new_key: |key, nonce| stream_new_key(key, nonce),
+                keystream_new_key: |key, nonce| keystream_new_key(key, nonce),
                 wyrand_seed: |rng, number| wyrand_seed(rng, number),
                 pcg64_seed: |seed, number| pcg64_seed(seed, number),
                 chacha_seeds: [
@@ -258,13 +295,13 @@ macro_rules! library {
                 ],
                 digest: |text, out| digest(text.as_ptr(), text.len(), out),
                 count: |list, number| count(list.as_ptr(), list.len(), number),
-                draw: |seed, places, count| {
+                draw: |seed, places, wanted| {
                     draw(
                         seed.as_ptr(),
                         seed.len(),
                         places.as_mut_ptr(),
                         places.len(),
-                        count,
+                        wanted,
                     )
                 },
                 version: || version(),
