@@ -66,9 +66,9 @@ static int draw_lots(void)
 {
     const char *seed = "4 1 6 3 3 2 5 6 1 4 2 6 5 3 1 1 6 2 4 5";
     size_t places[ENTRANTS] = {0};
-    uint8_t status =
+    nanorand_lots_status status =
         nanorand_lots_draw((const uint8_t *)seed, strlen(seed), places, ENTRANTS, WINNERS);
-    if (status != NANORAND_OK) {
+    if (status != NANORAND_LOTS_OK) {
         return 1;
     }
     printf("lots:");

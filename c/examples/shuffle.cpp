@@ -1,43 +1,38 @@
-// Uses a generator with the C++ standard library. Each run prints the same.
-#include <algorithm>
-#include <cstddef>
-#include <cstdint>
+// Rolls a die, shuffles names and estimates pi. Each run prints the same.
+#include <iomanip>
 #include <iostream>
 #include <random>
+#include <string>
 #include <vector>
 
-#include "nanorand.h"
-
-struct Source {    // a UniformRandomBitGenerator
-    using result_type = uint64_t;
-    nanorand_pcg64 rng;
-    static constexpr result_type min() { return 0; }
-    static constexpr result_type max() { return UINT64_MAX; }
-    result_type operator()() { return nanorand_pcg64_u64(&rng); }
-};
+#include "nanorand.hpp"
 
 int main()
 {
-    Source source;
-    nanorand_pcg64_seed_from_u64(&source.rng, 42);
+    nanorand::WyRand rng(42);
 
-    // The order and the number depend on the standard library, so the program does not print them.
-    std::vector<size_t> cards{0, 1, 2, 3, 4, 5, 6, 7, 8, 9}, shuffled = cards;
-    std::shuffle(shuffled.begin(), shuffled.end(), source);
-    double number = std::normal_distribution<double>()(source);
-    bool complete = std::is_permutation(cards.begin(), cards.end(), shuffled.begin());
-    std::cout << (complete ? "All cards are there." : "A card is lost.") << '\n';
-    std::cout << (number > -9 && number < 9 ? "The number is from -9 to 9." : "The number is far out.") << '\n';
+    const int pips = rng.range(1, 6);
+    std::cout << "You rolled " << pips << ".\n";
 
-    // This order is the same everywhere.
-    nanorand_pcg64_seed_from_u64(&source.rng, 42);
-    if (nanorand_pcg64_shuffle(&source.rng, cards.data(), cards.size()) != NANORAND_OK) {
-        return 1; // 128 words in a row were rejected
-    }
+    std::vector<std::string> names{"Ada", "Barbara", "Chidi", "Dmitri", "Elif"};
+    rng.shuffle(names);
     std::cout << "The order:";
-    for (size_t card : cards) {
-        std::cout << ' ' << card;
+    for (const std::string& name : names) {
+        std::cout << ' ' << name;
     }
     std::cout << '\n';
-    return 0;
+
+    // A distribution of <random>, whose numbers depend on the standard library. 2 * rng.f64() - 1 is faster, and
+    // returns the same numbers everywhere.
+    std::uniform_real_distribution<double> coordinate(-1, 1);
+    const int points = 4'000'000;
+    int inside = 0;
+    for (int point = 0; point < points; ++point) {
+        const double x = coordinate(rng);
+        const double y = coordinate(rng);
+        if (x * x + y * y <= 1) {
+            ++inside;
+        }
+    }
+    std::cout << "Pi is about " << std::fixed << std::setprecision(2) << 4.0 * inside / points << ".\n";
 }
