@@ -285,7 +285,7 @@ uint64_t nanorand_wyrand_u64(
 
 /*
  * Draws a number from 0 to below 1, a multiple of 2^-53: the top 53 bits of a 64-bit word, divided
- * by 2^53. Each of the 2^53 numbers is produced by the same number of words.
+ * by 2^53. Each of the 2^53 numbers is produced by 2^11 of the 2^64 words.
  */
 double nanorand_wyrand_f64(nanorand_wyrand *rng) NANORAND_SYMBOL(wyrand_f64) NANORAND_NOT_NULL((1));
 
@@ -436,8 +436,8 @@ void nanorand_wyrand_jump(
  * part is `draws` draws long: moves ahead by `index * draws` draws. A draw is what a `uint64_t`
  * takes: 8 bytes for WyRand, Pcg64 and the keystream, a block of 64 bytes for ChaCha. Parts of the
  * same length from copies of the same state do not overlap, as long as no task draws more than
- * `draws` draws. Take an odd length: with an even one, the numbers of WyRand and Pcg64 in different
- * parts are correlated.
+ * `draws` draws. Take an odd length: if a large power of two divides the distance between two parts
+ * of WyRand or Pcg64, their numbers are correlated.
  *
  * Returns NANORAND_OK, or NANORAND_PAST_PERIOD if the part ends past the period; the state does not
  * move then. The period is 2^64 draws for WyRand and ChaCha, 2^126 for Pcg64, and 2^67 for the
@@ -484,7 +484,7 @@ uint64_t nanorand_pcg64_u64(nanorand_pcg64 *rng) NANORAND_SYMBOL(pcg64_u64) NANO
 
 /*
  * Draws a number from 0 to below 1, a multiple of 2^-53: the top 53 bits of a 64-bit word, divided
- * by 2^53. Each of the 2^53 numbers is produced by the same number of words.
+ * by 2^53. Each of the 2^53 numbers is produced by 2^11 of the 2^64 words.
  */
 double nanorand_pcg64_f64(nanorand_pcg64 *rng) NANORAND_SYMBOL(pcg64_f64) NANORAND_NOT_NULL((1));
 
@@ -636,8 +636,8 @@ void nanorand_pcg64_jump(
  * part is `draws` draws long: moves ahead by `index * draws` draws. A draw is what a `uint64_t`
  * takes: 8 bytes for WyRand, Pcg64 and the keystream, a block of 64 bytes for ChaCha. Parts of the
  * same length from copies of the same state do not overlap, as long as no task draws more than
- * `draws` draws. Take an odd length: with an even one, the numbers of WyRand and Pcg64 in different
- * parts are correlated.
+ * `draws` draws. Take an odd length: if a large power of two divides the distance between two parts
+ * of WyRand or Pcg64, their numbers are correlated.
  *
  * Returns NANORAND_OK, or NANORAND_PAST_PERIOD if the part ends past the period; the state does not
  * move then. The period is 2^64 draws for WyRand and ChaCha, 2^126 for Pcg64, and 2^67 for the
@@ -697,7 +697,7 @@ uint64_t nanorand_chacha8_u64(
 
 /*
  * Draws a number from 0 to below 1, a multiple of 2^-53: the top 53 bits of a 64-bit word, divided
- * by 2^53. Each of the 2^53 numbers is produced by the same number of words.
+ * by 2^53. Each of the 2^53 numbers is produced by 2^11 of the 2^64 words.
  */
 double nanorand_chacha8_f64(
     nanorand_chacha *rng) NANORAND_SYMBOL(chacha8_f64) NANORAND_NOT_NULL((1));
@@ -849,8 +849,8 @@ nanorand_status nanorand_chacha8_extend_sample(
  * part is `draws` draws long: moves ahead by `index * draws` draws. A draw is what a `uint64_t`
  * takes: 8 bytes for WyRand, Pcg64 and the keystream, a block of 64 bytes for ChaCha. Parts of the
  * same length from copies of the same state do not overlap, as long as no task draws more than
- * `draws` draws. Take an odd length: with an even one, the numbers of WyRand and Pcg64 in different
- * parts are correlated.
+ * `draws` draws. Take an odd length: if a large power of two divides the distance between two parts
+ * of WyRand or Pcg64, their numbers are correlated.
  *
  * Returns NANORAND_OK, or NANORAND_PAST_PERIOD if the part ends past the period; the state does not
  * move then. The period is 2^64 draws for WyRand and ChaCha, 2^126 for Pcg64, and 2^67 for the
@@ -889,7 +889,7 @@ uint64_t nanorand_chacha12_u64(
 
 /*
  * Draws a number from 0 to below 1, a multiple of 2^-53: the top 53 bits of a 64-bit word, divided
- * by 2^53. Each of the 2^53 numbers is produced by the same number of words.
+ * by 2^53. Each of the 2^53 numbers is produced by 2^11 of the 2^64 words.
  */
 double nanorand_chacha12_f64(
     nanorand_chacha *rng) NANORAND_SYMBOL(chacha12_f64) NANORAND_NOT_NULL((1));
@@ -1041,8 +1041,8 @@ nanorand_status nanorand_chacha12_extend_sample(
  * part is `draws` draws long: moves ahead by `index * draws` draws. A draw is what a `uint64_t`
  * takes: 8 bytes for WyRand, Pcg64 and the keystream, a block of 64 bytes for ChaCha. Parts of the
  * same length from copies of the same state do not overlap, as long as no task draws more than
- * `draws` draws. Take an odd length: with an even one, the numbers of WyRand and Pcg64 in different
- * parts are correlated.
+ * `draws` draws. Take an odd length: if a large power of two divides the distance between two parts
+ * of WyRand or Pcg64, their numbers are correlated.
  *
  * Returns NANORAND_OK, or NANORAND_PAST_PERIOD if the part ends past the period; the state does not
  * move then. The period is 2^64 draws for WyRand and ChaCha, 2^126 for Pcg64, and 2^67 for the
@@ -1081,7 +1081,7 @@ uint64_t nanorand_chacha20_u64(
 
 /*
  * Draws a number from 0 to below 1, a multiple of 2^-53: the top 53 bits of a 64-bit word, divided
- * by 2^53. Each of the 2^53 numbers is produced by the same number of words.
+ * by 2^53. Each of the 2^53 numbers is produced by 2^11 of the 2^64 words.
  */
 double nanorand_chacha20_f64(
     nanorand_chacha *rng) NANORAND_SYMBOL(chacha20_f64) NANORAND_NOT_NULL((1));
@@ -1233,8 +1233,8 @@ nanorand_status nanorand_chacha20_extend_sample(
  * part is `draws` draws long: moves ahead by `index * draws` draws. A draw is what a `uint64_t`
  * takes: 8 bytes for WyRand, Pcg64 and the keystream, a block of 64 bytes for ChaCha. Parts of the
  * same length from copies of the same state do not overlap, as long as no task draws more than
- * `draws` draws. Take an odd length: with an even one, the numbers of WyRand and Pcg64 in different
- * parts are correlated.
+ * `draws` draws. Take an odd length: if a large power of two divides the distance between two parts
+ * of WyRand or Pcg64, their numbers are correlated.
  *
  * Returns NANORAND_OK, or NANORAND_PAST_PERIOD if the part ends past the period; the state does not
  * move then. The period is 2^64 draws for WyRand and ChaCha, 2^126 for Pcg64, and 2^67 for the
@@ -1273,7 +1273,7 @@ uint64_t nanorand_stream_u64(
 
 /*
  * Draws a number from 0 to below 1, a multiple of 2^-53: the top 53 bits of a 64-bit word, divided
- * by 2^53. Each of the 2^53 numbers is produced by the same number of words.
+ * by 2^53. Each of the 2^53 numbers is produced by 2^11 of the 2^64 words.
  */
 double nanorand_stream_f64(nanorand_stream *rng) NANORAND_SYMBOL(stream_f64) NANORAND_NOT_NULL((1));
 
@@ -1444,7 +1444,7 @@ uint64_t nanorand_keystream_u64(
 
 /*
  * Draws a number from 0 to below 1, a multiple of 2^-53: the top 53 bits of a 64-bit word, divided
- * by 2^53. Each of the 2^53 numbers is produced by the same number of words.
+ * by 2^53. Each of the 2^53 numbers is produced by 2^11 of the 2^64 words.
  */
 double nanorand_keystream_f64(
     nanorand_keystream *rng) NANORAND_SYMBOL(keystream_f64) NANORAND_NOT_NULL((1));
@@ -1592,8 +1592,8 @@ nanorand_status nanorand_keystream_extend_sample(
  * part is `draws` draws long: moves ahead by `index * draws` draws. A draw is what a `uint64_t`
  * takes: 8 bytes for WyRand, Pcg64 and the keystream, a block of 64 bytes for ChaCha. Parts of the
  * same length from copies of the same state do not overlap, as long as no task draws more than
- * `draws` draws. Take an odd length: with an even one, the numbers of WyRand and Pcg64 in different
- * parts are correlated.
+ * `draws` draws. Take an odd length: if a large power of two divides the distance between two parts
+ * of WyRand or Pcg64, their numbers are correlated.
  *
  * Returns NANORAND_OK, or NANORAND_PAST_PERIOD if the part ends past the period; the state does not
  * move then. The period is 2^64 draws for WyRand and ChaCha, 2^126 for Pcg64, and 2^67 for the

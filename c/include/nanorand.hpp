@@ -9,7 +9,8 @@
 /// A generator is a value: a copy draws the same numbers again. It is a UniformRandomBitGenerator: std::shuffle,
 /// std::sample and the distributions of <random> accept it, and what they compute from it depends on the standard
 /// library. The members of the classes below return the same numbers everywhere, which are those of C and of the other
-/// languages. Threads need no lock if each has its own generator; they must not use one at the same time.
+/// languages (but Rust draws `range` of types below 64 bits otherwise, except that of unsigned 32 bits). Threads need
+/// no lock if each has its own generator; they must not use one at the same time.
 ///
 /// There is no default constructor: a program that forgets the seed would draw the same numbers in each run, and nobody
 /// would notice. Nothing here asks the operating system for a seed; std::random_device does.
@@ -189,7 +190,8 @@ public:
     /// The struct of C that holds the state.
     using state_type = typename Calls::state;
 
-    /// Seeds from any number, even a small one such as 0, 1, 2, ..: mixes it. Different numbers give different states.
+    /// Seeds from any 64-bit number, even a small one such as 0, 1, 2, ..: mixes it. Different numbers give different
+    /// states.
     /// The generator is the one that `seed_from_u64` makes in other languages.
     explicit generator(std::uint64_t seed) noexcept { Calls::seed_from_u64(&state_, seed); }
 
@@ -543,7 +545,7 @@ public:
 /// The public draw by lot.
 namespace lots {
 
-/// A seed, a list or a number of places from which no draw can be made.
+/// A seed, a list or a number of places from which no draw can be made, or a draw after 128 rejected words.
 class error : public std::runtime_error {
 public:
     error(nanorand_lots_status status, const std::string& text) : std::runtime_error(text), status_(status) {}

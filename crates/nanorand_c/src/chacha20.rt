@@ -61,7 +61,7 @@ pub extern "C" fn nanorand_v1_chacha20_u64(rng: &mut ChaChaState) -> u64
 }
 
 /// Draws a number from 0 to below 1, a multiple of 2^-53: the top 53 bits of a 64-bit word, divided
-/// by 2^53. Each of the 2^53 numbers is produced by the same number of words.
+/// by 2^53. Each of the 2^53 numbers is produced by 2^11 of the 2^64 words.
 #[unsafe(no_mangle)]
 pub extern "C" fn nanorand_v1_chacha20_f64(rng: &mut ChaChaState) -> f64
     ensures value { let word = number_of ((chacha_requests 20).bytes (chacha_at rng.old) 8) in
@@ -375,8 +375,8 @@ pub extern "C" fn nanorand_v1_chacha20_extend_sample(
 /// part is `draws` draws long: moves ahead by `index * draws` draws. A draw is what a `u64` takes:
 /// 8 bytes for WyRand, Pcg64 and the keystream, a block of 64 bytes for ChaCha. Parts of the same
 /// length from copies of the same state do not overlap, as long as no task draws more than `draws`
-/// draws. Take an odd length: with an even one, the numbers of WyRand and Pcg64 in different parts
-/// are correlated.
+/// draws. Take an odd length: if a large power of two divides the distance between two parts of
+/// WyRand or Pcg64, their numbers are correlated.
 ///
 /// Returns NANORAND_OK, or NANORAND_PAST_PERIOD if the part ends past the period; the state does
 /// not move then. The period is 2^64 draws for WyRand and ChaCha, 2^126 for Pcg64, and 2^67 for the

@@ -67,7 +67,7 @@ pub extern "C" fn nanorand_v1_stream_u64(rng: &mut Stream) -> u64
 }
 
 /// Draws a number from 0 to below 1, a multiple of 2^-53: the top 53 bits of a 64-bit word, divided
-/// by 2^53. Each of the 2^53 numbers is produced by the same number of words.
+/// by 2^53. Each of the 2^53 numbers is produced by 2^11 of the 2^64 words.
 #[unsafe(no_mangle)]
 pub extern "C" fn nanorand_v1_stream_f64(rng: &mut Stream) -> f64
     ensures value { IsFractionOf (number_of (stream_requests.bytes (stream_at rng.old) 8)) result }
