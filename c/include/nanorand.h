@@ -7,8 +7,8 @@
  * States. The state of a generator is a plain struct in the caller's memory. It may be copied, compared
  * field by field and stored. Equal states produce equal results, so a copy draws the same numbers again.
  *
- * Threads. No function allocates memory, blocks, keeps a pointer or has hidden state. Threads need no lock
- * if each has its own state.
+ * Threads. No function allocates memory, blocks, keeps a pointer or has hidden state on which a result
+ * depends. Threads need no lock if each has its own state.
  *
  * Pointers. No pointer may be null, except that of an array of length 0. Memory that a call writes (a state,
  * a buffer, a number) must not overlap any other memory that is passed to the same call. Bytes may be at any
