@@ -9,7 +9,7 @@
 #include <stdlib.h>
 #include <string.h>
 
-#include "nanorand.h"
+#include "check.h"
 
 /* Does not compile if the condition is false: the array would have the length -1. */
 #define HOLDS(name, condition) typedef char holds_##name[(condition) ? 1 : -1]
@@ -31,7 +31,7 @@ enum { LARGE = (1 << 14) + 1, ITEMS = (1 << 10) + 3, GREATEST = (1 << 17) + 1 };
 #else
 enum { LARGE = (1 << 22) + 1, ITEMS = (1 << 18) + 3, GREATEST = (1 << 21) + 1 };
 #endif
-enum { OFFSETS = 16, SHORT = 200, AHEAD = 1025 };
+enum { OFFSETS = 16, SHORT = 200 };
 
 /* Sizes around powers of 2 and of 10, some of them multiples of 64. */
 static const size_t great_sizes[] = {
@@ -41,19 +41,6 @@ static const size_t great_sizes[] = {
     999999, 1000000, 1000001, 1048575, 1048576, 1048577, 2097151, 2097152, 2097153,
     SIZE_MAX,
 };
-
-static unsigned passed = 0;
-static unsigned failed = 0;
-
-static void check(const char *generator, const char *name, int holds)
-{
-    if (holds) {
-        passed++;
-    } else {
-        failed++;
-        printf("FAILED %s: %s\n", generator, name);
-    }
-}
 
 /* Whether the items have each number below `count` once. */
 static int is_permutation(const size_t *items, size_t count)
@@ -276,15 +263,6 @@ static int are_below(const size_t *places, size_t length, size_t count)
                 && are_below(places, 3, count | 1);                                                \
         }                                                                                          \
         check(#G, "three of any number", holds);                                                   \
-    }                                                                                              \
-                                                                                                   \
-    /* Whether two states deliver the same bytes from here on. */                                  \
-    static int agree_##G(S state, S other)                                                         \
-    {                                                                                              \
-        static uint8_t next[AHEAD], others[AHEAD];                                                 \
-        nanorand_##G##_fill_bytes(&state, next, AHEAD);                                            \
-        nanorand_##G##_fill_bytes(&other, others, AHEAD);                                          \
-        return memcmp(next, others, AHEAD) == 0;                                                   \
     }                                                                                              \
                                                                                                    \
     /* Draws a sample with a table, in pieces of growing size. The table has old values. */        \
@@ -566,6 +544,5 @@ int main(void)
     digests();
     lists();
     draws();
-    printf("%u passed, %u failed\n", passed, failed);
-    return failed == 0 ? 0 : 1;
+    return finish();
 }

@@ -6,9 +6,9 @@
 #include <stdio.h>
 #include <string.h>
 
-#include "nanorand.h"
+#include "check.h"
 
-enum { GREATEST = 300, MOST = 70, GUARD = 0xee, AHEAD = 600 };
+enum { GREATEST = 300, MOST = 70, GUARD = 0xee };
 
 /* Sizes of types, and odd ones. */
 static const size_t sizes[] = {1, 2, 3, 4, 5, 7, 8, 9, 12, 15, 16, 17, 24, 31, 32, 33, 63, 64, 65, 100, 128, 255, GREATEST, 0};
@@ -16,17 +16,11 @@ static const size_t sizes[] = {1, 2, 3, 4, 5, 7, 8, 9, 12, 15, 16, 17, 24, 31, 3
 static uint8_t memory[GREATEST * (MOST + 1) + 2];
 static uint8_t *const items = memory + 1; /* an odd address */
 
-static unsigned passed = 0;
-static unsigned failed = 0;
-
-static void check(const char *generator, const char *name, size_t size, int holds)
+static void check_items(const char *generator, const char *name, size_t size, int holds)
 {
-    if (holds) {
-        passed++;
-    } else {
-        failed++;
-        printf("FAILED %s: %s, items of %u bytes\n", generator, name, (unsigned)size);
-    }
+    char text[80];
+    snprintf(text, sizeof text, "%s, items of %u bytes", name, (unsigned)size);
+    check(generator, text, holds);
 }
 
 /* A byte of an item. Two items differ in each of their bytes, and so do neighbouring bytes of an item. */
@@ -78,15 +72,6 @@ struct card {
 
 /* The tests of one generator. S is the type of its state. */
 #define TESTS(G, S)                                                                                \
-    /* Whether two states deliver the same bytes from here on. */                                  \
-    static int agree_##G(S state, S other)                                                         \
-    {                                                                                              \
-        uint8_t next[AHEAD], others[AHEAD];                                                        \
-        nanorand_##G##_fill_bytes(&state, next, AHEAD);                                            \
-        nanorand_##G##_fill_bytes(&other, others, AHEAD);                                          \
-        return memcmp(next, others, AHEAD) == 0;                                                   \
-    }                                                                                              \
-                                                                                                   \
     static void sizes_##G(S start)                                                                 \
     {                                                                                              \
         size_t order[MOST];                                                                        \
@@ -101,7 +86,7 @@ struct card {
                     && nanorand_##G##_shuffle_items(&other, items, length, *size) == NANORAND_OK   \
                     && are_in_order(order, length, *size) && agree_##G(state, other);              \
             }                                                                                      \
-            check(#G, "any number of items", *size, holds);                                        \
+            check_items(#G, "any number of items", *size, holds);                                        \
         }                                                                                          \
     }                                                                                              \
                                                                                                    \
@@ -124,7 +109,7 @@ struct card {
                 holds = holds && nanorand_##G##_shuffle_bytes(&other, items, rest, *size) == NANORAND_OK \
                     && are_in_order(order, 0, *size) && memcmp(&other, &start, sizeof start) == 0; \
             }                                                                                      \
-            check(#G, "a rest", *size, holds);                                                     \
+            check_items(#G, "a rest", *size, holds);                                                     \
         }                                                                                          \
     }                                                                                              \
                                                                                                    \
@@ -133,11 +118,11 @@ struct card {
     {                                                                                              \
         S state = start;                                                                           \
         begin(0, 0);                                                                               \
-        check(#G, "no size", 0, nanorand_##G##_shuffle_items(&state, items, MOST, 0) == NANORAND_OK); \
-        check(#G, "bytes and no size", 0, nanorand_##G##_shuffle_bytes(&state, items, MOST, 0) == NANORAND_OK); \
-        check(#G, "no items", 8, nanorand_##G##_shuffle_items(&state, NULL, 0, 8) == NANORAND_OK); \
-        check(#G, "nothing is written", 0, are_in_order(NULL, 0, 0));                              \
-        check(#G, "nothing is drawn", 0, memcmp(&state, &start, sizeof state) == 0);               \
+        check_items(#G, "no size", 0, nanorand_##G##_shuffle_items(&state, items, MOST, 0) == NANORAND_OK); \
+        check_items(#G, "bytes and no size", 0, nanorand_##G##_shuffle_bytes(&state, items, MOST, 0) == NANORAND_OK); \
+        check_items(#G, "no items", 8, nanorand_##G##_shuffle_items(&state, NULL, 0, 8) == NANORAND_OK); \
+        check_items(#G, "nothing is written", 0, are_in_order(NULL, 0, 0));                              \
+        check_items(#G, "nothing is drawn", 0, memcmp(&state, &start, sizeof state) == 0);               \
     }                                                                                              \
                                                                                                    \
     static void structs_##G(S start)                                                               \
@@ -152,7 +137,7 @@ struct card {
             holds = holds && cards[place].value == value && cards[place].name[0] == "ABC"[order[place]] \
                 && cards[place].weight * (1 << value) == 1;                                        \
         }                                                                                          \
-        check(#G, "structs", sizeof cards[0], holds);                                              \
+        check_items(#G, "structs", sizeof cards[0], holds);                                              \
     }                                                                                              \
                                                                                                    \
     static void all_##G(S start)                                                                   \
@@ -181,6 +166,5 @@ int main(void)
     all_chacha20(nanorand_chacha_new_key(key, nonce));
     all_stream(nanorand_stream_new_key(key, nonce));
     all_keystream(nanorand_keystream_new_key(key, nonce));
-    printf("%u passed, %u failed\n", passed, failed);
-    return failed == 0 ? 0 : 1;
+    return finish();
 }

@@ -4,39 +4,14 @@
  *
  * Not tested: what nanorand_.._below returns after 128 rejected words. No state is known that leads to them.
  */
-#include <stdio.h>
-#include <string.h>
+#include "check.h"
 
-#include "nanorand.h"
-
-enum { WORDS = 2000, AHEAD = 600 };
+enum { WORDS = 2000 };
 
 static const double fractions = 9007199254740992.0; /* 2^53 */
 
-static unsigned passed = 0;
-static unsigned failed = 0;
-
-static void check(const char *generator, const char *name, int holds)
-{
-    if (holds) {
-        passed++;
-    } else {
-        failed++;
-        printf("FAILED %s: %s\n", generator, name);
-    }
-}
-
 /* The tests of one generator. S is the type of its state. */
 #define TESTS(G, S)                                                                                \
-    /* Whether two states deliver the same bytes from here on. */                                  \
-    static int agree_##G(S state, S other)                                                         \
-    {                                                                                              \
-        uint8_t next[AHEAD], others[AHEAD];                                                        \
-        nanorand_##G##_fill_bytes(&state, next, AHEAD);                                            \
-        nanorand_##G##_fill_bytes(&other, others, AHEAD);                                          \
-        return memcmp(next, others, AHEAD) == 0;                                                   \
-    }                                                                                              \
-                                                                                                   \
     /* The same 53 bits as the word, in the same order, and some of them below 1/4 and above 3/4. */ \
     static void fractions_##G(S start)                                                             \
     {                                                                                              \
@@ -127,6 +102,5 @@ int main(void)
     all_stream(nanorand_stream_new_key(key, nonce));
     all_keystream(nanorand_keystream_new_key(key, nonce));
     too_many_buffered(nanorand_stream_new_key(key, nonce), nanorand_keystream_new_key(key, nonce));
-    printf("%u passed, %u failed\n", passed, failed);
-    return failed == 0 ? 0 : 1;
+    return finish();
 }
