@@ -120,7 +120,7 @@ fn compare<S: Clone + PartialEq + Debug>(
             statuses[made.0 as usize] += 1;
         }
     }
-    let refused = if one.part.is_some() { 500..4000 } else { 0..1 };
+    let refused = if one.part.is_some() { 300..4000 } else { 0..1 };
     assert!(
         statuses[0] > 1000 && statuses[1] > 1000 && refused.contains(&statuses[3]),
         "of each status there are {statuses:?}"
