@@ -24,9 +24,10 @@ if available shellcheck shellcheck; then
 else
     skip 'shellcheck' 'it is not there'
 fi
-if available mypy mypy; then
+# The types of python/nanorand/numpy.py are those of NumPy.
+if available mypy mypy && available /usr/lib/python3/dist-packages/numpy python3-numpy; then
     step mypy --cache-dir "$work/mypy"
 else
-    skip 'the types of Python code' 'there is no mypy'
+    skip 'the types of Python code' 'there is no mypy, or no NumPy'
 fi
 finish

@@ -1,10 +1,14 @@
 #!/usr/bin/env python3
-"""Writes the record in docs/PAGE.md: the record that the web page docs/nanorand.html makes of the example in LOTS.
+"""Writes into documents and settings what follows from other files.
 
-    tools/record.py            writes the record
-    tools/record.py --check    checks that the document has it: N passed, M failed
+    tools/record.py            writes it
+    tools/record.py --check    checks that the files have it: N passed, M failed
 
-The example's list, seed and drawn lines are those in docs/LOTS.md, which tests/second_opinion.py draws again.
+- docs/PAGE.md: the record that the web page docs/nanorand.html makes of the example in docs/LOTS.md. The example's
+  list, seed and drawn lines are those in LOTS, which tests/second_opinion.py draws again.
+- docs/RAFFLE.md and CHANGELOG.md: the SHA-256 of the web page. In the changelog it is the first one, that of the newest
+  version.
+- pyproject.toml: the repository's address, which its owner fills in in Cargo.toml.
 """
 
 import base64
@@ -18,9 +22,11 @@ ROOT = Path(__file__).resolve().parent.parent
 sys.path.append(str(ROOT / "python"))
 import backend  # noqa: E402
 
-DOCS = ROOT / "docs"
-DOCUMENT = DOCS / "PAGE.md"
-RECORD = re.compile(r"(?<=^```\n)nanorand public draw 1\n.*?(?=^```$)", re.M | re.S)
+PAGE = ROOT / "docs" / "nanorand.html"
+
+
+def text_of(path: str) -> str:
+    return (ROOT / path).read_text(encoding="utf-8")
 
 
 def sha256(data: bytes) -> str:
@@ -29,14 +35,13 @@ def sha256(data: bytes) -> str:
 
 def module_digest() -> str:
     """The SHA-256 of the page's module for 64-bit memory."""
-    page = (DOCS / "nanorand.html").read_text(encoding="utf-8")
-    code = re.search(r'<script type="text/plain" id="module">([^<]*)</script>', page)[1]
+    code = re.search(r'<script type="text/plain" id="module">([^<]*)</script>', PAGE.read_text(encoding="utf-8"))[1]
     return sha256(base64.b64decode(code))
 
 
 def record(version: str) -> str:
     """The record of the first draw in docs/LOTS.md."""
-    text = (DOCS / "LOTS.md").read_text(encoding="utf-8")
+    text = text_of("docs/LOTS.md")
     entrants = re.search(r"<!-- example: entrants -->\n```\n(.*?)^```$", text, re.M | re.S)[1]
     seed, drawn = re.search(r'^\$ lots "([^"\n]*)" \d+ < entrants\n(.*?)^```$', text, re.M | re.S).groups()
     names = drawn.splitlines()
@@ -54,21 +59,39 @@ def record(version: str) -> str:
     return "".join(f"{line}\n" for line in lines)
 
 
+def address() -> str:
+    return re.search(r'^repository = "(.*)"$', text_of("Cargo.toml"), re.M)[1]
+
+
+def parts() -> "list[tuple[str, str, str]]":
+    """For each file: the pattern of the part that is written, and its text."""
+    page = sha256(PAGE.read_bytes())
+    return [
+        ("docs/PAGE.md", r"(?ms)(?<=^```\n)nanorand public draw 1\n.*?(?=^```$)", record(backend.VERSION)),
+        ("docs/RAFFLE.md", r"(?m)^[0-9a-f]{64}(?=  nanorand\.html$)", page),
+        ("CHANGELOG.md", r"(?<=The SHA-256 of `docs/nanorand\.html`: `)[0-9a-f]{64}", page),
+        ("pyproject.toml", r'(?m)(?<=^Repository = ").*(?="$)', address()),
+    ]
+
+
 def main() -> int:
     if sys.argv[1:] not in ([], ["--check"]):
         print(__doc__.strip())
         return 2
-    text = DOCUMENT.read_text(encoding="utf-8")
-    wanted = RECORD.sub(lambda _: record(backend.VERSION), text, count=1)
+    failed = []
+    for path, pattern, part in parts():
+        text = text_of(path)
+        wanted, count = re.subn(pattern, lambda _, part=part: part, text, count=1)
+        if not sys.argv[1:]:
+            (ROOT / path).write_text(wanted, encoding="utf-8")
+        elif count != 1 or wanted != text:
+            failed.append(path)
     if not sys.argv[1:]:
-        DOCUMENT.write_text(wanted, encoding="utf-8")
         return 0
-    if text == wanted:
-        print("1 passed, 0 failed")
-        return 0
-    print("FAILED docs/PAGE.md has another record: tools/record.py writes it")
-    print("0 passed, 1 failed")
-    return 1
+    for path in failed:
+        print(f"FAILED {path} differs from what tools/record.py writes")
+    print(f"{len(parts()) - len(failed)} passed, {len(failed)} failed")
+    return 1 if failed else 0
 
 
 if __name__ == "__main__":

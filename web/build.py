@@ -147,6 +147,18 @@ def rule() -> str:
     return f"<ul>\n{text}</ul>"
 
 
+def repository() -> str:
+    """The address of the repository, which its owner fills in there."""
+    return re.search(r'^repository = "(.*)"$', (TOP / "Cargo.toml").read_text(encoding="utf-8"), re.M)[1]
+
+
+def source_sentence(address: str) -> str:
+    """Where the program comes from. URL stands for an address that is not filled in."""
+    if address == "URL":
+        return "URL stands for the address of the repository that this file comes from."
+    return "The address is that of the repository that this file comes from."
+
+
 def source_of(text: str) -> str:
     """The source of a content security policy that allows exactly this script or style."""
     return f"'sha256-{base64.b64encode(hashlib.sha256(text.encode()).digest()).decode()}'"
@@ -158,6 +170,7 @@ def page_with(module: bytes, module32: bytes) -> str:
               f"style-src {source_of(style)}", "img-src data:", "base-uri 'none'", "form-action 'none'"]
     values = {"policy": "; ".join(policy), "style": style, "main": main, "worker": script("worker"),
               "module": base64.b64encode(module).decode(), "module32": base64.b64encode(module32).decode(),
+              "repository": html.escape(repository()), "source": source_sentence(repository()),
               "rule": rule(), "python": html.escape(python_code(), quote=False)}
     template = (SOURCES / "page.html").read_text(encoding="utf-8")
     return re.sub(r"\{\{(\w+)\}\}", lambda mark: values[mark[1]], template)

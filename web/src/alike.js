@@ -1,5 +1,7 @@
-// Finds lines that look alike: equal lines, and lines that differ only in the white space at their
-// ends, in how an accented letter is encoded, or in case.
+// Finds lines that look alike: equal lines, and lines that differ only in spaces, invisible
+// characters, the encoding of a letter, case, or letters of another alphabet that look the same.
+
+import { withoutInvisible } from "./invisible.js";
 
 const SPACES = new Set([9, 11, 12, 13, 32]);
 
@@ -16,22 +18,46 @@ function trimmed(line) {
   return line.slice(first, end);
 }
 
+/** Cyrillic and Greek letters and signs that look like the letter or sign of ASCII below them. */
+const [LOOKALIKES, LATIN] = [
+  "АВЕЅІЈКМНОРСТУХҮԚԜаеорсухіјѕԁһԛԝӏΑΒΕΖΗΙΚΜΝΟΡΤΥΧαινορυκ‘’ʼ´‐‑‒–—−",
+  "ABESIJKMHOPCTYXYQWaeopcyxijsdhqwlABEZHIKMNOPTYXaivopuk''''------",
+].map((letters) => Array.from(letters));
+const LATIN_OF = new Map(LOOKALIKES.map((letter, index) => [letter, LATIN[index]]));
+const LOOKALIKE = new RegExp(`[${LOOKALIKES.join("")}]`, "gu");
+
+/** A text in which letters that look like a Latin one are that one. @param {string} text */
+export function latin(text) {
+  return text.replace(LOOKALIKE, (letter) => LATIN_OF.get(letter));
+}
+
+/** A line in which only plain spaces are invisible, one in a row. @param {string} line */
+function spaced(line) {
+  return trimmed(withoutInvisible(line).replace(/ {2,}/g, " "));
+}
+
 /**
  * Each form is computed from the one before. Lines that are equal in a form, but not in the one
- * before, differ in what `name` says.
+ * before, differ in what `name` says. `isOfBytes`: whether it is a form of lines that are not UTF-8.
  */
 const FORMS = [
-  { of: (line) => line, name: "" },
-  { of: trimmed, name: "the spaces at its ends" },
+  { of: (line) => line, name: "", isOfBytes: true },
+  { of: trimmed, name: "the spaces at its ends", isOfBytes: true },
+  { of: spaced, name: "invisible characters or the spaces in it" },
   { of: (line) => line.normalize("NFC"), name: "how an accented letter is encoded" },
+  { of: (line) => spaced(line.normalize("NFKC")), name: "the form of a letter, such as its width" },
+  { of: latin, name: "letters or signs that look the same" },
   { of: (line) => line.toLowerCase().normalize("NFC"), name: "upper and lower case" },
 ];
 
-/** The last form of each line, computed in one text, because a call for each line takes seconds. */
+/**
+ * The last form of each line. Everything but the spaces is computed in one text, because a call for
+ * each line takes seconds.
+ */
 function lastForms(lines, isText) {
-  const text = lines.join("\n");
-  const folded = isText ? text.normalize("NFC").toLowerCase().normalize("NFC") : text;
-  return folded.split("\n").map(trimmed);
+  if (!isText) return lines.map(trimmed);
+  const text = lines.map(spaced).join("\n").normalize("NFKC");
+  return latin(text.split("\n").map(spaced).join("\n")).toLowerCase().normalize("NFC").split("\n");
 }
 
 /** The groups of lines that share a last form: the indices of each group of two or more lines. */
@@ -48,31 +74,43 @@ function groupsOf(forms) {
 }
 
 /**
- * For each form: how many lines equal an earlier line in it but not in the form before, and the
- * number of the first such line, from 1 (Infinity if there is none).
+ * For each form: how many lines equal an earlier line in it but not in the form before, the number
+ * of the first such line, from 1 (Infinity if there is none), and that of the line that it equals.
  * @param {string[]} lines @param {boolean} isText false if the lines are bytes that are not UTF-8
- * @returns {{name: string, count: number, line: number}[]}
+ * @returns {{name: string, count: number, line: number, other: number}[]}
  */
 export function alikeIn(lines, isText) {
-  const forms = isText ? FORMS : FORMS.slice(0, 2);
-  const found = forms.map(({ name }) => ({ name, count: 0, line: Infinity }));
+  const forms = FORMS.filter(({ isOfBytes }) => isText || isOfBytes);
+  const found = forms.map(({ name }) => ({ name, count: 0, line: Infinity, other: 0 }));
   for (const group of groupsOf(lastForms(lines, isText))) {
     let left = new Map(group.map((place) => [place, lines[place]]));
     forms.forEach(({ of }, index) => {
-      const seen = new Set();
+      const seen = new Map();
       const next = new Map();
       for (const [place, text] of left) {
         const form = of(text);
-        if (seen.has(form)) {
-          found[index].count += 1;
-          found[index].line = Math.min(found[index].line, place + 1);
-        } else next.set(place, form);
-        seen.add(form);
+        if (seen.has(form)) count(found[index], place, seen.get(form));
+        else {
+          seen.set(form, place);
+          next.set(place, form);
+        }
       }
       left = next;
     });
   }
   return found;
+}
+
+/** Counts the line at `place`, which equals the earlier one at `other`. */
+function count(found, place, other) {
+  found.count += 1;
+  if (place + 1 < found.line) [found.line, found.other] = [place + 1, other + 1];
+}
+
+/** Whether two different texts look the same or nearly so. @param {string} left @param {string} right */
+export function looksAlike(left, right) {
+  const [one, other] = lastForms([left, right], true);
+  return one === other;
 }
 
 /** The number, from 1, of the first line of white space only, or 0. @param {string[]} lines */

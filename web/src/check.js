@@ -1,22 +1,42 @@
 // Checks a record: repeats its draw with a list and compares the results.
 
-import { equalBytes, hex } from "./bytes.js";
+import { looksAlike } from "./alike.js";
+import { equalBytes, hex, textOf } from "./bytes.js";
 import { draw, resultOf } from "./draw.js";
-import { printed } from "./entrant.js";
-import { readRecord, RecordError } from "./record.js";
+import { printed, shown } from "./entrant.js";
+import { foreignMarked, markedPair } from "./marks.js";
+import { readRecord, RecordError, writtenSeed } from "./record.js";
 import { Refusal } from "./refusal.js";
 
 /**
  * @typedef {Object} Check
  * @property {"agrees"|"other module"|"differs"|"no record"|"no list"} outcome
  * @property {string} title the outcome in a sentence
- * @property {string[]} findings what differs, a sentence each
+ * @property {Finding[]} findings what differs
+ * @property {?Reading} reading what the record says, or null if there is no record
+ */
+
+/**
+ * A sentence and, of two results that look alike, what the page shows of each.
+ * @typedef {{text: string, pair?: {number: string, line: Object}[]}} Finding
+ */
+
+/**
+ * What was checked: the first and last line of the record in its text, what the page shows of its
+ * seed, the SHA-256 of its list, its numbers and its named entrants.
+ * @typedef {Object} Reading
+ * @property {[number, number]} lines
+ * @property {(string|number[])[]} seed
+ * @property {string} list
+ * @property {number} entrants
+ * @property {number} drawn
+ * @property {{isText: boolean, parts: (string|number)[]}[]} named
  */
 
 const TITLES = {
   "agrees": "The record agrees: the same list, and the draw repeated here gives the same result. " +
     "Whether its list and its seed are those that were announced, only you can compare.",
-  "other module": "The result agrees, but the record names another version or another module.",
+  "other module": "The result agrees, but the record was made by another version of the program.",
   "differs": "The record differs from the draw repeated here.",
   "no record": "This text is not a record of a draw.",
   "no list": "The record can be read. Open or paste its list above, and check again.",
@@ -31,9 +51,23 @@ const TITLES = {
  * @property {string} otherWords describes the other module
  */
 
-/** @param {Check["outcome"]} outcome @param {string[]} findings @returns {Check} */
-function checked(outcome, findings) {
-  return { outcome, title: TITLES[outcome], findings };
+/**
+ * @param {Check["outcome"]} outcome @param {(string|Finding)[]} findings
+ * @param {?import("./record.js").Record} [record] @returns {Check}
+ */
+function checked(outcome, findings, record = null) {
+  const asFinding = (finding) => (typeof finding === "string" ? { text: finding } : finding);
+  return {
+    outcome,
+    title: TITLES[outcome],
+    findings: findings.map(asFinding),
+    reading: record && readingOf(record),
+  };
+}
+
+/** @param {import("./record.js").Record} record @returns {Reading} */
+function readingOf({ lines, seed, list, entrants, drawn, named }) {
+  return { lines, seed: foreignMarked(writtenSeed(seed)), list, entrants, drawn, named: named.map(shown) };
 }
 
 /**
@@ -48,12 +82,12 @@ export function check(module, maker, list, text) {
     if (error instanceof RecordError) return checked("no record", [error.message]);
     throw error;
   }
-  if (list.length === 0 && record.entrants > 0) return checked("no list", []);
+  if (list.length === 0 && record.entrants > 0) return checked("no list", [], record);
   const others = otherMakers(record, maker);
   const findings = [...others, ...otherOfPage(record, maker)];
   const differences = differencesOf(module, list, record);
-  if (differences.length > 0) return checked("differs", [...differences, ...findings]);
-  return checked(others.length > 0 ? "other module" : "agrees", findings);
+  if (differences.length > 0) return checked("differs", [...differences, ...findings], record);
+  return checked(others.length > 0 ? "other module" : "agrees", findings, record);
 }
 
 /** @param {import("./record.js").Record} record @param {Maker} maker @returns {string[]} */
@@ -76,7 +110,7 @@ function otherOfPage(record, { otherModule, words, otherWords }) {
 /**
  * Returns what differs, or why the draw that the record describes cannot be made with the list.
  * Throws if the module fails.
- * @param {import("./record.js").Record} record @returns {string[]}
+ * @param {import("./record.js").Record} record @returns {(string|Finding)[]}
  */
 function differencesOf(module, list, record) {
   const digest = hex(module.digest(list));
@@ -100,12 +134,18 @@ function differencesOf(module, list, record) {
 }
 
 /**
- * Describes the first line of the result that differs. Returns an empty text if none does.
- * @param {Uint8Array[]} named @param {Uint8Array[]} drawn @returns {string}
+ * Describes the first line of the result that differs. If the two entrants look alike, it shows where
+ * they differ. Returns null if no line differs.
+ * @param {Uint8Array[]} named @param {Uint8Array[]} drawn @returns {?Finding}
  */
 function differentLine(named, drawn) {
   const index = named.findIndex((entrant, place) => !equalBytes(entrant, drawn[place]));
-  if (index < 0) return "";
-  return `Line ${index + 1} of the result: the record says ${printed(named[index])}, ` +
-    `the draw gives ${printed(drawn[index])}.`;
+  if (index < 0) return null;
+  const two = [named[index], drawn[index]];
+  const text = `Line ${index + 1} of the result: the record says ${printed(two[0])}, ` +
+    `the draw gives ${printed(two[1])}.`;
+  const texts = two.map(textOf);
+  if (texts.includes(null) || !looksAlike(...texts)) return { text };
+  const [record, repeated] = markedPair(...texts);
+  return { text, pair: [{ number: "Record", line: record }, { number: "Draw", line: repeated }] };
 }

@@ -23,6 +23,7 @@ export function bytesOfSeed(seed) {
  */
 export function numberOfCount(text) {
   if (text === "all") return null;
+  if (text === "") throw new Refusal("count is empty");
   if (!/^[0-9]+$/.test(text)) throw new Refusal("count is no number");
   const digits = text.replace(/^0+(?=.)/, "");
   if (digits.length > 20 || BigInt(digits) > LARGEST) throw new Refusal("count is too large");

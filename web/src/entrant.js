@@ -27,7 +27,7 @@ function joins(letters, place) {
 }
 
 /** Whether a character is visible at its place in a text. A space at either end is not. */
-function isSeen(letters, place) {
+export function isSeen(letters, place) {
   if (letters[place] === " ") return place > 0 && place < letters.length - 1;
   return !isUnseen(letters[place]) || joins(letters, place);
 }
@@ -54,23 +54,35 @@ export function printed(bytes) {
 }
 
 /**
- * An entrant for the page to show: its visible characters as texts, and the code point of each
- * invisible one in its place. An entrant that is not UTF-8 is printed, as one text.
+ * What the page shows of a text: visible characters as texts, and the code point of each invisible
+ * one in its place. The characters from `first` to before `end` are marked: they are an array of
+ * their code points.
+ * @param {string[]} letters @param {number} [first] @param {number} [end]
+ * @returns {(string|number|number[])[]}
+ */
+export function partsOf(letters, first = letters.length, end = letters.length) {
+  const parts = [];
+  letters.forEach((letter, place) => {
+    const last = parts.length - 1;
+    if (first <= place && place < end) {
+      if (place === first) parts.push([]);
+      parts[parts.length - 1].push(letter.codePointAt(0));
+    } else if (!isSeen(letters, place)) parts.push(letter.codePointAt(0));
+    else if (typeof parts[last] === "string") parts[last] += letter;
+    else parts.push(letter);
+  });
+  return parts;
+}
+
+/**
+ * An entrant for the page to show. One that is not UTF-8 is printed, as one text.
  * @param {Uint8Array} bytes @returns {{isText: boolean, parts: (string|number)[]}}
  */
 export function shown(bytes) {
   const text = textOf(bytes);
-  if (text === null) return { isText: false, parts: [printed(bytes)] };
-  const letters = Array.from(text);
-  const parts = letters.map((letter, place) =>
-    (isSeen(letters, place) ? letter : letter.codePointAt(0)));
-  const joined = [];
-  for (const one of parts) {
-    const last = joined.length - 1;
-    if (typeof one === "string" && typeof joined[last] === "string") joined[last] += one;
-    else joined.push(one);
-  }
-  return { isText: true, parts: joined };
+  return text === null
+    ? { isText: false, parts: [printed(bytes)] }
+    : { isText: true, parts: partsOf(Array.from(text)) };
 }
 
 /**

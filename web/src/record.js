@@ -2,6 +2,7 @@
 
 import { hasHalfCharacter, isUnseen } from "./bytes.js";
 import { printed, unprinted } from "./entrant.js";
+import { plainTitle, reasonIn } from "./pasted.js";
 
 const TITLE = "nanorand public draw 1";
 
@@ -18,6 +19,7 @@ export const NAMED = 1000;
  * @property {string} module SHA-256 of the module
  * @property {string} result SHA-256 of the result
  * @property {Uint8Array[]} named the first entrants drawn, at most `NAMED`
+ * @property {[number, number]} [lines] the first and the last line of a record that was read, from 1
  */
 
 const SUM = /^[0-9a-f]{64}$/;
@@ -101,22 +103,43 @@ export class RecordError extends Error {
   }
 }
 
-/** Reads the record in a text. Throws RecordError. @param {string} text @returns {Record} */
+/**
+ * Reads the record in a text. Throws RecordError, also if a second record begins in the text: a
+ * reader could take one for the other.
+ * @param {string} text @returns {Record}
+ */
 export function readRecord(text) {
   const lines = text.split("\n").map(unquoted);
-  let at = lines.indexOf(TITLE) + 1;
-  if (at === 0) {
-    const first = lines.findIndex((line) => line !== "");
-    if (first < 0) throw new RecordError(1, "the text is empty.");
-    throw new RecordError(first + 1, `a record begins with “${TITLE}”.`);
-  }
+  const first = titleIn(lines);
   const values = {};
+  let at = first + 1;
   for (const form of LINES) {
     const { value, next } = readLine(lines, at, form);
     values[form[0]] = value;
     at = next;
   }
-  return { ...values, named: readNamed(lines, at, values.drawn) };
+  const { named, end } = readNamed(lines, at, values.drawn);
+  return { ...values, named, lines: [first + 1, end] };
+}
+
+/** The index of the title, which has to be the only line that looks like one. */
+function titleIn(lines) {
+  const titles = lines.flatMap((line, index) => (isLikeTitle(line) ? [index] : []));
+  if (titles.length > 1) {
+    throw new RecordError(titles[1] + 1, "a second record begins here. Check one record at a time.");
+  }
+  const first = lines.findIndex((line) => line !== "");
+  if (first < 0) throw new RecordError(1, "the text is empty.");
+  const index = titles[0] ?? first;
+  if (lines[index] !== TITLE) {
+    throw new RecordError(index + 1, `a record begins with “${TITLE}”.${reasonIn(lines[index])}`);
+  }
+  return index;
+}
+
+/** Whether a line looks like a title of this or another format. @param {string} line */
+function isLikeTitle(line) {
+  return plainTitle(line).startsWith(plainTitle(TITLE).replace(/[0-9]+$/, ""));
 }
 
 /** A line without the `>` marks of a quoted mail and without white space at its end. */
@@ -137,14 +160,14 @@ function goesOn(line) {
 function readLine(lines, index, [, name, read, joint]) {
   const line = lines[index] ?? "";
   if (line !== `${name}:` && !line.startsWith(`${name}: `)) {
-    throw new RecordError(index + 1, `“${name}: ” is missing.`);
+    throw new RecordError(index + 1, `“${name}: ” is missing.${reasonIn(line)}`);
   }
   let text = line.slice(name.length + 2);
   for (let next = index + 1; ; next += 1) {
     const value = read(text);
     if (value !== null) return { value, next };
     if (!goesOn(lines[next])) {
-      throw new RecordError(index + 1, `the value of “${name}” cannot be read.`);
+      throw new RecordError(index + 1, `the value of “${name}” cannot be read.${reasonIn(text)}`);
     }
     text += (text && joint) + lines[next];
   }
@@ -167,27 +190,27 @@ function readEntrant(lines, index, number, end) {
   }
   const entrant = unprinted(text);
   if (entrant === null) {
-    throw new RecordError(index + 1, `“${start}” and an entrant are missing.`);
+    throw new RecordError(index + 1, `“${start}” and an entrant are missing.${reasonIn(line)}`);
   }
   return { entrant, next };
 }
 
-/** Reads the named entrants, which end the record. */
+/** Reads the named entrants, which end the record, and returns the index of the line after them. */
 function readNamed(lines, first, drawn) {
   const named = [];
   const rest = drawn > NAMED ? `and ${drawn - NAMED} more` : null;
-  let at = first;
+  let end = first;
   for (let number = 1; number <= Math.min(drawn, NAMED); number += 1) {
-    const { entrant, next } = readEntrant(lines, at, number, number === NAMED ? rest : null);
+    const { entrant, next } = readEntrant(lines, end, number, number === NAMED ? rest : null);
     named.push(entrant);
-    at = next;
+    end = next;
   }
   if (rest !== null) {
-    if (lines[at] !== rest) throw new RecordError(at + 1, `“${rest}” is missing.`);
-    at += 1;
+    if (lines[end] !== rest) throw new RecordError(end + 1, `“${rest}” is missing.`);
+    end += 1;
   }
-  if (/^(?:[0-9]+: |and [0-9]+ more$)/.test(lines[at] ?? "")) {
-    throw new RecordError(at + 1, "the record should have ended before.");
+  if (/^(?:[0-9]+: |and [0-9]+ more$)/.test(lines[end] ?? "")) {
+    throw new RecordError(end + 1, "the record should have ended before.");
   }
-  return named;
+  return { named, end };
 }

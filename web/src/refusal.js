@@ -1,6 +1,6 @@
 // The errors that the page shows, and their texts.
 
-/** @typedef {"seed"|"count"|"list"|"page"} Field  where the error is shown */
+/** @typedef {"seed"|"count"|"list"|"question"|"page"} Field  where the error is shown */
 
 /** @type {Record<string, {field: Field, words: (values: Object) => string}>} */
 const REFUSALS = {
@@ -10,7 +10,11 @@ const REFUSALS = {
   },
   "seed has half a character": {
     field: "seed",
-    words: () => "The seed has half of a character (a lone surrogate), which UTF-8 cannot encode.",
+    words: () => "The seed has half of a character, as a broken copy leaves it. Type the seed again.",
+  },
+  "count is empty": {
+    field: "count",
+    words: () => "Type how many are drawn: a number, or the word all.",
   },
   "count is no number": {
     field: "count",
@@ -25,6 +29,14 @@ const REFUSALS = {
     words: ({ entrants, count }) =>
       `Cannot draw ${count}: the list has only ${entrants}.`,
   },
+  "no list": {
+    field: "list",
+    words: () => "Open the list first.",
+  },
+  "list is a question": {
+    field: "question",
+    words: () => "Answer the question about the list first.",
+  },
   "line is empty": {
     field: "list",
     words: ({ line }) => `Line ${line} is empty. Each line of the list must have an entrant.`,
@@ -32,7 +44,12 @@ const REFUSALS = {
   "list has half a character": {
     field: "list",
     words: ({ line }) =>
-      `Line ${line} has half of a character (a lone surrogate), which UTF-8 cannot encode.`,
+      `Line ${line} has half of a character, as a broken copy leaves it. Copy the list again.`,
+  },
+  "list is no text": {
+    field: "list",
+    words: () => "This file does not seem to be a text. If it is a spreadsheet or a document, save it " +
+      "there as text in UTF-8, with one entrant on each line, and open that file.",
   },
   "list cannot be read": {
     field: "list",
@@ -55,7 +72,8 @@ const REFUSALS = {
   },
   "the module failed": {
     field: "page",
-    words: ({ reason }) => `The module failed, and nothing is drawn: ${reason}`,
+    words: ({ reason }) =>
+      `The page failed, and nothing is drawn: ${reason}. Reload the page, and try again.`,
   },
 };
 

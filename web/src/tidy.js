@@ -1,7 +1,10 @@
 // Changes that the owner of a list may want. The changed list has another SHA-256.
 
 import { isSpace } from "./alike.js";
+import { textOf, utf8 } from "./bytes.js";
 import { resultOf } from "./draw.js";
+import { converted } from "./encoding.js";
+import { INVISIBLE, withoutInvisible } from "./invisible.js";
 import { LINE_FEED, lineAt, startsOfLines } from "./list.js";
 
 /** @param {Uint8Array} list @returns {Uint8Array[]} its lines, which may be empty */
@@ -12,12 +15,12 @@ function linesOf(list) {
   return Array.from(starts.subarray(1), (_, place) => lineAt(list, starts, place));
 }
 
-/** @param {Uint8Array} line */
+/** A line without the white space at its ends, or the same line. @param {Uint8Array} line */
 function trimmedBytes(line) {
   let [first, end] = [0, line.length];
   while (first < end && isSpace(line[first])) first += 1;
   while (first < end && isSpace(line[end - 1])) end -= 1;
-  return line.subarray(first, end);
+  return end - first < line.length ? line.subarray(first, end) : line;
 }
 
 /** The lines without repetitions: the first of equal lines stays. @param {Uint8Array[]} lines */
@@ -27,27 +30,51 @@ function unique(lines) {
   return lines.filter((line) => seen.size < seen.add(letters.decode(line)).size);
 }
 
+/** A line without the invisible characters of one kind, or the same line. */
+function without(line, name) {
+  const text = textOf(line);
+  const changed = text === null ? text : withoutInvisible(text, name);
+  return changed === text ? line : utf8(changed);
+}
+
+/** What a change makes of the lines of a list, and what the page says of the lines that it changes. */
 const CHANGES = {
-  empty: (lines) => lines.filter((line) => line.length > 0),
-  trim: (lines) => lines.map(trimmedBytes),
-  unique,
+  empty: { of: (lines) => lines.filter((line) => line.length > 0), verb: "removed" },
+  trim: { of: (lines) => lines.map(trimmedBytes), verb: "made shorter" },
+  unique: { of: unique, verb: "removed" },
+  heading: { of: (lines) => lines.slice(1), verb: "removed" },
+  mark: { of: ([first, ...rest]) => [first.subarray(3), ...rest], verb: "changed" },
 };
+for (const { name } of INVISIBLE) {
+  CHANGES[name] = { of: (lines) => lines.map((line) => without(line, name)), verb: "changed" };
+}
 
 /**
- * The list after a change, and the number of lines that were removed or shortened. If the list has
- * no line feed at its end, the changed list has none either, unless its last line is empty: without
- * a line feed, an empty line would not be a line.
- * @param {Uint8Array} list @param {"empty"|"trim"|"unique"} change
- * @returns {{list: Uint8Array, changed: number}}
+ * The lines after a change, as a list. If the list has no line feed at its end, the changed list has
+ * none either, unless its last line is empty: without a line feed, an empty line would not be a line.
+ */
+function listOf(lines, list) {
+  const text = resultOf(lines);
+  const isOpen = list[list.length - 1] !== LINE_FEED && lines[lines.length - 1]?.length > 0;
+  return isOpen ? text.slice(0, -1) : text;
+}
+
+/**
+ * The list after a change, how many lines it removed or changed, and what is said of them.
+ * @param {Uint8Array} list
+ * @param {string} change a name in CHANGES, or the encoding from which the list is converted
+ * @returns {{list: Uint8Array, changed: number, verb: string}}
  */
 export function tidied(list, change) {
+  if (!(change in CHANGES)) {
+    const inUtf8 = converted(list, change);
+    return { list: inUtf8, changed: linesOf(inUtf8).length, verb: "converted to UTF-8" };
+  }
+  const { of, verb } = CHANGES[change];
   const before = linesOf(list);
-  const after = CHANGES[change](before);
-  const changed = change === "trim"
-    ? after.filter((line, place) => line.length < before[place].length).length
-    : before.length - after.length;
-  if (changed === 0) return { list, changed };
-  const text = resultOf(after);
-  const isOpen = list[list.length - 1] !== LINE_FEED && after[after.length - 1]?.length > 0;
-  return { list: isOpen ? text.slice(0, -1) : text, changed };
+  const after = of(before);
+  const changed = after.length < before.length
+    ? before.length - after.length
+    : after.filter((line, place) => line !== before[place]).length;
+  return { list: changed === 0 ? list : listOf(after, list), changed, verb };
 }

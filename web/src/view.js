@@ -1,6 +1,10 @@
 // What the page shows. Nothing here computes.
 
+import { isUnseen } from "./bytes.js";
 import { nameOf } from "./names.js";
+
+/** The winners that are shown without a box in which they scroll. */
+const WITHOUT_BOX = 100;
 
 /** @param {string} id @returns {HTMLElement} */
 export function part(id) {
@@ -14,20 +18,29 @@ export function say(id, text) {
 }
 
 /**
- * Shows one item for each text, or hides the list if there are none.
- * @param {string} id @param {string[]} texts
+ * A new element with a class and content.
+ * @param {string} tag @param {string} name @param {...(string|Node)} content
  */
-export function itemize(id, texts) {
-  part(id).replaceChildren(...texts.map((text) => {
-    const item = document.createElement("li");
-    item.textContent = text;
-    return item;
-  }));
-  part(id).hidden = texts.length === 0;
+function made(tag, name, ...content) {
+  const element = document.createElement(tag);
+  element.className = name;
+  element.append(...content);
+  return element;
+}
+
+/**
+ * Shows one item for each element of a list, or hides the list if there are none.
+ * @param {string} id @param {HTMLElement[]} items
+ */
+function itemize(id, items) {
+  part(id).replaceChildren(...items);
+  part(id).hidden = items.length === 0;
 }
 
 /** The fields that each kind of error can belong to. A list is a pasted text or a file. */
-const FIELDS = { seed: ["seed"], count: ["count"], list: ["list-text", "list-file"], page: [] };
+const FIELDS = {
+  seed: ["seed"], count: ["count"], list: ["list-text", "open-file"], question: ["questions"], page: [],
+};
 
 /** The visible one of these fields. @param {string} kind @returns {HTMLElement|undefined} */
 export function fieldOf(kind) {
@@ -37,7 +50,8 @@ export function fieldOf(kind) {
 /** Shows an error beside its field. @param {import("./refusal.js").Refusal} refusal */
 export function showRefusal(refusal) {
   say(`${refusal.field}-error`, refusal.words);
-  fieldOf(refusal.field)?.setAttribute("aria-invalid", "true");
+  const field = fieldOf(refusal.field);
+  if (field?.matches("input, textarea")) field.setAttribute("aria-invalid", "true");
 }
 
 /** Removes the errors of some kinds. @param {...string} kinds */
@@ -53,34 +67,100 @@ export function grouped(number) {
   return String(number).replace(/\B(?=(\d{3})+$)/g, "\u202f");
 }
 
+/** The letters with these code points, and the code of each. An invisible one is its code alone. */
+function marked(codes) {
+  const letters = codes.map((code) => String.fromCodePoint(code)).filter((letter) => !isUnseen(letter));
+  return made("mark", "", letters.join(""), made("span", "codes", codes.map(nameOf).join(" ")));
+}
+
+/**
+ * What `partsOf` returns, as nodes: each invisible character is replaced by its name.
+ * @param {(string|number|number[])[]} parts
+ */
+function nodesOf(parts) {
+  return parts.map((piece) => {
+    if (typeof piece === "string") return piece;
+    return typeof piece === "number" ? made("span", "unseen", nameOf(piece)) : marked(piece);
+  });
+}
+
+/** A list item for an entrant or a line. @param {{isText: boolean, parts: Object[]}} shown */
+function itemOf({ isText, parts }) {
+  return made("li", isText ? "text" : "bytes", ...nodesOf(parts));
+}
+
+/** Two lines that look alike, one above the other, as items of a list. */
+function pairOf(pair) {
+  return made("ul", "pair", ...pair.map(({ number, line }) => {
+    const name = typeof number === "number" ? `Line ${number}` : number;
+    return made("li", "", `${name}: `, ...nodesOf(line.parts));
+  }));
+}
+
+/** A button that makes a change of the list. @param {{label: string, change?: string}} choice */
+function buttonOf({ label, change }) {
+  const button = made("button", "", label);
+  button.type = "button";
+  if (change) button.dataset.change = change;
+  return button;
+}
+
+/** A warning or a finding as a list item. @param {import("./warnings.js").Warning} note */
+function noteOf({ text, pair, cure }) {
+  return made("li", "", text, ...(pair ? [pairOf(pair)] : []), ...(cure ? [" ", buttonOf(cure)] : []));
+}
+
 /** Hides what the page shows about the list. */
 export function hideList() {
   say("tidied", "");
   say("entrants", "");
   itemize("list-warnings", []);
+  itemize("preview", []);
+  showQuestions([]);
   part("list-facts").hidden = true;
 }
 
-/** @param {string} digest @param {number} entrants @param {string[]} warnings */
-export function showList({ digest, entrants, warnings }) {
+/** A line of the preview, which has its number. */
+function previewItem({ number, line, isCut }) {
+  const item = itemOf(line);
+  item.value = number;
+  if (isCut) item.append(" …");
+  return item;
+}
+
+/** The preview of a list, with a sign where lines are left out. */
+function previewItems(preview) {
+  return preview.flatMap((line, index) => {
+    const isNext = index === 0 || preview[index - 1].number + 1 === line.number;
+    return isNext ? [previewItem(line)] : [made("li", "gap", "…"), previewItem(line)];
+  });
+}
+
+/** @param {Object} facts the worker's answer to a list */
+export function showList({ digest, entrants, preview, warnings }) {
   say("entrants", entrants === 1 ? "1 entrant" : `${grouped(entrants)} entrants`);
   say("list-digest", digest);
-  itemize("list-warnings", warnings);
+  itemize("preview", part("opened").hidden ? [] : previewItems(preview));
+  itemize("list-warnings", warnings.map(noteOf));
   part("list-facts").hidden = false;
 }
 
-/** An entrant as a list item, in which each invisible character is replaced by its name. */
-function itemOf({ isText, parts }) {
-  const item = document.createElement("li");
-  item.className = isText ? "text" : "bytes";
-  item.append(...parts.map((piece) => {
-    if (typeof piece === "string") return piece;
-    const unseen = document.createElement("span");
-    unseen.className = "unseen";
-    unseen.textContent = nameOf(piece);
-    return unseen;
+/**
+ * Shows the questions that are open. Until they are answered, the page shows nothing to publish.
+ * @param {import("./questions.js").Question[]} questions
+ */
+export function showQuestions(questions) {
+  part("list-facts").classList.toggle("waits", questions.length > 0);
+  itemize("questions", questions.map(({ id, text, above, lines, choices }) => {
+    const question = made("div", "question", made("p", "asked", text),
+      ...(above ? [made("p", "hint", above)] : []),
+      ...(lines.length > 0 ? [made("ul", "lines", ...lines.map(itemOf))] : []),
+      made("p", "buttons", ...choices.map(buttonOf)));
+    question.dataset.question = id;
+    question.setAttribute("role", "group");
+    question.setAttribute("aria-label", text);
+    return question;
   }));
-  return item;
 }
 
 /** @param {Object} drawing the worker's answer to a draw */
@@ -92,6 +172,7 @@ export function showResult({ entrants, drawn, named, hasEscapes, record }) {
     : `${grouped(drawn)} of ${grouped(entrants)} drawn, in this order:`);
   part("drawn").replaceChildren(...named.map(itemOf));
   part("drawn").hidden = named.length === 0;
+  part("drawn").classList.toggle("boxed", named.length > WITHOUT_BOX);
   const left = drawn - named.length;
   say("more", left > 0 ? `and ${grouped(left)} more, in the result that you can save` : "");
   say("escapes", hasEscapes
@@ -99,28 +180,29 @@ export function showResult({ entrants, drawn, named, hasEscapes, record }) {
   part("record").replaceChildren(...withDigests(record));
 }
 
+/** Hides the result of a draw. */
+export function hideResult() {
+  part("result").hidden = true;
+  part("publish-hint").hidden = false;
+}
+
 /** The pieces of a text. Each digest is an element of its own, which the style breaks into rows. */
 function withDigests(text) {
-  return text.split(/\b([0-9a-f]{64})$/m).map((piece, index) => {
-    if (index % 2 === 0) return piece;
-    const digest = document.createElement("span");
-    digest.className = "digest";
-    digest.textContent = piece;
-    return digest;
-  });
+  return text.split(/\b([0-9a-f]{64})$/m).map((piece, index) =>
+    (index % 2 === 0 ? piece : made("span", "digest", piece)));
 }
 
 /** The texts around the list, for each tab. */
 const LIST_WORDS = {
   draw: {
     "list-heading": "1. Close the list",
-    "list-hint": "One entrant per line, no empty lines. Publish the list with its SHA-256 before " +
-      "anybody knows the seed.",
+    "list-hint": "Open the file with the names, one on each line, and correct what the page finds. Then " +
+      "publish the list with its SHA-256, before anybody knows the seed.",
     "digest-label": "SHA-256 to publish:",
   },
   check: {
     "list-heading": "The list",
-    "list-hint": "The list that was published, as a file if there is one: each byte counts.",
+    "list-hint": "Open the list that was published, as a file if there is one: each byte counts.",
     "digest-label": "SHA-256, to compare with the one that was published:",
   },
 };
@@ -138,12 +220,44 @@ export function showTab(name) {
   for (const [id, words] of Object.entries(LIST_WORDS[name])) say(id, words);
 }
 
+/** @returns {"draw"|"check"} the tab that is shown */
+export function tabShown() {
+  return part("check-step").hidden ? "draw" : "check";
+}
+
 /** @param {import("./check.js").Check} check */
-export function showCheck({ outcome, title, findings }) {
+export function showCheck({ outcome, title, findings, reading }) {
   part("outcome").hidden = false;
   part("outcome").dataset.outcome = outcome;
   say("outcome-title", title);
-  itemize("findings", findings);
+  itemize("findings", findings.map(noteOf));
+  part("reading").hidden = reading === null;
+  if (reading !== null) showReading(reading);
+}
+
+/** What was checked. @param {import("./check.js").Reading} reading */
+function showReading({ lines: [first, last], seed, list, entrants, drawn, named }) {
+  say("reading-title", `What the record says, in lines ${first} to ${last} of the text:`);
+  part("reading-seed").replaceChildren(...nodesOf(seed));
+  say("reading-list", list);
+  say("reading-count", `${grouped(drawn)} of ${grouped(entrants)}`);
+  itemize("reading-drawn", named.slice(0, WITHOUT_BOX).map(itemOf));
+  const left = drawn - Math.min(named.length, WITHOUT_BOX);
+  say("reading-more", left > 0 ? `and ${grouped(left)} more` : "");
+}
+
+/** Moves the focus to a heading, and the heading to the top of the window. @param {string} id */
+export function goTo(id) {
+  part(id).focus({ preventScroll: true });
+  part(id).scrollIntoView({ block: "start" });
+}
+
+/** What a printed page is called, and when it was printed. */
+export function showPaper() {
+  const titles = { draw: part("result").hidden ? "the closed list" : "the result", check: "a check" };
+  say("paper-title", `Public draw: ${titles[tabShown()]}`);
+  const date = new Intl.DateTimeFormat("en-GB", { dateStyle: "full", timeStyle: "long" });
+  say("paper-date", `Printed on ${date.format(new Date())}`);
 }
 
 /** Offers bytes as a file to download. @param {BlobPart} bytes @param {string} name */

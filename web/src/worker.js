@@ -3,15 +3,31 @@
 import { fromBase64, hex } from "./bytes.js";
 import { check } from "./check.js";
 import { draw, resultOf } from "./draw.js";
+import { encodingOf } from "./encoding.js";
 import { printed, shown } from "./entrant.js";
-import { warningsOf } from "./list.js";
+import { previewOf } from "./list.js";
 import { Module, wordsOfModule } from "./module.js";
-import { NAMED, writeRecord } from "./record.js";
+import { questionsOf } from "./questions.js";
+import { NAMED, writeRecord, writtenSeed } from "./record.js";
 import { Refusal } from "./refusal.js";
 import { tidied } from "./tidy.js";
+import { warningsOf } from "./warnings.js";
 
 /** @type {{module: ?Module, maker: ?import("./check.js").Maker, list: Uint8Array}} */
 const held = { module: null, maker: null, list: new Uint8Array(0) };
+
+/**
+ * The number of entrants. A file that is no text may have empty lines: then it is said that it is no
+ * text.
+ */
+function countOf(list) {
+  try {
+    return held.module.count(list);
+  } catch (error) {
+    const isOfLine = error instanceof Refusal && error.reason === "line is empty";
+    throw isOfLine && encodingOf(list) === "unknown" ? new Refusal("list is no text") : error;
+  }
+}
 
 /** The tasks that the page can ask for. Each takes its data and a function to report progress. */
 const TASKS = {
@@ -35,9 +51,10 @@ const TASKS = {
     tell("Computing the SHA-256 of the list");
     const digest = hex(held.module.digest(list));
     tell("Counting the entrants");
-    const entrants = held.module.count(list);
+    const entrants = countOf(list);
     tell("Looking for what is worth a second look");
-    return { digest, entrants, warnings: warningsOf(list) };
+    const preview = encodingOf(list) === "utf-8" ? previewOf(list, entrants) : [];
+    return { digest, entrants, preview, questions: questionsOf(list), warnings: warningsOf(list) };
   },
 
   tidy({ list, change }, tell) {
@@ -46,6 +63,7 @@ const TASKS = {
   },
 
   draw({ seed, count }, tell) {
+    if (held.list.length === 0) throw new Refusal("no list");
     tell("Drawing");
     const { entrants, drawn } = draw(held.module, held.list, seed, count);
     tell("Writing the result");
@@ -62,7 +80,9 @@ const TASKS = {
       named,
     });
     const hasEscapes = named.some((entrant) => printed(entrant).includes("\\"));
-    return { entrants, drawn: drawn.length, named: named.map(shown), hasEscapes, record, result };
+    return {
+      seed: writtenSeed(seed), entrants, drawn: drawn.length, named: named.map(shown), hasEscapes, record, result,
+    };
   },
 
   check({ text }, tell) {

@@ -15,7 +15,7 @@ SEED = "4 1 6 3 3 2 5 6 1 4 2 6 5 3 1 1 6 2 4 5"
 TITLES = {
     "agrees": "The record agrees: the same list, and the draw repeated here gives the same result. "
               "Whether its list and its seed are those that were announced, only you can compare.",
-    "other module": "The result agrees, but the record names another version or another module.",
+    "other module": "The result agrees, but the record was made by another version of the program.",
     "differs": "The record differs from the draw repeated here.",
     "no record": "This text is not a record of a draw.",
     "no list": "The record can be read. Open or paste its list above, and check again.",
@@ -197,9 +197,12 @@ def long_records(counts: Counts, page: Page) -> None:
 
 
 def of_no_entrants(counts: Counts, page: Page) -> None:
-    """An empty list has no entrants, and all of them can be drawn."""
-    record = first_record(page, "seed", "all", "")
-    counts.same("no entrants", record.split("\n")[2:5], [f"list SHA-256: {sha256(b'')}", "entrants: 0", "drawn: 0"])
+    """An empty list has no entrants, and `lots` draws all of them, which a record can say."""
+    lines = first_record(page, "seed", "all", "a\n").split("\n")
+    lines[2:5] = [f"list SHA-256: {sha256(b'')}", "entrants: 0", "drawn: 0"]
+    lines[7:9] = [f"result SHA-256: {sha256(b'')}"]
+    record = "\n".join(lines)
+    page.paste("")
     outcome(counts, page, "a record of no entrants", record, "agrees")
     page.paste(LIST)
     outcome(counts, page, "it, with a list", record, "differs", "Another list:")

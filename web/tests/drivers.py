@@ -191,8 +191,9 @@ class Chromium(Browser):
         self._protocol("Page.addScriptToEvaluateOnNewDocument", source=source)
 
     def errors(self) -> List[str]:
+        """All but Chromium's note that it left a page without asking, as nobody had touched the page."""
         return [entry["message"] for entry in self.command("Log", type="browser")
-                if entry["level"] in ("WARNING", "SEVERE")]
+                if entry["level"] in ("WARNING", "SEVERE") and "'beforeunload' confirmation" not in entry["message"]]
 
     def close(self) -> None:
         try:

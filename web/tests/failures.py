@@ -28,7 +28,7 @@ Worker.prototype.postMessage = function (message) {
 SET = "window.refused = { [arguments[0]]: { reason: arguments[1], values: arguments[2] } };"
 ANSWER = "window.refused = {}; window.answered = { [arguments[0]]: arguments[1] };"
 FIELDS = ("page", "list", "seed", "count")
-FAILED = "The module failed, and nothing is drawn: it stopped"
+FAILED = "The page failed, and nothing is drawn: it stopped. Reload the page, and try again."
 # Errors that no input leads to, or that other tests lead to as well: the place where each is shown, and its text.
 REFUSALS: "Dict[str, Tuple[Dict[str, Any], str, str]]" = {
     "no memory": ({}, "page", "The browser cannot allocate enough memory for a list of this size."),
@@ -126,14 +126,24 @@ def failing(task: str) -> "Dict[str, Tuple[List[Any], str]]":
 def outcome_of(name: str) -> Dict[str, Any]:
     """An answer to a check. Some have findings."""
     findings = {"agrees": [], "no list": [], "no record": ["one"]}.get(name, ["one", "two"])
-    return {"outcome": name, "title": f"what {name} says", "findings": findings}
+    reading = {"lines": [1, 9], "seed": ["a seed"], "list": "a sum", "entrants": 9, "drawn": len(findings),
+               "named": [{"isText": True, "parts": [finding]} for finding in findings]}
+    return {"outcome": name, "title": f"what {name} says", "findings": [{"text": finding} for finding in findings],
+            "reading": None if name == "no record" else reading}
+
+
+def said_of(outcome: Dict[str, Any]) -> Tuple[Any, ...]:
+    """What the page shows of an answer to a check."""
+    reading = outcome["reading"]
+    read = [f"{reading['drawn']} of 9", [named["parts"][0] for named in reading["named"]]] if reading else ["", []]
+    return ("", outcome["outcome"], outcome["title"], [finding["text"] for finding in outcome["findings"]], *read)
 
 
 def drawing(names: List[str], drawn: int) -> Dict[str, Any]:
     """An answer to a draw that names these entrants."""
     named = [{"isText": True, "parts": [name]} for name in names]
-    return {"entrants": 9, "drawn": drawn, "named": named, "hasEscapes": len(names) > 1, "record": f"the {drawn} drawn",
-            "result": [10]}
+    return {"seed": "seed", "entrants": 9, "drawn": drawn, "named": named, "hasEscapes": len(names) > 1,
+            "record": f"the {drawn} drawn", "result": [10]}
 
 
 def each_pair(names: List[str]) -> Iterator[str]:
@@ -163,13 +173,19 @@ def one_after_another(counts: Counts, page: Page, task: str, kinds: "Dict[str, T
 def outcome_shown(page: Page) -> Tuple[Any, ...]:
     """What repeating the same check shows."""
     found = page.check_again()
-    return found["page"], found["outcome"], found["outcomeTitle"], found["findings"]
+    read = page.browser.run("""
+        const shown = (id) => document.getElementById(id).checkVisibility();
+        return [shown("reading-count") ? document.getElementById("reading-count").innerText : "",
+          shown("reading-drawn") ?
+            Array.from(document.querySelectorAll("#reading-drawn li"), (item) => item.innerText) : []];""")
+    return found["page"], found["outcome"], found["outcomeTitle"], found["findings"], *read
 
 
 def checks_after_checks(counts: Counts, page: Page) -> None:
     answers = [outcome_of(name) for name in ("agrees", "other module", "differs", "no record", "no list")]
-    kinds = {answer["outcome"]: ([ANSWER, "check", answer], ("", *answer.values())) for answer in answers}
-    kinds.update({reason: (setting, (words, "", "", [])) for reason, (setting, words) in failing("check").items()})
+    kinds = {answer["outcome"]: ([ANSWER, "check", answer], said_of(answer)) for answer in answers}
+    kinds.update({reason: (setting, (words, "", "", [], "", []))
+                  for reason, (setting, words) in failing("check").items()})
     one_after_another(counts, page, "check", kinds, lambda: outcome_shown(page))
 
 
@@ -199,8 +215,9 @@ def lists_after_lists(counts: Counts, page: Page) -> None:
         found = page.facts()
         return found["page"], found["list"], found["entrants"], found["digest"], found["warnings"]
 
-    plain: Dict[str, Any] = {"entrants": 1, "digest": "d1", "warnings": []}
-    warned: Dict[str, Any] = {"entrants": 5, "digest": "d5", "warnings": ["one", "two"]}
+    none: Dict[str, Any] = {"preview": [], "questions": []}
+    plain: Dict[str, Any] = {"entrants": 1, "digest": "d1", "warnings": [], **none}
+    warned: Dict[str, Any] = {"entrants": 5, "digest": "d5", "warnings": [{"text": "one"}, {"text": "two"}], **none}
     values, _, words = REFUSALS["line is empty"]
     kinds = {
         "plain": ([ANSWER, "list", plain], ("", "", "1 entrant", "d1", [])),
@@ -220,7 +237,7 @@ def lost_after_checks(counts: Counts, page: Page) -> None:
         page.browser.run(ANSWER, "check", outcome_of(name))
         counts.same(f"{name}: before", page.check("a text")["outcome"], name)
         page.browser.run("window.lost();")
-        counts.same(f"{name}, and no worker", outcome_shown(page), (FAILED, "", "", []))
+        counts.same(f"{name}, and no worker", outcome_shown(page), (FAILED, "", "", [], "", []))
 
 
 def lists(counts: Counts, page: Page) -> None:
@@ -301,7 +318,7 @@ def with_worker(page: Page, code: str) -> Page:
 
 def answers_not_copied(counts: Counts, page: Page) -> None:
     """An answer that cannot be copied to the page is an error, and the page continues with the next one."""
-    wanted = {"page": "The module failed, and nothing is drawn: DataCloneError: no room"}
+    wanted = {"page": "The page failed, and nothing is drawn: DataCloneError: no room. Reload the page, and try again."}
     page = with_worker(page, UNCOPIED)
     page.load()
     hidden = "return document.getElementById(arguments[0]).hidden;"
@@ -346,9 +363,11 @@ def prints(counts: Counts, page: Page) -> None:
     page.load()
     page.browser.run("window.printed = 0; window.print = () => { window.printed += 1; };")
     filled(page)
-    page.draw()
-    page.browser.run("document.getElementById('print').click();")
-    counts.same("print", page.browser.run("return window.printed;"), 1)
+    page.facts()
+    page.check(page.draw()["record"])
+    for number, button in enumerate(("print-list", "print", "print-check"), 1):
+        page.browser.run("document.getElementById(arguments[0]).click();", button)
+        counts.same(button, page.browser.run("return window.printed;"), number)
 
 
 def run(counts: Counts, page: Page) -> None:

@@ -7,13 +7,13 @@ from counts import Counts
 from drivers import BACKSPACE, TAB
 from page import Page
 
-STATUSES = {"draw": ["list-status", "progress-status", "heard"],
+STATUSES = {"draw": ["list-status", "progress-status", "heard"],  # "stale-status" appears with a result
             "check": ["list-status", "outcome-status", "progress-status", "heard"]}
 # What the page says about the list in each tab: the heading, the hint, and the purpose of its SHA-256.
 LIST_WORDS = {
-    "draw": ["1. Close the list", "One entrant per line, no empty lines. Publish the list with its SHA-256 before "
-             "anybody knows the seed.", "SHA-256 to publish:"],
-    "check": ["The list", "The list that was published, as a file if there is one: each byte counts.",
+    "draw": ["1. Close the list", "Open the file with the names, one on each line, and correct what the page finds. "
+             "Then publish the list with its SHA-256, before anybody knows the seed.", "SHA-256 to publish:"],
+    "check": ["The list", "Open the list that was published, as a file if there is one: each byte counts.",
               "SHA-256, to compare with the one that was published:"],
 }
 SPACED = "1 line begins or ends with a space or a tab, which belongs to the entrant: look at line 2."
@@ -42,7 +42,8 @@ def of_a_list(counts: Counts, page: Page) -> None:
     page.load()
     page.paste("Ada\nAda \n")
     page.facts()
-    counts.same("a list", said(page, "list-status"), ["2 entrants", SPACED, ALIKE])
+    counts.same("a list", said(page, "list-status"),
+                ["2 entrants", SPACED, ALIKE, "Line 1: Ada", "Line 2: AdaU+0020 space"])
     page.browser.click("#tidy-trim")
     page.browser.wait("return !document.getElementById('tidied').hidden;")
     page.facts()
@@ -59,7 +60,8 @@ def of_a_list(counts: Counts, page: Page) -> None:
 def of_a_check(counts: Counts, page: Page) -> None:
     page.load()
     shown = page.check("nonsense")
-    counts.same("a check", said(page, "outcome-status"), [shown["outcomeTitle"], *shown["findings"]])
+    counts.same("a check", said(page, "outcome-status"),
+                [shown["outcomeTitle"], *shown["findings"], "Print the check"])
 
 
 def of_copies(counts: Counts, page: Page) -> None:

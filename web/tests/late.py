@@ -141,14 +141,14 @@ def refusals_of_older_fields(counts: Counts, page: Page) -> None:
             put("list-text", text);
             put("count", count);
             document.getElementById(button).click();
-            document.getElementById("list-file").focus();
+            document.getElementById("open-file").focus();
             put("seed", "later");""", button, text, count)
         idle(page)
         page.tab("draw")
         wanted = {"list": "Line 2 is empty. Each line of the list must have an entrant."} if text == "a\n\n" else {}
         name = f"a {button} of {text!r} and {count}"
         counts.same(name, failures.errors(page), wanted)
-        counts.same(f"{name}: the keyboard", page.browser.run("return document.activeElement.id;"), "list-file")
+        counts.same(f"{name}: the keyboard", page.browser.run("return document.activeElement.id;"), "open-file")
 
 
 def lists_changed_while_tidied(counts: Counts, page: Page) -> None:
@@ -198,7 +198,7 @@ def errors_that_are_over(counts: Counts, page: Page) -> None:
     counts.same("no error beside a result", (said, len(shown["drawn"])), (["", "", "", ""], 3))
     invalid = "return Array.from(document.querySelectorAll('[aria-invalid]'), (field) => field.id);"
     counts.same("no field is invalid", page.browser.run(invalid), [])
-    for field, bad in (("list-text", "a\n\n"), ("seed", ""), ("count", "x")):
+    for field, bad in (("list-text", "a\n\n"), ("list-text", ""), ("seed", ""), ("count", "x"), ("count", "")):
         good = page.browser.run("return document.getElementById(arguments[0]).value;", field)
         page.browser.run(SET)
         page.browser.run("put(arguments[0], arguments[1]);", field, bad)

@@ -35,6 +35,9 @@ SECONDS = {100_000: 1.0, 1_000_000: 5.0}
 SLOWNESS = 3
 NFC, NFD = "Zo\u00eb", "Zoe\u0308"
 ONE = "1 of the lines equals an earlier line"
+UNSEEN = "invisible characters or the spaces in it"
+FORM = "the form of a letter, such as its width"
+SAME_LOOK = "letters or signs that look the same"
 SPACED = "1 line begins or ends with a space or a tab, which belongs to the entrant"
 ALIKE = {
     "Ada\nada\n": ["1 of the lines equals an earlier line except for upper and lower case: look at line 2."],
@@ -51,7 +54,17 @@ ALIKE = {
     "\t\nx\n  \n": ["2 lines begin or end with a space or a tab, which belongs to the entrant: look at line 1.",
                     "Line 1 is an entrant that consists only of spaces.",
                     "1 of the lines equals an earlier line except for the spaces at its ends: look at line 3."],
-    "Ada\nAdah\nA da\n\u0410da\n": [],
+    "Ada\nAdah\nA da\n": [],
+    "Ada\n\u0410da\n": [f"{ONE} except for {SAME_LOOK}: look at line 2."],
+    "O'Neil\nO\u2019Neil\n": [f"{ONE} except for {SAME_LOOK}: look at line 2."],
+    "Ada B\nAda  B\n": [f"{ONE} except for {UNSEEN}: look at line 2."],
+    "Ada B\nAda\u00a0B\n": ["1 line has no-break spaces, which nobody sees: look at line 2.",
+                            f"{ONE} except for {UNSEEN}: look at line 2."],
+    "Ada\nAd\u200ba\n": ["1 line has zero-width characters, which nobody sees: look at line 2.",
+                         f"{ONE} except for {UNSEEN}: look at line 2."],
+    "Ada\n\uff21da\n": [f"{ONE} except for {FORM}: look at line 2."],
+    "fin\n\ufb01n\nFIN\n": [f"{ONE} except for {FORM}: look at line 2.",
+                            f"{ONE} except for upper and lower case: look at line 3."],
     "stra\u00dfe\nSTRASSE\n": [],
 }
 TIDY = {
@@ -146,7 +159,7 @@ def pasted_between(counts: Counts, page: Page, long: str) -> None:
         data = wanted.format(re.sub("\r\n?", "\n", long)).encode()
         counts.same(f"{long[:13]!r} pasted from {first} to {last}", page.facts()["digest"], sha256(data))
         name = page.browser.run("return document.getElementById('file-name').textContent;")
-        counts.same("its name", name, f"Pasted text, {grouped(len(data))} bytes")
+        counts.same("its name", name, f"Pasted text, {grouped(len(data))} bytes, pasted here: save it")
         counts.same("the keyboard after it", page.browser.run("return document.activeElement.id;"), "close-file")
 
 

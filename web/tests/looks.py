@@ -6,21 +6,22 @@ from pathlib import Path
 from typing import List
 
 from counts import Counts
-from drivers import BACKSPACE, ENTER, SPACE, TAB
+from drivers import ENTER, SPACE, TAB
 from page import Page
 
 LABELS = {
-    "list-file": "Open a file, or drop it here", "list-text": "or paste the list", "seed": "Seed",
+    "open-file": "Open a file", "list-text": "or paste the list", "seed": "Seed",
     "count": "How many are drawn",
     "record": "The record: what another needs to repeat the draw, beside the list", "check-text": "Record",
     "draw": "Draw", "check": "Check", "copy-digest": "Copy the SHA-256", "save-list": "Save the list",
     "copy-record": "Copy the record", "save-record": "Save the record", "save-result": "Save the result",
     "tidy-empty": "Remove the empty lines", "tidy-trim": "Remove the spaces at ends",
     "tidy-unique": "Remove equal lines", "tab-draw": "Hold a draw", "tab-check": "Check a draw", "print": "Print",
+    "print-list": "Print the SHA-256",
 }
 HIDDEN = ["check-text", "check"]
-ORDER = ["tab-draw", "list-file", "list-text", "tidy-empty", "tidy-trim", "tidy-unique", "copy-digest",
-         "save-list", "seed", "count", "draw", "drawn", "record",
+ORDER = ["tab-draw", "open-file", "list-text", "tidy-empty", "tidy-trim", "tidy-unique", "copy-digest",
+         "save-list", "print-list", "seed", "count", "draw", "drawn", "record",
          "copy-record", "save-record", "save-result", "print"]
 COLOURS = """
 const number = (colour) => colour.match(/[\\d.]+/g).map(Number);
@@ -48,9 +49,10 @@ CONTRAST = COLOURS + """
 return [
   ...low("p, li, label, h1, h2, h3, code, pre, summary, textarea, input, button, strong", 4.5,
     (element) => [getComputedStyle(element).color, behind(element)]),
-  ...low("textarea, input:not([type=file]), button", 3,
+  ...low("textarea, input:not([type=file]), button:not([role=tab])", 3,
     (element) => [getComputedStyle(element).borderTopColor, behind(element.parentElement)]),
-  ...low("[role=tab][aria-selected=true]", 3, (tab) => [behind(tab), behind(tab.parentElement)]),
+  ...low("[role=tab][aria-selected=true]", 3,
+    (tab) => [getComputedStyle(tab).borderBottomColor, behind(tab.parentElement)]),
 ];
 """
 LAST_IS_LEFT = """
@@ -158,12 +160,12 @@ def names(counts: Counts, page: Page) -> None:
     for element, label in LABELS.items():
         page.tab("check" if element in HIDDEN else "draw")
         found = page.browser.label(f"#{element}")
-        # Firefox adds the file field's own text.
-        counts.case(f"the name of {element}", "" if found.startswith(label) else found)
+        counts.same(f"the name of {element}", found, label)
     roles = page.browser.run("""return Object.fromEntries(Array.from(document.querySelectorAll("[id][role]"),
         (element) => [element.id, element.getAttribute("role")]));""")
     wanted = {f"{field}-error": "alert" for field in ("page", "list", "seed", "count")}
-    wanted.update({"list-status": "status", "progress-status": "status", "outcome-status": "status",
+    wanted.update({"question-error": "alert", "list-status": "status", "progress-status": "status",
+                   "outcome-status": "status", "stale-status": "status",
                    "heard": "status", "panel": "tabpanel", "record": "region", "tab-draw": "tab", "tab-check": "tab"})
     counts.same("roles", roles, wanted)
     counts.same("each reference has its element", page.browser.run("""
@@ -172,11 +174,13 @@ def names(counts: Counts, page: Page) -> None:
             element.getAttribute("for")]).filter(Boolean).flatMap((ids) => ids.split(" "))
           .filter((id) => !document.getElementById(id));"""), [])
     counts.same("what scrolls is reached by keys and has a name", page.browser.run("""
-        return Array.from(document.querySelectorAll("pre, ol")).filter((element) => element.tabIndex !== 0 ||
-          !(element.ariaLabel || element.getAttribute("aria-labelledby"))).map((element) => element.outerHTML);"""), [])
+        return Array.from(document.querySelectorAll("pre, #drawn, #preview"))
+          .filter((element) => element.tabIndex !== 0 ||
+            !(element.ariaLabel || element.getAttribute("aria-labelledby")))
+          .map((element) => element.outerHTML);"""), [])
     counts.same("each field has a label", page.browser.run("""
-        return Array.from(document.querySelectorAll("input, textarea")).filter((field) => field.labels.length === 0)
-          .map((field) => field.id);"""), [])
+        return Array.from(document.querySelectorAll("input:not([hidden]), textarea"))
+          .filter((field) => field.labels.length === 0).map((field) => field.id);"""), [])
 
 
 def reached(page: Page) -> List[str]:
@@ -206,7 +210,7 @@ def keyboard(counts: Counts, page: Page) -> None:
     go("seed")
     page.browser.press("seed")
     go("count")
-    page.browser.press(3 * BACKSPACE + "2")
+    page.browser.press("2")
     go("draw")
     page.browser.press(SPACE)
     page.browser.wait('return document.getElementById("record").textContent;')
@@ -242,7 +246,8 @@ def forced_colours(counts: Counts, page: Page) -> None:
         for tab in ("draw", "check"):
             page.tab(tab)
             found = page.browser.run(COLOURS + """return [
-                ...low("[role=tab][aria-selected=true]", 3, (tab) => [behind(tab), behind(tab.parentElement)]),
+                ...low("[role=tab][aria-selected=true]", 3,
+                  (tab) => [getComputedStyle(tab).borderBottomColor, behind(tab.parentElement)]),
                 ...low("[role=tab]", 4.5, (tab) => [getComputedStyle(tab).color, behind(tab)])];""")
             counts.same(f"forced colours, {tab}", found, [])
         page.browser.media()
@@ -255,7 +260,8 @@ def said_of_lists(counts: Counts, page: Page) -> None:
         b" a\nb \n\tc\n": ["3 lines begin or end with a space"],
         b"a\nb\na\na\n": ["2 of the lines equal an earlier line: look at line 3."],
         b"a\na\n": ["1 of the lines equals an earlier"], b"a\nb": ["The last line has no line feed"],
-        b"\xef\xbb\xbfa\n": ["The list begins with a byte order mark"], b"a\0\nb\n": ["The list has bytes of value 0"],
+        b"\xef\xbb\xbfa\n": ["The list begins with a byte order mark"],
+        b"a\0\nb\n": ["The list has bytes of value 0", "1 line has other invisible characters"],
         b"\xff\n": ["The list is not UTF-8"], b"a\nb\n": [], b"\xc3\xa9\n\xe2\x82\xac\n": [],
         b"\xff\na\r\na\r": ["The list is not UTF-8", "The last line", "2 lines end", "1 of the lines"],
     }

@@ -18,7 +18,7 @@ from page import Page
 WORDS = ("This browser cannot draw: it has no WebAssembly, or it is switched off. Open the page in a newer browser: "
          "Chrome, Edge or Chromium from version 97 on, Firefox from version 90 on, Safari from version 16 on. Or use "
          "the Python code below, which draws the same.")
-FAILED = "The module failed, and nothing is drawn: TypeError: "
+FAILED = "The page failed, and nothing is drawn: TypeError: "
 MODULE = "for 32-bit memory: built from the Rust crate, whose functions are compared with the proved ones"
 MAKER = f"Version {VERSION}, module SHA-256 {{}}, {MODULE}"
 OTHER = ("The record was made by this page's other module, for 64-bit memory, proved. "

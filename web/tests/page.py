@@ -1,4 +1,4 @@
-"""The web page as its user sees it: fields, buttons, texts."""
+"""The web page as its user sees it: fields, buttons, texts, questions."""
 
 from pathlib import Path
 from typing import Any, Dict, Optional
@@ -12,14 +12,22 @@ field.value = arguments[1];
 field.dispatchEvent(new InputEvent("input", { isComposing: true }));
 """
 
+# Answers each question about the list by keeping the list as it is, which is the last answer.
+KEEP = """
+for (const question of document.querySelectorAll(".question[role=group]")) {
+  Array.from(question.querySelectorAll("button")).pop().click();
+}
+"""
+
 SHOWN = r"""
 const shown = (id) => {
   const element = document.getElementById(id);
   if (!element || !element.checkVisibility()) return "";
   return id === "record" ? element.textContent : element.value ?? element.innerText;
 };
+// The sentence of a warning or a finding, without the lines that it shows and without its button.
 const items = (id) => shown(id) === "" ? [] :
-  Array.from(document.getElementById(id).children, (item) => item.innerText);
+  Array.from(document.getElementById(id).children, (item) => item.firstChild.data);
 // An entrant drawn, as a record has it.
 const escaped = (letter) => Array.from(new TextEncoder().encode(letter),
   (byte) => `\\x${byte.toString(16).padStart(2, "0")}`).join("");
@@ -29,11 +37,12 @@ const entrant = (item) => item.className === "bytes" ? item.innerText :
 const drawn = () => shown("drawn") === "" ? [] : Array.from(document.getElementById("drawn").children, entrant);
 return {
   page: shown("page-error"), list: shown("list-error"), seed: shown("seed-error"),
-  count: shown("count-error"), entrants: shown("entrants"), digest: shown("list-digest"),
+  count: shown("count-error"), question: shown("question-error"),
+  entrants: shown("entrants"), digest: shown("list-digest"),
   warnings: items("list-warnings"), title: shown("result-title"), drawn: drawn(),
   more: shown("more"), escapes: shown("escapes"), record: shown("record"), read: shown("seed-read"),
   outcome: shown("outcome") && document.getElementById("outcome").dataset.outcome,
-  outcomeTitle: shown("outcome-title"), findings: items("findings"), hint: shown("publish-hint"),
+  stale: shown("stale"), outcomeTitle: shown("outcome-title"), findings: items("findings"), hint: shown("publish-hint"),
 };
 """
 
@@ -71,20 +80,30 @@ class Page:
         if count is not None:
             self.browser.run(SET, "count", count)
 
-    def facts(self) -> Dict[str, Any]:
-        """What the page says after it has checked the list."""
+    def keep(self) -> None:
+        """Keeps the list as it is, whatever the page asks about it."""
+        self.browser.run(KEEP)
+
+    def facts(self, keep: bool = True) -> Dict[str, Any]:
+        """What the page says after it has checked the list. Its questions are answered, unless `keep` is false."""
         self.browser.wait("""return ["list-facts", "list-error", "page-error"].some((id) =>
             !document.getElementById(id).hidden);""")
+        if keep:
+            self.keep()
         return self.shown()
 
     def tab(self, name: str) -> None:
         """Shows the tab for a draw or for a check."""
         self.browser.run("document.getElementById(arguments[0]).click();", f"tab-{name}")
 
-    def draw(self) -> Dict[str, Any]:
+    def draw(self, keep: bool = True) -> Dict[str, Any]:
+        """Draws. If the page asks about the list, it answers and draws again, unless `keep` is false."""
         self.tab("draw")
         self.browser.run('document.getElementById("draw").click();')
         self.browser.wait('return !document.getElementById("draw").disabled;')
+        if keep and not self.browser.run('return document.getElementById("question-error").hidden;'):
+            self.keep()
+            return self.draw(keep=False)
         return self.shown()
 
     def check(self, record: str) -> Dict[str, Any]:

@@ -1,5 +1,5 @@
 """The page's scripts alone, in a browser: versions, errors, the worker's client, folded records, large lists, invisible
-characters, spaces, names."""
+characters, spaces, names, encodings, headings, lookalikes."""
 
 import unicodedata
 from pathlib import Path
@@ -8,7 +8,7 @@ from counts import ALL_UNSEEN, Counts
 from glue import build
 from page import Page
 
-SCRIPTS = ("record", "list", "module", "client", "check", "tidy")
+SCRIPTS = ("record", "warnings", "questions", "module", "client", "check", "tidy")
 # Characters for which Unicode has no name, or one that is less clear.
 NAMES = {
     0x00: "null", 0x09: "tab", 0x0d: "carriage return", 0x7f: "delete", 0x2800: "empty Braille pattern",

@@ -20,13 +20,13 @@ def empty(line: int) -> str:
 
 
 def half(line: int) -> str:
-    return f"Line {line} has half of a character (a lone surrogate), which UTF-8 cannot encode."
+    return f"Line {line} has half of a character, as a broken copy leaves it. Copy the list again."
 
 
 def refused(counts: Counts, page: Page, name: str, field: str, words: str) -> None:
     """Draws. The text is shown only at the field, there is no result, and the field has the focus."""
     shown = page.draw()
-    said = {key: shown[key] for key in ("page", "list", "seed", "count", "record", "title") if shown[key]}
+    said = {key: shown[key] for key in ("page", "list", "question", "seed", "count", "record", "title") if shown[key]}
     counts.same(name, said, {field: words})
     focus = {"list": "list-text"}.get(field, field)
     counts.same(f"{name}: focus", page.browser.run("return document.activeElement.id;"), focus)
@@ -36,7 +36,9 @@ def refused(counts: Counts, page: Page, name: str, field: str, words: str) -> No
 
 def counts_refused(counts: Counts, page: Page, program: str) -> None:
     page.paste(LETTERS)
-    for count in ("", "-", "+", "-0", "-1", "+1", "1.5", "1e0", "0x1", "1_0", "1,0", " 1", "1 ", "ALL", "All", "al",
+    page.fill("seed", "")
+    refused(counts, page, "an empty count", "count", "Type how many are drawn: a number, or the word all.")
+    for count in ("-", "+", "-0", "-1", "+1", "1.5", "1e0", "0x1", "1_0", "1,0", " 1", "1 ", "ALL", "All", "al",
                   "alll", " all", "-all", "a", "*", "٣", "１"):
         page.fill("seed", count)
         refused(counts, page, f"the count {count!r}", "count", NO_NUMBER)
@@ -46,7 +48,7 @@ def counts_refused(counts: Counts, page: Page, program: str) -> None:
         refused(counts, page, f"the count {count}", "count", TOO_LARGE)
         counts.same(f"the count {count} of lots", lots(program, "seed", count, LETTERS.encode()).status, 2)
     for text, count, said in ((LETTERS, "11", "11"), ("only", "2", "2"), (LETTERS, str(2**64 - 1), str(2**64 - 1)),
-                              ("a\n", "00002", "2"), ("", "1", "1"), (LETTERS, str(2**32), str(2**32))):
+                              ("a\n", "00002", "2"), (LETTERS, str(2**32), str(2**32))):
         page.paste(text)
         page.fill("seed", count)
         entrants = len(text.split())
@@ -60,7 +62,7 @@ def seeds_refused(counts: Counts, page: Page) -> None:
     page.paste(LETTERS)
     page.fill("", "all")
     refused(counts, page, "an empty seed", "seed", "The seed is empty. Type at least one character.")
-    words = "The seed has half of a character (a lone surrogate), which UTF-8 cannot encode."
+    words = "The seed has half of a character, as a broken copy leaves it. Type the seed again."
     for number, seed in enumerate(('"\\ud83d"', '"a\\ude00b"', '"\\ude00\\ud83d"')):
         page.browser.run("""document.getElementById("seed").value = JSON.parse(arguments[0]);
             document.getElementById("seed").dispatchEvent(new Event("input"));""", seed)
@@ -78,9 +80,9 @@ def lists_refused(counts: Counts, page: Page, program: str) -> None:
             page.fill("seed", "all")
             shown = page.draw()
             counts.same(f"line {line}, {way}", (shown["list"], shown["record"], shown["digest"]), (empty(line), "", ""))
-            field = "list-text" if way == "pasted" else "list-file"
+            field = "list-text" if way == "pasted" else "open-file"
             counts.same(f"line {line}, {way}: focus", page.browser.run("return document.activeElement.id;"), field)
-            counts.same(f"line {line}, {way}: aria", page.browser.run(INVALID), [field])
+            counts.same(f"line {line}, {way}: aria", page.browser.run(INVALID), [field] if way == "pasted" else [])
         page.paste("")
         counts.same("no field is invalid", page.browser.run(INVALID), [])
     page.browser.run("""document.getElementById("list-text").value = "a\\nb\\ud83d\\n";
@@ -89,10 +91,16 @@ def lists_refused(counts: Counts, page: Page, program: str) -> None:
     refused(counts, page, "half a character in the list", "list", half(2))
     page.paste("a\n")
     counts.same("an error goes with its cause", page.facts()["list"], "")
+    page.paste("")
+    page.fill("seed", "all")
+    refused(counts, page, "no list", "list", "Open the list first.")
+    page.paste("a\n")
+    counts.same("an error goes with a list", page.facts()["list"], "")
 
 
 def stale_results(counts: Counts, page: Page) -> None:
-    """A result and an outcome disappear once a field changes, and a late answer is not shown."""
+    """A result and an outcome disappear once the list changes. If the seed or the count changes, the result is marked
+    as that of before, until they are what they were. A late answer is not shown."""
     for field, value in (("list-text", "a\nb\nc\n"), ("seed", "other"), ("count", "1"), ("check-text", "other")):
         page.paste("a\nb\n")
         page.fill("seed", "all")
@@ -104,10 +112,17 @@ def stale_results(counts: Counts, page: Page) -> None:
         counts.same(f"{field}: no outcome of before", page.shown()["outcome"], "")
         page.tab("draw")
         shown = page.shown()
-        if field != "check-text":
+        if field == "list-text":
             counts.same(f"{field}: no result of before", (shown["record"], shown["title"]), ("", ""))
-            counts.same(f"{field}: the hint again", shown["hint"].split(" with ")[0],
-                        "After the draw the winners stand here,")
+            counts.same(f"{field}: the hint again", shown["hint"].split(".")[0], "Draw first")
+        elif field != "check-text":
+            counts.same(f"{field}: the result of before", len(shown["drawn"]), 2)
+            counts.same(f"{field}: marked", shown["stale"].split(",")[0],
+                        'These winners are of the old seed "seed" and of all drawn')
+            page.fill("seed", "all")
+            counts.same(f"{field}: no mark", page.shown()["stale"], "")
+            page.fill(**{field: value})
+            counts.same(f"{field}: a new draw", page.draw()["stale"], "")
     page.paste("a\n" * 50000)
     page.fill("seed", "all")
     page.browser.run("""document.getElementById("draw").click();

@@ -5,8 +5,8 @@
 
 For example, web/tests/run.py crates/lots/out/lots chromium firefox. LOTS is the program with which the page is
 compared. Each BROWSER is chromium or firefox; all run side by side. The parts are answers, glue, pieces, draws, sizes,
-refusals, checks, failures, said, heard, late, steps, lists, looks, files, copies, long and old. The last line is N
-passed, M failed.
+refusals, checks, attacks, failures, said, heard, late, steps, lists, clerk, looks, files, copies, long and old. The
+last line is N passed, M failed.
 """
 
 import argparse
@@ -17,7 +17,9 @@ from concurrent.futures import ThreadPoolExecutor
 from pathlib import Path
 
 import answers
+import attacks
 import checks
+import clerk
 import draws
 import failures
 import glue
@@ -64,12 +66,14 @@ def in_browser(kind: type, program: str, pictures: Path, only: str) -> Counts:
             "sizes": lambda: draws.sizes(counts, page, program, module),
             "refusals": lambda: refusals.run(counts, page, program),
             "checks": lambda: checks.run(counts, page, program, digests),
+            "attacks": lambda: attacks.run(counts, page, digests),
             "failures": lambda: failures.run(counts, page),
             "said": lambda: said.run(counts, page, module),
             "heard": lambda: heard.run(counts, page),
             "late": lambda: late.run(counts, page),
             "steps": lambda: steps.run(counts, page),
             "lists": lambda: lists.run(counts, page),
+            "clerk": lambda: clerk.run(counts, page, downloads),
             "looks": lambda: looks.run(counts, page, pictures),
             "files": lambda: draws.files(counts, page, program, downloads),
             "copies": lambda: draws.copies(counts, page),

@@ -12,7 +12,7 @@ TOP = Path(__file__).resolve().parents[2]
 BYTES = r"\x and two digits are a byte that is no visible letter, \\ is one backslash."
 # The description of each field for screen readers, besides its name.
 DESCRIPTIONS = {
-    "list-file": ["list-hint", "list-error"], "list-text": ["list-hint", "list-error"],
+    "open-file": ["list-hint", "list-error"], "list-text": ["list-hint", "list-error"],
     "seed": ["seed-hint", "seed-read", "seed-error"], "count": ["count-hint", "count-error"],
     "check-text": ["check-hint"],
 }
@@ -125,11 +125,17 @@ def fields(counts: Counts, page: Page) -> None:
 
 
 def fresh_page(counts: Counts, page: Page) -> None:
-    """Before anything is typed, the list is empty: nobody is drawn, and a record has no list."""
+    """Before anything is typed, the list, the seed and the count are empty: nobody is drawn. A record has no list."""
     page.load()
-    page.browser.run('document.getElementById("seed").value = "seed";')
-    counts.same("a draw of nobody", page.draw()["title"], "Nobody was drawn.")
+    shown = page.draw()
+    counts.same("a draw without a list", [shown[key] for key in ("list", "seed", "count", "record")],
+                ["Open the list first.", "", "", ""])
     page.paste("Ada\n")
+    counts.same("a draw without a seed", page.draw()["seed"], "The seed is empty. Type at least one character.")
+    page.fill("seed")
+    counts.same("a draw without a count", page.draw()["count"],
+                "Type how many are drawn: a number, or the word all.")
+    page.fill("seed", "all")
     record = page.draw()["record"]
     page.load()
     counts.same("a check without a list", page.check(record)["outcome"], "no list")
@@ -145,7 +151,6 @@ def files_named(counts: Counts, page: Page) -> None:
         text = page.browser.run('return document.getElementById("file-name").textContent;')
         counts.same(f"the file {name}", text, f"{name}, {grouped(size)} bytes")
     page.browser.click("#close-file")
-    counts.same("no file is chosen", page.browser.run('return document.getElementById("list-file").files.length;'), 0)
     counts.same("the keyboard after it", page.browser.run("return document.activeElement.id;"), "list-text")
     page.fill("seed", "all")
     counts.same("a draw after it", page.draw()["drawn"], ["Max"])
@@ -160,6 +165,9 @@ def mark_up(counts: Counts, page: Page) -> None:
     counts.same("mark-up of an entrant", shown["drawn"], [MARKED])
     counts.case("mark-up of a seed", "" if f'" {MARKED}"' in shown["read"] else shown["read"])
     finding = page.check(shown["record"].replace(f"1: {MARKED}", f"1: {MARKED}!"))["findings"]
+    counts.same("mark-up that was checked", page.browser.run("""
+        return ["reading-seed", "reading-drawn"].map((id) => document.getElementById(id).textContent);"""),
+                [f'" {MARKED}"', f"{MARKED}!"])
     counts.same("mark-up of a finding", finding[:1],
                 [f"Line 1 of the result: the record says {MARKED}!, the draw gives {MARKED}."])
     counts.same("elements of mark-up", page.browser.run(elements), 0)

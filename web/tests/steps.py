@@ -57,7 +57,8 @@ return Array.from(document.querySelectorAll(".digest")).map((digest) => {
 """
 ON_PAPER = """
 return ["tab-draw", "list-heading", "list-hint", "list-file", "list-text", "file-name", "close-file", "entrants",
-  "list-warnings", "list-digest", "seed", "check-text", "outcome", "publish-hint", "drawn", "record", "print"]
+  "list-warnings", "list-digest", "unsaved", "seed", "check-text", "outcome", "reading", "publish-hint", "drawn",
+  "record", "print", "paper-title", "paper-date", "signatures"]
   .filter((id) => document.getElementById(id).checkVisibility());
 """
 # Whether a part is higher than its visible part, and how the rest is reached.
@@ -192,8 +193,6 @@ def files_dropped(counts: Counts, page: Page) -> None:
     page.facts()
     page.tab("check")
     drop(page, "panel", "entrants.txt", LIST.encode())
-    chosen = page.browser.run("return document.getElementById('list-file').files.length;")
-    counts.same("the file that was chosen before", chosen, 0)
     counts.same("a list dropped beside it", page.facts()["entrants"], "12 entrants")
     drop(page, "panel", "marked.txt", b"\xef\xbb\xbfM\xfcller\r\n")
     wanted = sha256(b"\xef\xbb\xbfM\xfcller\r\n")
@@ -243,7 +242,8 @@ def on_paper(counts: Counts, page: Page, name: str, wanted: List[str]) -> None:
     """The page prints on one sheet, with only the wanted parts."""
     counts.same(f"sheets of paper, {name}", sheets(page.browser.printed()), 1)
     if page.browser.media("print"):
-        counts.same(f"on paper, {name}", page.browser.run(ON_PAPER), wanted)
+        frame = ["paper-title", "paper-date", "signatures"]
+        counts.same(f"on paper, {name}", page.browser.run(ON_PAPER), [*wanted, *frame])
         counts.same(f"no focus on paper, {name}", page.browser.run(FRAMED, wanted[0]), "none")
         page.browser.media()
 
@@ -254,9 +254,9 @@ def paper(counts: Counts, page: Page) -> None:
     page.load()
     page.paste(LIST)
     page.facts()
-    on_paper(counts, page, "a list", ["entrants", "list-digest"])
+    on_paper(counts, page, "a list", ["entrants", "list-digest", "unsaved"])
     page.check("")
-    on_paper(counts, page, "a check without a draw", ["check-text", "outcome"])
+    on_paper(counts, page, "a check without a draw", ["outcome"])
     page.tab("draw")
     page.open_file(LIST[:-1].encode())
     page.facts()
@@ -264,7 +264,7 @@ def paper(counts: Counts, page: Page) -> None:
     drawn(page)
     on_paper(counts, page, "a draw", ["drawn", "record"])
     page.check(page.shown()["record"])
-    on_paper(counts, page, "a check", ["check-text", "outcome"])
+    on_paper(counts, page, "a check", ["outcome", "reading"])
 
 
 def long_results(counts: Counts, page: Page) -> None:
@@ -273,11 +273,17 @@ def long_results(counts: Counts, page: Page) -> None:
     page.fill(SEED, "all")
     record = page.draw()["record"]
     counts.same("winners on the screen", page.browser.run(CUT, "drawn"), [True, "auto"])
+    for drawn_ones in (12, 100, 101):
+        page.fill(SEED, str(drawn_ones))
+        page.draw()
+        counts.same(f"{drawn_ones} winners are all seen", page.browser.run(CUT, "drawn")[0], drawn_ones > 100)
+    page.fill(SEED, "all")
+    page.draw()
     counts.same("the record on the screen", page.browser.run(CUT, "record")[0], False)
     if page.browser.media("print"):
         counts.same("winners on paper", page.browser.run(CUT, "drawn")[0], False)
         page.check(record)
-        counts.same("a checked record on paper", page.browser.run(CUT, "check-text")[0], False)
+        counts.same("a check on paper", page.browser.run(CUT, "outcome")[0], False)
         page.browser.media()
         page.tab("draw")
 
@@ -300,7 +306,7 @@ def by_keyboard(counts: Counts, page: Page) -> None:
     go("seed")
     page.browser.press("4 1 6")
     go("count")
-    page.browser.press(3 * BACKSPACE + "5" + ENTER)
+    page.browser.press("5" + ENTER)
     page.browser.wait("return document.activeElement.id === 'result-title';")
     counts.same("300 entrants", (page.shown()["entrants"], len(page.shown()["drawn"])), ("300 entrants", 5))
     go("copy-record")

@@ -1,0 +1,262 @@
+// The list on the page: typed, pasted or opened, changed by buttons, and saved.
+
+import { textOf } from "./bytes.js";
+import { listOfText } from "./list.js";
+import { Refusal } from "./refusal.js";
+import { client, forgetResults, refuse } from "./session.js";
+import { clearRefusals, grouped, hideList, part, save, say, showList, showQuestions, tabShown } from "./view.js";
+
+/** In milliseconds: the pause between the last change of a pasted list and sending it to the worker. */
+const PAUSE = 300;
+/** The page keeps a paste of this length or more as a file: browsers lay out long fields slowly. */
+const LARGE = 100000;
+const PASTED = "Pasted text";
+/** The name of the file that the page saves. */
+const SAVED = "entrants.txt";
+
+/**
+ * `file` holds the bytes of the opened file or of a long paste, or is null if the list is the text
+ * in the field; `name` is what the page calls the file. `bytes` is the list itself. `isUnsaved`: no
+ * file has these bytes. `before` has the list before each change that can be undone. `sent` promises
+ * whether the worker has the list. `pending` is the timer until a changed list is sent. `turn` counts
+ * the changes: an answer to an earlier one is not shown. `questions` are those that are open, and
+ * `kept` has those that were answered by keeping the list.
+ */
+const held = {
+  file: null, name: "", bytes: new Uint8Array(0), isUnsaved: false, before: [], sent: Promise.resolve(false),
+  pending: 0, turn: 0, questions: [], kept: new Set(),
+};
+
+/**
+ * Sends the list to the worker, and shows its answer.
+ * @returns {Promise<boolean>} whether the worker has the list and found no error in it
+ */
+async function sendList() {
+  const { turn } = held;
+  held.pending = 0;
+  try {
+    held.bytes = held.file ?? listOfText(part("list-text").value);
+    part("tidy").hidden = held.bytes.length === 0;
+    const facts = await client.ask("list", { list: held.bytes });
+    if (turn === held.turn && held.bytes.length > 0) showFacts(facts);
+    return true;
+  } catch (error) {
+    if (turn === held.turn) refuse(error);
+    return false;
+  }
+}
+
+/** @param {Object} facts the worker's answer to a list */
+function showFacts(facts) {
+  showList(facts);
+  showOrigin();
+  held.questions = facts.questions.filter(({ id }) => !held.kept.has(id));
+  showQuestions(held.questions);
+}
+
+/** Shows which file has the list, or that no file has it yet. */
+function showOrigin() {
+  const { file, name, isUnsaved } = held;
+  const where = name === SAVED ? "saved from this page" : "";
+  if (file !== null) {
+    const state = isUnsaved ? `${name === PASTED ? "pasted" : "changed"} here: save it` : where;
+    say("file-name", [name, `${grouped(file.length)} bytes`, state].filter(Boolean).join(", "));
+  }
+  const here = isUnsaved ? "Pasted here: save it, and publish the file that you saved." : `${name}, ${where}`;
+  say("unsaved", file === null ? here : "");
+}
+
+/** Handles a change of the list. Sends it after a pause, in milliseconds, as typing may go on. */
+function listChanged(pause) {
+  forgetResults();
+  held.turn += 1;
+  held.questions = [];
+  clearTimeout(held.pending);
+  clearRefusals("list", "question", "page");
+  hideList();
+  part("tidy").hidden = true;
+  part("undo").hidden = true;
+  held.pending = setTimeout(() => { held.sent = sendList(); }, pause);
+}
+
+/** Begins another list, which has no changes to undo. @param {number} pause @param {boolean} isUnsaved */
+function otherList(pause, isUnsaved) {
+  held.before = [];
+  held.isUnsaved = isUnsaved;
+  listChanged(pause);
+}
+
+/** Handles a change of the text in the field. In the tab for a check nothing has to be saved. */
+export function listTyped(pause = PAUSE) {
+  held.name = "";
+  otherList(pause, tabShown() === "draw");
+}
+
+/**
+ * Sends the list at once if it waits for its pause.
+ * @returns {Promise<boolean>} whether the worker has the list that the page shows
+ */
+export function listSent() {
+  if (held.pending !== 0) {
+    clearTimeout(held.pending);
+    held.sent = sendList();
+  }
+  return held.sent;
+}
+
+/** Throws a Refusal if a question about the list is open. */
+export function askFirst() {
+  if (held.questions.length > 0) throw new Refusal("list is a question");
+}
+
+/**
+ * Reads a file, and sends it to the worker unless the list has changed meanwhile.
+ * @param {File} file @returns {Promise<boolean>} as sendList
+ */
+async function readFile(file) {
+  const { turn } = held;
+  let bytes = null;
+  try {
+    bytes = new Uint8Array(await file.arrayBuffer());
+  } catch {
+    if (turn === held.turn) refuse(new Refusal("list cannot be read"));
+  }
+  if (bytes === null || turn !== held.turn) return false;
+  held.file = bytes;
+  return sendList();
+}
+
+/** @param {File|undefined} file */
+export function openFile(file) {
+  if (!file) return;
+  held.kept.clear();
+  otherList(PAUSE, false);
+  clearTimeout(held.pending);
+  held.pending = 0;
+  showFile(file.name);
+  say("file-name", `${file.name}, ${grouped(file.size)} bytes`);
+  held.sent = readFile(file);
+}
+
+/** Shows the name of a file in place of the field. @param {string} name */
+function showFile(name) {
+  held.name = name;
+  part("opened").hidden = false;
+  part("pasted").hidden = true;
+}
+
+/** Keeps a long pasted text as if it were a file. @param {ClipboardEvent} event */
+export function pasteLong(event) {
+  const pasted = event.clipboardData.getData("text/plain");
+  if (pasted.length < LARGE) return;
+  event.preventDefault();
+  const { value, selectionStart, selectionEnd } = part("list-text");
+  const text = value.slice(0, selectionStart) + pasted + value.slice(selectionEnd);
+  part("list-text").value = "";
+  otherList(0, tabShown() === "draw");
+  try {
+    held.file = listOfText(text.replace(/\r\n?/g, "\n"));
+    showFile(PASTED);
+    showOrigin();
+    part("close-file").focus();
+  } catch (error) {
+    clearTimeout(held.pending);
+    held.pending = 0;
+    held.sent = Promise.resolve(false);
+    refuse(error);
+  }
+}
+
+/** Goes back to the text in the field. */
+export function closeFile() {
+  held.file = null;
+  held.kept.clear();
+  part("opened").hidden = true;
+  part("pasted").hidden = false;
+  part("list-text").focus();
+  listTyped(0);
+}
+
+/** Changes the list, and says how many lines changed. @param {string} change as in tidy.js */
+export async function tidy(change) {
+  const { turn } = held;
+  try {
+    const list = held.file ?? listOfText(part("list-text").value);
+    const answer = await client.ask("tidy", { list, change });
+    if (turn !== held.turn) return;
+    if (answer.changed > 0) {
+      const { file, name, isUnsaved } = held;
+      held.before.push({ list, isFile: file !== null, name, isUnsaved });
+      replaceList({ list: answer.list, isFile: file !== null, name, isUnsaved: true });
+    }
+    await sayChanged(tidyWords(answer));
+  } catch (error) {
+    if (turn === held.turn) refuse(error);
+  }
+}
+
+/** @param {{changed: number, verb: string}} answer the worker's answer to a change */
+function tidyWords({ changed, verb }) {
+  if (changed === 0) return "No line was changed: the SHA-256 is as before.";
+  const lines = changed === 1 ? "1 line was" : `${grouped(changed)} lines were`;
+  return `${lines} ${verb}. The list has a new SHA-256.`;
+}
+
+/** Takes back the last change. */
+export async function undo() {
+  replaceList(held.before.pop());
+  await sayChanged("The last change is undone: the list is as it was before.");
+}
+
+/** Says what was changed once the changed list is shown, unless the list has changed meanwhile. */
+async function sayChanged(words) {
+  const { turn } = held;
+  await listSent();
+  if (turn !== held.turn) return;
+  say("tidied", words);
+  part("undo").hidden = held.before.length === 0;
+  if (document.activeElement === document.body) part(part("undo").hidden ? "tidy-empty" : "undo").focus();
+}
+
+/** Puts another list in place of the one that is shown. */
+function replaceList({ list, isFile, name, isUnsaved }) {
+  held.name = name;
+  held.isUnsaved = isUnsaved;
+  if (isFile) held.file = list;
+  else part("list-text").value = textOf(list);
+  listChanged(0);
+  showOrigin();
+}
+
+/** Makes the change of the button that was pressed in a warning or a question. @param {Event} event */
+export function cure({ target }) {
+  if (target.dataset.change) tidy(target.dataset.change);
+}
+
+/** Keeps the list, or changes it, as the answer to a question says. @param {Event} event */
+export function answer(event) {
+  const question = event.target.closest("button")?.closest(".question");
+  if (!question) return;
+  clearRefusals("question");
+  cure(event);
+  if (event.target.dataset.change) return;
+  held.kept.add(question.dataset.question);
+  held.questions = held.questions.filter(({ id }) => !held.kept.has(id));
+  showQuestions(held.questions);
+  part("copy-digest").focus();
+}
+
+/** Saves the list as a file, which then has these bytes. */
+export function saveList() {
+  save(held.bytes, SAVED);
+  if (held.isUnsaved) held.name = SAVED;
+  held.isUnsaved = false;
+  showOrigin();
+}
+
+/** Asks before a list is lost that no file has. @param {BeforeUnloadEvent} event */
+export function askToLeave(event) {
+  if (!held.isUnsaved || held.bytes.length === 0) return;
+  event.preventDefault();
+  event.returnValue = true;
+}

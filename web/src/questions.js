@@ -1,0 +1,103 @@
+// Questions about a list that its owner answers before it is published and before a draw: whether
+// its first line is a heading, and whether it is a text in UTF-8.
+
+import { textOf, utf8 } from "./bytes.js";
+import { decoded, encodingOf } from "./encoding.js";
+import { shown } from "./entrant.js";
+import { Refusal } from "./refusal.js";
+
+/** Words that head a column of names, in the languages of spreadsheets that we have seen. */
+const HEADINGS = new Set([
+  "name", "names", "full name", "fullname", "first name", "firstname", "last name", "lastname", "given name",
+  "family name", "surname", "forename", "entrant", "entrants", "entry", "entries", "participant", "participants",
+  "candidate", "candidates", "applicant", "applicants", "member", "members", "person", "people", "player", "players",
+  "student", "students", "employee", "employees", "team", "teams", "ticket", "tickets", "ticket number",
+  "ticket no", "number", "no", "nr", "id", "ids", "code", "codes", "list", "e-mail", "email", "e-mail address",
+  "email address", "mail", "address", "phone", "city", "town",
+  "vorname", "nachname", "familienname", "teilnehmer", "teilnehmende", "teilnehmerin", "mitglied", "mitglieder",
+  "los", "losnummer", "nummer", "nom", "noms", "prénom", "prénoms", "numéro", "billet", "nombre",
+  "nombres", "apellido", "apellidos", "participante", "participantes", "número", "nome", "cognome", "partecipante",
+  "partecipanti", "naam", "voornaam", "achternaam", "deelnemer", "deelnemers", "namn", "navn", "nimi", "imię",
+  "nazwisko", "jméno", "név",
+]);
+
+/** Between the columns of a line, as spreadsheets write them. */
+const COLUMNS = /[,;\t|]/;
+
+/** A cell without what spreadsheets put around a heading. @param {string} cell */
+function plainCell(cell) {
+  return cell.normalize("NFC").toLowerCase().replace(/^[\s"'#*_\ufeff]+|[\s"':.*_]+$/g, "").replace(/[\s_]+/g, " ");
+}
+
+/**
+ * Whether the first line looks like a heading: each of its columns is a usual heading, or it is the
+ * only line without a digit and without an @, of three or more.
+ * @param {string[]} lines @returns {boolean}
+ */
+function hasHeading(lines) {
+  if (lines.length < 2) return false;
+  const cells = lines[0].split(COLUMNS).map(plainCell).filter((cell) => cell !== "");
+  if (cells.length > 0 && cells.every((cell) => HEADINGS.has(cell))) return true;
+  const isNumbered = (line) => /[0-9@]/.test(line);
+  return lines.length > 2 && !isNumbered(lines[0]) && lines.slice(1).every(isNumbered);
+}
+
+/** At most three lines of a text that have a letter outside ASCII, or else the first three lines. */
+function linesToShow(text) {
+  const lines = text.split(/\r\n?|\n/).filter((line) => line !== "");
+  const foreign = lines.filter((line) => /[^\x00-\x7f]/.test(line));
+  return (foreign.length > 0 ? foreign : lines).slice(0, 3);
+}
+
+/** What the page says about each encoding. */
+const ENCODINGS = {
+  "utf-16le": "This file is in UTF-16, which Excel calls “Unicode text”. A draw needs UTF-8.",
+  "utf-16be": "This file is in UTF-16, which Excel calls “Unicode text”. A draw needs UTF-8.",
+  "windows-1252": "This file is not in UTF-8. It seems to be in an older encoding of Windows " +
+    "(Windows-1252), as Excel saves CSV files.",
+  "unknown": new Refusal("list is no text").words,
+};
+
+const AS_IT_IS = { label: "Keep the file as it is" };
+
+/**
+ * A question: its text; the lines that it shows, with what is said above them; and the answers. An
+ * answer without a change keeps the list. `id` is equal for equal questions.
+ * @typedef {Object} Question
+ * @property {string} id
+ * @property {string} text
+ * @property {string} above
+ * @property {Object[]} lines
+ * @property {{label: string, change?: string}[]} choices
+ */
+
+/** @param {Uint8Array} list @param {string} encoding @returns {Question} */
+function encodingQuestion(list, encoding) {
+  const question = { id: `encoding ${encoding}`, text: ENCODINGS[encoding] };
+  if (encoding === "unknown") return { ...question, above: "", lines: [], choices: [AS_IT_IS] };
+  return {
+    ...question,
+    above: "Converted to UTF-8 it reads like this. If letters are wrong, save the file in UTF-8 where it was made.",
+    lines: linesToShow(decoded(list, encoding)).map((line) => shown(utf8(line))),
+    choices: [{ label: "Convert it to UTF-8", change: encoding }, AS_IT_IS],
+  };
+}
+
+/**
+ * @param {Uint8Array} list not empty
+ * @returns {Question[]} at most one: the encoding is asked first
+ */
+export function questionsOf(list) {
+  const encoding = encodingOf(list);
+  if (encoding !== "utf-8") return [encodingQuestion(list, encoding)];
+  const lines = textOf(list).split("\n");
+  if (lines[lines.length - 1] === "") lines.pop();
+  if (!hasHeading(lines)) return [];
+  return [{
+    id: `heading ${lines[0]}`,
+    text: "Line 1 looks like a heading, not like an entrant. Could it win?",
+    above: "",
+    lines: [shown(utf8(lines[0]))],
+    choices: [{ label: "Remove line 1", change: "heading" }, { label: "It is an entrant" }],
+  }];
+}

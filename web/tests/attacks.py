@@ -1,0 +1,277 @@
+"""Attacks on the check: mutated records, forged ones beside a true one, and lookalikes in records and lists. Nothing
+agrees in which a reader sees something else than what was checked."""
+
+import random
+import re
+from typing import Any, Callable, Dict, List, Tuple
+
+from counts import UNSEEN, Counts, sha256
+from page import Page
+
+NAMES = ["Zoë O'Neil-Fisher", "Ada B. Ito", "Finn A1", "Chidi Ivo", "Ona Aa 7", "Max Co-op", "Sofia Ek", "Noa' Ross"]
+LIST = "".join(f"{name}\n" for name in NAMES)
+SEED = "Zoë's first throw: 4-1-6 3 1"
+NUMBER = 2000
+# Letters that mutations put into a record.
+LETTERS = [*"0123456789abcdefxyzAZ\\\":. >-'\n\t", "\u0430", "\u2019", "\u201c", "ë"]
+
+
+def instead(before: str, *after: str) -> Callable[[str], str]:
+    """Replaces each letter of one text by that of another."""
+    letters = dict(zip(before, after))
+    return lambda letter: letters.get(letter, letter)
+
+
+# Each of these looks like what it replaces, or is invisible beside it.
+LOOKALIKES: "Dict[str, Callable[[str], str]]" = {
+    "Cyrillic": instead("aoeAM", *"\u0430\u043e\u0435\u0410\u041c"),
+    "Greek": instead("oAIZM", *"\u03bf\u0391\u0399\u0396\u039c"),
+    "full width": lambda letter: chr(ord(letter) + 0xfee0) if "!" <= letter <= "~" else letter,
+    "a no-break space": instead(" ", "\u00a0"),
+    "an ideographic space": instead(" ", "\u3000"),
+    "two spaces": instead(" ", "  "),
+    "a zero width space": lambda letter: letter + "\u200b",
+    "a zero width joiner": lambda letter: letter + "\u200d",
+    "a directional mark": lambda letter: letter + "\u200e",
+    "a soft hyphen": lambda letter: letter + "\u00ad",
+    "a byte order mark": lambda letter: "\ufeff" + letter,
+    "an accent of its own": instead("ë", "e\u0308"),
+    "a curly apostrophe": instead("'", "\u2019"),
+    "another dash": instead("-", "\u2010"),
+    "upper and lower case": lambda letter: letter.swapcase() if letter.isalpha() else letter,
+}
+# Checks each text with the page's own field and button. The answer: its outcome, and what it says that it checked.
+CHECK_ALL = """
+const [texts] = arguments;
+const part = (id) => document.getElementById(id);
+part("tab-check").click();
+const enabled = () => new Promise((done) => {
+  const look = () => part("check").disabled ? setTimeout(look, 0) : done();
+  look();
+});
+const checkOne = async (text) => {
+  part("check-text").value = text;
+  part("check-text").dispatchEvent(new Event("input"));
+  part("check").click();
+  await enabled();
+  const { outcome } = part("outcome").hidden ? {} : part("outcome").dataset;
+  const reading = part("reading").hidden ? [] : ["reading-seed", "reading-list", "reading-count", "reading-drawn"]
+    .map((id) => part(id).innerText);
+  return [outcome ?? "", reading];
+};
+return (async () => {
+  const found = [];
+  for (const text of texts) found.push(await checkOne(text));
+  return found;
+})();
+"""
+# The same for lists, with one record.
+CHECK_LISTS = """
+const [lists] = arguments;
+const part = (id) => document.getElementById(id);
+const enabled = () => new Promise((done) => {
+  const look = () => part("check").disabled ? setTimeout(look, 0) : done();
+  look();
+});
+return (async () => {
+  const found = [];
+  for (const list of lists) {
+    part("list-text").value = list;
+    part("list-text").dispatchEvent(new Event("input"));
+    part("check").click();
+    await enabled();
+    found.push(part("outcome").hidden ? "an error" : part("outcome").dataset.outcome);
+  }
+  return found;
+})();
+"""
+TITLES = [
+    "nanorand public draw 1", "NANORAND PUBLIC DRAW 1", "Nanorand Public Draw 1", "nanorand  public draw 1",
+    "nanorand public draw 2", "nanorand public draw", "  nanorand public draw 1", "*nanorand public draw 1*",
+    "“nanorand public draw 1”", "nanorand-public-draw 1", "nanorand public draw: 1", "nan\u043erand public draw 1",
+    "nanorand\u00a0public\u00a0draw 1", "nano\u200brand public draw 1", "\uff4eanorand public draw 1",
+    "> nanorand public draw 1", "\ufeffnanorand public draw 1", "nanorand public draw 1 ", "# nanorand public draw 1",
+]
+
+
+def plain(text: str) -> str:
+    """A text without what a mail program may change: marks of quotations, spaces at the ends of lines, and folds."""
+    text = re.sub(r"^>[> ]*", "", text, flags=re.M)
+    return re.sub(r"[ \n]+", "", re.sub(r"[ \t\r]+$", "", text, flags=re.M))
+
+
+def mutated(rng: random.Random, record: str) -> str:
+    """The record with one to three changes: of letters, words, lines or values."""
+    for _ in range(rng.choice([1, 1, 1, 2, 3])):
+        lines = record.split("\n")
+        place, line = rng.randrange(len(record)), rng.randrange(len(lines))
+        other = rng.randrange(len(lines))
+        letter = rng.choice([*LETTERS, *UNSEEN])
+        kind = rng.randrange(9)
+        if kind == 0:
+            record = record[:place] + letter + record[place + 1:]
+        elif kind == 1:
+            record = record[:place] + letter + record[place:]
+        elif kind == 2:
+            record = record[:place] + record[place + rng.choice([1, 1, 2, 8]):]
+        elif kind == 3:
+            lines[line], lines[other] = lines[other], lines[line]
+            record = "\n".join(lines)
+        elif kind == 4:
+            record = "\n".join(lines[:line] + lines[line + 1:])
+        elif kind == 5:
+            record = "\n".join(lines[:line] + [lines[other]] + lines[line:])
+        elif kind == 6:
+            change = rng.choice(list(LOOKALIKES.values()))
+            record = record[:place] + change(record[place]) + record[place + 1:] if place < len(record) else record
+        elif kind == 7:
+            number = rng.randrange(10)
+            record = re.sub(r"[0-9]+", lambda found: str(number), record, count=rng.randrange(1, 9))
+        else:
+            winner = rng.choice(NAMES)
+            record = re.sub(rf"^{rng.randrange(1, 9)}: .*$", lambda found: found[0][:3] + winner, record, flags=re.M)
+    return record
+
+
+def checked(page: Page, texts: List[str]) -> List[Tuple[str, List[str]]]:
+    return [(outcome, reading) for part in range(0, len(texts), 200)
+            for outcome, reading in page.browser.run(CHECK_ALL, texts[part:part + 200])]
+
+
+def judge(counts: Counts, name: str, record: str, said: List[str], text: str, found: Tuple[str, List[str]]) -> None:
+    """A text may agree if it has the record, but for what a mail may change, and the answer shows just that."""
+    outcome, reading = found
+    if outcome not in ("agrees", "other module"):
+        counts.case(name, "" if outcome in ("differs", "no record") else f"{outcome!r}: {text}")
+        return
+    without = r"(?m)^(?:version|module SHA-256): .*\n" if outcome == "other module" else r"(?!)"
+    has_it = plain(re.sub(without, "", record)) in plain(re.sub(without, "", text))
+    titles = len(re.findall(r"nanorand public draw", text))
+    counts.case(name, "" if (has_it, titles, reading) == (True, 1, said) else f"{outcome}: {reading} of {text!r}")
+
+
+def mutations(counts: Counts, page: Page, record: str, said: List[str]) -> None:
+    rng = random.Random(78)
+    texts = [mutated(rng, record) for _ in range(NUMBER)]
+    for index, (text, found) in enumerate(zip(texts, checked(page, texts))):
+        judge(counts, f"mutation {index}", record, said, text, found)
+
+
+def forged(counts: Counts, page: Page, record: str, said: List[str]) -> None:
+    """A second record, true or forged, above or below the first one, is an error, and so is what looks like one."""
+    lines = record.split("\n")
+    winners = "\n".join(f"{number}: Mallory" for number in range(1, 4))
+    texts = {}
+    for title in TITLES:
+        other = "\n".join([title, *lines[1:8]]) + f"\n{winners}\n"
+        for way, text in (("below", f"{record}{other}"), ("further below", f"{record}\n\n-- \n{other}"),
+                          ("above", f"{other}\n{record}"), ("a title below", f"{record}{title}\n"),
+                          ("a title above", f"{title}\n{record}")):
+            texts[f"{title!r}, {way}"] = text
+    for (name, text), (outcome, _) in zip(texts.items(), checked(page, list(texts.values()))):
+        counts.same(name, outcome, "no record")
+    reason = f"Line {len(lines)}: a second record begins here. Check one record at a time."
+    counts.same("its reason", page.check(record + record)["findings"], [reason])
+    for text in (f"I sent you a nanorand public draw, see below.\n{record}", f"{record}\nThe program is nanorand.\n",
+                 f"Winners: Mallory\n{record}\nWinners: Mallory\n1. Mallory\n"):
+        [(outcome, reading)] = checked(page, [text])
+        counts.same(f"the answer shows what it checked: {text[:20]!r}", (outcome, reading), ("agrees", said))
+
+
+def lookalikes_in_records(counts: Counts, page: Page, record: str) -> None:
+    """No letter of a record can be replaced by one that looks like it."""
+    texts = {}
+    for name, change in LOOKALIKES.items():
+        for place, letter in enumerate(record):
+            if letter != "\n" and change(letter) != letter and record[place + 1:place + 2] != "\n":
+                texts[name, place] = record[:place] + change(letter) + record[place + 1:]
+    wrong = {}
+    for (name, place), (outcome, _) in zip(texts, checked(page, list(texts.values()))):
+        right = outcome in ("no record", "differs")
+        # The version and the module may be others.
+        line = record[:place].count("\n")
+        if not right and not (outcome == "other module" and line in (5, 6)):
+            wrong.setdefault(name, []).append((place, outcome))
+    for name in LOOKALIKES:
+        counts.same(f"a record with {name}", wrong.get(name, []), [])
+        counts.case(f"records with {name}", "" if sum(kind == name for kind, _ in texts) > 0 else "there are none")
+
+
+def lookalikes_in_lists(counts: Counts, page: Page, record: str) -> None:
+    """A record does not agree with a list in which one letter is another that looks like it. The page warns of a list
+    with both lines."""
+    page.tab("check")
+    page.browser.run("document.getElementById('check-text').value = arguments[0];", record)
+    for name, change in LOOKALIKES.items():
+        lists = [LIST[:place] + change(letter) + LIST[place + 1:] for place, letter in enumerate(LIST)
+                 if letter != "\n" and change(letter) != letter]
+        found = page.browser.run(CHECK_LISTS, lists)
+        counts.same(f"lists with {name}", (set(found), len(found) > 0), ({"differs"}, True))
+        line = next(line for line in NAMES if any(change(letter) != letter for letter in line))
+        place = next(place for place, letter in enumerate(line) if change(letter) != letter)
+        page.paste(f"{LIST}{line[:place]}{change(line[place])}{line[place + 1:]}\n")
+        warnings = page.facts()["warnings"]
+        is_told = any("equals an earlier line" in warning for warning in warnings)
+        counts.case(f"a warning of {name}", "" if is_told else str(warnings))
+    page.browser.run(CHECK_LISTS, [LIST])
+    counts.same("the list itself", page.shown()["outcome"], "agrees")
+
+
+def lookalike_winners(counts: Counts, page: Page, record: str) -> None:
+    """If a winner of a record looks like the one of the draw, the letter that differs is marked in both."""
+    page.paste(LIST)
+    for before, after, marks in (("Zoë", "Zoe\u0308", ["e\u0308U+0065 U+0308", "ëU+00EB"]),
+                                 ("A", "\u0410", ["\u0410U+0410", "AU+0041"]),
+                                 ("i", "\u0456", ["\u0456U+0456", "iU+0069"]), ("a", "A", ["AU+0041", "aU+0061"])):
+        lines = record.split("\n")
+        index = next(index for index, line in enumerate(lines) if index > 7 and before in line)
+        lines[index] = lines[index].replace(before, after, 1)
+        shown = page.check("\n".join(lines))
+        found = page.browser.run("""return Array.from(document.querySelectorAll("#findings mark"),
+            (mark) => mark.textContent);""")
+        counts.same(f"a winner with {after!r}", (shown["outcome"], found), ("differs", marks))
+    page.check(record.replace("1: ", "1: Mallory ", 1))
+    counts.same("another winner is not marked",
+                page.browser.run("return document.querySelectorAll('#findings mark').length;"), 0)
+
+
+def reasons(counts: Counts, page: Page, record: str) -> None:
+    """What word processors and mail programs do to a record is said with its line."""
+    curly = "The line has a curly quotation mark, {}, as word processors make it. "
+    unseen = "The line has an invisible character, {}. "
+    advice = "Ask for the record as a file, or copy it as plain text."
+    value, missing = "the value of “seed” cannot be read. ", "“list SHA-256: ” is missing. "
+    title = "a record begins with “nanorand public draw 1”. "
+    for before, after, line, reason in (
+            ('seed: "', "seed: “", 2, value + curly.format("“")), ('1"\n', "1”\n", 2, value + curly.format("”")),
+            ('seed: "', "seed: «", 2, value + curly.format("«")), ('seed: "', "seed: „", 2, value + curly.format("„")),
+            ("throw:", "throw\u00a0:", 2, value + unseen.format("U+00A0 no-break space")),
+            ("list SHA", "list\u00a0SHA", 3, missing + unseen.format("U+00A0 no-break space")),
+            ("SHA-256: ", "SHA-256:\u202f", 3, missing + unseen.format("U+202F narrow no-break space")),
+            ("public draw", "public\u00a0draw", 1, title + unseen.format("U+00A0 no-break space")),
+            ("nanorand", "\ufeffnanorand", 1, title + unseen.format("U+FEFF byte order mark"))):
+        shown = page.check(record.replace(before, after, 1))
+        counts.same(f"{after!r} for {before!r}", (shown["outcome"], shown["findings"]),
+                    ("no record", [f"Line {line}: {reason}{advice}"]))
+    shown = page.check(record.replace("1: ", "1: \u200b", 1))
+    counts.same("an invisible character of a winner", shown["findings"],
+                ["Line 9: “1: ” and an entrant are missing. " + unseen.format("U+200B zero width space") + advice])
+
+
+def run(counts: Counts, page: Page, digests: Dict[int, str]) -> None:
+    page.load()
+    page.paste(LIST)
+    page.fill(SEED, "8")
+    shown: Dict[str, Any] = page.draw()
+    record = shown["record"]
+    counts.case("the module", "" if digests[64] in record else record)
+    page.check(record)
+    [(outcome, said)] = checked(page, [record])
+    counts.same("the record itself", (outcome, said[:3]), ("agrees", ['"ZoëU+00EB\'s first throw: 4-1-6 3 1"',
+                                                                      sha256(LIST.encode()), "8 of 8"]))
+    mutations(counts, page, record, said)
+    forged(counts, page, record, said)
+    lookalikes_in_records(counts, page, record)
+    lookalikes_in_lists(counts, page, record)
+    lookalike_winners(counts, page, record)
+    reasons(counts, page, record)

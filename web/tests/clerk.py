@@ -1,0 +1,415 @@
+"""What a clerk does with a list: opening it again, answering questions, changing, undoing, saving and printing."""
+
+import re
+import shutil
+import subprocess
+from pathlib import Path
+from typing import Any, Dict, List, Tuple
+
+import draws
+from counts import Counts, sha256
+from page import Page
+from steps import drop, focused
+
+NAMES = [f"{first} {last}" for first in ("Ada", "Bárbara", "Chidi", "Dmitri", "Elif", "Farid", "Grace", "Hedy", "Ines",
+                                         "Jun", "Kate", "Lise", "Max", "Nora", "Otto", "Pia", "Quinn")
+         for last in ("Abel", "Brown", "Costa", "Dietz", "Evans", "Fuchs", "Gupta", "Haas", "Ito", "Jansen", "Klein",
+                      "Lopez", "Meier", "Nagy", "O’Brien", "Popov", "Quist", "Rossi", "Silva", "Tanaka")]
+LIST = "".join(f"{name}\n" for name in NAMES)
+SEED = "4 1 6 3 3 2 5 6 1 4 2 6 5 3 1 1 6 2 4 5 2 2 6 1 3 5 4 1"
+SMALL = "Ada\nBob\nCid\n"
+QUESTIONS = """
+return Array.from(document.querySelectorAll(".question[role=group]"), (question) => [
+  question.querySelector(".asked").textContent,
+  Array.from(question.querySelectorAll(".lines li"), (line) => line.textContent),
+  Array.from(question.querySelectorAll("button"), (button) => button.textContent)]);
+"""
+PRESS = """
+Array.from(document.querySelectorAll("button")).find((one) => one.checkVisibility() && one.textContent === arguments[0])
+  .click();
+"""
+PREVIEW = """
+return Array.from(document.querySelectorAll("#preview li"), (item) =>
+  item.className === "gap" ? "…" : `${item.value}: ${item.textContent}`);
+"""
+NAMED = "return document.getElementById('file-name').textContent;"
+SEEN = "return document.getElementById(arguments[0]).checkVisibility();"
+# Whether leaving the page is asked about.
+LEAVE = """
+const event = new Event("beforeunload", { cancelable: true });
+window.dispatchEvent(event);
+return event.defaultPrevented;
+"""
+# The distance of an element's top from that of the window, and whether all of it is in the window.
+TOP = """
+const { top, bottom } = document.getElementById(arguments[0]).getBoundingClientRect();
+return [top, bottom <= innerHeight];
+"""
+HEADINGS = ("Name", "NAME", "  Name:", "\ufeffName", "Names", "Name;Vorname", "E-mail,Name", "Full name\tCity",
+            "\"Name\"", "Last_Name", "Ticket No.", "Nom,Prénom", "Teilnehmende", "Apellidos;Nombre")
+NO_HEADINGS = ("Ada", "Name Ada", "Anna Name", "1", "Nomen", "Ida, No 7")
+UTF_16 = "Diese Datei ist in UTF-16"
+
+
+def press(page: Page, label: str) -> None:
+    page.browser.run(PRESS, label)
+
+
+def changed(page: Page, label: str) -> Dict[str, Any]:
+    """Presses a button that changes the list, and returns what the page then shows."""
+    before = page.browser.run("return document.getElementById('list-digest').textContent;")
+    press(page, label)
+    page.browser.wait("""
+        return ["tidied", "list-error"].some((id) => !document.getElementById(id).hidden) ||
+          document.getElementById("list-digest").textContent !== arguments[0];""", before)
+    page.browser.wait("return ['tidied', 'list-error'].some((id) => !document.getElementById(id).hidden);")
+    return page.shown()
+
+
+def opened_again(counts: Counts, page: Page) -> None:
+    """A file that has changed on disk is read anew if it is opened again, by the button or by a drop."""
+    path = page.folder / "people.txt"
+    page.load()
+    for number, text in enumerate((SMALL, SMALL + "Dora\n", "Ada\n", SMALL)):
+        path.write_text(text, encoding="utf-8")
+        page.browser.type("#list-file", str(path))
+        page.browser.wait("return document.getElementById('list-digest').textContent === arguments[0];",
+                          sha256(text.encode()), seconds=20)
+        counts.same(f"the file, {number}", page.facts()["digest"], sha256(text.encode()))
+        counts.same(f"no file is chosen, {number}",
+                    page.browser.run('return document.getElementById("list-file").files.length;'), 0)
+    for text in (SMALL, SMALL + "Eve\n"):
+        drop(page, "panel", "people.txt", text.encode())
+        counts.same("dropped again", page.facts()["digest"], sha256(text.encode()))
+    page.fill("seed", "1")
+    page.draw()
+    path.write_text(SMALL + "Zoe\n", encoding="utf-8")
+    page.browser.type("#list-file", str(path))
+    counts.same("no result of the list before", page.shown()["record"], "")
+    page.facts()
+    counts.case("its record", "" if sha256((SMALL + "Zoe\n").encode()) in page.draw()["record"] else "another sum")
+
+
+def previews(counts: Counts, page: Page) -> None:
+    """The first and the last three lines of a file, or all six."""
+    page.load()
+    for number, wanted in ((1, [1]), (3, [1, 2, 3]), (6, [1, 2, 3, 4, 5, 6]), (7, [1, 2, 3, 0, 5, 6, 7]),
+                           (340, [1, 2, 3, 0, 338, 339, 340])):
+        for end in ("\n", ""):
+            page.open_file(("\n".join(NAMES[:number]) + end).encode())
+            page.facts()
+            counts.same(f"a preview of {number}{end!r}", page.browser.run(PREVIEW),
+                        [f"{line}: {NAMES[line - 1]}" if line else "…" for line in wanted])
+    page.open_file(f"A\u200bda\n{'x' * 5000}\n B\n".encode())
+    page.facts()
+    counts.same("a preview of odd lines", page.browser.run(PREVIEW),
+                ["1: AU+200B zero width spaceda", f"2: {'x' * 200} …", "3: U+0020 spaceB"])
+    page.paste(SMALL)
+    page.facts()
+    counts.same("no preview of a pasted text", page.browser.run(SEEN, "preview"), False)
+
+
+def asked(counts: Counts, page: Page, name: str, data: bytes, wanted: List[Any]) -> None:
+    """A list with a question is neither drawn from nor published before the question is answered."""
+    page.open_file(data)
+    page.fill("seed", "all")
+    page.facts(keep=False)
+    counts.same(f"{name}: asked", page.browser.run(QUESTIONS), wanted)
+    seen = [page.browser.run(SEEN, one) for one in ("list-digest", "copy-digest", "save-list")]
+    counts.same(f"{name}: nothing to publish", seen, [not wanted] * 3)
+    shown = page.draw(keep=False)
+    said = "Answer the question about the list first." if wanted else ""
+    counts.same(f"{name}: a draw", (shown["question"], shown["record"] != ""), (said, not wanted))
+    if wanted:
+        counts.same(f"{name}: the keyboard", focused(page), "questions")
+        page.tab("check")
+        counts.same(f"{name}: not asked in a check",
+                    [page.browser.run(SEEN, one) for one in ("questions", "list-digest")], [False, True])
+        page.tab("draw")
+
+
+def headings(counts: Counts, page: Page) -> None:
+    page.load()
+    for heading in HEADINGS:
+        text = f"{heading}\n{SMALL}"
+        line = heading.replace("\ufeff", "U+FEFF byte order mark").replace("\t", "U+0009 tab")
+        line = re.sub("^  ", "U+0020 space ", line)
+        asked(counts, page, f"the heading {heading!r}", text.encode(), [[
+            "Line 1 looks like a heading, not like an entrant. Could it win?", [line],
+            ["Remove line 1", "It is an entrant"]]])
+        shown = changed(page, "Remove line 1")
+        counts.same(f"{heading!r}: removed", shown["digest"], sha256(SMALL.encode()))
+        counts.same(f"{heading!r}: drawn", len(page.draw(keep=False)["drawn"]), 3)
+    for heading in NO_HEADINGS:
+        asked(counts, page, f"no heading {heading!r}", f"{heading}\n{SMALL}".encode(), [])
+    for text, is_asked in (("Kennung\n17\n18\n", True), ("Wer\na@b.c\nd@e.f\n", True), ("17\n18\n19\n", False),
+                           ("Ada\n17\nBob\n", False), ("Ada\n17\n", False), ("Name\n", False)):
+        page.open_file(text.encode())
+        page.facts(keep=False)
+        counts.same(f"asked of {text!r}", len(page.browser.run(QUESTIONS)), int(is_asked))
+
+
+def kept(counts: Counts, page: Page) -> None:
+    """An answer holds until another file is opened or another first line is typed."""
+    page.load()
+    page.paste(f"Name\n{SMALL}")
+    page.facts(keep=False)
+    press(page, "It is an entrant")
+    counts.same("the keyboard after it", focused(page), "copy-digest")
+    page.fill("seed", "all")
+    counts.same("a heading that is kept", len(page.draw(keep=False)["drawn"]), 4)
+    page.paste(f"Name\n{SMALL}Dora\n")
+    page.facts(keep=False)
+    counts.same("more lines below it", page.browser.run(QUESTIONS), [])
+    page.paste(f"Names\n{SMALL}")
+    page.facts(keep=False)
+    counts.same("another heading", len(page.browser.run(QUESTIONS)), 1)
+    for _ in range(2):
+        page.open_file(f"Name\n{SMALL}".encode())
+        page.facts(keep=False)
+        counts.same("a file", len(page.browser.run(QUESTIONS)), 1)
+        page.keep()
+
+
+def encodings(counts: Counts, page: Page) -> None:
+    """Lists in UTF-16 and Windows-1252 are recognized, and converted if their owner wants that."""
+    page.load()
+    text = "Müller\nJosé\nØre\n€uro\n"
+    lines = ["Müller", "José", "Øre"]
+    utf_16 = "This file is in UTF-16, which Excel calls “Unicode text”. A draw needs UTF-8."
+    windows = ("This file is not in UTF-8. It seems to be in an older encoding of Windows (Windows-1252), as Excel "
+               "saves CSV files.")
+    choices = ["Convert it to UTF-8", "Keep the file as it is"]
+    kinds = [(name, utf_16, mark) for name in ("utf-16-le", "utf-16-be") for mark in ("\ufeff", "")]
+    for name, said, marked in [*kinds, ("cp1252", windows, "")]:
+        for end in ("\n", "\r\n"):
+            data = (marked + text.replace("\n", end)).encode(name)
+            asked(counts, page, f"{name}, {end!r}, {marked!r}", data, [[said, lines, choices]])
+            shown = changed(page, choices[0])
+            counts.same(f"{name}: converted", (shown["digest"], shown["warnings"]), (sha256(text.encode()), []))
+            counts.same(f"{name}: drawn", sorted(page.draw(keep=False)["drawn"]), sorted(text.split()))
+            page.open_file(data)
+            page.facts(keep=False)
+            press(page, choices[1])
+            counts.same(f"{name}: kept", page.shown()["digest"], sha256(data))
+            is_drawn = sha256(data) in page.draw(keep=False)["record"]
+            counts.case(f"{name}: kept and drawn", "" if is_drawn else "not drawn")
+    no_text = ("This file does not seem to be a text. If it is a spreadsheet or a document, save it there as text in "
+               "UTF-8, with one entrant on each line, and open that file.")
+    asked(counts, page, "a spreadsheet", b"PK\x03\x04\x14\0\x06\0\x08\0\xff\n\x01", [[no_text, [], choices[1:]]])
+    page.open_file(b"PK\x03\x04\x14\0\x06\0\x08\0\xff\n\n\x01")
+    counts.same("a spreadsheet with an empty line", page.facts(keep=False)["list"], no_text)
+    asked(counts, page, "UTF-8 with a byte 0", b"a\0b\nc\n", [])
+
+
+def invisible(counts: Counts, page: Page) -> None:
+    """Each kind of invisible characters has a warning with the first line that has it, and a button."""
+    page.load()
+    kinds: "Dict[str, Tuple[str, str, str]]" = {
+        "\u00a0\u202f\u2007": ("no-break spaces", "Make the no-break spaces plain", " "),
+        "\u3000\u2003\u2009\u1680": ("spaces of another width, such as U+3000", "Make these spaces plain", " "),
+        "\u200b\u200c\u200d\u2060\u00ad\ufeff\u034f": ("zero-width characters", "Remove the zero-width characters", ""),
+        "\u200e\u200f\u061c\u202a\u202e\u2066\u2069": ("directional marks", "Remove the directional marks", ""),
+        "\t": ("tabs, as between the columns of a spreadsheet", "Make the tabs plain spaces", " "),
+        "\x7f\u0085\u2028\ufe00\u3164\U000e0041": ("other invisible characters", "Remove these characters", ""),
+    }
+    for letters, (words, label, becomes) in kinds.items():
+        for letter in letters:
+            text = f"Ada\nBo{letter}b\nCi{letter}{letter}d\nDo{letter}ra\n"
+            for way in ("file", "pasted"):
+                page.open_file(text.encode()) if way == "file" else page.paste(text)
+                name = f"U+{ord(letter):04X}, {way}"
+                counts.same(f"{name}: warned", page.facts(keep=False)["warnings"][:1],
+                            [f"3 lines have {words}, which nobody sees: look at line 2."])
+                shown = changed(page, label)
+                wanted = text.replace(letter, becomes)
+                counts.same(f"{name}: changed", (shown["digest"], shown["warnings"]), (sha256(wanted.encode()), []))
+    page.open_file(b"\xef\xbb\xbfAda\nBob")
+    counts.case("a byte order mark", "" if page.facts()["warnings"][0].startswith(
+        "The list begins with a byte order mark") else "no warning")
+    counts.same("no byte order mark", changed(page, "Remove the byte order mark")["digest"], sha256(b"Ada\nBob"))
+    joined = "\U0001f468\u200d\U0001f469\n\u0645\u06cc\u200c\u062e\n"
+    page.paste(joined)
+    counts.same("joined letters", page.facts()["warnings"], [])
+    page.paste(f"{joined}a\u200db\n")
+    page.facts()
+    counts.same("joined letters stay", changed(page, "Remove the zero-width characters")["digest"],
+                sha256(f"{joined}ab\n".encode()))
+
+
+def marked_letters(counts: Counts, page: Page) -> None:
+    """Of two lines that look alike, the letter that differs is marked in both, with its code."""
+    page.load()
+    for other, marks in (("\u0410da B\u00f6ll", ["A U+0041", "\u0410 U+0410"]),
+                         ("Ada Bo\u0308ll", ["\u00f6 U+00F6", "o\u0308 U+006F U+0308"]),
+                         ("Ada\u00a0B\u00f6ll", ["  U+0020 space", " U+00A0 no-break space"]),
+                         ("Ada B\u00f6\u200bll", ["l U+006C", " U+200B zero width space"]),
+                         ("Ada B\u00f6l\uff4c", ["l U+006C", "\uff4c U+FF4C"]),
+                         ("Ada B\u00f6ll\u200e", [" U+200E left-to-right mark"]),
+                         ("Ada b\u00f6ll", ["B U+0042", "b U+0062"])):
+        page.paste(f"x\nAda B\u00f6ll\n{other}\n")
+        page.facts()
+        found = page.browser.run("""return [Array.from(document.querySelectorAll("#list-warnings .pair li"),
+            (item) => item.firstChild.data), Array.from(document.querySelectorAll("#list-warnings .pair mark"),
+            (mark) => `${mark.firstChild.data ?? ""} ${mark.querySelector(".codes").textContent}`)];""")
+        wanted = [one if one[0] != " " or one[1] == " " else one for one in marks]
+        counts.same(f"{other!r} beside it", found[0], ["Line 2: ", "Line 3: "])
+        counts.same(f"{other!r}: its marks", [one.strip() for one in found[1]], [one.strip() for one in wanted])
+
+
+def undone(counts: Counts, page: Page) -> None:
+    """Each change can be undone, the last one first, until something else changes the list."""
+    page.load()
+    text = "Ada \n\nBob\u00a0B\nBob\u00a0B\n"
+    for way in ("file", "pasted"):
+        page.open_file(text.encode()) if way == "file" else page.paste(text)
+        page.browser.wait("return !document.getElementById('list-error').hidden;")
+        counts.same(f"{way}: nothing to undo", page.browser.run(SEEN, "undo"), False)
+        texts = [text, "Ada \nBob\u00a0B\nBob\u00a0B\n", "Ada\nBob\u00a0B\nBob\u00a0B\n", "Ada\nBob\u00a0B\n",
+                 "Ada\nBob B\n"]
+        for label, wanted in zip(("Remove the empty lines", "Remove the spaces at ends", "Remove equal lines",
+                                  "Make the no-break spaces plain"), texts[1:]):
+            counts.same(f"{way}: {label}", changed(page, label)["digest"], sha256(wanted.encode()))
+        for wanted in texts[-2:0:-1]:
+            counts.same(f"{way}: undone", changed(page, "Undo the last change")["digest"], sha256(wanted.encode()))
+            said = page.browser.run("return document.getElementById('tidied').textContent;")
+            counts.same(f"{way}: it is said", said, "The last change is undone: the list is as it was before.")
+        press(page, "Undo the last change")
+        page.browser.wait("return !document.getElementById('list-error').hidden;")
+        counts.same(f"{way}: all undone", page.browser.run(SEEN, "undo"), False)
+    page.paste("a\na\n")
+    page.facts()
+    changed(page, "Remove equal lines")
+    page.paste("b\nb\n")
+    page.facts()
+    counts.same("a text that is typed after a change", page.browser.run(SEEN, "undo"), False)
+
+
+def origins(counts: Counts, page: Page, folder: Path) -> None:
+    """The page, and so the paper, names the file that has the bytes of the list, or says that none has them. Leaving is
+    asked about only then, and not while somebody checks a draw."""
+    def state(name: str, said: str, asks: bool) -> None:
+        page.facts()
+        file = page.browser.run(SEEN, "file-name")
+        found = page.browser.run(NAMED) if file else page.browser.run(
+            "return document.getElementById('unsaved').textContent;")
+        counts.same(name, (found, page.browser.run(LEAVE)), (said, asks))
+
+    page.load()
+    counts.same("an empty page", page.browser.run(LEAVE), False)
+    path = page.folder / "people.txt"
+    path.write_text("Ada\nAda\n", encoding="utf-8")
+    page.browser.type("#list-file", str(path))
+    state("a file", "people.txt, 8 bytes", False)
+    changed(page, "Remove equal lines")
+    state("a changed file", "people.txt, 4 bytes, changed here: save it", True)
+    changed(page, "Undo the last change")
+    state("a file as it was", "people.txt, 8 bytes", False)
+    changed(page, "Remove equal lines")
+    page.browser.click("#save-list")
+    counts.same("what is saved", draws.saved(page, folder, "entrants.txt"), b"Ada\n")
+    state("a changed file that was saved", "entrants.txt, 4 bytes, saved from this page", False)
+    page.browser.click("#close-file")
+    page.paste("Ada\nAda\n")
+    state("a pasted list", "Pasted here: save it, and publish the file that you saved.", True)
+    page.browser.click("#save-list")
+    draws.saved(page, folder, "entrants.txt")
+    state("a pasted list that was saved", "entrants.txt, saved from this page", False)
+    page.paste("Bob\n")
+    state("another pasted list", "Pasted here: save it, and publish the file that you saved.", True)
+    page.load()
+    page.tab("check")
+    page.paste("Ada\n")
+    page.facts()
+    counts.same("a list to check", page.browser.run(LEAVE), False)
+
+
+def in_view(counts: Counts, page: Page) -> None:
+    """After a draw and a check, the keyboard and the window are at the result, also on a phone."""
+    page.load()
+    page.open_file(LIST.encode())
+    for width, height in ((360, 640), (390, 800), (1280, 900)):
+        page.browser.size(width, height)
+        page.fill(SEED, "12")
+        record = page.draw()["record"]
+        counts.same(f"the keyboard after a draw, {width}", focused(page), "result-title")
+        top, is_seen = page.browser.run(TOP, "result-title")
+        counts.case(f"the winners' heading, {width}", "" if 0 <= top < 60 and is_seen else f"{top}, {is_seen}")
+        if height >= 800:
+            counts.case(f"twelve winners, {width}", "" if page.browser.run(TOP, "drawn")[1] else "are not in view")
+        page.check(record)
+        counts.same(f"the keyboard after a check, {width}", focused(page), "outcome-title")
+        top, is_seen = page.browser.run(TOP, "outcome-title")
+        counts.case(f"the answer, {width}", "" if 0 <= top < 600 and is_seen else f"{top}, {is_seen}")
+    page.browser.size(1000, 900)
+    sizes = page.browser.run("""return ["list-text", "seed", "count", "check-text"].map((id) =>
+        getComputedStyle(document.getElementById(id)).fontSize);""")
+    counts.same("fields of 16 pixels, in which a phone does not zoom", sizes, ["16px"] * 4)
+
+
+def what_was_checked(counts: Counts, page: Page) -> None:
+    """The answer shows what it checked: the lines, the seed, the numbers and the winners."""
+    page.load()
+    page.open_file(LIST.encode())
+    page.fill(SEED, "12")
+    shown = page.draw()
+    page.check(f"Dear all,\n\n{shown['record']}\nYours\n")
+    found = page.browser.run("""return ["reading-title", "reading-seed", "reading-list", "reading-count"].map((id) =>
+        document.getElementById(id).innerText);""")
+    counts.same("what was checked", found, ["What the record says, in lines 3 to 22 of the text:", f'"{SEED}"',
+                                            sha256(LIST.encode()), "12 of 340"])
+    winners = "return Array.from(document.querySelectorAll('#reading-drawn li'), (item) => item.textContent);"
+    counts.same("the winners that were checked", page.browser.run(winners), shown["drawn"])
+    page.fill("\u0410\u200b1", "all")
+    page.check(page.draw()["record"])
+    seed = page.browser.run("return document.getElementById('reading-seed').innerText;")
+    counts.same("a seed with a letter that looks like another", seed, '"\u0410U+0410\\u200b1"')
+    counts.same("at most a hundred are shown", len(page.browser.run(winners)), 100)
+    more = page.browser.run("return document.getElementById('reading-more').textContent;")
+    counts.same("the others are counted", more, "and 240 more")
+
+
+def text_on_paper(page: Page) -> str:
+    """The text of the printed page, by pdftotext, or an empty text if there is no such program."""
+    if shutil.which("pdftotext") is None:
+        return ""
+    path = page.folder / "paper.pdf"
+    path.write_bytes(page.browser.printed())
+    done = subprocess.run(["pdftotext", "-layout", str(path), "-"], stdout=subprocess.PIPE, check=True)
+    return done.stdout.decode()
+
+
+def on_paper(counts: Counts, page: Page) -> None:
+    """On paper: a title, the date, the name of the file, each digit of each sum, and lines for signatures."""
+    page.load()
+    page.open_file((LIST + "Ada Abel\n").encode())
+    page.facts()
+    changed(page, "Remove equal lines")
+    page.fill(SEED, "12")
+    papers = {"the closed list": [sha256(LIST.encode()), "changed here: save it", "340 entrants"]}
+    text = {"the closed list": text_on_paper(page)}
+    shown = page.draw()
+    sums = re.findall("[0-9a-f]{64}", shown["record"])
+    papers["the result"] = [*sums, *shown["drawn"], SEED]
+    text["the result"] = text_on_paper(page)
+    page.fill("4 1 6")
+    papers["the result of before"] = ["These winners are of the old seed", *shown["drawn"]]
+    text["the result of before"] = text_on_paper(page)
+    page.check(shown["record"])
+    papers["a check"] = ["The record agrees", sums[0], SEED, "12 of 340", *shown["drawn"]]
+    text["a check"] = text_on_paper(page)
+    for name, wanted in papers.items():
+        if not text[name]:
+            continue
+        title = f"Public draw: {name.replace(' of before', '')}"
+        words = " ".join(text[name].split())
+        wanted += [title, "Printed on ", "Occasion:", "Place, date and time:"]
+        counts.same(f"{name}: missing on paper", [one for one in wanted if one not in words], [])
+        counts.same(f"{name}: signatures", words.count("Signature:"), 3)
+
+
+def run(counts: Counts, page: Page, downloads: Path) -> None:
+    for part in (opened_again, previews, headings, kept, encodings, invisible, marked_letters, undone, in_view,
+                 what_was_checked, on_paper):
+        part(counts, page)
+    origins(counts, page, downloads)
