@@ -20,8 +20,8 @@ function trimmed(line) {
 
 /** Cyrillic and Greek letters and signs that look like the letter or sign of ASCII below them. */
 const [LOOKALIKES, LATIN] = [
-  "АВЕЅІЈКМНОРСТУХҮԚԜаеорсухіјѕԁһԛԝӏΑΒΕΖΗΙΚΜΝΟΡΤΥΧαινορυκ‘’ʼ´‐‑‒–—−",
-  "ABESIJKMHOPCTYXYQWaeopcyxijsdhqwlABEZHIKMNOPTYXaivopuk''''------",
+  "АВЕЅІӀЈКМНОРСТУХҮԚԜаеорсухіјѕѵԁһԛԝӏΑΒΕΖΗΙΚΜΝΟΡΤΥΧϹαινορυκϲı‘’ʼ´‐‑‒–—−",
+  "ABESIIJKMHOPCTYXYQWaeopcyxijsvdhqwlABEZHIKMNOPTYXCaivopukci''''------",
 ].map((letters) => Array.from(letters));
 const LATIN_OF = new Map(LOOKALIKES.map((letter, index) => [letter, LATIN[index]]));
 const LOOKALIKE = new RegExp(`[${LOOKALIKES.join("")}]`, "gu");
@@ -73,15 +73,18 @@ function groupsOf(forms) {
   return groups.values();
 }
 
+/** The greatest number of equal lines that are named. */
+const TOLD = 10;
+
 /**
- * For each form: how many lines equal an earlier line in it but not in the form before, the number
- * of the first such line, from 1 (Infinity if there is none), and that of the line that it equals.
+ * For each form: how many lines equal an earlier line in it but not in the form before; and the
+ * numbers, from 1, of the first `TOLD` of these lines, each after that of the line that it equals.
  * @param {string[]} lines @param {boolean} isText false if the lines are bytes that are not UTF-8
- * @returns {{name: string, count: number, line: number, other: number}[]}
+ * @returns {{name: string, count: number, pairs: [number, number][]}[]}
  */
 export function alikeIn(lines, isText) {
   const forms = FORMS.filter(({ isOfBytes }) => isText || isOfBytes);
-  const found = forms.map(({ name }) => ({ name, count: 0, line: Infinity, other: 0 }));
+  const found = forms.map(({ name }) => ({ name, count: 0, pairs: [] }));
   for (const group of groupsOf(lastForms(lines, isText))) {
     let left = new Map(group.map((place) => [place, lines[place]]));
     forms.forEach(({ of }, index) => {
@@ -103,8 +106,12 @@ export function alikeIn(lines, isText) {
 
 /** Counts the line at `place`, which equals the earlier one at `other`. */
 function count(found, place, other) {
+  const { pairs } = found;
   found.count += 1;
-  if (place + 1 < found.line) [found.line, found.other] = [place + 1, other + 1];
+  let index = pairs.length;
+  while (index > 0 && pairs[index - 1][1] > place + 1) index -= 1;
+  pairs.splice(index, 0, [other + 1, place + 1]);
+  if (pairs.length > TOLD) pairs.pop();
 }
 
 /** Whether two different texts look the same or nearly so. @param {string} left @param {string} right */

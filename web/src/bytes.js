@@ -16,6 +16,13 @@ export function isUnseen(letter) {
   return UNSEEN.test(letter);
 }
 
+const UNSEEN_IN = /(?! )[\p{Cc}\p{Cf}\p{Z}\p{Default_Ignorable_Code_Point}\u2800]/u;
+
+/** Whether a text has an invisible character other than the plain space. @param {string} text */
+export function hasUnseen(text) {
+  return UNSEEN_IN.test(text);
+}
+
 /** @param {string} text @returns {Uint8Array} */
 export function utf8(text) {
   return new TextEncoder().encode(text);
@@ -25,8 +32,9 @@ export function utf8(text) {
 export function textOf(bytes) {
   try {
     return new TextDecoder("utf-8", { fatal: true, ignoreBOM: true }).decode(bytes);
-  } catch {
-    return null;
+  } catch (error) {
+    if (error instanceof TypeError) return null;
+    throw error;
   }
 }
 

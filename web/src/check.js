@@ -18,7 +18,7 @@ import { Refusal } from "./refusal.js";
 
 /**
  * A sentence and, of two results that look alike, what the page shows of each.
- * @typedef {{text: string, pair?: {number: string, line: Object}[]}} Finding
+ * @typedef {{text: string, lines?: {name: string, line: import("./entrant.js").Shown}[]}} Finding
  */
 
 /**
@@ -30,7 +30,7 @@ import { Refusal } from "./refusal.js";
  * @property {string} list
  * @property {number} entrants
  * @property {number} drawn
- * @property {{isText: boolean, parts: (string|number)[]}[]} named
+ * @property {import("./entrant.js").Shown[]} named
  */
 
 const TITLES = {
@@ -41,6 +41,8 @@ const TITLES = {
   "no record": "This text is not a record of a draw.",
   "no list": "The record can be read. Open or paste its list above, and check again.",
 };
+
+const OTHER_LIST = "Another list:";
 
 /**
  * @typedef {Object} Maker
@@ -57,9 +59,10 @@ const TITLES = {
  */
 function checked(outcome, findings, record = null) {
   const asFinding = (finding) => (typeof finding === "string" ? { text: finding } : finding);
+  const isOfOtherList = outcome === "differs" && String(findings[0]).startsWith(OTHER_LIST);
   return {
     outcome,
-    title: TITLES[outcome],
+    title: isOfOtherList ? "This is not the list that the record names." : TITLES[outcome],
     findings: findings.map(asFinding),
     reading: record && readingOf(record),
   };
@@ -96,14 +99,15 @@ function otherMakers(record, { version, module, otherModule }) {
     record.version !== version &&
       `Another version: the record names ${record.version}, this page has ${version}.`,
     ![module, otherModule].includes(record.module) &&
-      `Another module: the record names ${record.module}, this page has ${module}.`,
+      `Another drawing program (module): the record names ${record.module}, this page has ${module}.`,
   ].filter(Boolean);
 }
 
 /** Says so if the page's other module made the record, which is not an error. */
 function otherOfPage(record, { otherModule, words, otherWords }) {
   return record.module !== otherModule ? [] : [
-    `The record was made by this page's other module, ${otherWords}. This browser runs the one ${words}.`,
+    "The record was made in a browser that runs this page's other drawing program (module), " +
+      `${otherWords}. This browser runs the one ${words}. Both draw the same.`,
   ];
 }
 
@@ -115,7 +119,7 @@ function otherOfPage(record, { otherModule, words, otherWords }) {
 function differencesOf(module, list, record) {
   const digest = hex(module.digest(list));
   if (digest !== record.list) {
-    return [`Another list: the record names the SHA-256 ${record.list}, this list has ${digest}.`];
+    return [`${OTHER_LIST} the record names the SHA-256 ${record.list}, this list has ${digest}.`];
   }
   try {
     const repeated = draw(module, list, record.seed, String(record.drawn));
@@ -147,5 +151,5 @@ function differentLine(named, drawn) {
   const texts = two.map(textOf);
   if (texts.includes(null) || !looksAlike(...texts)) return { text };
   const [record, repeated] = markedPair(...texts);
-  return { text, pair: [{ number: "Record", line: record }, { number: "Draw", line: repeated }] };
+  return { text, lines: [{ name: "Record", line: record }, { name: "Draw", line: repeated }] };
 }

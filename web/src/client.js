@@ -27,7 +27,7 @@ export class Client {
 
   /**
    * @param {"start"|"list"|"tidy"|"draw"|"check"} task @param {Object} data
-   * @returns {Promise<Object>} rejected with a Refusal
+   * @returns {Promise<Object>} rejected with a Refusal, or with the error of a message that cannot be sent
    */
   ask(task, data) {
     if (this.#lost) return Promise.reject(this.#lost);

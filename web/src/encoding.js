@@ -33,6 +33,15 @@ function utf16Of(list) {
   return even > half && odd === 0 ? "utf-16be" : null;
 }
 
+/** What documents that are no text begin with, though all their bytes may be letters. */
+const DOCUMENTS = ["%PDF-", "{\\rtf"];
+
+/** @param {Uint8Array} list */
+function isDocument(list) {
+  const start = String.fromCharCode(...list.subarray(0, 5));
+  return DOCUMENTS.includes(start);
+}
+
 /**
  * The encoding that a list seems to have. Bytes of value 0 in UTF-8 are taken for those of UTF-16
  * only if they are where UTF-16 has them.
@@ -42,6 +51,7 @@ function utf16Of(list) {
 export function encodingOf(list) {
   const utf16 = utf16Of(list);
   if (utf16 !== null) return utf16;
+  if (isDocument(list)) return "unknown";
   if (textOf(list) !== null) return "utf-8";
   return list.some((byte) => NO_LETTERS.has(byte)) ? "unknown" : "windows-1252";
 }

@@ -54,6 +54,11 @@ export function printed(bytes) {
 }
 
 /**
+ * What the page shows of an entrant. One that is not UTF-8 is one printed text.
+ * @typedef {{isText: boolean, parts: (string|number|number[])[]}} Shown
+ */
+
+/**
  * What the page shows of a text: visible characters as texts, and the code point of each invisible
  * one in its place. The characters from `first` to before `end` are marked: they are an array of
  * their code points.
@@ -74,10 +79,7 @@ export function partsOf(letters, first = letters.length, end = letters.length) {
   return parts;
 }
 
-/**
- * An entrant for the page to show. One that is not UTF-8 is printed, as one text.
- * @param {Uint8Array} bytes @returns {{isText: boolean, parts: (string|number)[]}}
- */
+/** An entrant for the page to show. @param {Uint8Array} bytes @returns {Shown} */
 export function shown(bytes) {
   const text = textOf(bytes);
   return text === null

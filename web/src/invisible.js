@@ -1,7 +1,7 @@
 // Finds invisible characters that come into a list unnoticed, from web pages, word processors and
 // spreadsheets, and removes them.
 
-import { isUnseen } from "./bytes.js";
+import { hasUnseen, isUnseen } from "./bytes.js";
 import { isSeen } from "./entrant.js";
 
 /**
@@ -46,8 +46,6 @@ export const INVISIBLE = [
   },
 ];
 
-const PLAIN = /^[ -~]*$/;
-
 /** The kind of an invisible character. @param {string} letter @returns {Kind} */
 function kindOf(letter) {
   return INVISIBLE.find(({ letters }) => letters.test(letter));
@@ -74,7 +72,7 @@ function lettersOf(line) {
 
 /** The names of the kinds in a line. @param {string} line @returns {Set<string>} */
 export function kindsIn(line) {
-  if (PLAIN.test(line)) return new Set();
+  if (!hasUnseen(line)) return new Set();
   return new Set(lettersOf(line).map(([, kind]) => kind?.name).filter(Boolean));
 }
 
@@ -84,7 +82,7 @@ export function kindsIn(line) {
  * @param {string} line @param {string} [name]
  */
 export function withoutInvisible(line, name) {
-  if (PLAIN.test(line)) return line;
+  if (!hasUnseen(line)) return line;
   return lettersOf(line).map(([letter, kind]) =>
     (kind && (name === undefined || kind.name === name) ? kind.becomes : letter)).join("");
 }

@@ -3,7 +3,7 @@
 import { textOf } from "./bytes.js";
 import { listOfText } from "./list.js";
 import { Refusal } from "./refusal.js";
-import { client, forgetResults, refuse } from "./session.js";
+import { client, hideResults, recallResult, refuse } from "./session.js";
 import { clearRefusals, grouped, hideList, part, save, say, showList, showQuestions, tabShown } from "./view.js";
 
 /** In milliseconds: the pause between the last change of a pasted list and sending it to the worker. */
@@ -16,16 +16,23 @@ const SAVED = "entrants.txt";
 
 /**
  * `file` holds the bytes of the opened file or of a long paste, or is null if the list is the text
- * in the field; `name` is what the page calls the file. `bytes` is the list itself. `isUnsaved`: no
- * file has these bytes. `before` has the list before each change that can be undone. `sent` promises
- * whether the worker has the list. `pending` is the timer until a changed list is sent. `turn` counts
- * the changes: an answer to an earlier one is not shown. `questions` are those that are open, and
- * `kept` has those that were answered by keeping the list.
+ * in the field; `name` is what the page calls the file. `bytes` is the list itself. `origin` says
+ * which file has these bytes: the one that was opened, none yet, or one that the page has saved.
+ * `before` has the list before each change that can be undone. `sent` promises whether the worker has
+ * the list. `pending` is the timer until a changed list is sent. `turn` counts the changes: an answer
+ * to an earlier one is not shown. `questions` are those that are open, and `kept` has those that were
+ * answered by keeping the list.
+ * @type {{origin: "opened"|"unsaved"|"saved"}}
  */
 const held = {
-  file: null, name: "", bytes: new Uint8Array(0), isUnsaved: false, before: [], sent: Promise.resolve(false),
+  file: null, name: "", bytes: new Uint8Array(0), origin: "unsaved", before: [], sent: Promise.resolve(false),
   pending: 0, turn: 0, questions: [], kept: new Set(),
 };
+
+/** The list as it is now: the file, or the text in the field. @returns {Uint8Array} */
+function listNow() {
+  return held.file ?? listOfText(part("list-text").value);
+}
 
 /**
  * Sends the list to the worker, and shows its answer.
@@ -35,10 +42,12 @@ async function sendList() {
   const { turn } = held;
   held.pending = 0;
   try {
-    held.bytes = held.file ?? listOfText(part("list-text").value);
-    part("tidy").hidden = held.bytes.length === 0;
+    held.bytes = listNow();
+    part("tidy").hidden = held.bytes.length === 0 && held.before.length === 0;
     const facts = await client.ask("list", { list: held.bytes });
-    if (turn === held.turn && held.bytes.length > 0) showFacts(facts);
+    if (turn !== held.turn) return true;
+    if (held.bytes.length > 0) showFacts(facts);
+    else if (held.file !== null) refuse(new Refusal("file is empty"));
     return true;
   } catch (error) {
     if (turn === held.turn) refuse(error);
@@ -52,26 +61,33 @@ function showFacts(facts) {
   showOrigin();
   held.questions = facts.questions.filter(({ id }) => !held.kept.has(id));
   showQuestions(held.questions);
+  recallResult(facts.digest);
 }
 
 /** Shows which file has the list, or that no file has it yet. */
 function showOrigin() {
-  const { file, name, isUnsaved } = held;
-  const where = name === SAVED ? "saved from this page" : "";
-  if (file !== null) {
-    const state = isUnsaved ? `${name === PASTED ? "pasted" : "changed"} here: save it` : where;
-    say("file-name", [name, `${grouped(file.length)} bytes`, state].filter(Boolean).join(", "));
-  }
-  const here = isUnsaved ? "Pasted here: save it, and publish the file that you saved." : `${name}, ${where}`;
-  say("unsaved", file === null ? here : "");
+  const { file, name, origin } = held;
+  const isUnsaved = origin === "unsaved";
+  const unsaved = name === PASTED ? "not saved yet: save it" : "changed here: save it";
+  const state = { opened: "", unsaved, saved: "saved from this page" }[origin];
+  const size = file === null ? "" : `${grouped(file.length)} bytes`;
+  say("file-name", file === null ? "" : [name, size, state].filter(Boolean).join(", "));
+  const pasted = isUnsaved ? "Pasted here: save it, and publish the file that you saved." : `${SAVED}, ${state}`;
+  say("unsaved", file === null ? pasted : "");
+}
+
+/** Stops the timer until a changed list is sent. */
+function stopTimer() {
+  clearTimeout(held.pending);
+  held.pending = 0;
 }
 
 /** Handles a change of the list. Sends it after a pause, in milliseconds, as typing may go on. */
 function listChanged(pause) {
-  forgetResults();
+  hideResults();
   held.turn += 1;
   held.questions = [];
-  clearTimeout(held.pending);
+  stopTimer();
   clearRefusals("list", "question", "page");
   hideList();
   part("tidy").hidden = true;
@@ -79,17 +95,21 @@ function listChanged(pause) {
   held.pending = setTimeout(() => { held.sent = sendList(); }, pause);
 }
 
-/** Begins another list, which has no changes to undo. @param {number} pause @param {boolean} isUnsaved */
-function otherList(pause, isUnsaved) {
+/** Begins another list, which has no changes to undo. @param {number} pause @param {"opened"|"unsaved"} origin */
+function otherList(pause, origin) {
   held.before = [];
-  held.isUnsaved = isUnsaved;
+  held.origin = origin;
   listChanged(pause);
 }
 
-/** Handles a change of the text in the field. In the tab for a check nothing has to be saved. */
+/** Handles a change of the text in the field. @param {number} [pause] */
 export function listTyped(pause = PAUSE) {
-  held.name = "";
-  otherList(pause, tabShown() === "draw");
+  otherList(pause, "unsaved");
+}
+
+/** Reads the field if no list was opened before the module had started: a browser may have kept its text. */
+export function listBegun() {
+  if (held.turn === 0) listTyped(0);
 }
 
 /**
@@ -98,7 +118,7 @@ export function listTyped(pause = PAUSE) {
  */
 export function listSent() {
   if (held.pending !== 0) {
-    clearTimeout(held.pending);
+    stopTimer();
     held.sent = sendList();
   }
   return held.sent;
@@ -130,9 +150,8 @@ async function readFile(file) {
 export function openFile(file) {
   if (!file) return;
   held.kept.clear();
-  otherList(PAUSE, false);
-  clearTimeout(held.pending);
-  held.pending = 0;
+  otherList(PAUSE, "opened");
+  stopTimer();
   showFile(file.name);
   say("file-name", `${file.name}, ${grouped(file.size)} bytes`);
   held.sent = readFile(file);
@@ -153,43 +172,46 @@ export function pasteLong(event) {
   const { value, selectionStart, selectionEnd } = part("list-text");
   const text = value.slice(0, selectionStart) + pasted + value.slice(selectionEnd);
   part("list-text").value = "";
-  otherList(0, tabShown() === "draw");
+  otherList(0, "unsaved");
   try {
     held.file = listOfText(text.replace(/\r\n?/g, "\n"));
     showFile(PASTED);
     showOrigin();
     part("close-file").focus();
   } catch (error) {
-    clearTimeout(held.pending);
-    held.pending = 0;
+    stopTimer();
     held.sent = Promise.resolve(false);
     refuse(error);
   }
 }
 
-/** Goes back to the text in the field. */
+/** Goes back to the text in the field. A file with changes that are not saved can be brought back. */
 export function closeFile() {
+  const { file, name, origin, before } = held;
   held.file = null;
   held.kept.clear();
   part("opened").hidden = true;
   part("pasted").hidden = false;
   part("list-text").focus();
   listTyped(0);
+  if (origin !== "unsaved") return;
+  held.before = [...before, { list: file, isFile: true, name, origin }];
+  part("undo").hidden = false;
 }
 
 /** Changes the list, and says how many lines changed. @param {string} change as in tidy.js */
 export async function tidy(change) {
   const { turn } = held;
   try {
-    const list = held.file ?? listOfText(part("list-text").value);
-    const answer = await client.ask("tidy", { list, change });
+    const list = listNow();
+    const tidied = await client.ask("tidy", { list, change });
     if (turn !== held.turn) return;
-    if (answer.changed > 0) {
-      const { file, name, isUnsaved } = held;
-      held.before.push({ list, isFile: file !== null, name, isUnsaved });
-      replaceList({ list: answer.list, isFile: file !== null, name, isUnsaved: true });
+    if (tidied.changed > 0) {
+      const { file, name, origin } = held;
+      held.before.push({ list, isFile: file !== null, name, origin });
+      replaceList({ list: tidied.list, isFile: file !== null, name, origin: "unsaved" });
     }
-    await sayChanged(tidyWords(answer));
+    await sayChanged(tidyWords(tidied));
   } catch (error) {
     if (turn === held.turn) refuse(error);
   }
@@ -219,11 +241,13 @@ async function sayChanged(words) {
 }
 
 /** Puts another list in place of the one that is shown. */
-function replaceList({ list, isFile, name, isUnsaved }) {
+function replaceList({ list, isFile, name, origin }) {
   held.name = name;
-  held.isUnsaved = isUnsaved;
-  if (isFile) held.file = list;
-  else part("list-text").value = textOf(list);
+  held.origin = origin;
+  if (isFile) {
+    held.file = list;
+    showFile(name);
+  } else part("list-text").value = textOf(list);
   listChanged(0);
   showOrigin();
 }
@@ -234,7 +258,7 @@ export function cure({ target }) {
 }
 
 /** Keeps the list, or changes it, as the answer to a question says. @param {Event} event */
-export function answer(event) {
+export function answerQuestion(event) {
   const question = event.target.closest("button")?.closest(".question");
   if (!question) return;
   clearRefusals("question");
@@ -249,14 +273,15 @@ export function answer(event) {
 /** Saves the list as a file, which then has these bytes. */
 export function saveList() {
   save(held.bytes, SAVED);
-  if (held.isUnsaved) held.name = SAVED;
-  held.isUnsaved = false;
+  if (held.origin === "opened") return;
+  held.name = SAVED;
+  held.origin = "saved";
   showOrigin();
 }
 
-/** Asks before a list is lost that no file has. @param {BeforeUnloadEvent} event */
+/** Asks before a list is lost that no file has, but not whoever checks a draw. @param {BeforeUnloadEvent} event */
 export function askToLeave(event) {
-  if (!held.isUnsaved || held.bytes.length === 0) return;
+  if (held.origin !== "unsaved" || held.bytes.length === 0 || tabShown() === "check") return;
   event.preventDefault();
   event.returnValue = true;
 }

@@ -2,22 +2,29 @@
 
 import { bitsOfBrowser } from "./module.js";
 import {
-  answer, askFirst, askToLeave, closeFile, cure, listSent, listTyped, openFile, pasteLong, saveList, tidy, undo,
+  answerQuestion, askFirst, askToLeave, closeFile, cure, listBegun, listSent, listTyped, openFile, pasteLong, saveList,
+  tidy, undo,
 } from "./listing.js";
 import { writtenSeed } from "./record.js";
 import { Refusal } from "./refusal.js";
-import { client, fieldChanged, forgetResults, markResult, refuse, refuseHere, session } from "./session.js";
+import {
+  client, enable, fieldChanged, forgetResult, markResult, refuse, refuseHere, session,
+} from "./session.js";
 import {
   clearRefusals, copy, fieldOf, goTo, part, save, say, showCheck, showPaper, showResult, showTab,
 } from "./view.js";
+
+/** A longer seed than this is shown below its field, which is too short for it on a phone. */
+const LONG_SEED = 20;
 
 function seedChanged() {
   fieldChanged();
   clearRefusals("seed");
   const seed = part("seed").value;
-  const odd = /^\s|\s$| {2}|[^\x20-\x7e]/.test(seed);
-  say("seed-read", odd ? `The seed is read as ${writtenSeed(seed)}. Each space, line and accent ` +
-    "counts: others must type exactly the same." : "");
+  const isOdd = /^\s|\s$| {2}|[^\x20-\x7e]/.test(seed);
+  const advice = isOdd ? " Each space, sign and accent counts: others must type exactly the same." : "";
+  const isShown = isOdd || seed.length > LONG_SEED;
+  say("seed-read", isShown ? `The seed is read as ${writtenSeed(seed)}.${advice}` : "");
 }
 
 /** Tells screen readers how the seed is read, once it has been typed. */
@@ -32,7 +39,7 @@ function countChanged() {
 
 async function drawNow() {
   clearRefusals("seed", "count", "question", "page");
-  forgetResults();
+  forgetResult();
   const { turn } = session;
   part("draw").disabled = true;
   try {
@@ -47,19 +54,19 @@ async function drawNow() {
   } catch (error) {
     if (turn === session.turn) refuseHere(error);
   } finally {
-    part("draw").disabled = false;
+    enable("draw");
   }
 }
 
 function showDrawing(drawing, fields) {
-  session.result = { ...fields, bytes: drawing.result };
-  markResult();
+  session.result = { ...fields, list: drawing.list, bytes: drawing.result };
   showResult(drawing);
+  markResult();
   goTo("result-title");
 }
 
 async function checkNow() {
-  clearRefusals("page");
+  clearRefusals("record", "page");
   part("outcome").hidden = true;
   part("check").disabled = true;
   const { turn } = session;
@@ -75,7 +82,7 @@ async function checkNow() {
   } catch (error) {
     if (turn === session.turn) refuseHere(error);
   } finally {
-    part("check").disabled = false;
+    enable("check");
   }
 }
 
@@ -84,17 +91,32 @@ function showOutcome(outcome) {
   goTo("outcome-title");
 }
 
-/** Opens a dropped file: as the record if it is dropped on that field, otherwise as the list. */
-async function dropped(event) {
+/** Opens a dropped file: as the record if it is dropped on that step, otherwise as the list. */
+function dropped(event) {
   const [file] = event.dataTransfer.files;
   if (!file) return;
   event.preventDefault();
-  if (event.target === part("check-text")) {
+  if (part("check-step").contains(event.target)) readRecordFile(file);
+  else openFile(file);
+}
+
+/** Puts the text of a file into the field for the record. @param {File} file */
+async function readRecordFile(file) {
+  try {
     part("check-text").value = new TextDecoder().decode(await file.arrayBuffer());
+  } catch {
+    part("check-text").value = "";
+    refuse(new Refusal("record cannot be read"));
+    return;
+  } finally {
     part("outcome").hidden = true;
-  } else {
-    openFile(file);
   }
+  clearRefusals("record");
+}
+
+function recordChanged() {
+  clearRefusals("record");
+  part("outcome").hidden = true;
 }
 
 /** Opens the chosen file. The field forgets it, so that the same file can be opened again once it has changed. */
@@ -115,12 +137,23 @@ async function start() {
     say("maker", `Version ${version}, module SHA-256 ${module}, ${words}`);
     part("draw").disabled = false;
     part("check").disabled = false;
-    listTyped(0);
+    listBegun();
     seedChanged();
   } catch (error) {
     client.stop(Refusal.of(error));
     refuse(error);
   }
+}
+
+/** What a button prints, while it does so. The browser's own menu prints what the tab shows. */
+let paperAsked;
+
+/** @param {"list"|"result"|"check"} paper */
+function printPaper(paper) {
+  paperAsked = paper;
+  showPaper(paper);
+  print();
+  paperAsked = undefined;
 }
 
 /** @param {string} id @param {string} event @param {(event: Event) => void} action */
@@ -141,9 +174,13 @@ function moveTab(event) {
   part(`tab-${name}`).focus();
 }
 
-/** Enter draws. @param {KeyboardEvent} event */
+/**
+ * Enter draws, unless it ends a word of an input method: for that Safari sends the code 229.
+ * @param {KeyboardEvent} event
+ */
 function drawOnEnter(event) {
-  if (event.key === "Enter" && !event.isComposing && !part("draw").disabled) drawNow();
+  const isComposing = event.isComposing || event.keyCode === 229;
+  if (event.key === "Enter" && !isComposing && !part("draw").disabled) drawNow();
 }
 
 on("list-text", "input", () => listTyped());
@@ -154,7 +191,7 @@ on("close-file", "click", closeFile);
 for (const change of ["empty", "trim", "unique"]) on(`tidy-${change}`, "click", () => tidy(change));
 on("undo", "click", undo);
 on("list-warnings", "click", cure);
-on("questions", "click", answer);
+on("questions", "click", answerQuestion);
 on("seed", "input", seedChanged);
 on("seed", "change", seedTyped);
 on("count", "input", countChanged);
@@ -168,7 +205,7 @@ document.addEventListener("dragover", (event) => {
   if (event.dataTransfer.types.includes("Files")) event.preventDefault();
 });
 document.addEventListener("drop", dropped);
-on("check-text", "input", () => { part("outcome").hidden = true; });
+on("check-text", "input", recordChanged);
 on("draw", "click", drawNow);
 on("check", "click", checkNow);
 on("copy-digest", "click", () =>
@@ -177,8 +214,11 @@ on("copy-record", "click", () => copy(part("copy-record"), part("record").textCo
 on("save-list", "click", saveList);
 on("save-record", "click", () => save(part("record").textContent, "record.txt"));
 on("save-result", "click", () => save(session.result.bytes, "result.txt"));
-for (const id of ["print", "print-list", "print-check"]) on(id, "click", () => print());
-addEventListener("beforeprint", showPaper);
+for (const [id, paper] of [["print-list", "list"], ["print", "result"], ["print-check", "check"]]) {
+  on(id, "click", () => printPaper(paper));
+}
+addEventListener("beforeprint", () => showPaper(paperAsked));
+addEventListener("afterprint", () => showPaper());
 addEventListener("beforeunload", askToLeave);
 showPaper();
 start();

@@ -18,11 +18,16 @@ function placeOfDifference(left, right) {
   return place;
 }
 
+/** How many letters are shown before and after a marked one. */
+const AROUND = 100;
+
 /** What the page shows of a text whose letter at an index is marked, with its combining marks. */
 function markedAt(letters, place) {
   let end = Math.min(place + 1, letters.length);
   while (end < letters.length && COMBINING.test(letters[end])) end += 1;
-  return { isText: true, parts: partsOf(letters, place, end) };
+  const [first, last] = [Math.max(0, place - AROUND), Math.min(letters.length, end + AROUND)];
+  const parts = partsOf(letters.slice(first, last), place - first, end - first);
+  return { isText: true, parts: [first > 0 && "…", ...parts, last < letters.length && "…"].filter(Boolean) };
 }
 
 /**

@@ -18,6 +18,7 @@ function firstInvisible(line) {
  * @param {string} line
  */
 export function reasonIn(line) {
+  if (/^[ \t]/.test(line)) return " The line begins with a space or a tab, which has to be removed.";
   const invisible = firstInvisible(line);
   if (invisible !== undefined) {
     return ` The line has an invisible character, ${nameOf(invisible.codePointAt(0))}. ${AS_FILE}`;
@@ -27,11 +28,27 @@ export function reasonIn(line) {
   return ` The line has a curly quotation mark, ${curly}, as word processors make it. ${AS_FILE}`;
 }
 
+/** What a reader does not see of a title, or does not look at. */
+const HIDDEN = /[^\p{L}\p{N}]|\p{Default_Ignorable_Code_Point}/gu;
+/** What begins a new line on paper and in a mail, besides the line feed. */
+const LINE_ENDS = /[\v\f\r\u0085\u2028\u2029]/u;
+
 /**
  * What a reader sees of a title: its letters and digits in lower case, without accents, signs,
  * invisible characters and spaces. Letters that look like Latin ones are Latin ones.
  * @param {string} line
  */
-export function plainTitle(line) {
-  return latin(line.slice(0, 1000).normalize("NFKD")).toLowerCase().replace(/[^\p{L}\p{N}]/gu, "");
+function plainTitle(line) {
+  return latin(latin(line).normalize("NFKD").toLowerCase()).replace(HIDDEN, "");
+}
+
+const TITLE_WORDS = "nanorandpublicdraw";
+
+/**
+ * Whether a line, or a part of it that begins a new line, looks like the title of a record of this or
+ * another format.
+ * @param {string} line
+ */
+export function isLikeTitle(line) {
+  return line.split(LINE_ENDS).some((part) => plainTitle(part).startsWith(TITLE_WORDS));
 }

@@ -24,8 +24,12 @@ const HEADINGS = new Set([
 /** Between the columns of a line, as spreadsheets write them. */
 const COLUMNS = /[,;\t|]/;
 
+/** The greatest length of a heading in a cell. */
+const HEADING = 100;
+
 /** A cell without what spreadsheets put around a heading. @param {string} cell */
 function plainCell(cell) {
+  if (cell.length > HEADING) return cell;
   return cell.normalize("NFC").toLowerCase().replace(/^[\s"'#*_\ufeff]+|[\s"':.*_]+$/g, "").replace(/[\s_]+/g, " ");
 }
 
@@ -49,12 +53,15 @@ function linesToShow(text) {
   return (foreign.length > 0 ? foreign : lines).slice(0, 3);
 }
 
+const UTF_16 = "This file is saved in another form of text (UTF-16, which Excel calls “Unicode text”). A draw needs " +
+  "the usual one, UTF-8.";
+
 /** What the page says about each encoding. */
 const ENCODINGS = {
-  "utf-16le": "This file is in UTF-16, which Excel calls “Unicode text”. A draw needs UTF-8.",
-  "utf-16be": "This file is in UTF-16, which Excel calls “Unicode text”. A draw needs UTF-8.",
-  "windows-1252": "This file is not in UTF-8. It seems to be in an older encoding of Windows " +
-    "(Windows-1252), as Excel saves CSV files.",
+  "utf-16le": UTF_16,
+  "utf-16be": UTF_16,
+  "windows-1252": "This file is not saved in the usual form of text, UTF-8. It seems to be in an older form of " +
+    "Windows (Windows-1252), as Excel saves CSV files.",
   "unknown": new Refusal("list is no text").words,
 };
 
@@ -77,20 +84,16 @@ function encodingQuestion(list, encoding) {
   if (encoding === "unknown") return { ...question, above: "", lines: [], choices: [AS_IT_IS] };
   return {
     ...question,
-    above: "Converted to UTF-8 it reads like this. If letters are wrong, save the file in UTF-8 where it was made.",
+    above: "Converted to UTF-8 it reads like this. If letters are wrong, do not convert: save the file as UTF-8 " +
+      "where it was made.",
     lines: linesToShow(decoded(list, encoding)).map((line) => shown(utf8(line))),
     choices: [{ label: "Convert it to UTF-8", change: encoding }, AS_IT_IS],
   };
 }
 
-/**
- * @param {Uint8Array} list not empty
- * @returns {Question[]} at most one: the encoding is asked first
- */
-export function questionsOf(list) {
-  const encoding = encodingOf(list);
-  if (encoding !== "utf-8") return [encodingQuestion(list, encoding)];
-  const lines = textOf(list).split("\n");
+/** @param {string} text the list @returns {Question[]} one if the first line looks like a heading */
+function headingQuestions(text) {
+  const lines = text.split("\n");
   if (lines[lines.length - 1] === "") lines.pop();
   if (!hasHeading(lines)) return [];
   return [{
@@ -100,4 +103,18 @@ export function questionsOf(list) {
     lines: [shown(utf8(lines[0]))],
     choices: [{ label: "Remove line 1", change: "heading" }, { label: "It is an entrant" }],
   }];
+}
+
+/**
+ * The questions about a list. UTF-16 and what is no text has no lines of which the first could be a
+ * heading.
+ * @param {Uint8Array} list @returns {Question[]}
+ */
+export function questionsOf(list) {
+  const encoding = encodingOf(list);
+  const hasLines = encoding === "utf-8" || encoding === "windows-1252";
+  return [
+    ...(encoding === "utf-8" ? [] : [encodingQuestion(list, encoding)]),
+    ...(hasLines ? headingQuestions(textOf(list) ?? decoded(list, encoding)) : []),
+  ];
 }

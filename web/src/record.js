@@ -2,7 +2,7 @@
 
 import { hasHalfCharacter, isUnseen } from "./bytes.js";
 import { printed, unprinted } from "./entrant.js";
-import { plainTitle, reasonIn } from "./pasted.js";
+import { isLikeTitle, reasonIn } from "./pasted.js";
 
 const TITLE = "nanorand public draw 1";
 
@@ -75,6 +75,7 @@ function showsAll(text) {
 
 /** @param {string} text @returns {?string} */
 function readSeed(text) {
+  if (!text.endsWith("\"")) return null;
   try {
     const seed = JSON.parse(text);
     const isSeed = typeof seed === "string" && seed !== "" && !hasHalfCharacter(seed);
@@ -137,14 +138,11 @@ function titleIn(lines) {
   return index;
 }
 
-/** Whether a line looks like a title of this or another format. @param {string} line */
-function isLikeTitle(line) {
-  return plainTitle(line).startsWith(plainTitle(TITLE).replace(/[0-9]+$/, ""));
-}
-
 /** A line without the `>` marks of a quoted mail and without white space at its end. */
 function unquoted(line) {
-  return line.replace(/^>[> ]*/, "").replace(/[ \t\r]+$/, "");
+  let end = line.length;
+  while (end > 0 && " \t\r".includes(line[end - 1])) end -= 1;
+  return line.slice(0, end).replace(/^>[> ]*/, "");
 }
 
 /** Whether a line continues the one before, as when a mail program folds a long line. */

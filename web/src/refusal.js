@@ -1,6 +1,6 @@
 // The errors that the page shows, and their texts.
 
-/** @typedef {"seed"|"count"|"list"|"question"|"page"} Field  where the error is shown */
+/** @typedef {"seed"|"count"|"list"|"question"|"record"|"page"} Field  where the error is shown */
 
 /** @type {Record<string, {field: Field, words: (values: Object) => string}>} */
 const REFUSALS = {
@@ -18,20 +18,24 @@ const REFUSALS = {
   },
   "count is no number": {
     field: "count",
-    words: () => "The count must be the word all, or only digits: no sign, no space, no comma.",
+    words: () => "Type only digits, without a sign, a space or a comma, or the word all.",
   },
   "count is too large": {
     field: "count",
-    words: () => "The count is too large: at most 18446744073709551615.",
+    words: () => "This number is too large: at most 18446744073709551615.",
   },
   "too few entrants": {
     field: "count",
     words: ({ entrants, count }) =>
-      `Cannot draw ${count}: the list has only ${entrants}.`,
+      `Cannot draw ${count}: the list has only ${entrants === 1 ? "1 entrant" : `${entrants} entrants`}.`,
   },
   "no list": {
     field: "list",
-    words: () => "Open the list first.",
+    words: () => "Open or paste the list first.",
+  },
+  "file is empty": {
+    field: "list",
+    words: () => "This file is empty.",
   },
   "list is a question": {
     field: "question",
@@ -55,13 +59,18 @@ const REFUSALS = {
     field: "list",
     words: () => "The file cannot be read.",
   },
+  "record cannot be read": {
+    field: "record",
+    words: () => "The file cannot be read.",
+  },
   "words were rejected": {
     field: "page",
-    words: () => "128 words in a row were rejected. Nothing is drawn. This has never been observed.",
+    words: () =>
+      "128 words in a row were rejected. Nothing is drawn: another seed is needed. This has never been observed.",
   },
   "no memory": {
     field: "page",
-    words: () => "The browser cannot allocate enough memory for a list of this size.",
+    words: () => "The browser does not have enough memory for a list of this size.",
   },
   "no WebAssembly": {
     field: "page",

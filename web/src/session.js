@@ -3,15 +3,15 @@
 import { Client } from "./client.js";
 import { writtenSeed } from "./record.js";
 import { Refusal } from "./refusal.js";
-import { fieldOf, hideResult, part, say, showRefusal } from "./view.js";
+import { fieldOf, hideResult, part, say, showRefusal, unhideResult } from "./view.js";
 
 /** In milliseconds: the delay before progress is shown. */
 const MOMENT = 500;
 
 /**
- * `turn` counts the changes of all fields: an answer to an earlier turn is not shown. `result` is the
- * result of the draw that is shown, as bytes, with the seed and the count that were typed for it, or
- * null. `showing` is the timer until progress is shown.
+ * `turn` counts the changes of the list, the seed and the count, and the draws: an answer to an earlier
+ * turn is not shown. `result` is the result of the last draw, as bytes, with the SHA-256 of its list, and
+ * the seed and the count that were typed for it, or null. `showing` is the timer until progress is shown.
  */
 export const session = { turn: 0, result: null, showing: 0 };
 
@@ -37,15 +37,36 @@ export function refuse(error) {
 /** Shows an error, and moves the focus to its field. @param {unknown} error */
 export function refuseHere(error) {
   refuse(error);
-  fieldOf(Refusal.of(error).field)?.focus();
+  const field = fieldOf(Refusal.of(error).field);
+  field?.focus();
+  if (field === part("questions")) field.scrollIntoView({ block: "center" });
+}
+
+/** Enables a button that was disabled while it worked, and gives it the focus back if nothing else has it. */
+export function enable(id) {
+  part(id).disabled = false;
+  if (document.activeElement === document.body) part(id).focus();
+}
+
+/** Forgets the last result before a draw. */
+export function forgetResult() {
+  session.result = null;
+  hideResults();
 }
 
 /** Hides the results after a change of the list, as they belong to the list before it. */
-export function forgetResults() {
+export function hideResults() {
   session.turn += 1;
-  session.result = null;
-  hideResult();
+  hideResult(session.result === null ? "" : "The list has changed since the draw. Draw again, or open the list of the draw.");
   part("outcome").hidden = true;
+  markResult();
+}
+
+/** Shows the last result again if the list is that of its draw. @param {string} digest of the list */
+export function recallResult(digest) {
+  if (session.result?.list !== digest) return;
+  unhideResult();
+  markResult();
 }
 
 /** After a change of the seed or the count, the winners that are shown are marked as those of before. */
@@ -58,8 +79,9 @@ export function fieldChanged() {
 /** Says so if the winners that are shown are not of the seed and the count in the fields. */
 export function markResult() {
   const { result } = session;
-  const isOld = result !== null &&
+  const isOld = result !== null && !part("result").hidden &&
     (result.seed !== part("seed").value || result.count !== part("count").value);
-  say("stale", isOld ? `These winners are of the old seed ${writtenSeed(result.seed)} and of ` +
-    `${result.count} drawn, and not of what you typed since. To draw with that, press Draw.` : "");
+  say("changed", isOld ? "The winners below belong to the seed and the number before this change." : "");
+  say("stale", isOld ? `These winners belong to the seed ${writtenSeed(result.seed)} and the number ` +
+    `${result.count}, and not to what you have typed since. Press Draw to draw with that.` : "");
 }

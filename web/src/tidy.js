@@ -5,7 +5,7 @@ import { textOf, utf8 } from "./bytes.js";
 import { resultOf } from "./draw.js";
 import { converted } from "./encoding.js";
 import { INVISIBLE, withoutInvisible } from "./invisible.js";
-import { LINE_FEED, lineAt, startsOfLines } from "./list.js";
+import { CARRIAGE_RETURN, LINE_FEED, lineAt, startsOfLines } from "./list.js";
 
 /** @param {Uint8Array} list @returns {Uint8Array[]} its lines, which may be empty */
 function linesOf(list) {
@@ -21,6 +21,11 @@ function trimmedBytes(line) {
   while (first < end && isSpace(line[first])) first += 1;
   while (first < end && isSpace(line[end - 1])) end -= 1;
   return end - first < line.length ? line.subarray(first, end) : line;
+}
+
+/** A line without the carriage return at its end, or the same line. @param {Uint8Array} line */
+function withoutReturn(line) {
+  return line[line.length - 1] === CARRIAGE_RETURN ? line.subarray(0, -1) : line;
 }
 
 /** The lines without repetitions: the first of equal lines stays. @param {Uint8Array[]} lines */
@@ -41,6 +46,7 @@ function without(line, name) {
 const CHANGES = {
   empty: { of: (lines) => lines.filter((line) => line.length > 0), verb: "removed" },
   trim: { of: (lines) => lines.map(trimmedBytes), verb: "made shorter" },
+  returns: { of: (lines) => lines.map(withoutReturn), verb: "made shorter" },
   unique: { of: unique, verb: "removed" },
   heading: { of: (lines) => lines.slice(1), verb: "removed" },
   mark: { of: ([first, ...rest]) => [first.subarray(3), ...rest], verb: "changed" },

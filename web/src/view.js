@@ -39,7 +39,8 @@ function itemize(id, items) {
 
 /** The fields that each kind of error can belong to. A list is a pasted text or a file. */
 const FIELDS = {
-  seed: ["seed"], count: ["count"], list: ["list-text", "open-file"], question: ["questions"], page: [],
+  seed: ["seed"], count: ["count"], list: ["list-text", "open-file"], question: ["questions"],
+  record: ["check-text"], page: [],
 };
 
 /** The visible one of these fields. @param {string} kind @returns {HTMLElement|undefined} */
@@ -84,17 +85,14 @@ function nodesOf(parts) {
   });
 }
 
-/** A list item for an entrant or a line. @param {{isText: boolean, parts: Object[]}} shown */
+/** A list item for an entrant or a line. @param {import("./entrant.js").Shown} shown */
 function itemOf({ isText, parts }) {
   return made("li", isText ? "text" : "bytes", ...nodesOf(parts));
 }
 
-/** Two lines that look alike, one above the other, as items of a list. */
-function pairOf(pair) {
-  return made("ul", "pair", ...pair.map(({ number, line }) => {
-    const name = typeof number === "number" ? `Line ${number}` : number;
-    return made("li", "", `${name}: `, ...nodesOf(line.parts));
-  }));
+/** Lines with their names, one above the other. */
+function linesOf(lines) {
+  return made("ul", "lines", ...lines.map(({ name, line }) => made("li", "", `${name}: `, ...nodesOf(line.parts))));
 }
 
 /** A button that makes a change of the list. @param {{label: string, change?: string}} choice */
@@ -106,8 +104,8 @@ function buttonOf({ label, change }) {
 }
 
 /** A warning or a finding as a list item. @param {import("./warnings.js").Warning} note */
-function noteOf({ text, pair, cure }) {
-  return made("li", "", text, ...(pair ? [pairOf(pair)] : []), ...(cure ? [" ", buttonOf(cure)] : []));
+function noteOf({ text, lines = [], cure }) {
+  return made("li", "", text, ...(lines.length > 0 ? [linesOf(lines)] : []), ...(cure ? [" ", buttonOf(cure)] : []));
 }
 
 /** Hides what the page shows about the list. */
@@ -165,8 +163,7 @@ export function showQuestions(questions) {
 
 /** @param {Object} drawing the worker's answer to a draw */
 export function showResult({ entrants, drawn, named, hasEscapes, record }) {
-  part("result").hidden = false;
-  part("publish-hint").hidden = true;
+  unhideResult();
   say("result-title", drawn === 0
     ? "Nobody was drawn."
     : `${grouped(drawn)} of ${grouped(entrants)} drawn, in this order:`);
@@ -176,14 +173,22 @@ export function showResult({ entrants, drawn, named, hasEscapes, record }) {
   const left = drawn - named.length;
   say("more", left > 0 ? `and ${grouped(left)} more, in the result that you can save` : "");
   say("escapes", hasEscapes
-    ? "\\x and two digits are a byte that is no visible letter, \\\\ is one backslash." : "");
+    ? "In the record, \\x and two digits stand for a byte that is no visible letter, and \\\\ for one backslash." : "");
   part("record").replaceChildren(...withDigests(record));
 }
 
-/** Hides the result of a draw. */
-export function hideResult() {
+/** Shows the result of a draw in place of the hint. */
+export function unhideResult() {
+  part("result").hidden = false;
+  part("publish-hint").hidden = true;
+  showPaper();
+}
+
+/** Hides the result of a draw. @param {string} words why there is none, if there was one */
+export function hideResult(words) {
   part("result").hidden = true;
-  part("publish-hint").hidden = false;
+  say("publish-hint", words || "The winners and a record appear here after the draw.");
+  showPaper();
 }
 
 /** The pieces of a text. Each digest is an element of its own, which the style breaks into rows. */
@@ -197,7 +202,8 @@ const LIST_WORDS = {
   draw: {
     "list-heading": "1. Close the list",
     "list-hint": "Open the file with the names, one on each line, and correct what the page finds. Then " +
-      "publish the list with its SHA-256, before anybody knows the seed.",
+      "publish the list with its SHA-256 (a fingerprint: it changes if a single letter changes), before " +
+      "anybody knows the seed.",
     "digest-label": "SHA-256 to publish:",
   },
   check: {
@@ -218,6 +224,7 @@ export function showTab(name) {
   for (const id of ["draw-step", "publish-step"]) part(id).hidden = name !== "draw";
   part("check-step").hidden = name !== "check";
   for (const [id, words] of Object.entries(LIST_WORDS[name])) say(id, words);
+  showPaper();
 }
 
 /** @returns {"draw"|"check"} the tab that is shown */
@@ -252,12 +259,25 @@ export function goTo(id) {
   part(id).scrollIntoView({ block: "start" });
 }
 
-/** What a printed page is called, and when it was printed. */
-export function showPaper() {
-  const titles = { draw: part("result").hidden ? "the closed list" : "the result", check: "a check" };
-  say("paper-title", `Public draw: ${titles[tabShown()]}`);
+const PAPERS = { list: "the closed list", result: "the result", check: "a check" };
+
+/**
+ * Decides what is printed, with its title and the date.
+ * @param {"list"|"result"|"check"} [paper] or else the one of the tab, with a result if there is one
+ */
+export function showPaper(paper) {
+  const ofDraw = part("result").hidden ? "list" : "result";
+  const chosen = paper ?? (tabShown() === "check" ? "check" : ofDraw);
+  part("panel").dataset.paper = chosen;
+  say("paper-title", `Public draw: ${PAPERS[chosen]}`);
   const date = new Intl.DateTimeFormat("en-GB", { dateStyle: "full", timeStyle: "long" });
   say("paper-date", `Printed on ${date.format(new Date())}`);
+}
+
+/** Tells screen readers something for two seconds. @param {string} text */
+function tell(text) {
+  part("heard").textContent = text;
+  setTimeout(() => { part("heard").textContent = ""; }, 2000);
 }
 
 /** Offers bytes as a file to download. @param {BlobPart} bytes @param {string} name */
@@ -267,6 +287,7 @@ export function save(bytes, name) {
   link.download = name;
   link.click();
   setTimeout(() => URL.revokeObjectURL(link.href), 60000);
+  tell(`Saved as ${name}`);
 }
 
 /**
@@ -281,9 +302,6 @@ export async function copy(button, text) {
   } catch {
     button.textContent = "Not copied: select the text";
   }
-  part("heard").textContent = button.textContent;
-  setTimeout(() => {
-    button.textContent = button.dataset.label;
-    part("heard").textContent = "";
-  }, 2000);
+  tell(button.textContent);
+  setTimeout(() => { button.textContent = button.dataset.label; }, 2000);
 }

@@ -8,7 +8,7 @@ import { printed, shown } from "./entrant.js";
 import { previewOf } from "./list.js";
 import { Module, wordsOfModule } from "./module.js";
 import { questionsOf } from "./questions.js";
-import { NAMED, writeRecord, writtenSeed } from "./record.js";
+import { NAMED, writeRecord } from "./record.js";
 import { Refusal } from "./refusal.js";
 import { tidied } from "./tidy.js";
 import { warningsOf } from "./warnings.js";
@@ -69,9 +69,10 @@ const TASKS = {
     tell("Writing the result");
     const result = resultOf(drawn);
     const named = drawn.slice(0, NAMED);
+    const list = hex(held.module.digest(held.list));
     const record = writeRecord({
       seed,
-      list: hex(held.module.digest(held.list)),
+      list,
       entrants,
       drawn: drawn.length,
       version: held.maker.version,
@@ -80,9 +81,7 @@ const TASKS = {
       named,
     });
     const hasEscapes = named.some((entrant) => printed(entrant).includes("\\"));
-    return {
-      seed: writtenSeed(seed), entrants, drawn: drawn.length, named: named.map(shown), hasEscapes, record, result,
-    };
+    return { list, entrants, drawn: drawn.length, named: named.map(shown), hasEscapes, record, result };
   },
 
   check({ text }, tell) {
@@ -91,7 +90,8 @@ const TASKS = {
   },
 };
 
-self.onmessage = async ({ data: { number, task, data } }) => {
+/** Does a task, and posts its answer, or the Refusal with which it ended. */
+async function answerTo({ number, task, data }) {
   const tell = (progress) => self.postMessage({ number, progress });
   try {
     self.postMessage({ number, answer: await TASKS[task](data, tell) });
@@ -99,4 +99,8 @@ self.onmessage = async ({ data: { number, task, data } }) => {
     const { reason, values } = Refusal.of(error);
     self.postMessage({ number, refusal: { reason, values } });
   }
-};
+}
+
+/** Tasks are done in their order: a list may be opened before the module has started. */
+let done = Promise.resolve();
+self.onmessage = ({ data }) => { done = done.then(() => answerTo(data)); };

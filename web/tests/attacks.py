@@ -91,6 +91,10 @@ TITLES = [
     "“nanorand public draw 1”", "nanorand-public-draw 1", "nanorand public draw: 1", "nan\u043erand public draw 1",
     "nanorand\u00a0public\u00a0draw 1", "nano\u200brand public draw 1", "\uff4eanorand public draw 1",
     "> nanorand public draw 1", "\ufeffnanorand public draw 1", "nanorand public draw 1 ", "# nanorand public draw 1",
+    "nanorand pub\u04cfic draw 1", "nanorand publ\u0131c draw 1", "nanorand publi\u03f2 dra\u051d 1",
+    "\u200b" * 2000 + "nanorand public draw 1", "\u3164\u115fnanorand\u3164public draw 1",
+    "n\u0301anorand public draw 1",
+    "Yours\u2028nanorand public draw 1", "Yours\vnanorand public draw 1", "Yours\u0085nanorand public draw 1",
 ]
 
 

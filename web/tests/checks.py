@@ -20,6 +20,7 @@ TITLES = {
     "no record": "This text is not a record of a draw.",
     "no list": "The record can be read. Open or paste its list above, and check again.",
 }
+OTHER_LIST = "This is not the list that the record names."
 NAMES = ["seed", "list SHA-256", "entrants", "drawn", "version", "module SHA-256", "result SHA-256"]
 
 
@@ -35,7 +36,8 @@ def outcome(counts: Counts, page: Page, name: str, record: str, wanted: str, *fi
     shown = page.check(record)
     found = shown["findings"]
     right = len(found) == len(findings) and all(one.startswith(begin) for one, begin in zip(found, findings))
-    right = right and shown["outcomeTitle"] == TITLES.get(shown["outcome"])
+    is_other_list = shown["outcome"] == "differs" and found[0].startswith("Another list:")
+    right = right and shown["outcomeTitle"] == (OTHER_LIST if is_other_list else TITLES.get(shown["outcome"]))
     counts.case(name, "" if (shown["outcome"], right) == (wanted, True)
                 else f"{shown['outcome']}: {found} and not {wanted}: {findings}")
 
@@ -59,20 +61,21 @@ def agreements(counts: Counts, page: Page, record: str, digests: Dict[int, str])
     zero = "0" * 64
     outcome(counts, page, "another version", with_line(record, 6, "version: 1.0.1"), "other module", "Another version:")
     outcome(counts, page, "another module", with_line(record, 7, f"module SHA-256: {zero}"), "other module",
-            "Another module:")
+            "Another drawing program (module):")
     second = record.replace(digests[64], digests[32])
-    made = ("The record was made by this page's other module, for 32-bit memory: built from the Rust crate, whose "
-            "functions are compared with the proved ones. This browser runs the one for 64-bit memory, proved.")
+    made = ("The record was made in a browser that runs this page's other drawing program (module), for 32-bit memory: "
+            "built from the Rust crate, whose functions are compared with the proved ones. This browser runs the one "
+            "for 64-bit memory, proved. Both draw the same.")
     outcome(counts, page, "the page's other module", second, "agrees", made)
     outcome(counts, page, "it and another version", with_line(second, 6, "version: 1.0.1"), "other module",
             "Another version:", made)
     outcome(counts, page, "it and another result", with_line(second, 9, "1: Ada"), "differs",
             "Line 1 of the result:", made)
     both = with_line(with_line(record, 6, "version: 2.0.0"), 7, f"module SHA-256: {zero}")
-    outcome(counts, page, "both", both, "other module", "Another version:", "Another module:")
+    outcome(counts, page, "both", both, "other module", "Another version:", "Another drawing program (module):")
     outcome(counts, page, "another result by another module", with_line(both, 9, "1: Ada"), "differs",
             "Line 1 of the result: the record says Ada, the draw gives Katherine.", "Another version:",
-            "Another module:")
+            "Another drawing program (module):")
 
 
 def differences(counts: Counts, page: Page, record: str) -> None:
@@ -98,7 +101,7 @@ def differences(counts: Counts, page: Page, record: str) -> None:
     outcome(counts, page, "two spaces", with_line(record, 10, "2: Jun  Ito"), "differs",
             "Line 2 of the result: the record says Jun  Ito, the draw gives Jun.")
     more = record.replace("drawn: 3", "drawn: 13") + "".join(f"{k}: x\n" for k in range(4, 14))
-    outcome(counts, page, "13 drawn of 12", more, "differs", "Cannot draw 13: the list has only 12.")
+    outcome(counts, page, "13 drawn of 12", more, "differs", "Cannot draw 13: the list has only 12 entrants.")
     for name, text in (("another order", LIST.replace("Ada\nBarbara", "Barbara\nAda")),
                        ("no last line feed", LIST[:-1]), ("one more", LIST + "Max\n"),
                        ("a space", LIST.replace("Ada", "Ada "))):

@@ -48,7 +48,6 @@ return [top, bottom <= innerHeight];
 HEADINGS = ("Name", "NAME", "  Name:", "\ufeffName", "Names", "Name;Vorname", "E-mail,Name", "Full name\tCity",
             "\"Name\"", "Last_Name", "Ticket No.", "Nom,Prénom", "Teilnehmende", "Apellidos;Nombre")
 NO_HEADINGS = ("Ada", "Name Ada", "Anna Name", "1", "Nomen", "Ida, No 7")
-UTF_16 = "Diese Datei ist in UTF-16"
 
 
 def press(page: Page, label: str) -> None:
@@ -57,7 +56,8 @@ def press(page: Page, label: str) -> None:
 
 def changed(page: Page, label: str) -> Dict[str, Any]:
     """Presses a button that changes the list, and returns what the page then shows."""
-    before = page.browser.run("return document.getElementById('list-digest').textContent;")
+    before = page.browser.run("""document.getElementById("tidied").hidden = true;
+        return document.getElementById("list-digest").textContent;""")
     press(page, label)
     page.browser.wait("""
         return ["tidied", "list-error"].some((id) => !document.getElementById(id).hidden) ||
@@ -176,9 +176,10 @@ def encodings(counts: Counts, page: Page) -> None:
     page.load()
     text = "Müller\nJosé\nØre\n€uro\n"
     lines = ["Müller", "José", "Øre"]
-    utf_16 = "This file is in UTF-16, which Excel calls “Unicode text”. A draw needs UTF-8."
-    windows = ("This file is not in UTF-8. It seems to be in an older encoding of Windows (Windows-1252), as Excel "
-               "saves CSV files.")
+    utf_16 = ("This file is saved in another form of text (UTF-16, which Excel calls “Unicode text”). A draw needs the "
+              "usual one, UTF-8.")
+    windows = ("This file is not saved in the usual form of text, UTF-8. It seems to be in an older form of Windows "
+               "(Windows-1252), as Excel saves CSV files.")
     choices = ["Convert it to UTF-8", "Keep the file as it is"]
     kinds = [(name, utf_16, mark) for name in ("utf-16-le", "utf-16-be") for mark in ("\ufeff", "")]
     for name, said, marked in [*kinds, ("cp1252", windows, "")]:
@@ -199,7 +200,19 @@ def encodings(counts: Counts, page: Page) -> None:
     asked(counts, page, "a spreadsheet", b"PK\x03\x04\x14\0\x06\0\x08\0\xff\n\x01", [[no_text, [], choices[1:]]])
     page.open_file(b"PK\x03\x04\x14\0\x06\0\x08\0\xff\n\n\x01")
     counts.same("a spreadsheet with an empty line", page.facts(keep=False)["list"], no_text)
+    for start in (b"%PDF-1.7\n", b"{\\rtf1 "):
+        asked(counts, page, f"a document {start!r}", start + b"Ada\n", [[no_text, [], choices[1:]]])
     asked(counts, page, "UTF-8 with a byte 0", b"a\0b\nc\n", [])
+    heading = "Line 1 looks like a heading, not like an entrant. Could it win?"
+    data = "Name\nMüller\nJosé\nØre\n".encode("cp1252")
+    asked(counts, page, "a heading in another encoding", data, [
+        [windows, lines, choices], [heading, ["Name"], ["Remove line 1", "It is an entrant"]]])
+    press(page, choices[1])
+    counts.same("a heading is still asked about", [text for text, _, _ in page.browser.run(QUESTIONS)], [heading])
+    counts.same("it is removed", changed(page, "Remove line 1")["digest"], sha256(data[5:]))
+    page.open_file(b"")
+    page.browser.wait("return !document.getElementById('list-error').hidden;")
+    counts.same("an empty file", page.shown()["list"], "This file is empty.")
 
 
 def invisible(counts: Counts, page: Page) -> None:
@@ -226,7 +239,7 @@ def invisible(counts: Counts, page: Page) -> None:
                 counts.same(f"{name}: changed", (shown["digest"], shown["warnings"]), (sha256(wanted.encode()), []))
     page.open_file(b"\xef\xbb\xbfAda\nBob")
     counts.case("a byte order mark", "" if page.facts()["warnings"][0].startswith(
-        "The list begins with a byte order mark") else "no warning")
+        "The list begins with an invisible mark") else "no warning")
     counts.same("no byte order mark", changed(page, "Remove the byte order mark")["digest"], sha256(b"Ada\nBob"))
     joined = "\U0001f468\u200d\U0001f469\n\u0645\u06cc\u200c\u062e\n"
     page.paste(joined)
@@ -249,11 +262,11 @@ def marked_letters(counts: Counts, page: Page) -> None:
                          ("Ada b\u00f6ll", ["B U+0042", "b U+0062"])):
         page.paste(f"x\nAda B\u00f6ll\n{other}\n")
         page.facts()
-        found = page.browser.run("""return [Array.from(document.querySelectorAll("#list-warnings .pair li"),
-            (item) => item.firstChild.data), Array.from(document.querySelectorAll("#list-warnings .pair mark"),
+        found = page.browser.run("""return [Array.from(document.querySelectorAll("#list-warnings .lines li"),
+            (item) => item.firstChild.data), Array.from(document.querySelectorAll("#list-warnings .lines mark"),
             (mark) => `${mark.firstChild.data ?? ""} ${mark.querySelector(".codes").textContent}`)];""")
         wanted = [one if one[0] != " " or one[1] == " " else one for one in marks]
-        counts.same(f"{other!r} beside it", found[0], ["Line 2: ", "Line 3: "])
+        counts.same(f"{other!r} beside it", found[0][-2:], ["Line 2: ", "Line 3: "])
         counts.same(f"{other!r}: its marks", [one.strip() for one in found[1]], [one.strip() for one in wanted])
 
 
@@ -267,7 +280,7 @@ def undone(counts: Counts, page: Page) -> None:
         counts.same(f"{way}: nothing to undo", page.browser.run(SEEN, "undo"), False)
         texts = [text, "Ada \nBob\u00a0B\nBob\u00a0B\n", "Ada\nBob\u00a0B\nBob\u00a0B\n", "Ada\nBob\u00a0B\n",
                  "Ada\nBob B\n"]
-        for label, wanted in zip(("Remove the empty lines", "Remove the spaces at ends", "Remove equal lines",
+        for label, wanted in zip(("Remove the empty lines", "Remove spaces at the ends of lines", "Remove equal lines",
                                   "Make the no-break spaces plain"), texts[1:]):
             counts.same(f"{way}: {label}", changed(page, label)["digest"], sha256(wanted.encode()))
         for wanted in texts[-2:0:-1]:
@@ -322,6 +335,102 @@ def origins(counts: Counts, page: Page, folder: Path) -> None:
     page.paste("Ada\n")
     page.facts()
     counts.same("a list to check", page.browser.run(LEAVE), False)
+
+
+def named_as_saved(counts: Counts, page: Page) -> None:
+    """A file that has the name of the file that the page saves was not saved from this page. A list that was pasted to
+    check a draw is unsaved for whoever then holds a draw with it."""
+    page.load()
+    path = page.folder / "entrants.txt"
+    path.write_text(SMALL, encoding="utf-8")
+    page.browser.type("#list-file", str(path))
+    page.facts()
+    counts.same("a file of this name", page.browser.run(NAMED), "entrants.txt, 12 bytes")
+    page.load()
+    page.tab("check")
+    page.paste(SMALL)
+    page.facts()
+    for tab, asks in (("check", False), ("draw", True)):
+        page.tab(tab)
+        counts.same(f"asked for in a {tab}", [page.browser.run(SEEN, "unsaved"), page.browser.run(LEAVE)], [asks] * 2)
+
+
+def opened_early(counts: Counts, page: Page) -> None:
+    """A list that is opened before the module has started is the list. So is one that is typed."""
+    for way in ("dropped", "typed"):
+        page.browser.open("about:blank")
+        page.browser.open(page.address)
+        if way == "dropped":
+            drop(page, "panel", "people.txt", SMALL.encode())
+        else:
+            page.paste(SMALL)
+        page.browser.wait("return !document.getElementById('draw').disabled;")
+        found = page.facts()
+        counts.same(f"{way} early", (found["digest"], found["page"]), (sha256(SMALL.encode()), ""))
+        if way == "dropped":
+            counts.same("its name", page.browser.run(NAMED), "people.txt, 12 bytes")
+
+
+def emptied(counts: Counts, page: Page) -> None:
+    """A change that leaves no line can be undone."""
+    page.load()
+    page.paste("\n\n")
+    page.browser.wait("return !document.getElementById('list-error').hidden;")
+    press(page, "Remove the empty lines")
+    page.browser.wait("return !document.getElementById('tidied').hidden;")
+    counts.same("nothing is left", page.browser.run("return document.getElementById('list-text').value;"), "")
+    press(page, "Undo the last change")
+    page.browser.wait("return document.getElementById('list-text').value === arguments[0];", "\n\n", seconds=20)
+
+
+def more_warnings(counts: Counts, page: Page) -> None:
+    """Carriage returns and columns have warnings, and what is said can be done."""
+    page.load()
+    page.open_file(b"Ada \r\nBob\r\n")
+    page.facts()
+    counts.same("carriage returns are removed", changed(page, "Remove the carriage returns")["digest"],
+                sha256(b"Ada \nBob\n"))
+    counts.same("spaces are removed", changed(page, "Remove these spaces")["digest"], sha256(b"Ada\nBob\n"))
+    for text, sign in (("1;Ada;Rome\n2;Bob;Oslo\n", ";"), ("1,Ada,Rome\n2,Bob,Oslo\n", ","),
+                       ("1;Ada;Rome\n2;Bob\n", ""), ("Abel, Ada\nBrown, Bob\n", ""), ("Ada\nBob\n", ""),
+                       ("1;Ada;Rome\n", "")):
+        page.paste(text)
+        wanted = [f"Each line has 3 columns, with “{sign}” between them, and all of them are published. If only one "
+                  "has the names, save that one alone."] if sign else []
+        counts.same(f"the columns of {text!r}", page.facts()["warnings"], wanted)
+
+
+def closed_files(counts: Counts, page: Page) -> None:
+    """A changed file that is closed by mistake comes back."""
+    page.load()
+    page.open_file(b"Ada\nAda\nBob\n")
+    page.facts()
+    changed(page, "Remove equal lines")
+    press(page, "Paste a list instead")
+    counts.same("the file is closed", page.browser.run(SEEN, "pasted"), True)
+    page.browser.wait("return document.getElementById('undo').checkVisibility();")
+    counts.same("it comes back", changed(page, "Undo the last change")["digest"], sha256(b"Ada\nBob\n"))
+    counts.case("its name", "" if "changed here: save it" in page.browser.run(NAMED) else page.browser.run(NAMED))
+    counts.same("what it was", changed(page, "Undo the last change")["digest"], sha256(b"Ada\nAda\nBob\n"))
+
+
+def in_warnings(counts: Counts, page: Page) -> None:
+    """A warning shows the lines that it tells of, up to ten pairs of equal lines."""
+    page.load()
+    lines = """return Array.from(document.querySelectorAll("#list-warnings .lines li"), (item) => item.textContent);"""
+    page.open_file(b"Ada\nBob \nCid\nAda\nBob \nAda\n")
+    page.facts()
+    counts.same("spaces and equal lines", page.browser.run(lines), [
+        "Line 2: BobU+0020 space", "Line 5: BobU+0020 space", "Lines 1 and 4: Ada", "Lines 2 and 5: BobU+0020 space",
+        "Lines 1 and 6: Ada"])
+    page.open_file("".join(f"{number % 20}\n" for number in range(60)).encode())
+    page.facts()
+    counts.same("many equal lines", page.browser.run(lines),
+                [f"Lines {number} and {number + 20}: {number - 1}" for number in range(1, 11)])
+    page.open_file(f"{'x' * 5000}\u200by\nB\u200bob\n".encode())
+    page.facts()
+    counts.same("a long line", page.browser.run(lines),
+                [f"Line 1: {'x' * 200}", "Line 2: BU+200B zero width spaceob"])
 
 
 def in_view(counts: Counts, page: Page) -> None:
@@ -393,7 +502,7 @@ def on_paper(counts: Counts, page: Page) -> None:
     papers["the result"] = [*sums, *shown["drawn"], SEED]
     text["the result"] = text_on_paper(page)
     page.fill("4 1 6")
-    papers["the result of before"] = ["These winners are of the old seed", *shown["drawn"]]
+    papers["the result of before"] = ["These winners belong to the seed", *shown["drawn"]]
     text["the result of before"] = text_on_paper(page)
     page.check(shown["record"])
     papers["a check"] = ["The record agrees", sums[0], SEED, "12 of 340", *shown["drawn"]]
@@ -409,7 +518,8 @@ def on_paper(counts: Counts, page: Page) -> None:
 
 
 def run(counts: Counts, page: Page, downloads: Path) -> None:
-    for part in (opened_again, previews, headings, kept, encodings, invisible, marked_letters, undone, in_view,
-                 what_was_checked, on_paper):
+    for part in (opened_again, opened_early, named_as_saved, previews, headings, kept, encodings, invisible,
+                 marked_letters, more_warnings, in_warnings, closed_files, undone, emptied, in_view, what_was_checked,
+                 on_paper):
         part(counts, page)
     origins(counts, page, downloads)

@@ -86,7 +86,7 @@ def compare(counts: Counts, page: Page, program: str, module: str, name: str,
     shown = page.draw()
     errors = [shown[field] for field in ("page", "list", "question", "seed", "count") if shown[field]]
     if data == b"":
-        counts.same(name, (ran.status, errors, shown["record"]), (0, ["Open the list first."], ""))
+        counts.same(name, (ran.status, errors, shown["record"]), (0, ["Open or paste the list first."], ""))
         return shown
     if ran.status != 0 or errors or not shown["record"]:
         counts.case(name, f"status {ran.status}, the page says {errors}")

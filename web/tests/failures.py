@@ -31,12 +31,13 @@ FIELDS = ("page", "list", "seed", "count")
 FAILED = "The page failed, and nothing is drawn: it stopped. Reload the page, and try again."
 # Errors that no input leads to, or that other tests lead to as well: the place where each is shown, and its text.
 REFUSALS: "Dict[str, Tuple[Dict[str, Any], str, str]]" = {
-    "no memory": ({}, "page", "The browser cannot allocate enough memory for a list of this size."),
+    "no memory": ({}, "page", "The browser does not have enough memory for a list of this size."),
     "the module failed": ({"reason": "it stopped"}, "page", FAILED),
     "words were rejected": (
-        {}, "page", "128 words in a row were rejected. Nothing is drawn. This has never been observed."),
+        {}, "page",
+        "128 words in a row were rejected. Nothing is drawn: another seed is needed. This has never been observed."),
     "line is empty": ({"line": "7"}, "list", "Line 7 is empty. Each line of the list must have an entrant."),
-    "too few entrants": ({"entrants": 5, "count": "9"}, "count", "Cannot draw 9: the list has only 5."),
+    "too few entrants": ({"entrants": 5, "count": "9"}, "count", "Cannot draw 9: the list has only 5 entrants."),
     "seed is empty": ({}, "seed", "The seed is empty. Type at least one character."),
 }
 # Runs before the worker's code. The first answer to each task but the start cannot be copied to the page.
@@ -142,7 +143,7 @@ def said_of(outcome: Dict[str, Any]) -> Tuple[Any, ...]:
 def drawing(names: List[str], drawn: int) -> Dict[str, Any]:
     """An answer to a draw that names these entrants."""
     named = [{"isText": True, "parts": [name]} for name in names]
-    return {"seed": "seed", "entrants": 9, "drawn": drawn, "named": named, "hasEscapes": len(names) > 1,
+    return {"list": "a sum", "entrants": 9, "drawn": drawn, "named": named, "hasEscapes": len(names) > 1,
             "record": f"the {drawn} drawn", "result": [10]}
 
 
@@ -361,13 +362,25 @@ def files(counts: Counts, page: Page) -> None:
 
 def prints(counts: Counts, page: Page) -> None:
     page.load()
-    page.browser.run("window.printed = 0; window.print = () => { window.printed += 1; };")
     filled(page)
     page.facts()
     page.check(page.draw()["record"])
-    for number, button in enumerate(("print-list", "print", "print-check"), 1):
-        page.browser.run("document.getElementById(arguments[0]).click();", button)
-        counts.same(button, page.browser.run("return window.printed;"), number)
+    page.browser.run("""window.print = () => {
+        dispatchEvent(new Event("beforeprint"));
+        window.printed = document.getElementById("panel").dataset.paper + ": " +
+          document.getElementById("paper-title").textContent;
+        dispatchEvent(new Event("afterprint"));
+      };""")
+    for tab in ("draw", "check"):
+        page.tab(tab)
+        for button, title in (("print-list", "list: Public draw: the closed list"),
+                              ("print", "result: Public draw: the result"),
+                              ("print-check", "check: Public draw: a check")):
+            page.browser.run("document.getElementById(arguments[0]).click();", button)
+            counts.same(f"{button}, {tab}", page.browser.run("return window.printed;"), title)
+        page.browser.run("dispatchEvent(new Event('beforeprint'));")
+        counts.same(f"the browser's own print, {tab}", page.browser.run(
+            "return document.getElementById('panel').dataset.paper;"), "result" if tab == "draw" else "check")
 
 
 def run(counts: Counts, page: Page) -> None:

@@ -7,12 +7,13 @@ from counts import Counts
 from drivers import BACKSPACE, TAB
 from page import Page
 
-STATUSES = {"draw": ["list-status", "progress-status", "heard"],  # "stale-status" appears with a result
+STATUSES = {"draw": ["list-status", "changed-status", "progress-status", "heard"],
             "check": ["list-status", "outcome-status", "progress-status", "heard"]}
 # What the page says about the list in each tab: the heading, the hint, and the purpose of its SHA-256.
 LIST_WORDS = {
     "draw": ["1. Close the list", "Open the file with the names, one on each line, and correct what the page finds. "
-             "Then publish the list with its SHA-256, before anybody knows the seed.", "SHA-256 to publish:"],
+             "Then publish the list with its SHA-256 (a fingerprint: it changes if a single letter changes), before "
+             "anybody knows the seed.", "SHA-256 to publish:"],
     "check": ["The list", "Open the list that was published, as a file if there is one: each byte counts.",
               "SHA-256, to compare with the one that was published:"],
 }
@@ -43,14 +44,15 @@ def of_a_list(counts: Counts, page: Page) -> None:
     page.paste("Ada\nAda \n")
     page.facts()
     counts.same("a list", said(page, "list-status"),
-                ["2 entrants", SPACED, ALIKE, "Line 1: Ada", "Line 2: AdaU+0020 space"])
+                ["2 entrants", SPACED, "Line 2: AdaU+0020 space", "Remove these spaces", ALIKE, "Line 1: Ada",
+                 "Line 2: AdaU+0020 space"])
     page.browser.click("#tidy-trim")
     page.browser.wait("return !document.getElementById('tidied').hidden;")
     page.facts()
     counts.same("a change", said(page, "list-status"), [
         "1 line was made shorter. The list has a new SHA-256.", "2 entrants",
         "1 of the lines equals an earlier line: look at line 2. Equal lines are separate entrants, each with its own "
-        "chance."])
+        "chance.", "Lines 1 and 2: Ada"])
     atomic = page.browser.run("return document.getElementById('list-status').getAttribute('aria-atomic');")
     counts.same("changes alone are read", atomic, "false")
     page.paste("")
@@ -81,7 +83,7 @@ def of_copies(counts: Counts, page: Page) -> None:
 def of_a_seed(counts: Counts, page: Page) -> None:
     """How an odd seed is read is announced once it has been typed, not at each key."""
     page.load()
-    for typed, wanted in ((" x", ['The seed is read as " x". Each space, line and accent counts: others must type '
+    for typed, wanted in ((" x", ['The seed is read as " x". Each space, sign and accent counts: others must type '
                                   "exactly the same."]), (BACKSPACE * 2 + "4 1 6", [])):
         before = said(page, "heard")
         page.browser.type("#seed", typed)

@@ -50,9 +50,9 @@ ALIKE = {
     "a\nA\nb\nb\na\n": ["2 of the lines equal an earlier line: look at line 4.",
                         f"{ONE} except for upper and lower case: look at line 2."],
     "Ada\nAda\nada\n": [f"{ONE}: look at line 2. ", f"{ONE} except for upper and lower case: look at line 3."],
-    "Ada\nx\n \n": [f"{SPACED}: look at line 3.", "Line 3 is an entrant that consists only of spaces."],
+    "Ada\nx\n \n": [f"{SPACED}: look at line 3.", "Line 3 has nothing that can be seen, but is an entrant."],
     "\t\nx\n  \n": ["2 lines begin or end with a space or a tab, which belongs to the entrant: look at line 1.",
-                    "Line 1 is an entrant that consists only of spaces.",
+                    "Line 1 has nothing that can be seen, but is an entrant.",
                     "1 of the lines equals an earlier line except for the spaces at its ends: look at line 3."],
     "Ada\nAdah\nA da\n": [],
     "Ada\n\u0410da\n": [f"{ONE} except for {SAME_LOOK}: look at line 2."],
@@ -159,7 +159,7 @@ def pasted_between(counts: Counts, page: Page, long: str) -> None:
         data = wanted.format(re.sub("\r\n?", "\n", long)).encode()
         counts.same(f"{long[:13]!r} pasted from {first} to {last}", page.facts()["digest"], sha256(data))
         name = page.browser.run("return document.getElementById('file-name').textContent;")
-        counts.same("its name", name, f"Pasted text, {grouped(len(data))} bytes, pasted here: save it")
+        counts.same("its name", name, f"Pasted text, {grouped(len(data))} bytes, not saved yet: save it")
         counts.same("the keyboard after it", page.browser.run("return document.activeElement.id;"), "close-file")
 
 

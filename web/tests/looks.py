@@ -12,10 +12,10 @@ from page import Page
 LABELS = {
     "open-file": "Open a file", "list-text": "or paste the list", "seed": "Seed",
     "count": "How many are drawn",
-    "record": "The record: what another needs to repeat the draw, beside the list", "check-text": "Record",
+    "record": "The record: with it and the list, anyone can repeat the draw", "check-text": "Record",
     "draw": "Draw", "check": "Check", "copy-digest": "Copy the SHA-256", "save-list": "Save the list",
     "copy-record": "Copy the record", "save-record": "Save the record", "save-result": "Save the result",
-    "tidy-empty": "Remove the empty lines", "tidy-trim": "Remove the spaces at ends",
+    "tidy-empty": "Remove the empty lines", "tidy-trim": "Remove spaces at the ends of lines",
     "tidy-unique": "Remove equal lines", "tab-draw": "Hold a draw", "tab-check": "Check a draw", "print": "Print",
     "print-list": "Print the SHA-256",
 }
@@ -164,7 +164,8 @@ def names(counts: Counts, page: Page) -> None:
     roles = page.browser.run("""return Object.fromEntries(Array.from(document.querySelectorAll("[id][role]"),
         (element) => [element.id, element.getAttribute("role")]));""")
     wanted = {f"{field}-error": "alert" for field in ("page", "list", "seed", "count")}
-    wanted.update({"question-error": "alert", "list-status": "status", "progress-status": "status",
+    wanted.update({"question-error": "alert", "record-error": "alert",
+                   "list-status": "status", "progress-status": "status", "changed-status": "status",
                    "outcome-status": "status", "stale-status": "status",
                    "heard": "status", "panel": "tabpanel", "record": "region", "tab-draw": "tab", "tab-check": "tab"})
     counts.same("roles", roles, wanted)
@@ -259,9 +260,9 @@ def said_of_lists(counts: Counts, page: Page) -> None:
         b"a\r\nb\r\n": ["2 lines end with a carriage return"], b"a\r\nb\n": ["1 line ends with a carriage return"],
         b" a\nb \n\tc\n": ["3 lines begin or end with a space"],
         b"a\nb\na\na\n": ["2 of the lines equal an earlier line: look at line 3."],
-        b"a\na\n": ["1 of the lines equals an earlier"], b"a\nb": ["The last line has no line feed"],
-        b"\xef\xbb\xbfa\n": ["The list begins with a byte order mark"],
-        b"a\0\nb\n": ["The list has bytes of value 0", "1 line has other invisible characters"],
+        b"a\na\n": ["1 of the lines equals an earlier"], b"a\nb": ["The last line has no line end"],
+        b"\xef\xbb\xbfa\n": ["The list begins with an invisible mark"],
+        b"a\0\nb\n": ["The list has characters of value 0", "1 line has other invisible characters"],
         b"\xff\n": ["The list is not UTF-8"], b"a\nb\n": [], b"\xc3\xa9\n\xe2\x82\xac\n": [],
         b"\xff\na\r\na\r": ["The list is not UTF-8", "The last line", "2 lines end", "1 of the lines"],
     }

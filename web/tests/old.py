@@ -21,8 +21,8 @@ WORDS = ("This browser cannot draw: it has no WebAssembly, or it is switched off
 FAILED = "The page failed, and nothing is drawn: TypeError: "
 MODULE = "for 32-bit memory: built from the Rust crate, whose functions are compared with the proved ones"
 MAKER = f"Version {VERSION}, module SHA-256 {{}}, {MODULE}"
-OTHER = ("The record was made by this page's other module, for 64-bit memory, proved. "
-         f"This browser runs the one {MODULE}.")
+OTHER = ("The record was made in a browser that runs this page's other drawing program (module), for 64-bit memory, "
+         f"proved. This browser runs the one {MODULE}. Both draw the same.")
 # Elements that are visible only once they are of use or have a text.
 LATER = """
 return ["tidy", "opened", "list-facts", "progress", "result", "check-step", "outcome", "maker"]

@@ -194,7 +194,7 @@ function alikes() {
   const differ = [];
   for (let number = 0; number < words.length ** 4; number += 1) {
     const lines = Array.from({ length: 4 }, (_, place) => words[Math.floor(number / words.length ** place) % words.length]);
-    const found = alikeIn(lines, true).map(({ count, line }) => [count, line]);
+    const found = alikeIn(lines, true).map(({ count, pairs }) => [count, pairs[0]?.[1] ?? Infinity]);
     if (String(found) !== String(searched(lines))) differ.push(lines);
   }
   same("lines alike", differ.slice(0, 3), []);
@@ -262,7 +262,7 @@ function failedChecks() {
   }
   const few = { ...record, drawn: 3, named: [utf8("Ada"), utf8("Bob"), utf8("Cid")] };
   same("more than there are", check(module, maker, list, writeRecord(few)).findings,
-    [{ text: "Cannot draw 3: the list has only 2." }]);
+    [{ text: "Cannot draw 3: the list has only 2 entrants." }]);
 }
 
 /** An error that is not the record's, while the record is read, is not shown as an error of the record. */
@@ -278,7 +278,7 @@ function unreadRecords() {
     new WebAssembly.RuntimeError("trap")]) {
     const fail = () => { throw error; };
     same(`a text that fails by ${error}`, outcomeOf({ split: fail }), refusalOf(error));
-    same(`a line that fails by ${error}`, outcomeOf({ split: () => ["", { replace: fail }] }), refusalOf(error));
+    same(`a line that fails by ${error}`, outcomeOf({ split: () => ["", { slice: fail }] }), refusalOf(error));
   }
   same("a text that is no record", outcomeOf("a\n"), "no record");
   // Browsers differ in how long a line a regular expression accepts. A line that is too long is not
@@ -336,7 +336,7 @@ function endings() {
       for (const other of [[code, ...line], [...line, code], [code, code, ...line, code]]) {
         same(`${other} beside ${line}`, isTold([...line, 10, ...other, 10], "the spaces at its ends"), isSpace);
       }
-      same(`${code} alone, with ${line}`, isTold([...line, 10, code, 10], "Line 2 is an entrant that consists only of spaces"), isSpace);
+      same(`${code} alone, with ${line}`, isTold([...line, 10, code, 10], "Line 2 has nothing that can be seen"), isSpace);
     }
   }
 }
@@ -415,7 +415,27 @@ async function unsent(workers) {
   same("a draw after it", [await asked, told], ["drawn", ["Drawing", ""]]);
 }
 
+/** Long lines of spaces take no more than a moment: no search in them is repeated for each space. */
+function longSpaces() {
+  const spaces = " ".repeat(300000);
+  const record = writeRecord({ ...RECORD, named: [utf8("Ada")] });
+  for (const [name, act] of [
+    ["a record", () => namedIn(record.replace("Ada", `A${spaces}a`))],
+    ["a title", () => namedIn(`x${spaces}y\n${record}`)],
+    ["a seed", () => namedIn(record.replace('"a seed"', `"a${"\nx".repeat(20000)}`))],
+    ["a heading", () => questionsOf(utf8(`a${spaces}b\nc\nd\n`))],
+    ["a list", () => warningsOf(utf8(`a${spaces}b\nc\nd\n`))],
+    ["a list to trim", () => tidied(utf8(`a${spaces}b\n`), "trim")],
+  ]) {
+    const begun = performance.now();
+    act();
+    const seconds = (performance.now() - begun) / 1000;
+    same(`${name} with many spaces`, [seconds < 5, seconds < 5 ? 0 : seconds], [true, 0]);
+  }
+}
+
 errors();
+longSpaces();
 statuses();
 versions();
 folds();

@@ -7,12 +7,12 @@ from page import Page
 
 INVALID = "return Array.from(document.querySelectorAll('[aria-invalid]'), (field) => field.id);"
 LETTERS = "a\nb\nc\nd\ne\nf\ng\nh\ni\nj\n"
-NO_NUMBER = "The count must be the word all, or only digits: no sign, no space, no comma."
-TOO_LARGE = "The count is too large: at most 18446744073709551615."
+NO_NUMBER = "Type only digits, without a sign, a space or a comma, or the word all."
+TOO_LARGE = "This number is too large: at most 18446744073709551615."
 
 
 def too_few(entrants: int, count: str) -> str:
-    return f"Cannot draw {count}: the list has only {entrants}."
+    return f"Cannot draw {count}: the list has only {entrants} {'entrant' if entrants == 1 else 'entrants'}."
 
 
 def empty(line: int) -> str:
@@ -93,7 +93,7 @@ def lists_refused(counts: Counts, page: Page, program: str) -> None:
     counts.same("an error goes with its cause", page.facts()["list"], "")
     page.paste("")
     page.fill("seed", "all")
-    refused(counts, page, "no list", "list", "Open the list first.")
+    refused(counts, page, "no list", "list", "Open or paste the list first.")
     page.paste("a\n")
     counts.same("an error goes with a list", page.facts()["list"], "")
 
@@ -114,11 +114,18 @@ def stale_results(counts: Counts, page: Page) -> None:
         shown = page.shown()
         if field == "list-text":
             counts.same(f"{field}: no result of before", (shown["record"], shown["title"]), ("", ""))
-            counts.same(f"{field}: the hint again", shown["hint"].split(".")[0], "Draw first")
+            counts.same(f"{field}: the hint again", shown["hint"],
+                        "The list has changed since the draw. Draw again, or open the list of the draw.")
+            page.paste("a\nb\n")
+            page.facts()
+            counts.same(f"{field}: the list of the draw again", len(page.shown()["drawn"]), 2)
         elif field != "check-text":
             counts.same(f"{field}: the result of before", len(shown["drawn"]), 2)
+            counts.same(f"{field}: marked where it is typed", page.browser.run(
+                "return document.getElementById('changed').innerText;"),
+                "The winners below belong to the seed and the number before this change.")
             counts.same(f"{field}: marked", shown["stale"].split(",")[0],
-                        'These winners are of the old seed "seed" and of all drawn')
+                        'These winners belong to the seed "seed" and the number all')
             page.fill("seed", "all")
             counts.same(f"{field}: no mark", page.shown()["stale"], "")
             page.fill(**{field: value})

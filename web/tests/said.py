@@ -9,12 +9,12 @@ from looks import EMPTY
 from page import Page
 
 TOP = Path(__file__).resolve().parents[2]
-BYTES = r"\x and two digits are a byte that is no visible letter, \\ is one backslash."
+BYTES = r"In the record, \x and two digits stand for a byte that is no visible letter, and \\ for one backslash."
 # The description of each field for screen readers, besides its name.
 DESCRIPTIONS = {
     "open-file": ["list-hint", "list-error"], "list-text": ["list-hint", "list-error"],
     "seed": ["seed-hint", "seed-read", "seed-error"], "count": ["count-hint", "count-error"],
-    "check-text": ["check-hint"],
+    "check-text": ["check-hint", "record-error"],
 }
 POLICY = [
     "default-src 'none'", "script-src 'sha256-' 'wasm-unsafe-eval'", "worker-src blob:", "style-src 'sha256-'",
@@ -129,7 +129,7 @@ def fresh_page(counts: Counts, page: Page) -> None:
     page.load()
     shown = page.draw()
     counts.same("a draw without a list", [shown[key] for key in ("list", "seed", "count", "record")],
-                ["Open the list first.", "", "", ""])
+                ["Open or paste the list first.", "", "", ""])
     page.paste("Ada\n")
     counts.same("a draw without a seed", page.draw()["seed"], "The seed is empty. Type at least one character.")
     page.fill("seed")

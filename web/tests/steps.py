@@ -42,7 +42,8 @@ return [widthOf(`${arguments[0]}.`), room, widthOf(`${arguments[0]}0.`)];
 """
 # The number of characters in each row of each digest.
 ROWS = """
-return Array.from(document.querySelectorAll(".digest")).map((digest) => {
+const digests = Array.from(document.querySelectorAll(".digest")).filter((digest) => digest.checkVisibility());
+return digests.map((digest) => {
   const text = digest.firstChild;
   const rows = new Map();
   for (let place = 0; place < text.length; place += 1) {
@@ -110,7 +111,7 @@ def tab_is(counts: Counts, page: Page, name: str) -> None:
 def tabs(counts: Counts, page: Page) -> None:
     """The steps are in one tab; the list, the record and the answer are in the other."""
     page.load()
-    steps = ["1. Close the list", "2. Draw", "3. Publish", "Why believe it"]
+    steps = ["1. Close the list", "2. Draw", "3. Publish the result", "Why believe it"]
     counts.same("the steps", page.browser.run(HEADINGS), steps)
     tab_is(counts, page, "draw")
     record = "nanorand"
@@ -211,6 +212,26 @@ def files_dropped(counts: Counts, page: Page) -> None:
         page.check(record)
 
 
+def records_beside_the_field(counts: Counts, page: Page) -> None:
+    """A record is dropped anywhere on its step. One that cannot be read, such as a folder, is an error."""
+    drawn(page)
+    record = page.shown()["record"].encode()
+    page.tab("check")
+    for element in ("check-hint", "check-heading", "check-text"):
+        page.browser.run("document.getElementById('check-text').value = '';")
+        drop(page, element, "record.txt", record)
+        page.browser.wait("return document.getElementById('check-text').value === arguments[0];", record.decode())
+        counts.same(f"a record dropped on {element}", page.facts()["entrants"], "12 entrants")
+    error = "return document.getElementById('record-error').innerText;"
+    page.browser.run("""window.read = Blob.prototype.arrayBuffer;
+        Blob.prototype.arrayBuffer = () => Promise.reject(new Error("a folder"));""")
+    drop(page, "check-text", "folder", b"")
+    page.browser.wait("return !document.getElementById('record-error').hidden;")
+    counts.same("a record that cannot be read", page.browser.run(error), "The file cannot be read.")
+    page.browser.run("Blob.prototype.arrayBuffer = window.read;")
+    counts.same("the next one", (page.check(record.decode())["outcome"], page.browser.run(error)), ("agrees", ""))
+
+
 def records_dropped(counts: Counts, page: Page) -> None:
     """A record is found in a file that begins with a byte order mark, or has bytes around it that are not UTF-8."""
     drawn(page)
@@ -265,6 +286,28 @@ def paper(counts: Counts, page: Page) -> None:
     on_paper(counts, page, "a draw", ["drawn", "record"])
     page.check(page.shown()["record"])
     on_paper(counts, page, "a check", ["outcome", "reading"])
+
+
+def paper_of_old_browsers(counts: Counts, page: Page) -> None:
+    """Browsers without the selector :has print the same parts."""
+    page.load()
+    page.browser.run("""
+        const prune = (rules) => Array.from(rules).reverse().forEach((rule, index, { length }) => {
+          if (rule.cssRules) prune(rule.cssRules);
+          if (rule.selectorText?.includes(":has")) rule.parentRule ? rule.parentRule.deleteRule(length - 1 - index)
+            : rule.parentStyleSheet.deleteRule(length - 1 - index);
+        });
+        prune(document.styleSheets[0].cssRules);""")
+    page.paste(LIST)
+    page.fill(SEED, "3")
+    page.facts()
+    if page.browser.media("print"):
+        for wanted in ("list-digest", "record"):
+            seen = page.browser.run("""return ["list-digest", "record"].filter((id) =>
+                document.getElementById(id).checkVisibility());""")
+            counts.same(f"without :has, the {wanted}", seen, [wanted])
+            page.draw()
+        page.browser.media()
 
 
 def long_results(counts: Counts, page: Page) -> None:
@@ -325,6 +368,6 @@ def by_keyboard(counts: Counts, page: Page) -> None:
 
 
 def run(counts: Counts, page: Page) -> None:
-    for part in (tabs, winners_first, numbers_of_winners, details, enter_draws, files_dropped, records_dropped, paper,
-                 long_results, by_keyboard):
+    for part in (tabs, winners_first, numbers_of_winners, details, enter_draws, files_dropped, records_dropped,
+                 records_beside_the_field, paper, paper_of_old_browsers, long_results, by_keyboard):
         part(counts, page)
