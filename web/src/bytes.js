@@ -33,7 +33,7 @@ export function textOf(bytes) {
   try {
     return new TextDecoder("utf-8", { fatal: true, ignoreBOM: true }).decode(bytes);
   } catch (error) {
-    if (error instanceof TypeError) return null;
+    if (error.name === "TypeError") return null;
     throw error;
   }
 }
