@@ -223,11 +223,16 @@ def addresses_of_files(counts: Counts, page: Page) -> None:
     for button in ("save-list", "save-record", "save-result"):
         page.browser.run("document.getElementById(arguments[0]).click();", button)
         made, given_back, delays = page.browser.run("return [made, givenBack, later.map(([, delay]) => delay)];")
-        counts.same(f"{button}: addresses", (len(made), given_back, len(delays)), (1, [], 1))
-        counts.case(f"{button}: a while", "" if min(delays, default=0) >= 10_000 else str(delays))
-        left = page.browser.run("""for (const [act] of later.splice(0)) act();
-            return [givenBack.splice(0), made.splice(0)];""")
-        counts.same(f"{button}: given back", left[0], left[1])
+        counts.same(f"{button}: addresses", (len(made), given_back), (1, []))
+        # What screen readers are told goes after two seconds, which does not touch the address.
+        counts.case(f"{button}: a while", "" if len(delays) == 2 and max(delays) >= 10_000 else str(delays))
+        left = page.browser.run("""
+            const acts = later.splice(0);
+            for (const [act, delay] of acts) if (delay < 10000) act();
+            const early = givenBack.slice();
+            for (const [act, delay] of acts) if (delay >= 10000) act();
+            return [early, givenBack.splice(0), made.splice(0)];""")
+        counts.same(f"{button}: given back", left[:2], [[], left[2]])
 
 
 def copies(counts: Counts, page: Page) -> None:
