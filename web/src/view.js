@@ -187,7 +187,7 @@ export function unhideResult() {
 /** Hides the result of a draw. @param {string} words why there is none, if there was one */
 export function hideResult(words) {
   part("result").hidden = true;
-  say("publish-hint", words || "The winners and a record appear here after the draw.");
+  say("publish-hint", words || "Draw first. The winners and a record appear here.");
   showPaper();
 }
 
