@@ -18,17 +18,19 @@ function trimmed(line) {
   return line.slice(first, end);
 }
 
-/** Cyrillic and Greek letters and signs that look like the letter or sign of ASCII below them. */
+/** Letters and signs of many alphabets that look like the letter or sign below them. */
 const [LOOKALIKES, LATIN] = [
-  "АВЕЅІӀЈКМНОРСТУХҮԚԜаеорсухіјѕѵԁһԛԝӏΑΒΕΖΗΙΚΜΝΟΡΤΥΧϹαινορυκϲı‘’ʼ´‐‑‒–—−",
-  "ABESIIJKMHOPCTYXYQWaeopcyxijsvdhqwlABEZHIKMNOPTYXCaivopukci''''------",
+  "АВЕЗЅІӀЈКМНОРСТУХҮԚԜаекорсухіјѕѵԁһԛԝӏΑΒΕΖΗΙΚΜΝΟΡΤΥΧϹαινορυκϲՕՍօոսհıɡɑᴄᴏᴠᴡᴢꜱÐƉ\u0326" +
+    "‘’‛ʼʹʻꞌ′´`“”„«»‐‑‒–—―⁃−‚꞉⁄",
+  "ABE3SIIJKMHOPCTYXYQWaekopcyxijsvdhqwlABEZHIKMNOPTYXCaivopukcOUonuhigacovwzsĐĐ\u0327" +
+    "''''''''''\"\"\"\"\"--------,:/",
 ].map((letters) => Array.from(letters));
 const LATIN_OF = new Map(LOOKALIKES.map((letter, index) => [letter, LATIN[index]]));
 const LOOKALIKE = new RegExp(`[${LOOKALIKES.join("")}]`, "gu");
 
-/** A text in which letters that look like a Latin one are that one. @param {string} text */
+/** A text in which letters that look like a Latin one are that one, also below an accent. @param {string} text */
 export function latin(text) {
-  return text.replace(LOOKALIKE, (letter) => LATIN_OF.get(letter));
+  return text.normalize("NFD").replace(LOOKALIKE, (letter) => LATIN_OF.get(letter)).normalize("NFC");
 }
 
 /** A line in which only plain spaces are invisible, one in a row. @param {string} line */
@@ -45,8 +47,8 @@ const FORMS = [
   { of: trimmed, name: "the spaces at its ends", isOfBytes: true },
   { of: spaced, name: "invisible characters or the spaces in it" },
   { of: (line) => line.normalize("NFC"), name: "how an accented letter is encoded" },
-  { of: (line) => spaced(line.normalize("NFKC")), name: "the form of a letter, such as its width" },
   { of: latin, name: "letters or signs that look the same" },
+  { of: (line) => spaced(line.normalize("NFKC")), name: "the form of a letter, such as its width" },
   { of: (line) => line.toLowerCase().normalize("NFC"), name: "upper and lower case" },
 ];
 
@@ -56,8 +58,8 @@ const FORMS = [
  */
 function lastForms(lines, isText) {
   if (!isText) return lines.map(trimmed);
-  const text = lines.map(spaced).join("\n").normalize("NFKC");
-  return latin(text.split("\n").map(spaced).join("\n")).toLowerCase().normalize("NFC").split("\n");
+  const text = latin(lines.map(spaced).join("\n")).normalize("NFKC");
+  return text.split("\n").map(spaced).join("\n").toLowerCase().normalize("NFC").split("\n");
 }
 
 /** The groups of lines that share a last form: the indices of each group of two or more lines. */

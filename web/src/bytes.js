@@ -7,16 +7,17 @@ export function hasHalfCharacter(text) {
 
 /**
  * Invisible characters: control and format characters, separators, characters that fonts do not
- * draw (variation selectors, Hangul fillers), and the blank Braille pattern.
+ * draw (variation selectors, Hangul fillers), the blank Braille pattern, and the sign that stands for an
+ * object that is not there.
  */
-const UNSEEN = /^[\p{Cc}\p{Cf}\p{Z}\p{Default_Ignorable_Code_Point}\u2800]$/u;
+const UNSEEN = /^[\p{Cc}\p{Cf}\p{Z}\p{Default_Ignorable_Code_Point}\u2800\ufffc]$/u;
 
 /** Whether a character is invisible, or cannot be told from another. @param {string} letter */
 export function isUnseen(letter) {
   return UNSEEN.test(letter);
 }
 
-const UNSEEN_IN = /(?! )[\p{Cc}\p{Cf}\p{Z}\p{Default_Ignorable_Code_Point}\u2800]/u;
+const UNSEEN_IN = /(?! )[\p{Cc}\p{Cf}\p{Z}\p{Default_Ignorable_Code_Point}\u2800\ufffc]/u;
 
 /** Whether a text has an invisible character other than the plain space. @param {string} text */
 export function hasUnseen(text) {

@@ -22,10 +22,11 @@ import { Refusal } from "./refusal.js";
  */
 
 /**
- * What was checked: the first and last line of the record in its text, what the page shows of its
+ * What was checked: the first and last line of the record in its text, how many other lines there are, what the page shows of its
  * seed, the SHA-256 of its list, its numbers and its named entrants.
  * @typedef {Object} Reading
  * @property {[number, number]} lines
+ * @property {number} others
  * @property {(string|number[])[]} seed
  * @property {string} list
  * @property {number} entrants
@@ -69,8 +70,8 @@ function checked(outcome, findings, record = null) {
 }
 
 /** @param {import("./record.js").Record} record @returns {Reading} */
-function readingOf({ lines, seed, list, entrants, drawn, named }) {
-  return { lines, seed: foreignMarked(writtenSeed(seed)), list, entrants, drawn, named: named.map(shown) };
+function readingOf({ lines, others, seed, list, entrants, drawn, named }) {
+  return { lines, others, seed: foreignMarked(writtenSeed(seed)), list, entrants, drawn, named: named.map(shown) };
 }
 
 /**

@@ -6,6 +6,7 @@ import { Refusal } from "./refusal.js";
 
 export const LINE_FEED = 10;
 export const CARRIAGE_RETURN = 13;
+export const SPACE = 32;
 /** How many of the first lines, and how many of the last ones, a preview has. */
 const ENDS = 3;
 /** How many bytes of a line a preview shows: more is seldom an entrant. */

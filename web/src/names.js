@@ -12,7 +12,7 @@ const NAMES = new Map([
   [0x2066, "left-to-right isolate"], [0x2067, "right-to-left isolate"],
   [0x2068, "first strong isolate"], [0x2069, "pop directional isolate"],
   [0x2800, "empty Braille pattern"], [0x3000, "ideographic space"], [0x3164, "Hangul filler"], [0xfe0e, "text variation"], [0xfe0f, "emoji variation"],
-  [0xfeff, "byte order mark"],
+  [0xfeff, "byte order mark"], [0xfffc, "object replacement character"],
 ]);
 
 /** @param {number} code @returns {string} such as U+202E right-to-left override */

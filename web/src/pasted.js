@@ -28,27 +28,67 @@ export function reasonIn(line) {
   return ` The line has a curly quotation mark, ${curly}, as word processors make it. ${AS_FILE}`;
 }
 
-/** What a reader does not see of a title, or does not look at. */
+/** What a reader does not see of a line, or does not look at. */
 const HIDDEN = /[^\p{L}\p{N}]|\p{Default_Ignorable_Code_Point}/gu;
 /** What begins a new line on paper and in a mail, besides the line feed. */
 const LINE_ENDS = /[\v\f\r\u0085\u2028\u2029]/u;
+/** Marks that make a line look like another one: they change the order of its letters. */
+const REORDERING = /[\u202a-\u202e\u2066-\u2069]/u;
+const COLONS = /[:\ua789\u0589\u2236\ufe55\uff1a]/u;
 
 /**
- * What a reader sees of a title: its letters and digits in lower case, without accents, signs,
+ * What a reader sees of a text: its letters and digits in lower case, without accents, signs,
  * invisible characters and spaces. Letters that look like Latin ones are Latin ones.
- * @param {string} line
+ * @param {string} text
  */
-function plainTitle(line) {
-  return latin(latin(line).normalize("NFKD").toLowerCase()).replace(HIDDEN, "");
+function plain(text) {
+  return latin(text).normalize("NFKD").toLowerCase().replace(HIDDEN, "");
 }
 
 const TITLE_WORDS = "nanorandpublicdraw";
 
-/**
- * Whether a line, or a part of it that begins a new line, looks like the title of a record of this or
- * another format.
- * @param {string} line
- */
+/** Whether a line begins like the title of a record of this or another format. @param {string} line */
 export function isLikeTitle(line) {
-  return line.split(LINE_ENDS).some((part) => plainTitle(part).startsWith(TITLE_WORDS));
+  return line.split(LINE_ENDS).some((part) => plain(part).startsWith(TITLE_WORDS));
+}
+
+/** Whether a text outside of a record has the words of a title. @param {string} text */
+function hasTitle(text) {
+  return plain(text).includes(TITLE_WORDS);
+}
+
+/**
+ * Whether a line outside of a record looks like one of its lines: a name of a value and a colon, the
+ * number of a winner and a colon, or the number of further ones.
+ * @param {string} line @param {string[]} names of the values
+ */
+function isLikeLine(line, names) {
+  return line.split(LINE_ENDS).some((part) => {
+    const [name, ...rest] = part.split(COLONS);
+    const before = plain(name);
+    const isNumber = /^\p{N}+$/u.test(before) && !/^\p{N}/u.test(rest[0] ?? "");
+    return rest.length > 0 && (isNumber || names.some((one) => plain(one) === before)) ||
+      /^and\p{N}+more$/u.test(plain(part));
+  });
+}
+
+/**
+ * The index of the first line outside of a record that a reader could take for a part of it, and why;
+ * or null.
+ * @param {string[]} lines @param {number} first @param {number} end the record is from `first` to before `end`
+ * @param {string[]} names of the values in a record @returns {?{index: number, reason: string}}
+ */
+export function misleadingLine(lines, first, end, names) {
+  for (let index = 0; index < lines.length; index += 1) {
+    if (first <= index && index < end) continue;
+    const isFolded = index + 1 < lines.length && index + 1 !== first &&
+      hasTitle(`${lines[index]}${lines[index + 1]}`) && !hasTitle(lines[index + 1]);
+    if (hasTitle(lines[index]) || isFolded) {
+      return { index, reason: "a second record begins here. Check one record at a time." };
+    }
+    if (isLikeLine(lines[index], names) || REORDERING.test(lines[index])) {
+      return { index, reason: "this line is not part of the record, but looks as if it were. Remove it, and ask who wrote it." };
+    }
+  }
+  return null;
 }

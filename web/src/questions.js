@@ -4,22 +4,24 @@
 import { textOf, utf8 } from "./bytes.js";
 import { decoded, encodingOf } from "./encoding.js";
 import { shown } from "./entrant.js";
+import { withoutInvisible } from "./invisible.js";
 import { Refusal } from "./refusal.js";
 
-/** Words that head a column of names, in the languages of spreadsheets that we have seen. */
-const HEADINGS = new Set([
-  "name", "names", "full name", "fullname", "first name", "firstname", "last name", "lastname", "given name",
-  "family name", "surname", "forename", "entrant", "entrants", "entry", "entries", "participant", "participants",
-  "candidate", "candidates", "applicant", "applicants", "member", "members", "person", "people", "player", "players",
-  "student", "students", "employee", "employees", "team", "teams", "ticket", "tickets", "ticket number",
-  "ticket no", "number", "no", "nr", "id", "ids", "code", "codes", "list", "e-mail", "email", "e-mail address",
-  "email address", "mail", "address", "phone", "city", "town",
-  "vorname", "nachname", "familienname", "teilnehmer", "teilnehmende", "teilnehmerin", "mitglied", "mitglieder",
-  "los", "losnummer", "nummer", "nom", "noms", "prénom", "prénoms", "numéro", "billet", "nombre",
-  "nombres", "apellido", "apellidos", "participante", "participantes", "número", "nome", "cognome", "partecipante",
-  "partecipanti", "naam", "voornaam", "achternaam", "deelnemer", "deelnemers", "namn", "navn", "nimi", "imię",
-  "nazwisko", "jméno", "név",
-]);
+/** The words of which the headings of columns consist, in the languages of spreadsheets that we have seen. */
+const HEADINGS = new Set(
+  ("name names full first last given family user username surname forename nickname title entrant entrants entry " +
+  "entries participant participants candidate candidates applicant applicants member members person people player " +
+  "players student students employee employees guest guests team teams group groups ticket tickets number no nr # id " +
+  "ids code codes list e-mail email mail address phone city town status timestamp date " +
+  "vorname nachname familienname namen teilnehmer teilnehmende teilnehmerin teilnehmerinnen mitglied mitglieder los " +
+  "lose losnummer nummer anrede ort adresse kundennummer nom noms prénom prénoms numéro billet adhérent nombre " +
+  "nombres apellido apellidos participante participantes número correo nome cognome partecipante partecipanti " +
+  "indirizzo naam voornaam achternaam deelnemer deelnemers namn förnamn efternamn navn fornavn etternavn efternavn " +
+  "nimi etunimi sukunimi imię nazwisko jméno příjmení meno priezvisko név ime prezime ad adı soyad soyadı " +
+  "имя фамилия фио участник участники όνομα επώνυμο שם 姓名 名前 氏名 名字 이름 성명 الاسم").split(" "),
+);
+
+const CONNECTING = new Set(["of", "and", "et", "y", "e", "i", "und", "en", "och", "og"]);
 
 /** Between the columns of a line, as spreadsheets write them. */
 const COLUMNS = /[,;\t|]/;
@@ -27,21 +29,22 @@ const COLUMNS = /[,;\t|]/;
 /** The greatest length of a heading in a cell. */
 const HEADING = 100;
 
-/** A cell without what spreadsheets put around a heading. @param {string} cell */
-function plainCell(cell) {
-  if (cell.length > HEADING) return cell;
-  return cell.normalize("NFC").toLowerCase().replace(/^[\s"'#*_\ufeff]+|[\s"':.*_]+$/g, "").replace(/[\s_]+/g, " ");
+/** Whether a cell of the first line consists of the words of headings. @param {string} cell */
+function isHeading(cell) {
+  if (cell.length > HEADING) return false;
+  const words = withoutInvisible(cell).normalize("NFKC").toLowerCase().replace(/\(.*?\)|\*\w+/g, "").split(/[\s"':.*_/]+/);
+  const named = words.filter((word) => word !== "" && !CONNECTING.has(word));
+  return named.length > 0 && named.every((word) => HEADINGS.has(word));
 }
 
 /**
- * Whether the first line looks like a heading: each of its columns is a usual heading, or it is the
- * only line without a digit and without an @, of three or more.
+ * Whether the first line looks like a heading: one of its columns is a usual heading, or it is the only
+ * line without a digit and without an @, of three or more.
  * @param {string[]} lines @returns {boolean}
  */
 function hasHeading(lines) {
   if (lines.length < 2) return false;
-  const cells = lines[0].split(COLUMNS).map(plainCell).filter((cell) => cell !== "");
-  if (cells.length > 0 && cells.every((cell) => HEADINGS.has(cell))) return true;
+  if (/^sep=/.test(lines[0]) || lines[0].split(COLUMNS).some(isHeading)) return true;
   const isNumbered = (line) => /[0-9@]/.test(line);
   return lines.length > 2 && !isNumbered(lines[0]) && lines.slice(1).every(isNumbered);
 }
@@ -97,7 +100,7 @@ function headingQuestions(text) {
   if (lines[lines.length - 1] === "") lines.pop();
   if (!hasHeading(lines)) return [];
   return [{
-    id: `heading ${lines[0]}`,
+    id: `heading ${lines.slice(0, 2).join("\n")}`,
     text: "Line 1 looks like a heading, not like an entrant. Could it win?",
     above: "",
     lines: [shown(utf8(lines[0]))],

@@ -2,7 +2,7 @@
 
 import { hasHalfCharacter, isUnseen } from "./bytes.js";
 import { printed, unprinted } from "./entrant.js";
-import { isLikeTitle, reasonIn } from "./pasted.js";
+import { isLikeTitle, misleadingLine, reasonIn } from "./pasted.js";
 
 const TITLE = "nanorand public draw 1";
 
@@ -20,11 +20,15 @@ export const NAMED = 1000;
  * @property {string} result SHA-256 of the result
  * @property {Uint8Array[]} named the first entrants drawn, at most `NAMED`
  * @property {[number, number]} [lines] the first and the last line of a record that was read, from 1
+ * @property {number} [others] how many other lines its text has that are not empty
  */
 
 const SUM = /^[0-9a-f]{64}$/;
 const NUMBER = /^(?:0|[1-9][0-9]{0,14})$/;
 const VERSION = /^[0-9]{1,6}\.[0-9]{1,2}\.[0-9]{1,2}$/;
+
+/** The greatest number of lines into which a value may be folded. */
+const MOST_FOLDS = 2000;
 
 /** The shortest line, in UTF-16 units, that a mail program is expected to fold. */
 const FOLDED = 50;
@@ -120,7 +124,10 @@ export function readRecord(text) {
     at = next;
   }
   const { named, end } = readNamed(lines, at, values.drawn);
-  return { ...values, named, lines: [first + 1, end] };
+  const misleading = misleadingLine(lines, first, end, LINES.map(([, name]) => name));
+  if (misleading !== null) throw new RecordError(misleading.index + 1, misleading.reason);
+  const others = lines.filter((line, index) => line.trim() !== "" && (index < first || index >= end)).length;
+  return { ...values, named, lines: [first + 1, end], others };
 }
 
 /** The index of the title, which has to be the only line that looks like one. */
@@ -142,7 +149,7 @@ function titleIn(lines) {
 function unquoted(line) {
   let end = line.length;
   while (end > 0 && " \t\r".includes(line[end - 1])) end -= 1;
-  return line.slice(0, end).replace(/^>[> ]*/, "");
+  return line.slice(0, end).replace(/^(?:> ?)+/, "");
 }
 
 /** Whether a line continues the one before, as when a mail program folds a long line. */
@@ -164,7 +171,7 @@ function readLine(lines, index, [, name, read, joint]) {
   for (let next = index + 1; ; next += 1) {
     const value = read(text);
     if (value !== null) return { value, next };
-    if (!goesOn(lines[next])) {
+    if (!goesOn(lines[next]) || next - index > MOST_FOLDS) {
       throw new RecordError(index + 1, `the value of “${name}” cannot be read.${reasonIn(text)}`);
     }
     text += (text && joint) + lines[next];

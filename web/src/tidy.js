@@ -5,7 +5,7 @@ import { textOf, utf8 } from "./bytes.js";
 import { resultOf } from "./draw.js";
 import { converted } from "./encoding.js";
 import { INVISIBLE, withoutInvisible } from "./invisible.js";
-import { CARRIAGE_RETURN, LINE_FEED, lineAt, startsOfLines } from "./list.js";
+import { CARRIAGE_RETURN, LINE_FEED, SPACE, lineAt, startsOfLines } from "./list.js";
 
 /** @param {Uint8Array} list @returns {Uint8Array[]} its lines, which may be empty */
 function linesOf(list) {
@@ -28,6 +28,12 @@ function withoutReturn(line) {
   return line[line.length - 1] === CARRIAGE_RETURN ? line.subarray(0, -1) : line;
 }
 
+/** A line with one space in place of several in a row, or the same line. @param {Uint8Array} line */
+function withoutDoubled(line) {
+  const single = line.filter((byte, place) => byte !== SPACE || line[place - 1] !== SPACE);
+  return single.length < line.length ? single : line;
+}
+
 /** The lines without repetitions: the first of equal lines stays. @param {Uint8Array[]} lines */
 function unique(lines) {
   const letters = new TextDecoder("latin1");
@@ -47,6 +53,7 @@ const CHANGES = {
   empty: { of: (lines) => lines.filter((line) => line.length > 0), verb: "removed" },
   trim: { of: (lines) => lines.map(trimmedBytes), verb: "made shorter" },
   returns: { of: (lines) => lines.map(withoutReturn), verb: "made shorter" },
+  doubled: { of: (lines) => lines.map(withoutDoubled), verb: "made shorter" },
   unique: { of: unique, verb: "removed" },
   heading: { of: (lines) => lines.slice(1), verb: "removed" },
   mark: { of: ([first, ...rest]) => [first.subarray(3), ...rest], verb: "changed" },
@@ -74,7 +81,8 @@ function listOf(lines, list) {
 export function tidied(list, change) {
   if (!(change in CHANGES)) {
     const inUtf8 = converted(list, change);
-    return { list: inUtf8, changed: linesOf(inUtf8).length, verb: "converted to UTF-8" };
+    const verb = change === "utf-8" ? "made" : "converted to UTF-8";
+    return { list: inUtf8, changed: linesOf(inUtf8).length, verb };
   }
   const { of, verb } = CHANGES[change];
   const before = linesOf(list);

@@ -239,12 +239,20 @@ export function showCheck({ outcome, title, findings, reading }) {
   say("outcome-title", title);
   itemize("findings", findings.map(noteOf));
   part("reading").hidden = reading === null;
+  say("unchecked", reading === null ? "" : uncheckedWords(reading));
   if (reading !== null) showReading(reading);
+}
+
+/** Which lines of the text were not checked. @param {import("./check.js").Reading} reading */
+function uncheckedWords({ lines: [first, last], others }) {
+  if (others === 0) return "";
+  const lines = others === 1 ? "1 other line was" : `${grouped(others)} other lines were`;
+  return `Only lines ${first} to ${last} of the text are the record. Its ${lines} not checked, and may say anything.`;
 }
 
 /** What was checked. @param {import("./check.js").Reading} reading */
 function showReading({ lines: [first, last], seed, list, entrants, drawn, named }) {
-  say("reading-title", `What the record says, in lines ${first} to ${last} of the text:`);
+  say("reading-title", `What was checked, in lines ${first} to ${last} of the text:`);
   part("reading-seed").replaceChildren(...nodesOf(seed));
   say("reading-list", list);
   say("reading-count", `${grouped(drawn)} of ${grouped(entrants)}`);

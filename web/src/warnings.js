@@ -4,10 +4,9 @@ import { alikeIn, blankLine } from "./alike.js";
 import { textOf } from "./bytes.js";
 import { partsOf } from "./entrant.js";
 import { INVISIBLE, kindsIn } from "./invisible.js";
-import { CARRIAGE_RETURN, LINE_FEED } from "./list.js";
+import { CARRIAGE_RETURN, LINE_FEED, SPACE } from "./list.js";
 import { markedPair } from "./marks.js";
 
-const SPACE = 32;
 const TAB = 9;
 const MARK = "\ufeff";
 
@@ -48,6 +47,8 @@ export function warningsOf(list) {
     ...ofBytes(list, text),
     ...spacesIn(lines, isText),
     ...(isText ? invisibleIn(lines) : []),
+    ...(isText ? ofMac(lines) : []),
+    ...doubledIn(lines, isText),
     ...columnsIn(lines),
     blank && { text: `Line ${blank} has nothing that can be seen, but is an entrant.` },
     ...alikeIn(lines, isText).map((found) => alikeWarning(found, lines, isText)),
@@ -105,6 +106,30 @@ function spacesIn(lines, isText) {
       cure: { change: "trim", label: "Remove these spaces" },
     },
   ];
+}
+
+/** A warning if carriage returns stand alone, as old Macs end their lines. @param {string[]} lines */
+function ofMac(lines) {
+  const count = lines.filter((line) => line.slice(0, -1).includes("\r")).length;
+  return count === 0 ? [] : [{
+    text: `${counted(count, "have carriage returns within them", "has carriage returns within it")}, as files of old ` +
+      "Macs do. Each of them may be several entrants.",
+    cure: { change: "utf-8", label: "Begin a new line at each" },
+  }];
+}
+
+/** A warning of spaces in a row. @param {string[]} lines @param {boolean} isText */
+function doubledIn(lines, isText) {
+  const found = new Found();
+  lines.forEach((line, place) => {
+    if (/[^ ] {2,}[^ ]/.test(line)) found.add(place + 1);
+  });
+  const { count, numbers } = found;
+  return count === 0 ? [] : [{
+    text: `${counted(count, "have", "has")} two or more spaces in a row: look at line ${numbers[0]}.`,
+    lines: numbers.flatMap((number) => lineShown(lines, number, isText)),
+    cure: { change: "doubled", label: "Make them single spaces" },
+  }];
 }
 
 /** A warning if each line has the same number of columns, as in a CSV file. @param {string[]} lines */

@@ -176,10 +176,44 @@ def forged(counts: Counts, page: Page, record: str, said: List[str]) -> None:
         counts.same(name, outcome, "no record")
     reason = f"Line {len(lines)}: a second record begins here. Check one record at a time."
     counts.same("its reason", page.check(record + record)["findings"], [reason])
-    for text in (f"I sent you a nanorand public draw, see below.\n{record}", f"{record}\nThe program is nanorand.\n",
-                 f"Winners: Mallory\n{record}\nWinners: Mallory\n1. Mallory\n"):
+    for text, others in ((f"I sent you a draw, see below.\n{record}", 1), (f"{record}\nThe program is it.\n\n", 1),
+                         (f"Winners: Mallory\n{record}\nWinners: Mallory\n1. Mallory\n", 3), (record, 0)):
         [(outcome, reading)] = checked(page, [text])
         counts.same(f"the answer shows what it checked: {text[:20]!r}", (outcome, reading), ("agrees", said))
+        unchecked = page.browser.run("return document.getElementById('unchecked').innerText;")
+        first = text.split("\n").index(TITLES[0]) + 1
+        lines = "1 other line was" if others == 1 else f"{others} other lines were"
+        wanted = (f"Only lines {first} to {first + 15} of the text are the record. Its {lines} not checked, and may "
+                  "say anything.")
+        counts.same(f"what it did not check: {others}", unchecked, wanted if others else "")
+
+
+def beside_a_record(counts: Counts, page: Page, record: str) -> None:
+    """A line outside of a record that looks like one of its lines is an error."""
+    lines = record.split("\n")
+    looks = [
+        "9:\u00a0Mallory", "\u200b9: Mallory", "9\u200b: Mallory", " 9: Mallory", "9:\tMallory", "9 : Mallory", "9:Mallory",
+        "\uff19: Mallory", "\u0669: Mallory", "9\uff1a Mallory", "9:", "\u202eyrollaM :9", "and\u00a01 more",
+        "And 1 more", "drawn: 4", "Drawn : 4", "result SHA-256: 00", "se\u200bed: x", "s\u0435ed: x", "list sha256: 00",
+        "1. nanorand public draw 1", "The nanorand public draw 1", "<b>nanorand public draw 1</b>",
+        "nanorand public\ndraw 1", "nanorand\npublic draw 1", "nan\u0585rand public draw 1",
+        "nan\u1d0frand public draw 1", "x\u2028nanorand public draw 1",
+    ]
+    texts = {}
+    for look in looks:
+        for way, text in (("below", f"{record}{look}\n"), ("further below", f"{record}\nYours\n{look}\n"),
+                          ("above", f"{look}\n\n{record}")):
+            texts[f"{look!r}, {way}"] = text
+    for (name, _), (outcome, _) in zip(texts.items(), checked(page, list(texts.values()))):
+        counts.same(name, outcome, "no record")
+    hidden = "\n".join([*lines[:1], *("> " + 400 * " " + line for line in lines[1:])])
+    counts.same("lines far to the right", page.check(hidden)["outcome"], "no record")
+    quoted = record.replace("\n", "\n> ")
+    mail = f"On 12 March at 12:30 she wrote:\n> 12:30 lunch\n>\n> {quoted}\nAt 13:00: see 4.\n"
+    counts.same("a mail with times", page.check(mail)["outcome"], "agrees")
+    counts.same("its reason", page.check(f"{record}\nseed: x\n")["findings"], [
+        f"Line {len(lines) + 1}: this line is not part of the record, but looks as if it were. Remove it, and ask who "
+        "wrote it."])
 
 
 def lookalikes_in_records(counts: Counts, page: Page, record: str) -> None:
@@ -275,6 +309,7 @@ def run(counts: Counts, page: Page, digests: Dict[int, str]) -> None:
                                                                       sha256(LIST.encode()), "8 of 8"]))
     mutations(counts, page, record, said)
     forged(counts, page, record, said)
+    beside_a_record(counts, page, record)
     lookalikes_in_records(counts, page, record)
     lookalikes_in_lists(counts, page, record)
     lookalike_winners(counts, page, record)

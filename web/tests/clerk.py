@@ -46,7 +46,9 @@ const { top, bottom } = document.getElementById(arguments[0]).getBoundingClientR
 return [top, bottom <= innerHeight];
 """
 HEADINGS = ("Name", "NAME", "  Name:", "\ufeffName", "Names", "Name;Vorname", "E-mail,Name", "Full name\tCity",
-            "\"Name\"", "Last_Name", "Ticket No.", "Nom,Prénom", "Teilnehmende", "Apellidos;Nombre")
+            "\"Name\"", "Last_Name", "Ticket No.", "Nom,Prénom", "Teilnehmende", "Apellidos;Nombre",
+            "Name;Ort", "Timestamp,Name", "Participant Name", "Name (required)", "Förnamn", "Nom et prénom", "姓名",
+            "Имя", "\uff2eame", "Ticket #", "sep=;", "Vorname Nachname")
 NO_HEADINGS = ("Ada", "Name Ada", "Anna Name", "1", "Nomen", "Ida, No 7")
 
 
@@ -198,11 +200,21 @@ def encodings(counts: Counts, page: Page) -> None:
     no_text = ("This file does not seem to be a text. If it is a spreadsheet or a document, save it there as text in "
                "UTF-8, with one entrant on each line, and open that file.")
     asked(counts, page, "a spreadsheet", b"PK\x03\x04\x14\0\x06\0\x08\0\xff\n\x01", [[no_text, [], choices[1:]]])
-    page.open_file(b"PK\x03\x04\x14\0\x06\0\x08\0\xff\n\n\x01")
+    page.open_file(b"PK\x03\x04\x14\0\x06\0\x08\0\xff\n\n\x01\x02")
     counts.same("a spreadsheet with an empty line", page.facts(keep=False)["list"], no_text)
-    for start in (b"%PDF-1.7\n", b"{\\rtf1 "):
+    for start in (b"%PDF-1.7\n", b"{\\rtf1 ", b"<!doctype html>", b"<?xml ?>", b"BEGIN:VCARD\n",
+                  b"nanorand public draw 1\n"):
         asked(counts, page, f"a document {start!r}", start + b"Ada\n", [[no_text, [], choices[1:]]])
-    asked(counts, page, "UTF-8 with a byte 0", b"a\0b\nc\n", [])
+    asked(counts, page, "UTF-8 with a byte 0", b"a\0b\nc\nd", [[no_text, [], choices[1:]]])
+    for text in ("Иван", "Иван\n", "Иван\nОлег Попов\n", "عمر\nزينب\n", "राम\n", "山田\n花子 太郎\n", "Āda\nĒva\n",
+                 "A\u3000B\n"):
+        for name in ("utf-16-le", "utf-16-be"):
+            page.open_file(text.encode(name))
+            page.browser.wait("return !document.getElementById('tidy').hidden;")
+            page.browser.wait("return document.querySelector('.question[role=group], #list-facts:not([hidden])');")
+            found = page.browser.run(QUESTIONS)
+            is_told = [question[0] for question in found] == [utf_16] or text == "山田\n花子 太郎\n"
+            counts.case(f"{text!r} in {name}", "" if is_told else str(found))
     heading = "Line 1 looks like a heading, not like an entrant. Could it win?"
     data = "Name\nMüller\nJosé\nØre\n".encode("cp1252")
     asked(counts, page, "a heading in another encoding", data, [
@@ -228,7 +240,7 @@ def invisible(counts: Counts, page: Page) -> None:
     }
     for letters, (words, label, becomes) in kinds.items():
         for letter in letters:
-            text = f"Ada\nBo{letter}b\nCi{letter}{letter}d\nDo{letter}ra\n"
+            text = f"Ada\nBo{letter}b\nCi{letter}x{letter}d\nDo{letter}ra\n"
             for way in ("file", "pasted"):
                 page.open_file(text.encode()) if way == "file" else page.paste(text)
                 name = f"U+{ord(letter):04X}, {way}"
@@ -465,7 +477,7 @@ def what_was_checked(counts: Counts, page: Page) -> None:
     page.check(f"Dear all,\n\n{shown['record']}\nYours\n")
     found = page.browser.run("""return ["reading-title", "reading-seed", "reading-list", "reading-count"].map((id) =>
         document.getElementById(id).innerText);""")
-    counts.same("what was checked", found, ["What the record says, in lines 3 to 22 of the text:", f'"{SEED}"',
+    counts.same("what was checked", found, ["What was checked, in lines 3 to 22 of the text:", f'"{SEED}"',
                                             sha256(LIST.encode()), "12 of 340"])
     winners = "return Array.from(document.querySelectorAll('#reading-drawn li'), (item) => item.textContent);"
     counts.same("the winners that were checked", page.browser.run(winners), shown["drawn"])

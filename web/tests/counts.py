@@ -16,7 +16,7 @@ VERSION = f"{NUMBER // 10000}.{NUMBER // 100 % 100}.{NUMBER % 100}"
 # Some invisible characters: control and format characters, separators, characters that fonts do not draw, and the blank
 # Braille pattern.
 UNSEEN = ("\0\t\x7f\x85\xa0\xad\u034f\u061c\u115f\u1160\u17b4\u180b\u180e\u2003\u200b\u200d\u200e\u2028\u2029\u202e"
-          "\u2060\u2066\u2800\u3000\u3164\ufe00\ufe0f\ufeff\uffa0\U0001d173\U000e0041\U000e0100")
+          "\u2060\u2066\u2800\u3000\u3164\ufe00\ufe0f\ufeff\uffa0\ufffc\U0001d173\U000e0041\U000e0100")
 # These and all control and format characters and separators, except the space and the line feed.
 ALL_UNSEEN = sorted({*UNSEEN, *(letter for letter in map(chr, range(sys.maxunicode + 1))
                                 if category(letter) in ("Cc", "Cf", "Zs", "Zl", "Zp"))} - {" ", "\n"})

@@ -38,6 +38,7 @@ ONE = "1 of the lines equals an earlier line"
 UNSEEN = "invisible characters or the spaces in it"
 FORM = "the form of a letter, such as its width"
 SAME_LOOK = "letters or signs that look the same"
+DOUBLED = "1 line has two or more spaces in a row: look at line 2."
 SPACED = "1 line begins or ends with a space or a tab, which belongs to the entrant"
 ALIKE = {
     "Ada\nada\n": ["1 of the lines equals an earlier line except for upper and lower case: look at line 2."],
@@ -56,8 +57,12 @@ ALIKE = {
                     "1 of the lines equals an earlier line except for the spaces at its ends: look at line 3."],
     "Ada\nAdah\nA da\n": [],
     "Ada\n\u0410da\n": [f"{ONE} except for {SAME_LOOK}: look at line 2."],
+    "\u00cbva\n\u0401va\n": [f"{ONE} except for {SAME_LOOK}: look at line 2."],
+    "O'Neil\nO\u00b4Neil\n": [f"{ONE} except for {SAME_LOOK}: look at line 2."],
+    "\u0219i\n\u015fi\n": [f"{ONE} except for {SAME_LOOK}: look at line 2."],
+    "Nora\nN\u0585ra\n": [f"{ONE} except for {SAME_LOOK}: look at line 2."],
     "O'Neil\nO\u2019Neil\n": [f"{ONE} except for {SAME_LOOK}: look at line 2."],
-    "Ada B\nAda  B\n": [f"{ONE} except for {UNSEEN}: look at line 2."],
+    "Ada B\nAda  B\n": [DOUBLED, f"{ONE} except for {UNSEEN}: look at line 2."],
     "Ada B\nAda\u00a0B\n": ["1 line has no-break spaces, which nobody sees: look at line 2.",
                             f"{ONE} except for {UNSEEN}: look at line 2."],
     "Ada\nAd\u200ba\n": ["1 line has zero-width characters, which nobody sees: look at line 2.",

@@ -178,7 +178,7 @@ function otherTexts() {
 /** In lists of a few words, the lines that look like an earlier one are those that a plain search finds. */
 function alikes() {
   const forms = [(line) => line, (line) => line.replace(/^[\t ]+|[\t ]+$/g, ""), (line) => line.replace(/\u200b/g, ""),
-    (line) => line.normalize("NFC"), (line) => line.normalize("NFKC"), (line) => line.replace(/\u0430/g, "a"),
+    (line) => line.normalize("NFC"), (line) => line.replace(/\u0430/g, "a"), (line) => line.normalize("NFKC"),
     (line) => line.toLowerCase().normalize("NFC")];
   const formed = (line, index) => forms.slice(0, index + 1).reduce((text, of) => of(text), line);
   const searched = (lines) => {
