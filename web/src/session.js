@@ -39,7 +39,7 @@ export function refuseHere(error) {
   refuse(error);
   const field = fieldOf(Refusal.of(error).field);
   field?.focus();
-  if (field === part("questions")) field.scrollIntoView({ block: "center" });
+  if (field === part("questions")) part("question-error").scrollIntoView({ block: "start" });
 }
 
 /** Enables a button that was disabled while it worked, and gives it the focus back if nothing else has it. */

@@ -81,7 +81,7 @@ function listOf(lines, list) {
 export function tidied(list, change) {
   if (!(change in CHANGES)) {
     const inUtf8 = converted(list, change);
-    const verb = change === "utf-8" ? "made" : "converted to UTF-8";
+    const verb = change === "utf-8" ? "made" : "converted to UTF-8, with plain line ends";
     return { list: inUtf8, changed: linesOf(inUtf8).length, verb };
   }
   const { of, verb } = CHANGES[change];

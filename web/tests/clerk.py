@@ -124,6 +124,8 @@ def asked(counts: Counts, page: Page, name: str, data: bytes, wanted: List[Any])
     counts.same(f"{name}: a draw", (shown["question"], shown["record"] != ""), (said, not wanted))
     if wanted:
         counts.same(f"{name}: the keyboard", focused(page), "questions")
+        top, is_seen = page.browser.run(TOP, "question-error")
+        counts.case(f"{name}: what is said", "" if 0 <= top and is_seen else f"{top}, {is_seen}")
         page.tab("check")
         counts.same(f"{name}: not asked in a check",
                     [page.browser.run(SEEN, one) for one in ("questions", "list-digest")], [False, True])
