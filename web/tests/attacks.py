@@ -193,7 +193,8 @@ def beside_a_record(counts: Counts, page: Page, record: str) -> None:
     lines = record.split("\n")
     looks = [
         "9:\u00a0Mallory", "\u200b9: Mallory", "9\u200b: Mallory", " 9: Mallory", "9:\tMallory", "9 : Mallory",
-        "9:Mallory", "\uff19: Mallory", "\u0669: Mallory", "9\uff1a Mallory", "9:", "\u202eyrollaM :9", "and\u00a01 more",
+        "9:Mallory", "\uff19: Mallory", "\u0669: Mallory", "9\uff1a Mallory", "9:", "\u202eyrollaM :9",
+        "and\u00a01 more",
         "And 1 more", "drawn: 4", "Drawn : 4", "result SHA-256: 00", "se\u200bed: x", "s\u0435ed: x",
         "list sha256: 00",
         "1. nanorand public draw 1", "The nanorand public draw 1", "<b>nanorand public draw 1</b>",
