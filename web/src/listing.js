@@ -17,12 +17,11 @@ const SAVED = "entrants.txt";
 /**
  * `file` holds the bytes of the opened file or of a long paste, or is null if the list is the text
  * in the field; `name` is what the page calls the file. `bytes` is the list itself. `origin` says
- * which file has these bytes: the one that was opened, none yet, or one that the page has saved.
- * `before` has the list before each change that can be undone. `sent` promises whether the worker has
- * the list. `pending` is the timer until a changed list is sent. `turn` counts the changes: an answer
- * to an earlier one is not shown. `questions` are those that are open, and `kept` has those that were
- * answered by keeping the list.
- * @type {{origin: "opened"|"unsaved"|"saved"}}
+ * which file has these bytes: the one that was "opened", none ("unsaved"), or one that the page has
+ * "saved". `before` has the list before each change that can be undone. `sent` promises whether the
+ * worker has the list. `pending` is the timer until a changed list is sent. `turn` counts the changes:
+ * an answer to an earlier one is not shown. `questions` are those that are open, and `kept` has those
+ * that were answered by keeping the list.
  */
 const held = {
   file: null, name: "", bytes: new Uint8Array(0), origin: "unsaved", before: [], sent: Promise.resolve(false),
