@@ -22,8 +22,8 @@ import { Refusal } from "./refusal.js";
  */
 
 /**
- * What was checked: the first and last line of the record in its text, how many other lines there are, what the page shows of its
- * seed, the SHA-256 of its list, its numbers and its named entrants.
+ * What was checked: the first and last line of the record in its text, how many other lines there
+ * are, what the page shows of its seed, the SHA-256 of its list, its numbers and its named entrants.
  * @typedef {Object} Reading
  * @property {[number, number]} lines
  * @property {number} others

@@ -215,8 +215,9 @@ def encodings(counts: Counts, page: Page) -> None:
             page.browser.wait("return !document.getElementById('tidy').hidden;")
             page.browser.wait("return document.querySelector('.question[role=group], #list-facts:not([hidden])');")
             found = page.browser.run(QUESTIONS)
-            is_told = [question[0] for question in found] == [utf_16] or text == "山田\n花子 太郎\n"
-            counts.case(f"{text!r} in {name}", "" if is_told else str(found))
+            counts.same(f"{text!r} in {name}", [question[0] for question in found], [utf_16])
+            converted = changed(page, choices[0])["digest"]
+            counts.same(f"{text!r} in {name}: converted", converted, sha256(text.encode()))
     heading = "Line 1 looks like a heading, not like an entrant. Could it win?"
     data = "Name\nMüller\nJosé\nØre\n".encode("cp1252")
     asked(counts, page, "a heading in another encoding", data, [
