@@ -5,5 +5,6 @@ mod draw;
 mod lots;
 mod programs;
 mod readers;
+mod records;
 mod users;
 mod writers;

@@ -1,0 +1,61 @@
+//! The check of a record.
+ghost use Rattle.std.specs.Prelude.{◌≡◌, Decides, IfErr, OnOk};
+ghost use Rattle.lots_core.specs.declared.error.LotsError.TheVariants.{Memory};
+ghost use Rattle.lots_record.specs.Record.{IsRecord, NamesAnnouncement, given};
+ghost use Rattle.lots_record.specs.declared.check_error.CheckError.TheVariants.{Draw};
+
+use crate::check_error::CheckError;
+use crate::claims::{Claims, claims_of};
+use crate::record::{Source, record};
+use lots_core::arguments::Count;
+use lots_core::count_entrants;
+use sha2::{Digest, Sha256};
+use std::alloc::Allocator;
+
+/// Whether the record names this announcement, if one is given.
+fn names<A: Allocator>(claims: &Claims<A>, announcement: Option<&[u8]>) -> bool
+    ensures { Decides result
+        (NamesAnnouncement (given announcement.entry) claims.now.announcement) }
+{
+    match announcement {
+        Some(announcement) => claims.announcement == Some(Sha256::digest(announcement)),
+        None => true,
+    }
+}
+
+/// Checks that the text is the record of a draw from the list, byte for byte: it reads from the
+/// text what it is made from, makes the record, and compares the two. If an announcement is given,
+/// the record has to name its SHA-256.
+///
+/// Returns the reason if it is not, and the error of the draw if the draw fails.
+pub fn check<A: Allocator>(
+    alloc: &A,
+    text: &[u8],
+    announcement: Option<&[u8]>,
+    list: &[u8],
+) -> Result<(), CheckError>
+    ensures agrees { OnOk result (IsRecord text.now list.now (given announcement.entry)) }
+    ensures only { IsRecord text.now list.now (given announcement.entry) →
+        IfErr result (λ error. error ≡ Draw Memory) }
+{
+    count_entrants(list)?;
+    let claims = claims_of(alloc, text)?;
+    if !names(&claims, announcement) {
+        return Err(CheckError::OtherAnnouncement);
+    }
+    let seed = str::from_utf8(&claims.seed).map_err(|_| CheckError::Unreadable)?;
+    if seed.is_empty() {
+        return Err(CheckError::Unreadable);
+    }
+    let source = Source {
+        seed,
+        count: Count::Of(claims.count),
+        announcement: claims.announcement,
+        program: claims.program,
+    };
+    if record(alloc, &source, list)?.as_bytes() == text {
+        Ok(())
+    } else {
+        Err(CheckError::Differs)
+    }
+}
