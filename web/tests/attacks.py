@@ -7,6 +7,7 @@ from typing import Any, Callable, Dict, List, Tuple
 
 from counts import UNSEEN, Counts, sha256
 from page import Page
+from records import FORMAT2, OLD_TITLE, TITLE, Layout, old_record, without_module
 
 NAMES = ["Zoë O'Neil-Fisher", "Ada B. Ito", "Finn A1", "Chidi Ivo", "Ona Aa 7", "Max Co-op", "Sofia Ek", "Noa' Ross"]
 LIST = "".join(f"{name}\n" for name in NAMES)
@@ -55,8 +56,8 @@ const checkOne = async (text) => {
   part("check").click();
   await enabled();
   const { outcome } = part("outcome").hidden ? {} : part("outcome").dataset;
-  const reading = part("reading").hidden ? [] : ["reading-seed", "reading-list", "reading-count", "reading-drawn"]
-    .map((id) => part(id).innerText);
+  const reading = part("reading").hidden ? [] : ["announcement", "seed", "list", "count", "drawn"]
+    .map((name) => `reading-${name}`).map((id) => part(id).innerText);
   return [outcome ?? "", reading];
 };
 return (async () => {
@@ -143,11 +144,14 @@ def checked(page: Page, texts: List[str]) -> List[Tuple[str, List[str]]]:
 
 
 def judge(counts: Counts, name: str, record: str, said: List[str], text: str, found: Tuple[str, List[str]]) -> None:
-    """A text may agree if it has the record, but for what a mail may change, and the answer shows just that."""
+    """A text may agree if it has the record, but for what a mail may change, and the answer shows just that. A record
+    of format 2 may lack the line of its module."""
     outcome, reading = found
     if outcome not in ("agrees", "other module"):
         counts.case(name, "" if outcome in ("differs", "no record") else f"{outcome!r}: {text}")
         return
+    if outcome == "agrees" and record.startswith(TITLE) and "module SHA-256: " not in text:
+        record = without_module(record)
     without = r"(?m)^(?:version|module SHA-256): .*\n" if outcome == "other module" else r"(?!)"
     has_it = plain(re.sub(without, "", record)) in plain(re.sub(without, "", text))
     titles = len(re.findall(r"nanorand public draw", text))
