@@ -105,9 +105,9 @@ def plain(text: str) -> str:
     return re.sub(r"[ \n]+", "", re.sub(r"[ \t\r]+$", "", text, flags=re.M))
 
 
-def mutated(rng: random.Random, record: str) -> str:
-    """The record with one to three changes: of letters, words, lines or values."""
-    for _ in range(rng.choice([1, 1, 1, 2, 3])):
+def mutated(rng: random.Random, record: str, most: int) -> str:
+    """The record with one change or up to `most` ones: of letters, words, lines or values."""
+    for _ in range(rng.randint(1, most)):
         lines = record.split("\n")
         place, line = rng.randrange(len(record)), rng.randrange(len(lines))
         other = rng.randrange(len(lines))
@@ -160,7 +160,7 @@ def judge(counts: Counts, name: str, record: str, said: List[str], text: str, fo
 
 def mutations(counts: Counts, page: Page, record: str, said: List[str]) -> None:
     rng = random.Random(78)
-    texts = [mutated(rng, record) for _ in range(NUMBER)]
+    texts = [mutated(rng, record, most) for most in (1, 3) for _ in range(NUMBER)]
     for index, (text, found) in enumerate(zip(texts, checked(page, texts))):
         judge(counts, f"mutation {index}", record, said, text, found)
 
