@@ -2,8 +2,6 @@
 // There is exactly one way to write some bytes.
 
 import { hexOfByte, textOf, utf8 } from "./bytes.js";
-import { nameOf } from "./names.js";
-import { AS_FILE, reasonIn } from "./pasted.js";
 
 /**
  * The first and the last code point of each range of characters that do not show. The format fixes this table, so it
@@ -23,16 +21,22 @@ const ESCAPED = new RegExp(`[\\\\${HIDDEN_RANGES.map(([first, last]) =>
   `\\u{${first.toString(16)}}-\\u{${last.toString(16)}}`).join("")}]`, "gu");
 
 const BACKSLASH = 0x5c;
-const NO_ESCAPE = /\\(?!x[0-9a-f]{2})/;
+/** A backslash that begins no escape. */
+export const NO_ESCAPE = /\\(?!x[0-9a-f]{2})/;
 
 /** Whether a text begins and ends with a quotation mark. @param {string} text */
-function isBetweenMarks(text) {
+export function isBetweenMarks(text) {
   return text.length > 1 && text.startsWith("\"") && text.endsWith("\"");
 }
 
 /** @param {number} byte @returns {string} \x and two digits */
 function escapeOf(byte) {
   return `\\x${hexOfByte(byte)}`;
+}
+
+/** @param {string} letter @returns {string} the escapes of its bytes */
+export function escapesOfLetter(letter) {
+  return Array.from(utf8(letter), escapeOf).join("");
 }
 
 /** Bytes that are not UTF-8: printable ASCII except the backslash stays as it is. @param {Uint8Array} bytes */
@@ -45,7 +49,7 @@ function shownBytes(bytes) {
 export function shownText(bytes) {
   const text = textOf(bytes);
   if (text === null) return shownBytes(bytes);
-  return text.replace(ESCAPED, (letter) => Array.from(utf8(letter), escapeOf).join(""));
+  return text.replace(ESCAPED, escapesOfLetter);
 }
 
 /** @param {Uint8Array} bytes @returns {string} their shown text between quotation marks */
@@ -59,7 +63,7 @@ export function quotedText(text) {
 }
 
 /** The bytes that a shown text stands for, if each backslash in it begins an escape. @param {string} shown */
-function bytesShown(shown) {
+export function bytesShown(shown) {
   const bytes = utf8(shown);
   const found = [];
   for (let place = 0; place < bytes.length; place += 1) {
@@ -81,29 +85,4 @@ export function unquoted(text) {
   if (!isBetweenMarks(text) || NO_ESCAPE.test(text)) return null;
   const bytes = bytesShown(text.slice(1, -1));
   return quoted(bytes) === text ? bytes : null;
-}
-
-/** The first difference between a shown text and the way in which its bytes have to be written. */
-function differenceOf(shown) {
-  const right = shownText(bytesShown(shown));
-  let place = 0;
-  while (place < shown.length && shown[place] === right[place]) place += 1;
-  if (place === shown.length) return "";
-  const letter = String.fromCodePoint(shown.codePointAt(place));
-  if (letter === "\\") return ` “${shown.slice(place, place + 4)}” stands for a character that has to be written as it is.`;
-  const escapes = Array.from(utf8(letter), escapeOf).join("");
-  return ` The character ${nameOf(letter.codePointAt(0))} has to be written as ${escapes} here. ${AS_FILE}`;
-}
-
-/**
- * Why a text is not quoted as a record requires, after a space, or an empty text if it is.
- * @param {string} text
- */
-export function reasonInQuoted(text) {
-  if (!isBetweenMarks(text)) return reasonIn(text) || " It has to be between two quotation marks (\").";
-  const wrong = text.match(NO_ESCAPE);
-  if (wrong !== null) {
-    return ` “${text.slice(wrong.index, wrong.index + 4)}” is not “\\x” and two digits (0-9, a-f). A backslash is \\x5c.`;
-  }
-  return differenceOf(text.slice(1, -1));
 }

@@ -4,8 +4,9 @@ import { textOf } from "./bytes.js";
 import {
   canGoOn, hasName, NAMED, readLine, readLines, readNumber, readSum, RecordError, restOf,
 } from "./lines.js";
-import { quoted, quotedText, reasonInQuoted, unquoted } from "./quoted.js";
+import { reasonInQuoted } from "./misquoted.js";
 import { reasonIn } from "./pasted.js";
+import { quoted, quotedText, unquoted } from "./quoted.js";
 
 const TITLE2 = "nanorand public draw 2";
 const END2 = "end of the record";
