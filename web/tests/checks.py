@@ -219,7 +219,8 @@ def wrong_values(counts: Counts, page: Page, layout: Layout, record: str) -> Non
     first = layout.first
     for text in ("1: ", "1:", "01: Katherine", '01: "Katherine"', "2: Katherine", '2: "Katherine"', "1. Katherine",
                  "1: Kath\\erine", '1: "Kath\\erine"', "1: Kath\\x4", '1: "Kath\\x4"', "1: Kath\\X4B",
-                 '1: "Kath\\X4B"', "1: \\x0a", '1: "\\x0a"', "1: a\\", '1: "a\\"', *([] if layout is FORMAT1 else ['1: ""'])):
+                 '1: "Kath\\X4B"', "1: \\x0a", '1: "\\x0a"', "1: a\\", '1: "a\\"',
+                 *([] if layout is FORMAT1 else ['1: ""'])):
         no(counts, page, f"the entrant {text!r}", with_line(record, first, text), first)
     for entrant in (*(f"Kath{letter}erine" for letter in UNSEEN), "\u00e9\\xff", "\\xe2\\x80\u200b"):
         no(counts, page, f"the entrant {entrant!r}, unescaped", with_entrant(layout, record, 1, entrant), first)

@@ -43,8 +43,9 @@ const read = texts.map((text) => unquoted(text) && Array.from(unquoted(text)));
 return [escaped, lists.map((list) => quoted(Uint8Array.from(list))), read];
 """
 # Bytes that are not UTF-8, or nearly so, and texts with marks, backslashes, spaces and joined emoji.
-ODD = [b"", b" ", b"  ", b'"', b'""', b'" "', b"\\", b"\\\\", b"\\x41", b"\\x5c", b" x ", b"a  b", b"1: x", b"and 1 more",
-       END.encode(), b"\xff", b"\x80", b"\xc3", b"\xc3\xa9", b"\xc3\xa9\xff", b'\xff"\\ ', b"\xed\xa0\x80", b"\xc0\x80",
+ODD = [b"", b" ", b"  ", b'"', b'""', b'" "', b"\\", b"\\\\", b"\\x41", b"\\x5c", b" x ", b"a  b", b"1: x",
+       b"and 1 more", END.encode(),
+       b"\xff", b"\x80", b"\xc3", b"\xc3\xa9", b"\xc3\xa9\xff", b'\xff"\\ ', b"\xed\xa0\x80", b"\xc0\x80",
        b"\xf4\x90\x80\x80", b"\xf4\x8f\xbf\xbf", b"\xe2\x82", b"\xef\xbb\xbfx", b"\x7f\xff", b"\x1f\xff~", b"\0", b"\n",
        *(text.encode() for text in (
            "\U0001f469\u200d\U0001f4bb", "\u2764\ufe0f", "1\ufe0f\u20e3", "\U0001f3f4\U000e0067\U000e007f",
@@ -148,12 +149,14 @@ def numbers(counts: Counts, page: Page, program: str, module: str) -> None:
     for count in ("0", "1", "999", "1000", "1001", "1002"):
         page.fill("a seed", count)
         record = page.draw()["record"]
-        counts.same(f"{count} drawn", record, record_of("a seed", data, lots(program, "a seed", count, data).output, module))
+        result = lots(program, "a seed", count, data).output
+        counts.same(f"{count} drawn", record, record_of("a seed", data, result, module))
         checks.outcome(counts, page, f"a check of {count}", record, "agrees")
+        fewer = re.sub(r"(?m)^[0-9]+: .*\n", "", record, count=1) if count != "0" else ""
         for name, text in (("an entrant", record.replace(END, f'{int(count) + 1}: "x"\n{END}')),
                            ("a number", record.replace(END, f"and 1 more\n{END}")), ("no end", record.replace(END, "")),
                            ("the end twice", record + END), ("an end above", f"{END}\n{record}"),
-                           ("fewer entrants", re.sub(r"(?m)^[0-9]+: .*\n", "", record, count=1) if count != "0" else "")):
+                           ("fewer entrants", fewer)):
             checks.outcome(counts, page, f"{count} drawn, {name}", text, "no record", "Line ")
         checks.outcome(counts, page, f"{count} drawn, text below", f"{record}Mallory\n\"\n", "agrees")
 
@@ -165,16 +168,16 @@ def reasons(counts: Counts, page: Page) -> None:
     seed, first = "the value of “seed” cannot be read. ", "the value of “1” cannot be read. "
     advice = "Ask for the record as a file, or copy it as plain text."
     marks = 'It has to be between two quotation marks (").'
-    plain = "stands for a character that has to be written as it is."
+    plain, written = "stands for a character that has to be written as it is.", "has to be written as"
     digits = "is not “\\x” and two digits (0-9, a-f). A backslash is \\x5c."
     for value, reason in (
             ('""', "A seed is UTF-8, and not empty."), ('"\\xff"', "A seed is UTF-8, and not empty."), ("4 1 6", marks),
             ('"', marks), ('"4', marks), ('"\\x34 1"', f"“\\x34” {plain}"), ('"\\xc3\\xa9"', f"“\\xc3” {plain}"),
             ('"\\x5C"', f"“\\x5C” {digits}"), ('"\\u0034"', f"“\\u00” {digits}"), ('"\\\\"', f"“\\\\” {digits}"),
             ('"a\\"', f"“\\” {digits}"),
-            ('"4\u200b1"', f"The character U+200B zero width space has to be written as \\xe2\\x80\\x8b here. {advice}"),
-            ('"4\ue0001"', f"The character U+E000 has to be written as \\xee\\x80\\x80 here. {advice}"),
-            ('"\u00e9\\xff"', f"The character U+00E9 has to be written as \\xc3\\xa9 here. {advice}")):
+            ('"4\u200b1"', f"The character U+200B zero width space {written} \\xe2\\x80\\x8b here. {advice}"),
+            ('"4\ue0001"', f"The character U+E000 {written} \\xee\\x80\\x80 here. {advice}"),
+            ('"\u00e9\\xff"', f"The character U+00E9 {written} \\xc3\\xa9 here. {advice}")):
         counts.same(f"the seed {value}", page.check(checks.with_value(FORMAT2, record, "seed", value))["findings"],
                     [f"Line 3: {seed}{reason}"])
     for value, reason in (('""', "An entrant is not empty, and has no line feed."),
