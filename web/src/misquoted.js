@@ -11,8 +11,11 @@ function differenceOf(shown) {
   while (place < shown.length && shown[place] === right[place]) place += 1;
   if (place === shown.length) return "";
   const letter = String.fromCodePoint(shown.codePointAt(place));
-  if (letter === "\\") return ` “${shown.slice(place, place + 4)}” stands for a character that has to be written as it is.`;
-  return ` The character ${nameOf(letter.codePointAt(0))} has to be written as ${escapesOfLetter(letter)} here. ${AS_FILE}`;
+  if (letter === "\\") {
+    return ` “${shown.slice(place, place + 4)}” stands for a character that has to be written as it is.`;
+  }
+  const name = nameOf(letter.codePointAt(0));
+  return ` The character ${name} has to be written as ${escapesOfLetter(letter)} here. ${AS_FILE}`;
 }
 
 /**
@@ -24,7 +27,8 @@ export function reasonInQuoted(text) {
   const body = text.slice(1, -1);
   const wrong = body.match(NO_ESCAPE);
   if (wrong !== null) {
-    return ` “${body.slice(wrong.index, wrong.index + 4)}” is not “\\x” and two digits (0-9, a-f). A backslash is \\x5c.`;
+    const letters = body.slice(wrong.index, wrong.index + 4);
+    return ` “${letters}” is not “\\x” and two digits (0-9, a-f). A backslash is \\x5c.`;
   }
   return differenceOf(body);
 }
