@@ -93,7 +93,7 @@ export function check(module, maker, list, text) {
   }
   if (list.length === 0 && record.entrants > 0) return checked("no list", [], record);
   const others = otherMakers(record, maker);
-  const findings = [...others, ...otherOfPage(record, maker), ...madeByProgram(record)];
+  const findings = [...others, ...otherOfPage(record, maker), ...withoutModule(record)];
   const differences = differencesOf(module, list, record);
   if (differences.length > 0) return checked("differs", [...differences, ...findings], record);
   return checked(others.length > 0 ? "other module" : "agrees", findings, record);
@@ -121,9 +121,9 @@ function otherOfPage(record, { otherModule, words, otherWords }) {
 }
 
 /** Says so if the record names no module, which is not an error. @param {import("./record.js").Record} record */
-function madeByProgram({ module }) {
+function withoutModule({ module }) {
   return module !== null ? [] : [
-    "The record was made by the program lots: it names no drawing program (module) of a page.",
+    "The record names no drawing program (module), as records of the program lots do not.",
   ];
 }
 

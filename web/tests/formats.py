@@ -25,7 +25,7 @@ result SHA-256: d44df65b613f78f8bb637295ecfbaf57109d9ec26487514c036dc826f6757939
 3: "Chidi"
 end of the record
 """
-BY_PROGRAM = "The record was made by the program lots: it names no drawing program (module) of a page."
+BY_PROGRAM = "The record names no drawing program (module), as records of the program lots do not."
 READING = """
 return ["announcement-label", "reading-announcement"].map((id) => document.getElementById(id).innerText);
 """
