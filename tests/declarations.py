@@ -46,7 +46,6 @@ VERSIONS = {
     "Cargo.lock": r'^name = "(?:draw|lots|nanorand-program)"\nversion = "(.*)"$',
     "rust/nanorand-c/Cargo.toml": r'^version = "(.*)"$',
     "rust/nanorand-c/src/lib.rs": r"^    (\d{5,})$",
-    "docs/PAGE.md": r"^version: (.*)$",
     "CHANGELOG.md": r"(?s)\A.*?\n## \[([\d.]+)\] - ",
 }
 # Where the repository's address is written.

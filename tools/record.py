@@ -13,15 +13,11 @@
 
 import base64
 import hashlib
-import json
 import re
 import sys
 from pathlib import Path
 
 ROOT = Path(__file__).resolve().parent.parent
-sys.path.append(str(ROOT / "python"))
-import backend  # noqa: E402
-
 PAGE = ROOT / "docs" / "nanorand.html"
 
 
@@ -39,22 +35,23 @@ def module_digest() -> str:
     return sha256(base64.b64decode(code))
 
 
-def record(version: str) -> str:
-    """The record of the first draw in docs/LOTS.md."""
+def record() -> str:
+    """The record of the first draw in docs/LOTS.md, whose seed and entrants need no escapes."""
     text = text_of("docs/LOTS.md")
     entrants = re.search(r"<!-- example: entrants -->\n```\n(.*?)^```$", text, re.M | re.S)[1]
     seed, drawn = re.search(r'^\$ lots "([^"\n]*)" \d+ < entrants\n(.*?)^```$', text, re.M | re.S).groups()
     names = drawn.splitlines()
     lines = [
-        "nanorand public draw 1",
-        f"seed: {json.dumps(seed)}",
+        "nanorand public draw 2",
+        "announcement SHA-256: none",
+        f'seed: "{seed}"',
         f"list SHA-256: {sha256(entrants.encode())}",
         f"entrants: {len(entrants.splitlines())}",
         f"drawn: {len(names)}",
-        f"version: {version}",
         f"module SHA-256: {module_digest()}",
         f"result SHA-256: {sha256(drawn.encode())}",
-        *(f"{number}: {name}" for number, name in enumerate(names, 1)),
+        *(f'{number}: "{name}"' for number, name in enumerate(names, 1)),
+        "end of the record",
     ]
     return "".join(f"{line}\n" for line in lines)
 
@@ -67,7 +64,7 @@ def parts() -> "list[tuple[str, str, str]]":
     """For each file: the pattern of the part that is written, and its text."""
     page = sha256(PAGE.read_bytes())
     return [
-        ("docs/PAGE.md", r"(?ms)(?<=^```\n)nanorand public draw 1\n.*?(?=^```$)", record(backend.VERSION)),
+        ("docs/PAGE.md", r"(?ms)(?<=^```\n)nanorand public draw 2\n.*?(?=^```$)", record()),
         ("docs/RAFFLE.md", r"(?m)^[0-9a-f]{64}(?=  nanorand\.html$)", page),
         ("CHANGELOG.md", r"(?<=The SHA-256 of `docs/nanorand\.html`: `)[0-9a-f]{64}", page),
         ("pyproject.toml", r'(?m)(?<=^Repository = ").*(?="$)', address()),

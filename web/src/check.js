@@ -3,9 +3,11 @@
 import { looksAlike } from "./alike.js";
 import { equalBytes, hex, textOf } from "./bytes.js";
 import { draw, resultOf } from "./draw.js";
-import { printed, shown } from "./entrant.js";
+import { shown } from "./entrant.js";
+import { RecordError } from "./lines.js";
 import { foreignMarked, markedPair } from "./marks.js";
-import { readRecord, RecordError, writtenSeed } from "./record.js";
+import { quoted, quotedText } from "./quoted.js";
+import { readRecord } from "./record.js";
 import { Refusal } from "./refusal.js";
 
 /**
@@ -23,10 +25,12 @@ import { Refusal } from "./refusal.js";
 
 /**
  * What was checked: the first and last line of the record in its text, how many other lines there
- * are, what the page shows of its seed, the SHA-256 of its list, its numbers and its named entrants.
+ * are, the SHA-256 of its announcement or "none", what the page shows of its seed, the SHA-256 of its
+ * list, its numbers and its named entrants.
  * @typedef {Object} Reading
  * @property {[number, number]} lines
  * @property {number} others
+ * @property {string} announcement
  * @property {(string|number[])[]} seed
  * @property {string} list
  * @property {number} entrants
@@ -70,8 +74,9 @@ function checked(outcome, findings, record = null) {
 }
 
 /** @param {import("./record.js").Record} record @returns {Reading} */
-function readingOf({ lines, others, seed, list, entrants, drawn, named }) {
-  return { lines, others, seed: foreignMarked(writtenSeed(seed)), list, entrants, drawn, named: named.map(shown) };
+function readingOf({ lines, others, announcement, seed, list, entrants, drawn, named }) {
+  const shownSeed = foreignMarked(quotedText(seed));
+  return { lines, others, announcement, seed: shownSeed, list, entrants, drawn, named: named.map(shown) };
 }
 
 /**
@@ -88,18 +93,21 @@ export function check(module, maker, list, text) {
   }
   if (list.length === 0 && record.entrants > 0) return checked("no list", [], record);
   const others = otherMakers(record, maker);
-  const findings = [...others, ...otherOfPage(record, maker)];
+  const findings = [...others, ...otherOfPage(record, maker), ...withoutModule(record)];
   const differences = differencesOf(module, list, record);
   if (differences.length > 0) return checked("differs", [...differences, ...findings], record);
   return checked(others.length > 0 ? "other module" : "agrees", findings, record);
 }
 
-/** @param {import("./record.js").Record} record @param {Maker} maker @returns {string[]} */
+/**
+ * A record of format 2 names no version, and one by the program `lots` no module.
+ * @param {import("./record.js").Record} record @param {Maker} maker @returns {string[]}
+ */
 function otherMakers(record, { version, module, otherModule }) {
   return [
-    record.version !== version &&
+    ![null, version].includes(record.version) &&
       `Another version: the record names ${record.version}, this page has ${version}.`,
-    ![module, otherModule].includes(record.module) &&
+    ![null, module, otherModule].includes(record.module) &&
       `Another drawing program (module): the record names ${record.module}, this page has ${module}.`,
   ].filter(Boolean);
 }
@@ -109,6 +117,13 @@ function otherOfPage(record, { otherModule, words, otherWords }) {
   return record.module !== otherModule ? [] : [
     "The record was made in a browser that runs this page's other drawing program (module), " +
       `${otherWords}. This browser runs the one ${words}. Both draw the same.`,
+  ];
+}
+
+/** Says so if the record names no module, which is not an error. @param {import("./record.js").Record} record */
+function withoutModule({ module }) {
+  return module !== null ? [] : [
+    "The record names no drawing program (module), as records of the program lots do not.",
   ];
 }
 
@@ -147,8 +162,8 @@ function differentLine(named, drawn) {
   const index = named.findIndex((entrant, place) => !equalBytes(entrant, drawn[place]));
   if (index < 0) return null;
   const two = [named[index], drawn[index]];
-  const text = `Line ${index + 1} of the result: the record says ${printed(two[0])}, ` +
-    `the draw gives ${printed(two[1])}.`;
+  const text = `Line ${index + 1} of the result: the record says ${quoted(two[0])}, ` +
+    `the draw gives ${quoted(two[1])}.`;
   const texts = two.map(textOf);
   if (texts.includes(null) || !looksAlike(...texts)) return { text };
   const [record, repeated] = markedPair(...texts);

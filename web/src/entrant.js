@@ -1,6 +1,7 @@
-// Converts an entrant to printable text and back. Entrants are bytes, which need not be text.
+// What the page shows of an entrant. Entrants are bytes, which need not be text.
 
-import { hexOfByte, isUnseen, textOf, utf8 } from "./bytes.js";
+import { isUnseen, textOf } from "./bytes.js";
+import { shownText } from "./quoted.js";
 
 /** Letters of scripts in which a joiner can change how its neighbours look: Persian, Hindi. */
 const JOINING = new RegExp(`[${[
@@ -32,29 +33,8 @@ export function isSeen(letters, place) {
   return !isUnseen(letters[place]) || joins(letters, place);
 }
 
-/** @param {Uint8Array} bytes @returns {string} \x and two digits for each byte */
-function escapedBytes(bytes) {
-  return Array.from(bytes, (byte) => `\\x${hexOfByte(byte)}`).join("");
-}
-
 /**
- * Prints an entrant. A visible character stays as it is, a backslash is doubled, and each byte of
- * an invisible character becomes \x and two hexadecimal digits. So does a space at either end and,
- * if the entrant is not UTF-8, each byte from 128 on.
- * @param {Uint8Array} bytes @returns {string}
- */
-export function printed(bytes) {
-  const text = textOf(bytes);
-  const letters = Array.from(text ?? Array.from(bytes, (byte) => String.fromCharCode(byte)));
-  return letters.map((letter, place) => {
-    if (text === null && bytes[place] >= 128) return escapedBytes([bytes[place]]);
-    if (letter === "\\") return "\\\\";
-    return isSeen(letters, place) ? letter : escapedBytes(utf8(letter));
-  }).join("");
-}
-
-/**
- * What the page shows of an entrant. One that is not UTF-8 is one printed text.
+ * What the page shows of an entrant. One that is not UTF-8 is one text with escapes.
  * @typedef {{isText: boolean, parts: (string|number|number[])[]}} Shown
  */
 
@@ -79,45 +59,15 @@ export function partsOf(letters, first = letters.length, end = letters.length) {
   return parts;
 }
 
+/** Bytes that are not UTF-8, as in a record, but with escapes for the spaces at the ends. @param {Uint8Array} bytes */
+function shownWithEnds(bytes) {
+  return shownText(bytes).replace(/^ /, "\\x20").replace(/ $/, "\\x20");
+}
+
 /** An entrant for the page to show. @param {Uint8Array} bytes @returns {Shown} */
 export function shown(bytes) {
   const text = textOf(bytes);
   return text === null
-    ? { isText: false, parts: [printed(bytes)] }
+    ? { isText: false, parts: [shownWithEnds(bytes)] }
     : { isText: true, parts: partsOf(Array.from(text)) };
-}
-
-/**
- * The pieces of a printed entrant: plain text, a doubled backslash or an escaped byte.
- * @param {string} text
- */
-function piecesOf(text) {
-  return text.match(/[^\\]+|\\\\|\\x[0-9a-f]{2}/gsu) ?? [];
-}
-
-/** The bytes that a piece stands for. @param {string} piece @returns {number[]} */
-function bytesOf(piece) {
-  if (piece === "\\\\") return [0x5c];
-  return piece[0] === "\\" ? [Number.parseInt(piece.slice(2), 16)] : Array.from(utf8(piece));
-}
-
-/** For each byte of a printed entrant, whether it is escaped. @param {string} text */
-function escapesOf(text) {
-  return piecesOf(text).flatMap((piece) => bytesOf(piece).map(() => piece.startsWith("\\x")));
-}
-
-/** Whether a text escapes every byte of an entrant that `printed` escapes. */
-function hidesNothing(text, bytes) {
-  const escapes = escapesOf(text);
-  return escapesOf(printed(bytes)).every((isEscaped, place) => !isEscaped || escapes[place]);
-}
-
-/**
- * @param {string} text a printed entrant
- * @returns {?Uint8Array} its bytes; null if it is not one, or if something in it is invisible
- */
-export function unprinted(text) {
-  if (!/^(?:[^\\]|\\\\|\\x[0-9a-f]{2})+$/su.test(text)) return null;
-  const bytes = Uint8Array.from(piecesOf(text).flatMap(bytesOf));
-  return bytes.includes(10) || !hidesNothing(text, bytes) ? null : bytes;
 }

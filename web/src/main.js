@@ -5,7 +5,7 @@ import {
   answerQuestion, askFirst, askToLeave, closeFile, cure, listBegun, listSent, listTyped, openFile, pasteLong, saveList,
   tidy, undo,
 } from "./listing.js";
-import { writtenSeed } from "./record.js";
+import { quotedText } from "./quoted.js";
 import { Refusal } from "./refusal.js";
 import {
   client, enable, fieldChanged, forgetResult, markResult, refuse, refuseHere, session,
@@ -24,7 +24,7 @@ function seedChanged() {
   const isOdd = /^\s|\s$| {2}|[^\x20-\x7e]/.test(seed);
   const advice = isOdd ? " Each space, sign and accent counts: others must type exactly the same." : "";
   const isShown = isOdd || seed.length > LONG_SEED;
-  say("seed-read", isShown ? `The seed is read as ${writtenSeed(seed)}.${advice}` : "");
+  say("seed-read", isShown ? `The seed is read as ${quotedText(seed)}.${advice}` : "");
 }
 
 /** Tells screen readers how the seed is read, once it has been typed. */

@@ -6,7 +6,8 @@ import { nameOf } from "./names.js";
 
 /** Quotation marks that word processors put in place of the plain ones. */
 const CURLY = /[\u201c-\u201f\u00ab\u00bb\u2033\uff02]/u;
-const AS_FILE = "Ask for the record as a file, or copy it as plain text.";
+/** What to do about a text that was changed on its way. */
+export const AS_FILE = "Ask for the record as a file, or copy it as plain text.";
 
 /** The first invisible character of a line that is not a plain space. @param {string} line */
 function firstInvisible(line) {
@@ -46,6 +47,7 @@ function plain(text) {
 }
 
 const TITLE_WORDS = "nanorandpublicdraw";
+const END_WORDS = "endoftherecord";
 
 /** Whether a line begins like the title of a record of this or another format. @param {string} line */
 export function isLikeTitle(line) {
@@ -59,7 +61,7 @@ function hasTitle(text) {
 
 /**
  * Whether a line outside of a record looks like one of its lines: a name of a value and a colon, the
- * number of a winner and a colon, or the number of further ones.
+ * number of a winner and a colon, the number of further ones, or the end of a record.
  * @param {string} line @param {string[]} names of the values
  */
 function isLikeLine(line, names) {
@@ -68,7 +70,7 @@ function isLikeLine(line, names) {
     const before = plain(name);
     const isNumber = /^\p{N}+$/u.test(before) && !/^\p{N}/u.test(rest[0] ?? "");
     return rest.length > 0 && (isNumber || names.some((one) => plain(one) === before)) ||
-      /^and\p{N}+more$/u.test(plain(part));
+      /^and\p{N}+more$/u.test(plain(part)) || plain(part) === END_WORDS;
   });
 }
 

@@ -1,7 +1,7 @@
 // What the steps of the page share: the worker, the result that is shown, and errors.
 
 import { Client } from "./client.js";
-import { writtenSeed } from "./record.js";
+import { quotedText } from "./quoted.js";
 import { Refusal } from "./refusal.js";
 import { fieldOf, hideResult, part, say, showRefusal, unhideResult } from "./view.js";
 
@@ -82,6 +82,6 @@ export function markResult() {
   const isOld = result !== null && !part("result").hidden &&
     (result.seed !== part("seed").value || result.count !== part("count").value);
   say("changed", isOld ? "The winners below belong to the seed and the number before this change." : "");
-  say("stale", isOld ? `These winners belong to the seed ${writtenSeed(result.seed)} and the number ` +
+  say("stale", isOld ? `These winners belong to the seed ${quotedText(result.seed)} and the number ` +
     `${result.count}, and not to what you have typed since. Press Draw to draw with that.` : "");
 }

@@ -173,7 +173,7 @@ export function showResult({ entrants, drawn, named, hasEscapes, record }) {
   const left = drawn - named.length;
   say("more", left > 0 ? `and ${grouped(left)} more, in the result that you can save` : "");
   say("escapes", hasEscapes
-    ? "In the record, \\x and two digits stand for a byte that is no visible letter, and \\\\ for one backslash." : "");
+    ? "In the record, \\x and two digits stand for a byte that is no visible letter, and \\x5c for a backslash." : "");
   part("record").replaceChildren(...withDigests(record));
 }
 
@@ -251,8 +251,10 @@ function uncheckedWords({ lines: [first, last], others }) {
 }
 
 /** What was checked. @param {import("./check.js").Reading} reading */
-function showReading({ lines: [first, last], seed, list, entrants, drawn, named }) {
+function showReading({ lines: [first, last], announcement, seed, list, entrants, drawn, named }) {
   say("reading-title", `What was checked, in lines ${first} to ${last} of the text:`);
+  say("announcement-label", announcement === "none" ? "Announcement" : "SHA-256 of the announcement");
+  say("reading-announcement", announcement);
   part("reading-seed").replaceChildren(...nodesOf(seed));
   say("reading-list", list);
   say("reading-count", `${grouped(drawn)} of ${grouped(entrants)}`);

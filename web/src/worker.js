@@ -4,11 +4,12 @@ import { fromBase64, hex } from "./bytes.js";
 import { check } from "./check.js";
 import { draw, resultOf } from "./draw.js";
 import { encodingOf } from "./encoding.js";
-import { printed, shown } from "./entrant.js";
+import { shown } from "./entrant.js";
+import { NAMED } from "./lines.js";
 import { previewOf } from "./list.js";
 import { Module, wordsOfModule } from "./module.js";
 import { questionsOf } from "./questions.js";
-import { NAMED, writeRecord } from "./record.js";
+import { writeRecord } from "./record2.js";
 import { Refusal } from "./refusal.js";
 import { tidied } from "./tidy.js";
 import { warningsOf } from "./warnings.js";
@@ -71,16 +72,17 @@ const TASKS = {
     const named = drawn.slice(0, NAMED);
     const list = hex(held.module.digest(held.list));
     const record = writeRecord({
+      announcement: "none",
       seed,
       list,
       entrants,
       drawn: drawn.length,
-      version: held.maker.version,
+      version: null,
       module: held.maker.module,
       result: hex(held.module.digest(result)),
       named,
     });
-    const hasEscapes = named.some((entrant) => printed(entrant).includes("\\"));
+    const hasEscapes = record.includes("\\");
     return { list, entrants, drawn: drawn.length, named: named.map(shown), hasEscapes, record, result };
   },
 

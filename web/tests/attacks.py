@@ -7,6 +7,7 @@ from typing import Any, Callable, Dict, List, Tuple
 
 from counts import UNSEEN, Counts, sha256
 from page import Page
+from records import FORMAT1, FORMAT2, OLD_TITLE, TITLE, Layout, old_record, without_module
 
 NAMES = ["Zoë O'Neil-Fisher", "Ada B. Ito", "Finn A1", "Chidi Ivo", "Ona Aa 7", "Max Co-op", "Sofia Ek", "Noa' Ross"]
 LIST = "".join(f"{name}\n" for name in NAMES)
@@ -55,8 +56,8 @@ const checkOne = async (text) => {
   part("check").click();
   await enabled();
   const { outcome } = part("outcome").hidden ? {} : part("outcome").dataset;
-  const reading = part("reading").hidden ? [] : ["reading-seed", "reading-list", "reading-count", "reading-drawn"]
-    .map((id) => part(id).innerText);
+  const reading = part("reading").hidden ? [] : ["announcement", "seed", "list", "count", "drawn"]
+    .map((name) => `reading-${name}`).map((id) => part(id).innerText);
   return [outcome ?? "", reading];
 };
 return (async () => {
@@ -104,9 +105,9 @@ def plain(text: str) -> str:
     return re.sub(r"[ \n]+", "", re.sub(r"[ \t\r]+$", "", text, flags=re.M))
 
 
-def mutated(rng: random.Random, record: str) -> str:
-    """The record with one to three changes: of letters, words, lines or values."""
-    for _ in range(rng.choice([1, 1, 1, 2, 3])):
+def mutated(rng: random.Random, record: str, most: int) -> str:
+    """The record with one change or up to `most` ones: of letters, words, lines or values."""
+    for _ in range(rng.randint(1, most)):
         lines = record.split("\n")
         place, line = rng.randrange(len(record)), rng.randrange(len(lines))
         other = rng.randrange(len(lines))
@@ -143,11 +144,14 @@ def checked(page: Page, texts: List[str]) -> List[Tuple[str, List[str]]]:
 
 
 def judge(counts: Counts, name: str, record: str, said: List[str], text: str, found: Tuple[str, List[str]]) -> None:
-    """A text may agree if it has the record, but for what a mail may change, and the answer shows just that."""
+    """A text may agree if it has the record, but for what a mail may change, and the answer shows just that. A record
+    of format 2 may lack the line of its module."""
     outcome, reading = found
     if outcome not in ("agrees", "other module"):
         counts.case(name, "" if outcome in ("differs", "no record") else f"{outcome!r}: {text}")
         return
+    if outcome == "agrees" and record.startswith(TITLE) and "module SHA-256: " not in text:
+        record = without_module(record)
     without = r"(?m)^(?:version|module SHA-256): .*\n" if outcome == "other module" else r"(?!)"
     has_it = plain(re.sub(without, "", record)) in plain(re.sub(without, "", text))
     titles = len(re.findall(r"nanorand public draw", text))
@@ -156,7 +160,7 @@ def judge(counts: Counts, name: str, record: str, said: List[str], text: str, fo
 
 def mutations(counts: Counts, page: Page, record: str, said: List[str]) -> None:
     rng = random.Random(78)
-    texts = [mutated(rng, record) for _ in range(NUMBER)]
+    texts = [mutated(rng, record, most) for most in (1, 3) for _ in range(NUMBER)]
     for index, (text, found) in enumerate(zip(texts, checked(page, texts))):
         judge(counts, f"mutation {index}", record, said, text, found)
 
@@ -181,9 +185,10 @@ def forged(counts: Counts, page: Page, record: str, said: List[str]) -> None:
         [(outcome, reading)] = checked(page, [text])
         counts.same(f"the answer shows what it checked: {text[:20]!r}", (outcome, reading), ("agrees", said))
         unchecked = page.browser.run("return document.getElementById('unchecked').innerText;")
-        first = text.split("\n").index(TITLES[0]) + 1
+        first = text.split("\n").index(record.split("\n")[0]) + 1
+        last = first + record.count("\n") - 1
         lines = "1 other line was" if others == 1 else f"{others} other lines were"
-        wanted = (f"Only lines {first} to {first + 15} of the text are the record. Its {lines} not checked, and may "
+        wanted = (f"Only lines {first} to {last} of the text are the record. Its {lines} not checked, and may "
                   "say anything.")
         counts.same(f"what it did not check: {others}", unchecked, wanted if others else "")
 
@@ -196,7 +201,8 @@ def beside_a_record(counts: Counts, page: Page, record: str) -> None:
         "9:Mallory", "\uff19: Mallory", "\u0669: Mallory", "9\uff1a Mallory", "9:", "\u202eyrollaM :9",
         "and\u00a01 more",
         "And 1 more", "drawn: 4", "Drawn : 4", "result SHA-256: 00", "se\u200bed: x", "s\u0435ed: x",
-        "list sha256: 00",
+        "list sha256: 00", "version: 2", "announcement SHA-256: none", "Announcement SHA256 : x", "end of the record",
+        "End of the record.", "-- end of the\u00a0record --", "end \u043ef the record",
         "1. nanorand public draw 1", "The nanorand public draw 1", "<b>nanorand public draw 1</b>",
         "nanorand public\ndraw 1", "nanorand\npublic draw 1", "nan\u0585rand public draw 1",
         "nan\u1d0frand public draw 1", "x\u2028nanorand public draw 1",
@@ -218,8 +224,9 @@ def beside_a_record(counts: Counts, page: Page, record: str) -> None:
         "wrote it."])
 
 
-def lookalikes_in_records(counts: Counts, page: Page, record: str) -> None:
+def lookalikes_in_records(counts: Counts, page: Page, layout: Layout, record: str) -> None:
     """No letter of a record can be replaced by one that looks like it."""
+    others = [layout.line(name) for name in ("version", "module SHA-256") if name in layout.names]
     texts = {}
     for name, change in LOOKALIKES.items():
         for place, letter in enumerate(record):
@@ -229,8 +236,8 @@ def lookalikes_in_records(counts: Counts, page: Page, record: str) -> None:
     for (name, place), (outcome, _) in zip(texts, checked(page, list(texts.values()))):
         right = outcome in ("no record", "differs")
         # The version and the module may be others.
-        line = record[:place].count("\n")
-        if not right and not (outcome == "other module" and line in (5, 6)):
+        line = record[:place].count("\n") + 1
+        if not right and not (outcome == "other module" and line in others):
             wrong.setdefault(name, []).append((place, outcome))
     for name in LOOKALIKES:
         counts.same(f"a record with {name}", wrong.get(name, []), [])
@@ -275,27 +282,47 @@ def lookalike_winners(counts: Counts, page: Page, record: str) -> None:
                 page.browser.run("return document.querySelectorAll('#findings mark').length;"), 0)
 
 
-def reasons(counts: Counts, page: Page, record: str) -> None:
+def reasons(counts: Counts, page: Page, layout: Layout, record: str) -> None:
     """What word processors and mail programs do to a record is said with its line."""
     curly = "The line has a curly quotation mark, {}, as word processors make it. "
     unseen = "The line has an invisible character, {}. "
+    escape = "The character U+00A0 no-break space has to be written as \\xc2\\xa0 here. "
     advice = "Ask for the record as a file, or copy it as plain text."
     value, missing = "the value of “seed” cannot be read. ", "“list SHA-256: ” is missing. "
-    title = "a record begins with “nanorand public draw 1”. "
+    title = f"a record begins with “{TITLE}” or “{OLD_TITLE}”. "
+    within = escape if layout is FORMAT2 else unseen.format("U+00A0 no-break space")
+    seed, digest, sum_of_list = layout.line("seed"), layout.line("list SHA-256"), sha256(LIST.encode())
     for before, after, line, reason in (
-            ('seed: "', "seed: “", 2, value + curly.format("“")), ('1"\n', "1”\n", 2, value + curly.format("”")),
-            ('seed: "', "seed: «", 2, value + curly.format("«")), ('seed: "', "seed: „", 2, value + curly.format("„")),
-            ("throw:", "throw\u00a0:", 2, value + unseen.format("U+00A0 no-break space")),
-            ("list SHA", "list\u00a0SHA", 3, missing + unseen.format("U+00A0 no-break space")),
-            ("SHA-256: ", "SHA-256:\u202f", 3, missing + unseen.format("U+202F narrow no-break space")),
+            ('seed: "', "seed: “", seed, value + curly.format("“")), ('1"\n', "1”\n", seed, value + curly.format("”")),
+            ('seed: "', "seed: «", seed, value + curly.format("«")),
+            ('seed: "', "seed: „", seed, value + curly.format("„")), ("throw:", "throw\u00a0:", seed, value + within),
+            ("list SHA", "list\u00a0SHA", digest, missing + unseen.format("U+00A0 no-break space")),
+            (f"SHA-256: {sum_of_list}", f"SHA-256:\u202f{sum_of_list}", digest,
+             missing + unseen.format("U+202F narrow no-break space")),
             ("public draw", "public\u00a0draw", 1, title + unseen.format("U+00A0 no-break space")),
             ("nanorand", "\ufeffnanorand", 1, title + unseen.format("U+FEFF byte order mark"))):
         shown = page.check(record.replace(before, after, 1))
         counts.same(f"{after!r} for {before!r}", (shown["outcome"], shown["findings"]),
                     ("no record", [f"Line {line}: {reason}{advice}"]))
     shown = page.check(record.replace("1: ", "1: \u200b", 1))
+    no_winner = "“1: ” and an entrant are missing. " if layout is FORMAT1 else "the value of “1” cannot be read. "
     counts.same("an invisible character of a winner", shown["findings"],
-                ["Line 9: “1: ” and an entrant are missing. " + unseen.format("U+200B zero width space") + advice])
+                [f"Line 9: {no_winner}" + unseen.format("U+200B zero width space") + advice])
+
+
+def attack(counts: Counts, page: Page, layout: Layout, record: str) -> None:
+    page.paste(LIST)
+    page.check(record)
+    [(outcome, said)] = checked(page, [record])
+    counts.same("the record itself", (outcome, said[:4]), ("agrees", [
+        "none", '"ZoëU+00EB\'s first throw: 4-1-6 3 1"', sha256(LIST.encode()), "8 of 8"]))
+    mutations(counts, page, record, said)
+    forged(counts, page, record, said)
+    beside_a_record(counts, page, record)
+    lookalikes_in_records(counts, page, layout, record)
+    lookalikes_in_lists(counts, page, record)
+    lookalike_winners(counts, page, record)
+    reasons(counts, page, layout, record)
 
 
 def run(counts: Counts, page: Page, digests: Dict[int, str]) -> None:
@@ -305,14 +332,8 @@ def run(counts: Counts, page: Page, digests: Dict[int, str]) -> None:
     shown: Dict[str, Any] = page.draw()
     record = shown["record"]
     counts.case("the module", "" if digests[64] in record else record)
-    page.check(record)
-    [(outcome, said)] = checked(page, [record])
-    counts.same("the record itself", (outcome, said[:3]), ("agrees", ['"ZoëU+00EB\'s first throw: 4-1-6 3 1"',
-                                                                      sha256(LIST.encode()), "8 of 8"]))
-    mutations(counts, page, record, said)
-    forged(counts, page, record, said)
-    beside_a_record(counts, page, record)
-    lookalikes_in_records(counts, page, record)
-    lookalikes_in_lists(counts, page, record)
-    lookalike_winners(counts, page, record)
-    reasons(counts, page, record)
+    place = counts.place
+    for layout, text in ((FORMAT2, record), (FORMAT1, old_record(record))):
+        counts.place = f"{place}, {layout.title}"
+        attack(counts, page, layout, text)
+    counts.place = place

@@ -1,4 +1,4 @@
-"""The field that checks a record: each outcome, and texts that are not records."""
+"""The field that checks a record, of format 1 or 2: each outcome, and texts that are not records."""
 
 import json
 import random
@@ -9,6 +9,7 @@ from typing import Dict, List
 
 from counts import UNSEEN, Counts, lots, sha256
 from page import Page
+from records import FORMAT1, FORMAT2, Layout, bytes_of, is_hidden, json_seed, old_record, quoted, record_of
 
 LIST = "Ada\nBarbara\nChidi\nDmitri\nElif\nFarid\nGrace\nHedy\nInes\nJun\nKatherine\nLise\n"
 SEED = "4 1 6 3 3 2 5 6 1 4 2 6 5 3 1 1 6 2 4 5"
@@ -21,7 +22,11 @@ TITLES = {
     "no list": "The record can be read. Open or paste its list above, and check again.",
 }
 OTHER_LIST = "This is not the list that the record names."
-NAMES = ["seed", "list SHA-256", "entrants", "drawn", "version", "module SHA-256", "result SHA-256"]
+
+
+def in_layout(layout: Layout, record: str) -> str:
+    """A record of format 2, or the same draw in format 1."""
+    return record if layout is FORMAT2 else old_record(record)
 
 
 def with_line(record: str, number: int, text: str) -> str:
@@ -29,6 +34,25 @@ def with_line(record: str, number: int, text: str) -> str:
     lines = record.split("\n")
     lines[number - 1] = text
     return "\n".join(lines)
+
+
+def with_value(layout: Layout, record: str, name: str, value: object) -> str:
+    """The record with another value of this name."""
+    return with_line(record, layout.line(name), f"{name}: {value}")
+
+
+def with_seed(layout: Layout, record: str, seed: str) -> str:
+    return with_value(layout, record, "seed", json_seed(seed) if layout is FORMAT1 else quoted(seed.encode()))
+
+
+def line_of(layout: Layout, number: int, entrant: str) -> str:
+    """The line of an entrant that has no escapes."""
+    return f"{number}: {entrant}" if layout is FORMAT1 else f'{number}: "{entrant}"'
+
+
+def with_entrant(layout: Layout, record: str, number: int, entrant: str) -> str:
+    """The record with another entrant drawn at this number, from 1."""
+    return with_line(record, layout.first + number - 1, line_of(layout, number, entrant))
 
 
 def outcome(counts: Counts, page: Page, name: str, record: str, wanted: str, *findings: str) -> None:
@@ -48,60 +72,83 @@ def first_record(page: Page, seed: str = SEED, count: str = "3", text: str = LIS
     return page.draw()["record"]
 
 
-def agreements(counts: Counts, page: Page, record: str, digests: Dict[int, str]) -> None:
+def agreements(counts: Counts, page: Page, layout: Layout, record: str) -> None:
     for name, text in (("as it is", record), ("no last line feed", record[:-1]),
                        ("Windows", record.replace("\n", "\r\n")),
-                       ("lines around", f"\n\n{record}\n \n"), ("spaces at ends", record.replace("\n", "  \n")),
-                       ("an escape more", record.replace("Katherine", "\\x4batherine")),
-                       ("an escaped seed", record.replace('"4 1', '"\\u0034 1'))):
+                       ("lines around", f"\n\n{record}\n \n"), ("spaces at ends", record.replace("\n", "  \n"))):
         outcome(counts, page, f"agrees: {name}", text, "agrees")
+    for name, text in (("an escape more", record.replace("Katherine", "\\x4batherine")),
+                       ("an escaped seed", record.replace('"4 1', '"\\u0034 1'))):
+        reason = ["Line "] if layout is FORMAT2 else []
+        outcome(counts, page, name, text, "no record" if layout is FORMAT2 else "agrees", *reason)
     page.open_file(LIST.encode())
     outcome(counts, page, "agrees with the file", record, "agrees")
     page.paste(LIST)
-    zero = "0" * 64
-    outcome(counts, page, "another version", with_line(record, 6, "version: 1.0.1"), "other module", "Another version:")
-    outcome(counts, page, "another module", with_line(record, 7, f"module SHA-256: {zero}"), "other module",
-            "Another drawing program (module):")
+
+
+def makers(counts: Counts, page: Page, layout: Layout, record: str, digests: Dict[int, str]) -> None:
+    """A record by the page's other module agrees, and one by another module or version is told."""
+    by_zero = with_value(layout, record, "module SHA-256", "0" * 64)
+    another = "Another drawing program (module):"
+    outcome(counts, page, "another module", by_zero, "other module", another)
+    outcome(counts, page, "another result by another module", with_entrant(layout, by_zero, 1, "Ada"), "differs",
+            'Line 1 of the result: the record says "Ada", the draw gives "Katherine".', another)
     second = record.replace(digests[64], digests[32])
     made = ("The record was made in a browser that runs this page's other drawing program (module), for 32-bit memory: "
             "built from the Rust crate, whose functions are compared with the proved ones. This browser runs the one "
             "for 64-bit memory, proved. Both draw the same.")
     outcome(counts, page, "the page's other module", second, "agrees", made)
-    outcome(counts, page, "it and another version", with_line(second, 6, "version: 1.0.1"), "other module",
-            "Another version:", made)
-    outcome(counts, page, "it and another result", with_line(second, 9, "1: Ada"), "differs",
+    outcome(counts, page, "it and another result", with_entrant(layout, second, 1, "Ada"), "differs",
             "Line 1 of the result:", made)
-    both = with_line(with_line(record, 6, "version: 2.0.0"), 7, f"module SHA-256: {zero}")
-    outcome(counts, page, "both", both, "other module", "Another version:", "Another drawing program (module):")
-    outcome(counts, page, "another result by another module", with_line(both, 9, "1: Ada"), "differs",
-            "Line 1 of the result: the record says Ada, the draw gives Katherine.", "Another version:",
-            "Another drawing program (module):")
 
 
-def differences(counts: Counts, page: Page, record: str) -> None:
+def versions(counts: Counts, page: Page, old: str, digests: Dict[int, str]) -> None:
+    """A record of format 1 names the version of the page."""
+    later = with_value(FORMAT1, old, "version", "1.0.1")
+    outcome(counts, page, "another version", later, "other module", "Another version:")
+    outcome(counts, page, "another version, the page's other module", later.replace(digests[64], digests[32]),
+            "other module", "Another version:", "The record was made in a browser")
+    both = with_value(FORMAT1, with_value(FORMAT1, old, "version", "2.0.0"), "module SHA-256", "0" * 64)
+    another = ("Another version:", "Another drawing program (module):")
+    outcome(counts, page, "both", both, "other module", *another)
+    outcome(counts, page, "another result by both", with_entrant(FORMAT1, both, 1, "Ada"), "differs",
+            'Line 1 of the result: the record says "Ada", the draw gives "Katherine".', *another)
+
+
+def differences(counts: Counts, page: Page, layout: Layout, record: str) -> None:
     sum_differs = "The SHA-256 of the result differs."
-    for line, wrong, right in ((1, "Jun", "Katherine"), (2, "jun", "Jun"), (3, "Chid", "Chidi"),
-                               (3, "Chidi\\x20", "Chidi")):
-        outcome(counts, page, f"line {line} is {wrong}", with_line(record, 8 + line, f"{line}: {wrong}"), "differs",
-                f"Line {line} of the result: the record says {wrong}, the draw gives {right}.")
-    outcome(counts, page, "two lines are swapped", with_line(with_line(record, 9, "1: Jun"), 10, "2: Katherine"),
-            "differs", "Line 1 of the result: the record says Jun, the draw gives Katherine.")
-    outcome(counts, page, "the result's sum", with_line(record, 8, f"result SHA-256: {'a' * 64}"), "differs",
-            sum_differs)
-    outcome(counts, page, "13 entrants", with_line(record, 4, "entrants: 13"), "differs",
-            "Entrants: the record says 13, this list has 12.")
-    outcome(counts, page, "another list's sum", with_line(record, 3, f"list SHA-256: {'1' * 64}"), "differs",
-            "Another list:")
-    two = "\n".join(with_line(record, 5, "drawn: 2").split("\n")[:10])
-    outcome(counts, page, "two drawn", two, "differs", sum_differs)
-    outcome(counts, page, "another seed", with_line(record, 2, 'seed: "4 1 6"'), "differs",
-            "Line 1 of the result:", sum_differs)
-    outcome(counts, page, "a space after the seed", with_line(record, 2, f"seed: {json.dumps(SEED + ' ')}"), "differs",
-            "Line 1 of the result:", sum_differs)
-    outcome(counts, page, "two spaces", with_line(record, 10, "2: Jun  Ito"), "differs",
-            "Line 2 of the result: the record says Jun  Ito, the draw gives Jun.")
-    more = record.replace("drawn: 3", "drawn: 13") + "".join(f"{k}: x\n" for k in range(4, 14))
-    outcome(counts, page, "13 drawn of 12", more, "differs", "Cannot draw 13: the list has only 12 entrants.")
+    for line, wrong, right in ((1, "Jun", "Katherine"), (2, "jun", "Jun"), (3, "Chid", "Chidi"), (2, "Jun  Ito", "Jun"),
+                               (3, "Chidi\\x20" if layout is FORMAT1 else "Chidi ", "Chidi")):
+        said = wrong.replace("\\x20", " ")
+        outcome(counts, page, f"line {line} is {wrong}", with_entrant(layout, record, line, wrong), "differs",
+                f'Line {line} of the result: the record says "{said}", the draw gives "{right}".')
+    swapped = with_entrant(layout, with_entrant(layout, record, 1, "Jun"), 2, "Katherine")
+    outcome(counts, page, "two lines are swapped", swapped, "differs",
+            'Line 1 of the result: the record says "Jun", the draw gives "Katherine".')
+    for name, value, reason in (("result SHA-256", "a" * 64, sum_differs),
+                                ("entrants", 13, "Entrants: the record says 13, this list has 12."),
+                                ("list SHA-256", "1" * 64, "Another list:")):
+        outcome(counts, page, f"{name} is {value}", with_value(layout, record, name, value), "differs", reason)
+    two = with_value(layout, record, "drawn", 2).split("\n")
+    two = [*two[:layout.first + 1], *layout.end]
+    outcome(counts, page, "two drawn", "\n".join(two), "differs", sum_differs)
+    for seed in ("4 1 6", f"{SEED} "):
+        outcome(counts, page, f"the seed is {seed!r}", with_seed(layout, record, seed), "differs",
+                "Line 1 of the result:", sum_differs)
+    more = [*with_value(layout, record, "drawn", 13).split("\n")[:layout.first + 2],
+            *(line_of(layout, number, "x") for number in range(4, 14)), *layout.end]
+    if layout is FORMAT1:
+        outcome(counts, page, "13 drawn of 12", "\n".join(more), "differs",
+                "Cannot draw 13: the list has only 12 entrants.")
+    else:
+        outcome(counts, page, "13 drawn of 12", "\n".join(more), "no record",
+                "Line 6: 13 of 12 entrants cannot be drawn.")
+        outcome(counts, page, "13 drawn of 13", with_value(layout, "\n".join(more), "entrants", 13), "differs",
+                "Cannot draw 13: the list has only 12 entrants.")
+    other_lists(counts, page, record)
+
+
+def other_lists(counts: Counts, page: Page, record: str) -> None:
     for name, text in (("another order", LIST.replace("Ada\nBarbara", "Barbara\nAda")),
                        ("no last line feed", LIST[:-1]), ("one more", LIST + "Max\n"),
                        ("a space", LIST.replace("Ada", "Ada "))):
@@ -114,44 +161,73 @@ def differences(counts: Counts, page: Page, record: str) -> None:
     page.paste(LIST)
 
 
-def no_records(counts: Counts, page: Page, record: str) -> None:
-    def no(name: str, text: str, line: int) -> None:
-        outcome(counts, page, f"no record: {name}", text, "no record", f"Line {line}: ")
+def no(counts: Counts, page: Page, name: str, text: str, line: int) -> None:
+    """The text is not a record, and the page names this line."""
+    outcome(counts, page, f"no record: {name}", text, "no record", f"Line {line}: ")
 
+
+def no_records(counts: Counts, page: Page, record: str) -> None:
+    """Texts without a title, and with one of an unknown format."""
+    for name, text in (("empty", ""), ("white", " \n\t\r\n"), ("words", "hello"), ("huge", "x" * 3_000_000),
+                       ("many lines", "x\n" * 200_000)):
+        no(counts, page, name, text, 1)
+    for title in ("nanorand public draw 3", "nanorand public draw 0", "nanorand public draw 02",
+                  "nanorand public draw 1.0", "nanorand public draw 12", "<script>alert(1)</script>"):
+        no(counts, page, f"the title {title}", with_line(record, 1, title), 1)
+
+
+def wrong_lines(counts: Counts, page: Page, layout: Layout, record: str) -> None:
+    """Lines that are missing, doubled, swapped or indented."""
     lines = record[:-1].split("\n")
-    no("empty", "", 1)
-    no("white", " \n\t\r\n", 1)
-    no("words", "hello", 1)
-    no("huge", "x" * 3_000_000, 1)
-    no("many lines", "x\n" * 200_000, 1)
-    no("a later format", with_line(record, 1, "nanorand public draw 2"), 1)
-    no("mark-up", with_line(record, 1, "<script>alert(1)</script>"), 1)
+    # Without the module's line the record is one of the program `lots`.
+    module = layout.line("module SHA-256") if layout is FORMAT2 else 0
     for number in range(1, len(lines) + 1):
-        no(f"cut before line {number}", "\n".join(lines[:number - 1]), 1 if number == 1 else number)
-        without = lines[:number - 1] + lines[number:]
-        no(f"without line {number}", "\n".join(without), number)
+        no(counts, page, f"cut before line {number}", "\n".join(lines[:number - 1]), number)
+        if number != module:
+            no(counts, page, f"without line {number}", "\n".join(lines[:number - 1] + lines[number:]), number)
         for space in (" ", "\t", "\u00a0", "\ufeff"):
-            no(f"{space!r} before line {number}", with_line(record, number, space + lines[number - 1]), number)
-        no(f"line {number} twice", "\n".join(lines[:number] + lines[number - 1:]), number + 1)
-    for number, name in enumerate(NAMES, 2):
+            no(counts, page, f"{space!r} before line {number}",
+               with_line(record, number, space + lines[number - 1]), number)
+        no(counts, page, f"line {number} twice", "\n".join(lines[:number] + lines[number - 1:]), number + 1)
+    for number, name in enumerate(layout.names, 2):
         swapped = lines[:]
         swapped[number - 1], swapped[number] = lines[number], lines[number - 1]
-        no(f"lines {number} and {number + 1} swapped", "\n".join(swapped), number)
+        at = number + 1 if number == module else number
+        no(counts, page, f"lines {number} and {number + 1} swapped", "\n".join(swapped), at)
         for value in ("", "x", "null", "-1", "[]", "{}"):
-            no(f"{name} is {value!r}", with_line(record, number, f"{name}: {value}"), number)
-    bad = {2: ['""', '"', '"a', 'a"', "'a'", '"\\ud800"', '"a" "b"', '["a"]', "7", '"\\x41"', ' "a"', '\t"a"',
-               *(f'"a{letter}b"' for letter in UNSEEN)],
-           3: ["A" * 64, "a" * 63, "a" * 65, "g" * 64], 4: ["012", "1e3", "+1", "1.0", "9" * 16, "9" * 100000],
-           5: ["0003", "٣", "9" * 15], 6: ["1.0", "1.0.0.0", "v1.0.0", "1.0.x"], 8: ["F" * 64, "0x" + "a" * 62]}
-    for number, values in bad.items():
-        for value in values:
-            line = 12 if value == "9" * 15 else number
-            no(f"line {number} is {value[:20]}", with_line(record, number, f"{NAMES[number - 2]}: {value}"), line)
-    for text in ("1: ", "1:", "01: Katherine", "2: Katherine", "1. Katherine", "1: Kath\\erine", "1: Kath\\x4",
-                 "1: Kath\\X4B", "1: \\x0a", "1: a\\"):
-        no(f"the entrant {text!r}", with_line(record, 9, text), 9)
-    for text in (*(f"Kath{letter}erine" for letter in UNSEEN), " Katherine", "é\\xff", "\\xe2\\x80\u200b"):
-        no(f"the entrant {text!r}, unescaped", with_line(record, 9, f"1: {text}"), 9)
+            no(counts, page, f"{name} is {value!r}", with_value(layout, record, name, value), number)
+
+
+# Values that no record of either format has.
+WRONG = {
+    "announcement SHA-256": ["None", "NONE", "no", "A" * 64, "a" * 63, "a" * 65, "none none", '"none"'],
+    "seed": ['""', '"', '"a', 'a"', "'a'", '"\\ud800"', '["a"]', "7", '"\\x41"', ' "a"', '\t"a"', '"\\"', '"\\x5"',
+             *(f'"a{letter}b"' for letter in UNSEEN)],
+    "list SHA-256": ["A" * 64, "a" * 63, "a" * 65, "g" * 64],
+    "entrants": ["012", "1e3", "+1", "1.0", "9" * 16, "9" * 100000, "00"],
+    "drawn": ["0003", "\u0663"],
+    "version": ["1.0", "1.0.0.0", "v1.0.0", "1.0.x"],
+    "module SHA-256": ["F" * 64, "none"],
+    "result SHA-256": ["F" * 64, "0x" + "a" * 62],
+}
+
+
+def wrong_values(counts: Counts, page: Page, layout: Layout, record: str) -> None:
+    for name in layout.names:
+        for value in WRONG[name]:
+            no(counts, page, f"{name} is {value[:20]}", with_value(layout, record, name, value), layout.line(name))
+    first = layout.first
+    for text in ("1: ", "1:", "01: Katherine", '01: "Katherine"', "2: Katherine", '2: "Katherine"', "1. Katherine",
+                 "1: Kath\\erine", '1: "Kath\\erine"', "1: Kath\\x4", '1: "Kath\\x4"', "1: Kath\\X4B",
+                 '1: "Kath\\X4B"', "1: \\x0a", '1: "\\x0a"', "1: a\\", '1: "a\\"',
+                 *([] if layout is FORMAT1 else ['1: ""'])):
+        no(counts, page, f"the entrant {text!r}", with_line(record, first, text), first)
+    for entrant in (*(f"Kath{letter}erine" for letter in UNSEEN), "\u00e9\\xff", "\\xe2\\x80\u200b"):
+        no(counts, page, f"the entrant {entrant!r}, unescaped", with_entrant(layout, record, 1, entrant), first)
+    if layout is FORMAT1:
+        no(counts, page, "two seeds", with_value(layout, record, "seed", '"a" "b"'), 2)
+        no(counts, page, "a space before an entrant", with_entrant(layout, record, 1, " Katherine"), first)
+        no(counts, page, "more drawn than there are lines", with_value(layout, record, "drawn", "9" * 15), first + 3)
 
 
 def folded(line: str, width: int) -> str:
@@ -159,52 +235,50 @@ def folded(line: str, width: int) -> str:
     return "\n".join(textwrap.wrap(line, width)) or line
 
 
-def records_of_mails(counts: Counts, page: Page) -> None:
+def records_of_mails(counts: Counts, page: Page, layout: Layout) -> None:
     """Records as mails contain them: quoted, with text around, and folded."""
     long_names = "".join(f"{name} {' '.join(['of the house at the river'] * 5)}\n" for name in ("Ada", "Max", "Zoë"))
     for name, text in (("short", LIST), ("long", long_names)):
-        record = first_record(page, SEED + " 6" * 40, "3", text)
+        record = in_layout(layout, first_record(page, SEED + " 6" * 40, "3", text))
         ways = {"quoted": "> " + record.replace("\n", "\n> "), "quoted twice": ">> " + record.replace("\n", "\n>> "),
                 "quoted with spaces": "> > " + record.replace("\n", "\n> > "),
                 "text above": f"Dear all,\n\nthe record:\n{record}", "text below": f"{record}\nYours\n1. the clerk\n",
                 "text right below": f"{record}Yours, the clerk of this town\n",
                 "text around, quoted": "On Friday she wrote:\n> " + record.replace("\n", "\n> ") + "\n\nThanks\n"}
         for width in (46, 60, 72, 78):
-            if width > 50 or name == "short":
+            if width > 50 or name == "short" or layout is FORMAT2:
                 ways[f"folded at {width}"] = "\n".join(folded(line, width) for line in record.split("\n"))
         for way, mail in ways.items():
-            if not (name == "long" and way == "text right below"):
+            if not (name == "long" and way == "text right below" and layout is FORMAT1):
                 outcome(counts, page, f"{name}, {way}", mail, "agrees")
                 outcome(counts, page, f"{name}, {way}, Windows", mail.replace("\n", "\r\n"), "agrees")
+        start = "3: " if layout is FORMAT1 else '3: "'
         for way in ("quoted", "text around, quoted", "folded at 60"):
-            other = ways[way].replace("3: ", "3: x", 1)
+            other = ways[way].replace(start, f"{start}x", 1)
             outcome(counts, page, f"{name}, {way}, of another", other, "differs", "Line 3 of")
 
 
-def long_records(counts: Counts, page: Page) -> None:
+def long_records(counts: Counts, page: Page, layout: Layout) -> None:
     """If more than 1000 entrants are drawn, a record names the first 1000."""
     text = "".join(f"{number}\n" for number in range(1500))
-    record = first_record(page, "seed", "1200", text)
-    counts.same("a long record ends", record.split("\n")[-2], "and 200 more")
+    record = in_layout(layout, first_record(page, "seed", "1200", text))
+    lines = record.split("\n")
+    counts.same("a long record ends", lines[1008:], ["and 200 more", *layout.end, ""])
     outcome(counts, page, "a long record", record, "agrees")
-    for end in ("and 199 more", "and 201 more", "and 200 others", "1001: 7"):
+    for end in ("and 199 more", "and 201 more", "and 200 others", "and 0200 more", line_of(layout, 1001, "7")):
         changed = record.replace("and 200 more", end)
         outcome(counts, page, f"a long record ends with {end}", changed, "no record", "Line 1009:")
-    outcome(counts, page, "a line after it", record + "1001: 7", "no record", "Line 1010:")
-    outcome(counts, page, "another end after it", record + "and 200 more", "no record", "Line 1010:")
-    number = record.split("\n")[1007]
-    changed = record.replace(f"\n{number}\n", "\n1000: 9999\n")
-    outcome(counts, page, "the last one named", changed, "differs", "Line 1000 of")
-    outcome(counts, page, "the sum of those not named", with_line(record, 8, f"result SHA-256: {'b' * 64}"), "differs",
-            "The SHA-256 of the result differs.")
+    for after in (line_of(layout, 1001, "7"), "and 200 more"):
+        outcome(counts, page, f"{after} after it", record + after, "no record", f"Line {len(lines)}:")
+    outcome(counts, page, "the last one named", with_line(record, 1008, line_of(layout, 1000, "9999")), "differs",
+            "Line 1000 of")
+    outcome(counts, page, "the sum of those not named", with_value(layout, record, "result SHA-256", "b" * 64),
+            "differs", "The SHA-256 of the result differs.")
 
 
-def of_no_entrants(counts: Counts, page: Page) -> None:
+def of_no_entrants(counts: Counts, page: Page, layout: Layout, module: str) -> None:
     """An empty list has no entrants, and `lots` draws all of them, which a record can say."""
-    lines = first_record(page, "seed", "all", "a\n").split("\n")
-    lines[2:5] = [f"list SHA-256: {sha256(b'')}", "entrants: 0", "drawn: 0"]
-    lines[7:9] = [f"result SHA-256: {sha256(b'')}"]
-    record = "\n".join(lines)
+    record = in_layout(layout, record_of("seed", b"", b"", module))
     page.paste("")
     outcome(counts, page, "a record of no entrants", record, "agrees")
     page.paste(LIST)
@@ -218,32 +292,34 @@ def seeds_survive(counts: Counts, page: Page, program: str) -> None:
              "\ufeffx", "\U000e0041", "漢字", f"a{UNSEEN[1:]}b"]
     for seed in seeds:
         record = first_record(page, seed, "all")
-        line = record.split("\n")[1]
-        visible = all(letter.isprintable() and letter not in UNSEEN for letter in line)
-        right = visible and json.loads(line[6:]) == seed
+        line = record.split("\n")[2]
+        right = not any(map(is_hidden, line)) and bytes_of(line[len("seed: "):]).decode() == seed
         if "\0" not in seed:
             right = right and sha256(lots(program, seed, "all", LIST.encode()).output) in record
         counts.case(f"the seed {seed!r}", "" if right else record)
-        outcome(counts, page, f"a check of the seed {seed!r}", record.replace("\n", "\r\n"), "agrees")
-        unescaped = record.replace(line, f"seed: {json.dumps(seed, ensure_ascii=False)}")
-        if unescaped != record:
-            outcome(counts, page, f"the seed {seed!r} unescaped", unescaped, "no record", "Line 2: ")
+        for layout in (FORMAT2, FORMAT1):
+            text = in_layout(layout, record)
+            outcome(counts, page, f"a check of the seed {seed!r}", text.replace("\n", "\r\n"), "agrees")
+            written = json.dumps(seed, ensure_ascii=False) if layout is FORMAT1 else f'"{seed}"'
+            unescaped = with_value(layout, text, "seed", written)
+            if unescaped != text:
+                outcome(counts, page, f"the seed {seed!r} unescaped", unescaped, "no record",
+                        f"Line {layout.line('seed')}: ")
 
 
-def seed_of_lines(counts: Counts, page: Page, program: str, record: str) -> None:
+def seed_of_lines(counts: Counts, page: Page, program: str, module: str) -> None:
     """A seed with line feeds, which a field does not accept, is read from a record."""
     for seed in ("\n", "a\nb\n"):
-        drawn = lots(program, seed, "3", LIST.encode()).output
-        lines = record.split("\n")
-        lines[1], lines[7] = f"seed: {json.dumps(seed)}", f"result SHA-256: {sha256(drawn)}"
-        lines[8:11] = [f"{number}: {name}" for number, name in enumerate(drawn.decode().splitlines(), 1)]
-        outcome(counts, page, f"a record with the seed {seed!r}", "\n".join(lines), "agrees")
+        record = record_of(seed, LIST.encode(), lots(program, seed, "3", LIST.encode()).output, module)
+        for layout in (FORMAT2, FORMAT1):
+            outcome(counts, page, f"a record with the seed {seed!r}", in_layout(layout, record), "agrees")
 
 
-def broken_records(counts: Counts, page: Page, record: str) -> None:
+def broken_records(counts: Counts, page: Page, layout: Layout, record: str) -> None:
     """Records with a changed character agree only if they still have the same meaning."""
     rng = random.Random(37)
     letters: List[str] = list("0123456789abcdefx\\\":. \n") + ["é", "\u0000"]
+    others = [layout.line(name) for name in ("version", "module SHA-256") if name in layout.names]
     for _ in range(60):
         place = rng.randrange(len(record) - 1)
         letter = rng.choice(letters)
@@ -252,14 +328,14 @@ def broken_records(counts: Counts, page: Page, record: str) -> None:
             continue
         found = page.check(changed)["outcome"]
         line = record[:place].count("\n") + 1
-        allowed = {"no record", "differs"} | ({"other module"} if line in (6, 7) else set())
+        allowed = {"no record", "differs"} | ({"other module"} if line in others else set())
         counts.case(f"letter {place} changed to {letter!r}", "" if found in allowed else str(found))
 
 
 def record_of_document(counts: Counts, record: str) -> None:
     """The record in docs/PAGE.md is the example's."""
     document = (Path(__file__).resolve().parents[2] / "docs/PAGE.md").read_text(encoding="utf-8")
-    found = re.search(r"^```\n(nanorand public draw 1\n.*?)^```$", document, re.M | re.S)
+    found = re.search(r"^```\n(nanorand public draw 2\n.*?)^```$", document, re.M | re.S)
     counts.same("the record of docs/PAGE.md", found[1], record)
 
 
@@ -267,12 +343,22 @@ def run(counts: Counts, page: Page, program: str, digests: Dict[int, str]) -> No
     page.load()
     record = first_record(page)
     record_of_document(counts, record)
-    agreements(counts, page, record, digests)
-    differences(counts, page, record)
     no_records(counts, page, record)
-    broken_records(counts, page, record)
-    records_of_mails(counts, page)
-    long_records(counts, page)
-    of_no_entrants(counts, page)
+    place = counts.place
+    for layout in (FORMAT2, FORMAT1):
+        counts.place = f"{place}, {layout.title}"
+        page.paste(LIST)
+        text = in_layout(layout, record)
+        agreements(counts, page, layout, text)
+        makers(counts, page, layout, text, digests)
+        differences(counts, page, layout, text)
+        wrong_lines(counts, page, layout, text)
+        wrong_values(counts, page, layout, text)
+        broken_records(counts, page, layout, text)
+        records_of_mails(counts, page, layout)
+        long_records(counts, page, layout)
+        of_no_entrants(counts, page, layout, digests[64])
+    counts.place = place
+    versions(counts, page, old_record(record), digests)
     seeds_survive(counts, page, program)
-    seed_of_lines(counts, page, program, record)
+    seed_of_lines(counts, page, program, digests[64])

@@ -205,7 +205,7 @@ def encodings(counts: Counts, page: Page) -> None:
     page.open_file(b"PK\x03\x04\x14\0\x06\0\x08\0\xff\n\n\x01\x02")
     counts.same("a spreadsheet with an empty line", page.facts(keep=False)["list"], no_text)
     for start in (b"%PDF-1.7\n", b"{\\rtf1 ", b"<!doctype html>", b"<?xml ?>", b"BEGIN:VCARD\n",
-                  b"nanorand public draw 1\n"):
+                  b"nanorand public draw 1\n", b"nanorand public draw 2\n"):
         asked(counts, page, f"a document {start!r}", start + b"Ada\n", [[no_text, [], choices[1:]]])
     asked(counts, page, "UTF-8 with a byte 0", b"a\0b\nc\nd", [[no_text, [], choices[1:]]])
     for text in ("Иван", "Иван\n", "Иван\nОлег Попов\n", "عمر\nزينب\n", "राम\n", "山田\n花子 太郎\n", "Āda\nĒva\n",
@@ -480,14 +480,14 @@ def what_was_checked(counts: Counts, page: Page) -> None:
     page.check(f"Dear all,\n\n{shown['record']}\nYours\n")
     found = page.browser.run("""return ["reading-title", "reading-seed", "reading-list", "reading-count"].map((id) =>
         document.getElementById(id).innerText);""")
-    counts.same("what was checked", found, ["What was checked, in lines 3 to 22 of the text:", f'"{SEED}"',
+    counts.same("what was checked", found, ["What was checked, in lines 3 to 23 of the text:", f'"{SEED}"',
                                             sha256(LIST.encode()), "12 of 340"])
     winners = "return Array.from(document.querySelectorAll('#reading-drawn li'), (item) => item.textContent);"
     counts.same("the winners that were checked", page.browser.run(winners), shown["drawn"])
     page.fill("\u0410\u200b1", "all")
     page.check(page.draw()["record"])
     seed = page.browser.run("return document.getElementById('reading-seed').innerText;")
-    counts.same("a seed with a letter that looks like another", seed, '"\u0410U+0410\\u200b1"')
+    counts.same("a seed with a letter that looks like another", seed, '"\u0410U+0410\\xe2\\x80\\x8b1"')
     counts.same("at most a hundred are shown", len(page.browser.run(winners)), 100)
     more = page.browser.run("return document.getElementById('reading-more').textContent;")
     counts.same("the others are counted", more, "and 240 more")

@@ -1,18 +1,17 @@
 """Draws of the page, compared with those of the program `lots`."""
 
-import json
 import random
 import time
 from pathlib import Path
 from typing import Any, Dict, List
 
-from counts import VERSION, Counts, bytes_of, lines_of, lots, sha256
+from counts import Counts, bytes_of, lines_of, lots, sha256
 from drivers import CONTROL
 from page import Page
+from records import NAMED, record_of
 
 ALPHABETS = [(0x30, 0x3A), (0x20, 0x7F), (0xA0, 0x800), (0x800, 0xD800), (0x10000, 0x110000), (0x01, 0x0D)]
 LENGTHS = [1, 2, 5, 20, 31, 32, 33, 55, 56, 57, 63, 64, 65, 119, 120, 200]
-NAMED = 1000
 LONG = 600_000
 ROOM = 65536
 # Records the addresses of files, and what is to be done later.
@@ -50,34 +49,6 @@ def a_count(rng: random.Random, size: int) -> str:
     return "0" * rng.choice([0, 0, 0, 1, 30]) + str(number)
 
 
-def record_of(seed: str, data: bytes, result: bytes, module: str) -> Dict[str, Any]:
-    """What a record has to contain."""
-    drawn = lines_of(result)
-    return {
-        "title": "nanorand public draw 1", "seed": seed, "list SHA-256": sha256(data),
-        "entrants": str(len(lines_of(data))), "drawn": str(len(drawn)), "version": VERSION,
-        "module SHA-256": module, "result SHA-256": sha256(result), "named": drawn[:NAMED],
-        "more": f"and {len(drawn) - NAMED} more" if len(drawn) > NAMED else "",
-    }
-
-
-def record_read(text: str) -> Dict[str, Any]:
-    """The content of a record, read by other code than the page's."""
-    lines = text.split("\n")
-    said: Dict[str, Any] = {"title": lines[0], "more": ""}
-    for line in lines[1:8]:
-        name, value = line.split(": ", 1)
-        said[name] = json.loads(value) if name == "seed" else value
-    rest = lines[8:-1]
-    if rest and rest[-1].startswith("and "):
-        said["more"] = rest.pop()
-    numbers = [line.split(": ", 1) for line in rest]
-    said["named"] = [bytes_of(value) for _, value in numbers]
-    if lines[-1] != "" or [number for number, _ in numbers] != [str(k + 1) for k in range(len(numbers))]:
-        said["named"] = ["the numbers are wrong"]
-    return said
-
-
 def compare(counts: Counts, page: Page, program: str, module: str, name: str,
             seed: str, count: str, data: bytes) -> Dict[str, Any]:
     """Draws in the page, whose list, seed and count are set already, and with the program. The page refuses to draw
@@ -91,10 +62,12 @@ def compare(counts: Counts, page: Page, program: str, module: str, name: str,
     if ran.status != 0 or errors or not shown["record"]:
         counts.case(name, f"status {ran.status}, the page says {errors}")
         return shown
-    wanted, found = record_of(seed, data, ran.output, module), record_read(shown["record"])
-    wrong = [f"{key}: {found.get(key)!r} and not {value!r}" for key, value in wanted.items()
-             if found.get(key) != value]
-    if [bytes_of(line) for line in shown["drawn"]] != wanted["named"]:
+    wanted = record_of(seed, data, ran.output, module)
+    wrong = [f"{line!r} and not {right!r}" for line, right in zip(shown["record"].split("\n"), wanted.split("\n"))
+             if line != right][:3]
+    if not wrong and shown["record"] != wanted:
+        wrong.append("the record has another length")
+    if [bytes_of(line) for line in shown["drawn"]] != lines_of(ran.output)[:NAMED]:
         wrong.append("the result shown is another")
     counts.case(name, "; ".join(wrong))
     return shown

@@ -127,8 +127,8 @@ def failing(task: str) -> "Dict[str, Tuple[List[Any], str]]":
 def outcome_of(name: str) -> Dict[str, Any]:
     """An answer to a check. Some have findings."""
     findings = {"agrees": [], "no list": [], "no record": ["one"]}.get(name, ["one", "two"])
-    reading = {"lines": [1, 9], "seed": ["a seed"], "list": "a sum", "entrants": 9, "drawn": len(findings),
-               "named": [{"isText": True, "parts": [finding]} for finding in findings]}
+    reading = {"lines": [1, 9], "announcement": "none", "seed": ["a seed"], "list": "a sum", "entrants": 9,
+               "drawn": len(findings), "named": [{"isText": True, "parts": [finding]} for finding in findings]}
     return {"outcome": name, "title": f"what {name} says", "findings": [{"text": finding} for finding in findings],
             "reading": None if name == "no record" else reading}
 
@@ -255,7 +255,7 @@ def lists(counts: Counts, page: Page) -> None:
         counts.same(f"a list, {reason}: a check", page.check("no record")["outcome"], "")
         draws_again(counts, page, f"a list, {reason}")
     page.load()
-    record = "nanorand public draw 1\n"
+    record = "nanorand public draw 2\n"
     page.paste("a\n\n")
     counts.same("a check by a bad list", page.check(record)["outcome"], "")
     counts.same("its focus", page.browser.run("return document.activeElement.id;"), "list-text")

@@ -7,6 +7,7 @@ from typing import List
 
 from counts import Counts, sha256
 from page import Page
+from records import quoted
 from said import grouped
 
 # Pastes a text as the keyboard does. A script may not do this with the browser's own clipboard.
@@ -244,7 +245,7 @@ def joined_letters(counts: Counts, page: Page) -> None:
     record = page.shown()["record"]
     for entrant, shown in wanted.items():
         if entrant == shown:
-            counts.case(f"{entrant!r} in a record", "" if f": {entrant}\n" in record else record)
+            counts.case(f"{entrant!r} in a record", "" if f": {quoted(entrant.encode())}\n" in record else record)
 
 
 def shown_by_name(page: Page, entrants: List[str]) -> List[str]:
@@ -263,7 +264,7 @@ def letters_by_name(counts: Counts, page: Page) -> None:
     counts.same("letters by name", sorted(shown_by_name(page, list(SHOWN))), sorted(SHOWN.values()))
     record = page.shown()["record"]
     for entrant in list(SHOWN)[:7]:
-        counts.case(f"{entrant!r} in a record", "" if f": {entrant}\n" in record else record)
+        counts.case(f"{entrant!r} in a record", "" if f": {quoted(entrant.encode())}\n" in record else record)
     counts.same("its check", page.check(record)["outcome"], "agrees")
 
 

@@ -272,9 +272,10 @@ def said_of_lists(counts: Counts, page: Page) -> None:
         found = shown["warnings"]
         right = len(found) == len(begins) and all(one.startswith(begin) for one, begin in zip(found, begins))
         counts.case(f"warnings of {data!r}", "" if right else str(found))
-    for seed, read in (("plain seed", ""), (" x", 'The seed is read as " x".'), ("x\t", 'The seed is read as "x\\t".'),
-                       ("4 1  6", 'The seed is read as "4 1  6".'), ("   x", 'The seed is read as "   x".'),
-                       ("é", 'The seed is read as "é".'), ("\u200b", 'The seed is read as "\\u200b".')):
+    for seed, read in (("plain seed", ""), (" x", 'The seed is read as " x".'),
+                       ("x\t", 'The seed is read as "x\\x09".'), ("4 1  6", 'The seed is read as "4 1  6".'),
+                       ("   x", 'The seed is read as "   x".'),
+                       ("é", 'The seed is read as "é".'), ("\u200b", 'The seed is read as "\\xe2\\x80\\x8b".')):
         page.fill(seed)
         shown = page.shown()["read"]
         right = shown.startswith(read) and bool(read) == bool(shown)

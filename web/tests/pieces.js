@@ -52,15 +52,18 @@ function statuses() {
 }
 
 const RECORD = {
-  seed: "a seed", list: "0".repeat(64), entrants: 9, drawn: 1, version: "1.0.0", module: "1".repeat(64),
-  result: "2".repeat(64), named: [utf8("Ada")],
+  announcement: "none", seed: "a seed", list: "0".repeat(64), entrants: 9, drawn: 1, version: null,
+  module: "1".repeat(64), result: "2".repeat(64), named: [utf8("Ada")],
 };
+const RECORD1 = { ...RECORD, version: "1.0.0" };
+/** Each format with a record, what writes it, and the names of its values. */
+const BOTH = [[1, RECORD1, writeRecord1, FORMAT1.names], [2, RECORD, writeRecord, FORMAT2.names]];
 
 function versions() {
   for (const [number, version] of [[0, "0.0.0"], [99, "0.0.99"], [100, "0.1.0"], [10000, "1.0.0"], [10203, "1.2.3"],
     [109900, "10.99.0"], [123456, "12.34.56"], [9999999, "999.99.99"]]) {
     same(`version ${number}`, moduleOf({ nanorand_v1_version: () => number }).version(), version);
-    same(`a record of ${version}`, readRecord(writeRecord({ ...RECORD, version })).version, version);
+    same(`a record of ${version}`, readRecord(writeRecord1({ ...RECORD, version })).version, version);
   }
 }
 
@@ -73,31 +76,51 @@ function namedIn(text) {
   }
 }
 
-/** Lines of every length, folded once, twice or not at all, with text directly below. */
-function folds() {
+/** In format 1 a long line goes on in the next one. Lines of every length, with text directly below. */
+function folds1() {
   for (let length = 40; length < 60; length += 1) {
     const line = "x".repeat(length);
     const isLong = 3 + length >= 50;
     for (const [number, more] of [["", ""], ["\nYours", " Yours"], ["\nYours\nthe clerk", " Yours"]]) {
-      const record = writeRecord({ ...RECORD, named: [utf8(line)] }).trimEnd();
+      const record = writeRecord1({ ...RECORD1, named: [utf8(line)] }).trimEnd();
       same(`${length} letters, then ${number}`, namedIn(record + number), [line + (isLong ? more : "")]);
     }
-    const record = writeRecord({ ...RECORD, named: [utf8("y".repeat(50))] }).trimEnd();
+    const record = writeRecord1({ ...RECORD1, named: [utf8("y".repeat(50))] }).trimEnd();
     const wanted = `${"y".repeat(50)} ${line}${length >= 50 ? " Yours" : ""}`;
     same(`a fold, ${length} letters and more`, namedIn(`${record}\n${line}\nYours\nthe clerk`), [wanted]);
   }
 }
 
+/** In format 2 a value goes on until its closing quotation mark. It is folded at any of its spaces, once or more. */
+function folds2() {
+  const words = "Ada \"the\" first of a\\b and c".split(" ");
+  const text = words.join(" ");
+  const record = writeRecord({ ...RECORD, seed: text, named: [utf8(text)] });
+  for (let folds = 0; folds < 2 ** (words.length - 1); folds += 1) {
+    const folded = words.map((word, place) => word + ((folds >> place) % 2 === 0 ? " " : "\n")).join("").slice(0, -1);
+    // A quotation mark at the end of a line ends the value.
+    const isCut = /"$/m.test(folded);
+    const found = namedIn(record.replaceAll(text.replace("\\", "\\x5c"), folded.replace("\\", "\\x5c")));
+    same(`folded: ${folded}`, found, isCut ? 4 + folded.slice(0, folded.indexOf("\"\n")).split("\n").length - 1 : [text]);
+  }
+  const open = writeRecord(RECORD).replace("\"Ada\"", "\"Ada");
+  for (const below of ["", "Yours\n", "\"\n", "2: \"\n"]) same(`no mark, and ${below}`, namedIn(open + below), 9);
+}
+
 /** A line is continued by whatever follows it, except the beginning of another line of a record. */
 function continuations() {
+  for (const [number, base, write] of BOTH) continued(number, base, write);
+}
+
+function continued(number, base, write) {
   const words = "x".repeat(60);
   for (const next of ["12:30 by the exchange", "3:1", "7:", ":", ": x", "1 : x", "a: b", "seed:", "seeds: 1", "-1: x",
     "and 5 more", "1.: x", "drawn", "entrants 9"]) {
     const seed = `${words} ${next}`;
-    const record = writeRecord({ ...RECORD, seed, named: [utf8(seed)] });
+    const record = write({ ...base, seed, named: [utf8(seed)] });
     const folded = record.replace(new RegExp(`${words} `, "g"), `${words}\n`);
     const read = readRecord(folded);
-    same(`a fold before ${next}`, [read.seed, ...read.named.map(textOf)], [seed, seed]);
+    same(`format ${number}, a fold before ${next}`, [read.seed, ...read.named.map(textOf)], [seed, seed]);
   }
 }
 
@@ -129,21 +152,29 @@ async function starts() {
 function restOfLong() {
   for (const length of [1, 43, 44, 50, 200]) {
     for (const left of [1, 5, 10 ** 6]) {
-      const named = Array.from({ length: NAMED }, (_, place) => utf8(`${place} ${"x".repeat(length)}`));
-      const record = writeRecord({ ...RECORD, entrants: 10 ** 7, drawn: NAMED + left, named });
-      const wanted = named.map(textOf);
-      same(`${left} more than ${NAMED} of ${length} letters`, namedIn(record), wanted);
-      same("a line below", namedIn(`${record}Yours\n`), wanted);
-      const folded = record.replace(`and ${left} more`, `y\nand ${left} more`);
-      if (length >= 50) same("a fold", namedIn(folded), [...wanted.slice(0, -1), `${wanted[NAMED - 1]} y`]);
+      for (const [number, base, write] of BOTH) {
+        const named = Array.from({ length: NAMED }, (_, place) => utf8(`${place} ${"x".repeat(length)}`));
+        const record = write({ ...base, entrants: 10 ** 7, drawn: NAMED + left, named });
+        const wanted = named.map(textOf);
+        same(`${left} more than ${NAMED} of ${length} letters`, namedIn(record), wanted);
+        same("a line below", namedIn(`${record}Yours\n`), wanted);
+        const [before, after] = number === 1 ? ["", "y"] : ["\"", "y\""];
+        const folded = record.replace(`${before}\nand ${left} more`, `\n${after}\nand ${left} more`);
+        const isFold = number === 2 || length >= 50;
+        if (isFold) same("a fold", namedIn(folded), [...wanted.slice(0, -1), `${wanted[NAMED - 1]} y`]);
+      }
     }
   }
 }
 
 /** A record with one character added, removed or changed is an error, or has another meaning. */
 function otherTexts() {
-  const drawn = { ...RECORD, seed: "4 1 6", entrants: 12, drawn: 3, named: ["Ada", "x".repeat(60), "1: a\\b"].map(utf8) };
-  const record = writeRecord(drawn);
+  for (const [number, base, write, names] of BOTH) othersOf(number, base, write, names);
+}
+
+function othersOf(number, base, write, names) {
+  const named = ["Ada", "x".repeat(60), "1: a\\b", "\"é\" ", "\\", "\u200b"].map(utf8);
+  const record = write({ ...base, seed: "4 1 \\6", entrants: 12, drawn: named.length, named });
   const read = (text) => {
     try {
       return JSON.stringify(readRecord(text));
@@ -166,8 +197,8 @@ function otherTexts() {
       }
     }
   }
-  same("other texts that are taken for the record", taken, []);
-  for (const [, name] of LINES) {
+  same(`format ${number}: other texts that are taken for the record`, taken, []);
+  for (const name of names) {
     for (const colon of [":", " : ", ":  ", ": : ", "  ", " ", ";"]) {
       const text = record.replace(`${name}: `, `${name}${colon}`);
       same(`${name}${colon}`, [read(text) === wanted, colon], [false, colon]);
@@ -260,7 +291,7 @@ function failedChecks() {
       }
     }
   }
-  const few = { ...record, drawn: 3, named: [utf8("Ada"), utf8("Bob"), utf8("Cid")] };
+  const few = { ...record, entrants: 3, drawn: 3, named: [utf8("Ada"), utf8("Bob"), utf8("Cid")] };
   same("more than there are", check(module, maker, list, writeRecord(few)).findings,
     [{ text: "Cannot draw 3: the list has only 2 entrants." }]);
 }
@@ -289,9 +320,15 @@ function unreadRecords() {
 
 /** An invisible character in a record that is not escaped is an error with its line, wherever it is. */
 function bareLetters(letters) {
-  const lines = writeRecord(RECORD).trimEnd().split("\n");
+  for (const [number, base, write] of BOTH) bareIn(number, write(base).trimEnd().split("\n"), letters);
+}
+
+function bareIn(number, lines, letters) {
+  const mark = number === 1 ? "" : "\"";
   const lineOf = (place, line) => namedIn([...lines.slice(0, place), line, ...lines.slice(place + 1)].join("\n"));
-  const parts = ["", "A", "\\x41", "\\x41\\x64", "\\x41\\x64\\x61\\x41", "\\\\", "\\xe2\\x80"];
+  const parts = number === 1
+    ? ["", "A", "\\x41", "\\x41\\x64", "\\x41\\x64\\x61\\x41", "\\\\", "\\xe2\\x80"]
+    : ["", "A", " ", "\"", "\\x5c", "\\xe2\\x80\\x8b", "\\xe2\\x80"];
   for (const letter of letters) {
     // The reader removes these two at the end of a line, because mail programs add them.
     const isDropped = "\t\r".includes(letter);
@@ -305,9 +342,11 @@ function bareLetters(letters) {
       if (!isDropped) refused(place, line + letter);
     });
     for (const before of parts) {
-      for (const after of parts.slice(isDropped ? 1 : 0)) refused(8, `1: ${before}${letter}${after}`);
+      for (const after of parts.slice(isDropped && number === 1 ? 1 : 0)) {
+        refused(8, `1: ${mark}${before}${letter}${after}${mark}`);
+      }
     }
-    same(`a bare U+${letter.codePointAt(0).toString(16)}`, taken, []);
+    same(`format ${number}, a bare U+${letter.codePointAt(0).toString(16)}`, taken, []);
   }
 }
 
@@ -423,6 +462,8 @@ function longSpaces() {
     ["a record", () => namedIn(record.replace("Ada", `A${spaces}a`))],
     ["a title", () => namedIn(`x${spaces}y\n${record}`)],
     ["a seed", () => namedIn(record.replace('"a seed"', `"a${"\nx".repeat(20000)}`))],
+    ["a seed of marks", () => namedIn(record.replace('"a seed"', `"\\x41${'\n"'.repeat(20000)}`))],
+    ["an entrant", () => namedIn(record.replace('"Ada"', `"A${"\nx".repeat(20000)}`))],
     ["a heading", () => questionsOf(utf8(`a${spaces}b\nc\nd\n`))],
     ["a list", () => warningsOf(utf8(`a${spaces}b\nc\nd\n`))],
     ["a list to trim", () => tidied(utf8(`a${spaces}b\n`), "trim")],
@@ -438,7 +479,8 @@ errors();
 longSpaces();
 statuses();
 versions();
-folds();
+folds1();
+folds2();
 continuations();
 restOfLong();
 otherTexts();

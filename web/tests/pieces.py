@@ -28,7 +28,8 @@ def names(counts: Counts, page: Page) -> None:
 def run(counts: Counts, page: Page) -> None:
     seen = set(SCRIPTS)
     code = '"use strict";\n' + "".join(build.joined(name, seen) for name in SCRIPTS)
-    tests = Path(__file__).with_suffix(".js").read_text(encoding="utf-8")
+    here = Path(__file__)
+    tests = "".join(here.with_name(name).read_text(encoding="utf-8") for name in ("writer1.js", "pieces.js"))
     for name, found, wanted in page.browser.run(code + tests, ALL_UNSEEN):
         counts.same(name, found, wanted)
     names(counts, page)

@@ -5,8 +5,8 @@
 
 For example, web/tests/run.py crates/lots/out/lots chromium firefox. LOTS is the program with which the page is
 compared. Each BROWSER is chromium or firefox; all run side by side. The parts are answers, glue, pieces, draws, sizes,
-refusals, checks, attacks, failures, said, heard, late, steps, lists, clerk, looks, files, copies, long and old. The
-last line is N passed, M failed.
+refusals, checks, formats, attacks, failures, said, heard, late, steps, lists, clerk, looks, files, copies, long and
+old. The last line is N passed, M failed.
 """
 
 import argparse
@@ -22,6 +22,7 @@ import checks
 import clerk
 import draws
 import failures
+import formats
 import glue
 import heard
 import late
@@ -66,6 +67,7 @@ def in_browser(kind: type, program: str, pictures: Path, only: str) -> Counts:
             "sizes": lambda: draws.sizes(counts, page, program, module),
             "refusals": lambda: refusals.run(counts, page, program),
             "checks": lambda: checks.run(counts, page, program, digests),
+            "formats": lambda: formats.run(counts, page, program, digests),
             "attacks": lambda: attacks.run(counts, page, digests),
             "failures": lambda: failures.run(counts, page),
             "said": lambda: said.run(counts, page, module),

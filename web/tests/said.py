@@ -9,7 +9,7 @@ from looks import EMPTY
 from page import Page
 
 TOP = Path(__file__).resolve().parents[2]
-BYTES = r"In the record, \x and two digits stand for a byte that is no visible letter, and \\ for one backslash."
+BYTES = r"In the record, \x and two digits stand for a byte that is no visible letter, and \x5c for a backslash."
 # The description of each field for screen readers, besides its name.
 DESCRIPTIONS = {
     "open-file": ["list-hint", "list-error"], "list-text": ["list-hint", "list-error"],
@@ -164,12 +164,12 @@ def mark_up(counts: Counts, page: Page) -> None:
     shown = page.draw()
     counts.same("mark-up of an entrant", shown["drawn"], [MARKED])
     counts.case("mark-up of a seed", "" if f'" {MARKED}"' in shown["read"] else shown["read"])
-    finding = page.check(shown["record"].replace(f"1: {MARKED}", f"1: {MARKED}!"))["findings"]
+    finding = page.check(shown["record"].replace(f'1: "{MARKED}', f'1: "{MARKED}!'))["findings"]
     counts.same("mark-up that was checked", page.browser.run("""
         return ["reading-seed", "reading-drawn"].map((id) => document.getElementById(id).textContent);"""),
                 [f'" {MARKED}"', f"{MARKED}!"])
     counts.same("mark-up of a finding", finding[:1],
-                [f"Line 1 of the result: the record says {MARKED}!, the draw gives {MARKED}."])
+                [f'Line 1 of the result: the record says "{MARKED}!", the draw gives "{MARKED}".'])
     counts.same("elements of mark-up", page.browser.run(elements), 0)
 
 
