@@ -7,7 +7,7 @@ use crate::error::LotsError;
 use std::alloc::Allocator;
 
 /// Returns the index of the first line feed, if there is one.
-fn line_end(text: &[u8]) -> Option<usize>
+pub fn line_end(text: &[u8]) -> Option<usize>
     ensures { MatchOption result (HasNoLineFeed text.now)
         (λ end. (end < length text.now) × (slice_index text.now end ≡ 10)
         × HasNoLineFeed (take end text.now)) }

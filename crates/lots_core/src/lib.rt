@@ -8,14 +8,16 @@
 //! are, and `specs/Arguments.antt` and `specs/Text.antt` what the program does with its arguments.
 #![tactic(auto)]
 
-mod arguments;
+pub mod arguments;
 mod draws;
 mod entrants;
 mod error;
 pub mod laws;
 pub mod run;
-mod text;
+mod selection;
+pub mod text;
 
 pub use draws::{draw, draw_places};
-pub use entrants::{count_entrants, entrants_of};
+pub use entrants::{count_entrants, entrants_of, line_end};
 pub use error::LotsError;
+pub use selection::draw_lines;

@@ -7,15 +7,14 @@ ghost use Rattle.lots_core.specs.Text.{AreTooFew, IsDrawn, IsRefused, Outcome, W
 ghost use Rattle.lots_core.specs.declared.error.LotsError.TheVariants.{Usage, TooFew, EmptyLine, Memory, Read as Unread, Write as Unwritten, Exhausted};
 
 use crate::arguments::{Request, read};
-use crate::draws::draw;
-use crate::entrants::entrants_of;
 use crate::error::LotsError;
+use crate::selection::draw_lines;
 use crate::text::text_of;
 use std::alloc::Allocator;
 use std::io::{ErrorKind, Read, Write};
 
 /// Returns all bytes of the reader.
-fn read_list<A: Allocator, R: Read>(alloc: A, input: &mut R) -> Result<Vec<u8, A>, LotsError>
+pub fn read_list<A: Allocator, R: Read>(alloc: A, input: &mut R) -> Result<Vec<u8, A>, LotsError>
     ensures read { IfOk result (λ list.
         WasRead (R.remaining input.old) (R.remaining input.new) list.items) }
     ensures refusal { IfErr result (λ error. (error ≡ Memory) ⊎ (error ≡ Unread)) }
@@ -36,9 +35,7 @@ fn select<'a, A: Allocator>(
 ) -> Result<Vec<u8, &'a A>, LotsError>
     ensures { Outcome (asked_by request.now) (lines_of list.now) result }
 {
-    let mut entrants = entrants_of(alloc, list)?;
-    let count = request.count.among(entrants.len());
-    draw(request.seed, &mut entrants, count)?;
+    let (entrants, count) = draw_lines(alloc, request.seed, request.count, list)?;
     Ok(text_of(alloc, &entrants[..count])?)
 }
 

@@ -1,0 +1,3 @@
+pub mod QuotedLemmas
+pub mod RecordLemmas
+pub mod ClaimLemmas

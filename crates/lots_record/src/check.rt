@@ -1,0 +1,48 @@
+//! The check of a record.
+
+use crate::check_error::CheckError;
+use crate::claims::{Claims, claims_of};
+use crate::record::{Source, record};
+use lots_core::arguments::Count;
+use sha2::{Digest, Sha256};
+use std::alloc::Allocator;
+
+/// Whether the record names this announcement, if one is given.
+fn names<A: Allocator>(claims: &Claims<A>, announcement: Option<&[u8]>) -> bool {
+    match announcement {
+        Some(announcement) => claims.announcement == Some(Sha256::digest(announcement)),
+        None => true,
+    }
+}
+
+/// Checks that the text is the record of a draw from the list, byte for byte: it reads from the
+/// text what it is made from, makes the record, and compares the two. If an announcement is given,
+/// the record has to name its SHA-256.
+///
+/// Returns the reason if it is not, and the error of the draw if the draw fails.
+pub fn check<A: Allocator>(
+    alloc: &A,
+    text: &[u8],
+    announcement: Option<&[u8]>,
+    list: &[u8],
+) -> Result<(), CheckError> {
+    let claims = claims_of(alloc, text)?;
+    if !names(&claims, announcement) {
+        return Err(CheckError::OtherAnnouncement);
+    }
+    let seed = str::from_utf8(&claims.seed).map_err(|_| CheckError::Unreadable)?;
+    if seed.is_empty() {
+        return Err(CheckError::Unreadable);
+    }
+    let source = Source {
+        seed,
+        count: Count::Of(claims.count),
+        announcement: claims.announcement,
+        program: claims.program,
+    };
+    if record(alloc, &source, list)?.as_bytes() == text {
+        Ok(())
+    } else {
+        Err(CheckError::Differs)
+    }
+}
