@@ -1,3 +1,6 @@
 pub mod QuotedLemmas
 pub mod RecordLemmas
 pub mod ClaimLemmas
+pub mod SpellingLemmas
+pub mod PlainLemmas
+pub mod CheckLemmas

@@ -1,7 +1,8 @@
 -- The text of a record: what a public draw was made from, and what it drew.
 use Rattle.std.specs.Prelude.{◌≡◌, ◌≢◌, ℕ, ◌+◌, ◌-◌, ◌<◌, ◌≤◌, nat_le, if◌then◌else◌, List, [], ◌∷◌, ◌++◌, length, take, All, codes, decimal, Option, Some, None, Result, Ok, Err, String, string_bytes, IfSome, ⊤}
+use Rattle.std.specs.Borrow.{Bor}
 use Rattle.std.specs.Str.{IsUtf8}
-use Rattle.hex.specs.Hex.{encode_lower}
+use Rattle.hex.specs.Hex.{IsBytes, encode_lower}
 use Rattle.sha2.specs.Sha256.{sha256}
 use Rattle.lots_core.specs.Arguments.{Asked, number_asked}
 use Rattle.lots_core.specs.Draws.{drawing, drawn}
@@ -76,13 +77,14 @@ record_text source list =
 -- A sum has 32 bytes.
 pub record IsSum (sum : List ℕ) : Type 0 where
   pub long : length sum ≡ 32
-  pub bytes : All (λ byte. byte < 256) sum
+  pub bytes : IsBytes sum
 
 -- A draw from this list has a record: the seed is a text that is not empty, the list has no empty
 -- line and enough entrants, and no draw fails.
 pub record HasRecord (source : Source) (list : List ℕ) : Type 0 where
   pub some : source.seed ≢ []
   pub utf8 : IsUtf8 source.seed
+  pub bytes : All (λ byte. byte < 256) source.seed
   pub announcement : IfSome source.announcement IsSum
   pub program : IfSome source.program IsSum
   pub full : AreFull (lines_of list)
@@ -93,6 +95,11 @@ pub record HasRecord (source : Source) (list : List ℕ) : Type 0 where
 abbrev pub NamesAnnouncement : Option (List ℕ) → Option (List ℕ) → Type 0
 NamesAnnouncement None sum = ⊤
 NamesAnnouncement (Some text) sum = sum ≡ Some (sha256 text)
+
+-- The text of an announcement that is given.
+abbrev pub given : Option (Bor (List ℕ)) → Option (List ℕ)
+given None = None
+given (Some text) = Some text.now
 
 -- A text is the record of a draw from this list: there are a seed, a number and sums with which it
 -- is written. It names the announcement, if one is given.
@@ -115,16 +122,20 @@ source_of source n = record {
 abbrev pub asked_of : ASource → Asked
 asked_of source = record { seed = source.seed.now; count = source.count }
 
--- The result of making a record: its text, or the reason why there is none. When an allocation
--- fails is not specified. There are no other errors.
+-- The reason why there is no record. When an allocation fails is not specified. There are no other
+-- errors.
+abbrev pub IsRefusedWith : ASource → List ℕ → LotsError → Type 0
+IsRefusedWith source list (EmptyLine k) = IsFirstEmpty (lines_of list) k
+IsRefusedWith source list (TooFew n k) =
+    AreFull (lines_of list) × AreTooFew (asked_of source) (lines_of list) n k
+IsRefusedWith source list Exhausted =
+    AreFull (lines_of list) × IsRefused (asked_of source) (lines_of list)
+IsRefusedWith source list Memory = ⊤
+IsRefusedWith source list other = ⊥
+
+-- The result of making a record: its text, or the reason why there is none.
 abbrev pub Recorded : {A : Type 0} → ASource → List ℕ → Result (String A) LotsError → Type 0
 Recorded source list (Ok text) =
     AreFull (lines_of list) × HasSelection (asked_of source) (lines_of list)
     × (string_bytes text ≡ record_text (source_of source (length (lines_of list))) list)
-Recorded source list (Err (EmptyLine k)) = IsFirstEmpty (lines_of list) k
-Recorded source list (Err (TooFew n k)) =
-    AreFull (lines_of list) × AreTooFew (asked_of source) (lines_of list) n k
-Recorded source list (Err Exhausted) =
-    AreFull (lines_of list) × IsRefused (asked_of source) (lines_of list)
-Recorded source list (Err Memory) = ⊤
-Recorded source list (Err other) = ⊥
+Recorded source list (Err error) = IsRefusedWith source list error

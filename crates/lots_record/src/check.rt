@@ -1,14 +1,22 @@
 //! The check of a record.
+ghost use Rattle.std.specs.Prelude.{◌≡◌, Decides, IfErr, OnOk};
+ghost use Rattle.lots_core.specs.declared.error.LotsError.TheVariants.{Memory};
+ghost use Rattle.lots_record.specs.Record.{IsRecord, NamesAnnouncement, given};
+ghost use Rattle.lots_record.specs.declared.check_error.CheckError.TheVariants.{Draw};
 
 use crate::check_error::CheckError;
 use crate::claims::{Claims, claims_of};
 use crate::record::{Source, record};
 use lots_core::arguments::Count;
+use lots_core::count_entrants;
 use sha2::{Digest, Sha256};
 use std::alloc::Allocator;
 
 /// Whether the record names this announcement, if one is given.
-fn names<A: Allocator>(claims: &Claims<A>, announcement: Option<&[u8]>) -> bool {
+fn names<A: Allocator>(claims: &Claims<A>, announcement: Option<&[u8]>) -> bool
+    ensures { Decides result
+        (NamesAnnouncement (given announcement.entry) claims.now.announcement) }
+{
     match announcement {
         Some(announcement) => claims.announcement == Some(Sha256::digest(announcement)),
         None => true,
@@ -25,7 +33,12 @@ pub fn check<A: Allocator>(
     text: &[u8],
     announcement: Option<&[u8]>,
     list: &[u8],
-) -> Result<(), CheckError> {
+) -> Result<(), CheckError>
+    ensures agrees { OnOk result (IsRecord text.now list.now (given announcement.entry)) }
+    ensures only { IsRecord text.now list.now (given announcement.entry) →
+        IfErr result (λ error. error ≡ Draw Memory) }
+{
+    count_entrants(list)?;
     let claims = claims_of(alloc, text)?;
     if !names(&claims, announcement) {
         return Err(CheckError::OtherAnnouncement);

@@ -1,11 +1,12 @@
 //! Reads back what a record is made from.
-ghost use Rattle.std.specs.Prelude.{◌≡◌, ◌++◌, ◌<◌, ℕ, List, length, Some, IsSomeAnd, All, IfSome};
+ghost use Rattle.std.specs.Prelude.{[], ◌≡◌, ◌++◌, ◌<◌, ◌^◌, ℕ, List, length, codes, Option, Some, IsSomeAnd, All, IfOk, IfSome};
 ghost use Rattle.std.specs.Char.{digit_char};
 ghost use Rattle.lots_core.specs.Lists.{HasNoLineFeed};
 ghost use Rattle.hex.specs.Hex.{encode_lower};
 ghost use Rattle.lots_record.specs.Quoted.{BeginsWith, Spells, quoted};
 ghost use Rattle.lots_record.specs.Claims as spec;
-ghost use Rattle.lots_record.specs.Record.{Source, line, source_lines};
+ghost use Rattle.lots_core.specs.Arguments.{IsNumber};
+ghost use Rattle.lots_record.specs.Record.{IsSum, Source, line, source_lines, sum_or_none};
 
 use crate::check_error::CheckError;
 use lots_core::line_end;
@@ -59,71 +60,104 @@ fn unquoted<A: Allocator>(alloc: A, text: &[u8]) -> Result<Vec<u8, A>, CheckErro
     spelled(alloc, &text[1..text.len() - 1])
 }
 
-/// Returns the value of a line that begins with a name, and the text after the line.
-fn value_after<'a>(text: &'a [u8], name: &[u8]) -> Option<(&'a [u8], &'a [u8])>
-    ensures { (value rest : List ℕ) → HasNoLineFeed value →
+/// Returns the value of the first line, if the line begins with the name, and the text after it.
+fn first_value<'a>(text: &'a [u8], name: &[u8]) -> Option<(&'a [u8], &'a [u8])>
+    ensures found { (value rest : List ℕ) → HasNoLineFeed value →
         text.now ≡ line name.now value ++ rest →
         IsSomeAnd result (λ parts. (parts.0.now ≡ value) × (parts.1.now ≡ rest)) }
+    ensures only { IfSome result (λ parts. text.now ≡ line name.now parts.0.now ++ parts.1.now) }
 {
     let after = text.strip_prefix(name)?;
     let end = line_end(after)?;
     Some((&after[..end], &after[end + 1..]))
 }
 
-/// The values of the lines of a record that say what it is made from.
+/// Returns the value of the first line, if the line begins with the name, and the text after it.
+/// Otherwise both are empty.
+fn value_after<'a>(text: &'a [u8], name: &[u8]) -> (&'a [u8], &'a [u8])
+    ensures found { (value rest : List ℕ) → HasNoLineFeed value →
+        text.now ≡ line name.now value ++ rest →
+        (result.0.now ≡ value) × (result.1.now ≡ rest) }
+    ensures absent { ((rest : List ℕ) → text.now ≡ name.now ++ rest → ⊥) →
+        result.0.now ≡ [] }
+{
+    match first_value(text, name) {
+        Some(parts) => parts,
+        None => (&[], &[]),
+    }
+}
+
+/// The values of the lines of a record that say what it is made from. A value is empty if its line
+/// is missing.
 #[derive(Drop)]
 struct Values<'a> {
     announcement: &'a [u8],
     seed: &'a [u8],
     drawn: &'a [u8],
-    program: Option<&'a [u8]>,
+    program: &'a [u8],
 }
 
 /// Returns the values of the first lines of a record.
-fn values_of(text: &[u8]) -> Option<Values<'_>> {
-    let (_, text) = value_after(text, b"nanorand public draw 2")?;
-    let (announcement, text) = value_after(text, b"announcement SHA-256: ")?;
-    let (seed, text) = value_after(text, b"seed: ")?;
-    let (_, text) = value_after(text, b"list SHA-256: ")?;
-    let (_, text) = value_after(text, b"entrants: ")?;
-    let (drawn, text) = value_after(text, b"drawn: ")?;
-    let program = match value_after(text, b"module SHA-256: ") {
-        Some((sum, _)) => Some(sum),
-        None => None,
-    };
-    Some(Values {
+fn values_of(text: &[u8]) -> Values<'_>
+    ensures { (source : Source) (list : List ℕ) (n : ℕ) (sum rest : List ℕ) → n < 2 ^ 64 →
+        source.count < 2 ^ 64 →
+        text.now ≡ source_lines source list n ++ (line (codes "result SHA-256: ") sum ++ rest) →
+        spec.AreValues result source }
+{
+    let (_, text) = value_after(text, b"nanorand public draw 2");
+    let (announcement, text) = value_after(text, b"announcement SHA-256: ");
+    let (seed, text) = value_after(text, b"seed: ");
+    let (_, text) = value_after(text, b"list SHA-256: ");
+    let (_, text) = value_after(text, b"entrants: ");
+    let (drawn, text) = value_after(text, b"drawn: ");
+    let (program, _) = value_after(text, b"module SHA-256: ");
+    Values {
         announcement,
         seed,
         drawn,
         program,
-    })
+    }
 }
 
 /// Returns the sum that 64 hexadecimal digits write.
-fn sum_of(digits: &[u8]) -> Option<[u8; 32]> {
+fn sum_of(digits: &[u8]) -> Option<[u8; 32]>
+    ensures found { (sum : List ℕ) → IsSum sum → digits.now ≡ encode_lower sum →
+        result ≡ Some sum }
+    ensures sum { IfSome result IsSum }
+{
     let mut sum = [0; 32];
     hex::decode_to_slice(digits, &mut sum).ok()?;
     Some(sum)
 }
 
 /// Returns the sum that a text writes, or no sum if it is `none`.
-fn sum_or_none(text: &[u8]) -> Option<Option<[u8; 32]>> {
+fn announcement_of(text: &[u8]) -> Option<Option<[u8; 32]>>
+    ensures found { (sum : Option (List ℕ)) → IfSome sum IsSum → text.now ≡ sum_or_none sum →
+        result ≡ Some sum }
+    ensures sum { IfSome result (λ sum. IfSome sum IsSum) }
+{
     if text == b"none".as_slice() {
         return Some(None);
     }
     Some(Some(sum_of(text)?))
 }
 
-/// Returns the sum of the module, if the record has a line with it.
-fn program_of(digits: Option<&[u8]>) -> Option<Option<[u8; 32]>> {
-    match digits {
-        Some(digits) => Some(Some(sum_of(digits)?)),
-        None => Some(None),
+/// Returns the sum that a text writes, or no sum if it is empty.
+fn program_of(text: &[u8]) -> Option<Option<[u8; 32]>>
+    ensures found { (sum : Option (List ℕ)) → IfSome sum IsSum →
+        text.now ≡ spec.digits_of sum → result ≡ Some sum }
+    ensures sum { IfSome result (λ sum. IfSome sum IsSum) }
+{
+    if text.is_empty() {
+        return Some(None);
     }
+    Some(Some(sum_of(text)?))
 }
 
 /// Returns the number that decimal digits write.
-fn number_of(digits: &[u8]) -> Option<usize> {
+fn number_of(digits: &[u8]) -> Option<usize>
+    ensures { (n : ℕ) → IsNumber digits.now n → result ≡ Some n }
+{
     str::from_utf8(digits).ok()?.parse().ok()
 }
 
@@ -137,10 +171,16 @@ pub struct Claims<A: Allocator> {
 }
 
 /// Reads what a record says that it is made from.
-pub fn claims_of<A: Allocator>(alloc: A, text: &[u8]) -> Result<Claims<A>, CheckError> {
-    let values = values_of(text).ok_or(CheckError::Unreadable)?;
+pub fn claims_of<A: Allocator>(alloc: A, text: &[u8]) -> Result<Claims<A>, CheckError>
+    ensures found { (source : Source) (list : List ℕ) (n : ℕ) (sum rest : List ℕ) → n < 2 ^ 64 →
+        spec.CanBeRead source →
+        text.now ≡ source_lines source list n ++ (line (codes "result SHA-256: ") sum ++ rest) →
+        spec.IsClaimed source result }
+    ensures sums { IfOk result spec.AreSums }
+{
+    let values = values_of(text);
     let count = number_of(values.drawn).ok_or(CheckError::Unreadable)?;
-    let announcement = sum_or_none(values.announcement).ok_or(CheckError::Unreadable)?;
+    let announcement = announcement_of(values.announcement).ok_or(CheckError::Unreadable)?;
     let program = program_of(values.program).ok_or(CheckError::Unreadable)?;
     let seed = unquoted(alloc, values.seed)?;
     Ok(Claims {

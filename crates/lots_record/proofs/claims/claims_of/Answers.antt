@@ -1,0 +1,44 @@
+use Rattle.std.proofs.Common.{rules, ◌≡◌, Some, arith, sym}
+use Rattle.std.proofs.lemmas.Grind.{common_steps}
+use Rattle.lots_record.proofs.ClaimLemmas.{writes_number}
+use Rattle.lots_record.proofs.claims.claims_of.Goals as goal
+
+pub returns-in_err-count-clause-found : goal.returns-in_err-count-clause-found
+returns-in_err-count-clause-found g c = λ source list n sum rest small read is.
+    let values = c.values_of-values.ensures source list n sum rest small read.count is in
+    let count = c.number_of.ensures source.count (writes_number _ source.count read.count values.drawn) in
+    grind (arith, common_steps, count)
+
+pub returns-in_err-announcement-clause-found : goal.returns-in_err-announcement-clause-found
+returns-in_err-announcement-clause-found g c = λ source list n sum rest small read is.
+    let values = c.values_of-values.ensures source list n sum rest small read.count is in
+    let announcement = c.announcement_of.ensures.found source.announcement read.announcement values.announcement in
+    grind (arith, common_steps, announcement)
+
+pub returns-in_err-program-clause-found : goal.returns-in_err-program-clause-found
+returns-in_err-program-clause-found g c = λ source list n sum rest small read is.
+    let values = c.values_of-values.ensures source list n sum rest small read.count is in
+    let program = c.program_of.ensures.found source.program read.program values.program in
+    grind (arith, common_steps, program)
+
+pub returns-in_err-seed-clause-found : goal.returns-in_err-seed-clause-found
+returns-in_err-seed-clause-found g c = λ source list n sum rest small read is.
+    let values = c.values_of-values.ensures source list n sum rest small read.count is in
+    let seed = c.unquoted.ensures source.seed read.seed values.seed in
+    grind (arith, common_steps, seed)
+
+pub returns-clause-found : goal.returns-clause-found
+returns-clause-found g c = λ source list n sum rest small read is.
+    let values = c.values_of-values.ensures source list n sum rest small read.count is in
+    let count = c.number_of.ensures source.count (writes_number _ source.count read.count values.drawn) in
+    let announcement = c.announcement_of.ensures.found source.announcement read.announcement values.announcement in
+    let program = c.program_of.ensures.found source.program read.program values.program in
+    let seed = c.unquoted.ensures source.seed read.seed values.seed in
+    grind (arith, common_steps, count, announcement, program, seed)
+
+pub returns-clause-sums : goal.returns-clause-sums
+returns-clause-sums g c = record {
+    seed = λ k d within. search (rules, arith);
+    announcement = grind (arith, common_steps, c.announcement_of.ensures.sum);
+    program = grind (arith, common_steps, c.program_of.ensures.sum);
+  }
