@@ -3,6 +3,7 @@
 use crate::arguments::Count;
 use crate::check_error::CheckError;
 use crate::claims::{claims_of, Claims};
+use crate::count_entrants;
 use crate::record::{record, Source};
 use crate::sha256;
 
@@ -22,6 +23,7 @@ fn names(claims: &Claims, announcement: Option<&[u8]>) -> bool {
 ///
 /// Returns the reason if it is not, and the error of the draw if the draw fails.
 pub fn check(text: &[u8], announcement: Option<&[u8]>, list: &[u8]) -> Result<(), CheckError> {
+    count_entrants(list)?;
     let claims = claims_of(text)?;
     if !names(&claims, announcement) {
         return Err(CheckError::OtherAnnouncement);

@@ -43,40 +43,47 @@ fn unquoted(text: &[u8]) -> Result<Vec<u8>, CheckError> {
     spelled(&text[1..text.len() - 1])
 }
 
-/// Returns the value of a line that begins with a name, and the text after the line.
-fn value_after<'a>(text: &'a [u8], name: &[u8]) -> Option<(&'a [u8], &'a [u8])> {
+/// Returns the value of the first line, if the line begins with the name, and the text after it.
+fn first_value<'a>(text: &'a [u8], name: &[u8]) -> Option<(&'a [u8], &'a [u8])> {
     let after = text.strip_prefix(name)?;
     let end = line_end(after)?;
     Some((&after[..end], &after[end + 1..]))
 }
 
-/// The values of the lines of a record that say what it is made from.
+/// Returns the value of the first line, if the line begins with the name, and the text after it.
+/// Otherwise both are empty.
+#[allow(clippy::manual_unwrap_or_default)] // the proved body is so
+fn value_after<'a>(text: &'a [u8], name: &[u8]) -> (&'a [u8], &'a [u8]) {
+    match first_value(text, name) {
+        Some(parts) => parts,
+        None => (&[], &[]),
+    }
+}
+
+/// The values of the lines of a record that say what it is made from. A value is empty if its line
+/// is missing.
 struct Values<'a> {
     announcement: &'a [u8],
     seed: &'a [u8],
     drawn: &'a [u8],
-    program: Option<&'a [u8]>,
+    program: &'a [u8],
 }
 
 /// Returns the values of the first lines of a record.
-#[allow(clippy::manual_map)] // the proved body is so
-fn values_of(text: &[u8]) -> Option<Values<'_>> {
-    let (_, text) = value_after(text, b"nanorand public draw 2")?;
-    let (announcement, text) = value_after(text, b"announcement SHA-256: ")?;
-    let (seed, text) = value_after(text, b"seed: ")?;
-    let (_, text) = value_after(text, b"list SHA-256: ")?;
-    let (_, text) = value_after(text, b"entrants: ")?;
-    let (drawn, text) = value_after(text, b"drawn: ")?;
-    let program = match value_after(text, b"module SHA-256: ") {
-        Some((sum, _)) => Some(sum),
-        None => None,
-    };
-    Some(Values {
+fn values_of(text: &[u8]) -> Values<'_> {
+    let (_, text) = value_after(text, b"nanorand public draw 2");
+    let (announcement, text) = value_after(text, b"announcement SHA-256: ");
+    let (seed, text) = value_after(text, b"seed: ");
+    let (_, text) = value_after(text, b"list SHA-256: ");
+    let (_, text) = value_after(text, b"entrants: ");
+    let (drawn, text) = value_after(text, b"drawn: ");
+    let (program, _) = value_after(text, b"module SHA-256: ");
+    Values {
         announcement,
         seed,
         drawn,
         program,
-    })
+    }
 }
 
 /// Returns the sum that 64 hexadecimal digits write.
@@ -86,20 +93,20 @@ fn sum_of(digits: &[u8]) -> Option<[u8; 32]> {
 
 /// Returns the sum that a text writes, or no sum if it is `none`.
 #[allow(clippy::option_option)] // the proved body is so
-fn sum_or_none(text: &[u8]) -> Option<Option<[u8; 32]>> {
+fn announcement_of(text: &[u8]) -> Option<Option<[u8; 32]>> {
     if text == b"none".as_slice() {
         return Some(None);
     }
     Some(Some(sum_of(text)?))
 }
 
-/// Returns the sum of the module, if the record has a line with it.
+/// Returns the sum that a text writes, or no sum if it is empty.
 #[allow(clippy::option_option)] // the proved body is so
-fn program_of(digits: Option<&[u8]>) -> Option<Option<[u8; 32]>> {
-    match digits {
-        Some(digits) => Some(Some(sum_of(digits)?)),
-        None => Some(None),
+fn program_of(text: &[u8]) -> Option<Option<[u8; 32]>> {
+    if text.is_empty() {
+        return Some(None);
     }
+    Some(Some(sum_of(text)?))
 }
 
 /// Returns the number that decimal digits write.
@@ -117,9 +124,9 @@ pub struct Claims {
 
 /// Reads what a record says that it is made from.
 pub fn claims_of(text: &[u8]) -> Result<Claims, CheckError> {
-    let values = values_of(text).ok_or(CheckError::Unreadable)?;
+    let values = values_of(text);
     let count = number_of(values.drawn).ok_or(CheckError::Unreadable)?;
-    let announcement = sum_or_none(values.announcement).ok_or(CheckError::Unreadable)?;
+    let announcement = announcement_of(values.announcement).ok_or(CheckError::Unreadable)?;
     let program = program_of(values.program).ok_or(CheckError::Unreadable)?;
     let seed = unquoted(values.seed)?;
     Ok(Claims {

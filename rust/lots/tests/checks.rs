@@ -87,8 +87,11 @@ fn other_lists() {
     let (entrants, count) = (2, 3);
     let few = Err(LotsError::TooFew { entrants, count }.into());
     assert_eq!(check(EXAMPLE.as_bytes(), None, b"a\nb\n"), few);
+    // An empty line is an error, whatever the text is.
     let empty = Err(CheckError::Draw(LotsError::EmptyLine(3)));
-    assert_eq!(check(EXAMPLE.as_bytes(), None, b"a\nb\n\n"), empty);
+    for text in [EXAMPLE, "", "no record"] {
+        assert_eq!(check(text.as_bytes(), None, b"a\nb\n\n"), empty);
+    }
 }
 
 /// The values that may replace a byte.
@@ -226,6 +229,7 @@ fn other_spellings() {
         ("1: \"Katherine\"", "1: \"\\x4batherine\""),
         ("nanorand public draw 2\n", "nanorand public draw 2 \n"),
         ("end of the record\n", "end of the record \n"),
+        ("drawn: 3\n", "drawn: 3\nmodule SHA-256: \n"),
     ] {
         let text = EXAMPLE.replace(old, new);
         assert_eq!(
@@ -276,7 +280,6 @@ fn unreadable_texts() {
         ("drawn: 3", "drawn: 99999999999999999999"),
         ("drawn: 3", "Drawn: 3"),
         ("drawn: 3\n", "drawn: 3\nmodule SHA-256: none\n"),
-        ("drawn: 3\n", "drawn: 3\nmodule SHA-256: \n"),
         ("entrants: 12\n", ""),
     ] {
         let text = EXAMPLE.replacen(old, new, 1);
