@@ -52,7 +52,7 @@ fn first_value<'a>(text: &'a [u8], name: &[u8]) -> Option<(&'a [u8], &'a [u8])> 
 
 /// Returns the value of the first line, if the line begins with the name, and the text after it.
 /// Otherwise both are empty.
-#[allow(clippy::manual_unwrap_or_default)] // the proved body is so
+#[allow(clippy::manual_unwrap_or, clippy::manual_unwrap_or_default)] // the proved body is so
 fn value_after<'a>(text: &'a [u8], name: &[u8]) -> (&'a [u8], &'a [u8]) {
     match first_value(text, name) {
         Some(parts) => parts,
