@@ -80,7 +80,7 @@ files() {
 }
 
 records() {
-    local odd=$' "\\\n\u00a0\u200d' k sum
+    local odd=$' "\\\n\xc2\xa0\xe2\x80\x8d' k sum
     files
     run 'a record' "$twelve" 0 "$example" '' --record "$throws" 3
     run 'a record, zeros in front' "$twelve" 0 "$example" '' --record "$throws" 003
@@ -96,8 +96,8 @@ seed: \"a seed\"
 list SHA-256: 9edb7fe4aca523bf373ff4d30be39c4e4d374fe8dc41073840381dae50aea6d2
 entrants: 5\ndrawn: 5
 result SHA-256: c98475964a3af251221281952931b9f4ce27121562786284a1a8d9c27acc0888
-1: \"\\\\xff\\\\xc3\\\\xa9 \"\n2: \"\"\"\n3: \" \"\n4: \"\0303\0251\"\n5: \"\\\\x5c\"\nend of the record\n" '' \
-        --record 'a seed' all
+1: \"\\\\xff\\\\xc3\\\\xa9 \"\n2: \"\"\"\n3: \" \"\n4: \"\0303\0251\"\n5: \"\\\\x5c\"
+end of the record\n" '' --record 'a seed' all
     run 'a record of none' '' 0 "${named}none\nseed: \"x\"\nlist SHA-256: $empty_sum
 entrants: 0\ndrawn: 0\nresult SHA-256: $empty_sum\nend of the record\n" '' --record x all
     run 'a record, one too many' 'a\n' 3 '' 'lots: 1 entrants, 2 asked for\n' --record x 2
@@ -107,7 +107,10 @@ entrants: 0\ndrawn: 0\nresult SHA-256: $empty_sum\nend of the record\n" '' --rec
     while read -r k sum; do
         begin
         "$work/$compiler" --record 'a seed' "$k" <"$work/thousand" >"$work/out" 2>"$work/err" || status=$?
-        count "a record of $k" "$(differs 'status' "$status" 0; differs 'the sum' "$(sha256sum <"$work/out")" "$sum  -")"
+        count "a record of $k" "$(
+            differs 'status' "$status" 0
+            differs 'the sum' "$(sha256sum <"$work/out")" "$sum  -"
+        )"
         cp "$work/out" "$work/many"
         begin
         "$work/$compiler" --check "$work/many" <"$work/thousand" >"$work/out" 2>"$work/err" || status=$?
@@ -166,7 +169,20 @@ checks() {
 options() {
     local name version help
     version=$(sed -n 's/^version = "\(.*\)"$/\1/p' Cargo.toml | head -n 1)
-    help=$(sed -n '/HELP/,/^";$/p' rust/lots/src/program.rs | sed '1d; $d')
+    help=$(
+        cat <<'END'
+usage: lots SEED COUNT|all < entrants
+       lots --record SEED COUNT|all [ANNOUNCEMENT] < entrants
+       lots --check RECORD [ANNOUNCEMENT] < entrants
+       lots --version
+       lots --help
+
+Draws COUNT of the entrants, one per line of standard input, as the seed determines, and writes them
+in the order drawn. `--record` writes the record of the draw, which names the SHA-256 of the file
+ANNOUNCEMENT. `--check` draws again: its status is 0 only if the file RECORD is the record of a draw
+from these entrants and names ANNOUNCEMENT, if one is given.
+END
+    )
     run 'the version' '' 0 "lots $version\n" '' --version
     run 'the help' '' 0 "$help\n" '' --help
     begin

@@ -26,8 +26,8 @@ pub enum Command<'a> {
     Help,
 }
 
-/// Returns the command of the arguments. A seed and a count are a draw, whatever the seed is, and so
-/// is anything that is no other command: `run::run` then returns `Usage`.
+/// Returns the command of the arguments. A seed and a count are a draw, whatever the seed is, and
+/// so is anything that is no other command: `run::run` then returns `Usage`.
 #[must_use]
 pub fn read_command(arguments: &[String]) -> Command<'_> {
     if read(arguments).is_some() {

@@ -10,12 +10,13 @@
 //! and 8 if 128 words (random integers of 64 bits) in a row were rejected.
 //!
 //! `lots --record SEED COUNT|all [ANNOUNCEMENT] < entrants` prints the record of the draw, which
-//! names the SHA-256 of the file ANNOUNCEMENT. `lots --check RECORD [ANNOUNCEMENT] < entrants` draws
-//! again: the status is 0 only if the file RECORD is the record of a draw from these entrants, and
-//! names ANNOUNCEMENT if one is given; otherwise it is 9 if the file is no record, 10 if it names
-//! another announcement, 11 if it is not the record of its draw from these entrants, or that of the
-//! error. `lots --version` and `lots --help` print a text. A seed and a count are always a draw,
-//! even if the seed is such an option.
+//! names the SHA-256 of the file ANNOUNCEMENT. `lots --check RECORD [ANNOUNCEMENT] < entrants`
+//! draws again: the status is 0 only if the file RECORD is the record of a draw from these
+//! entrants, and names ANNOUNCEMENT if one is given; otherwise it is 9 if the file is no record, 10
+//! if it names another announcement, 11 if it is not the record of its draw from these entrants, or
+//! that of the error. `lots --version` and `lots --help` print a text. A seed and a count are
+//! always a draw, even if the seed is such an option: a record whose file is named `all` or by
+//! digits is checked by `lots --check ./all`.
 #![forbid(unsafe_code)]
 
 use lots::arguments::Request;

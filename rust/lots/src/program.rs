@@ -23,8 +23,8 @@ ANNOUNCEMENT. `--check` draws again: its status is 0 only if the file RECORD is 
 from these entrants and names ANNOUNCEMENT, if one is given.
 ";
 
-/// Writes a text to `out`, all at once, and then flushes. After an error, how much of the text `out`
-/// accepted is unspecified.
+/// Writes a text to `out`, all at once, and then flushes. After an error, how much of the text
+/// `out` accepted is unspecified.
 ///
 /// # Errors
 ///
@@ -44,7 +44,8 @@ fn sum_of(announcement: Option<&[u8]>) -> Option<[u8; 32]> {
 }
 
 /// Draws what the request asks for from the list that `input` provides, writes the record to `out`,
-/// all at once, and then flushes. The record names the SHA-256 of the announcement, if there is one.
+/// all at once, and then flushes. The record names the SHA-256 of the announcement, if there is
+/// one.
 ///
 /// Everything is read and drawn before anything is written.
 ///

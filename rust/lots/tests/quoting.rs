@@ -142,7 +142,8 @@ fn byte_shown(byte: u8) -> String {
     }
 }
 
-/// One byte that is no text makes all bytes of its entrant escapes, except those of ASCII that show.
+/// One byte that is no text makes all bytes of its entrant escapes, except those of ASCII that
+/// show.
 #[test]
 fn bytes_that_are_no_text() {
     let bytes: Vec<u8> = (0..=255).filter(|byte| *byte != b'\n').collect();
