@@ -4,3 +4,4 @@ pub mod ClaimLemmas
 pub mod SpellingLemmas
 pub mod PlainLemmas
 pub mod CheckLemmas
+pub mod Utf8Lemmas

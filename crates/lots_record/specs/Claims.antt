@@ -33,9 +33,8 @@ pub record CanBeRead (source : Source) : Type 0 where
   pub announcement : IfSome source.announcement IsSum
   pub program : IfSome source.program IsSum
 
--- The seed has bytes, and the sums have 32 of them.
+-- The sums have 32 bytes.
 pub record AreSums {A : Type 0} (claims : Claims A) : Type 0 where
-  pub seed : All (λ byte. byte < 256) claims.seed.items
   pub announcement : IfSome claims.announcement IsSum
   pub program : IfSome claims.program IsSum
 

@@ -1,3 +1,5 @@
 pub mod Quoted
 pub mod Record
 pub mod Claims
+pub mod Program
+pub mod Command

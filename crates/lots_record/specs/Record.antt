@@ -7,7 +7,7 @@ use Rattle.sha2.specs.Sha256.{sha256}
 use Rattle.lots_core.specs.Arguments.{Asked, number_asked}
 use Rattle.lots_core.specs.Draws.{drawing, drawn}
 use Rattle.lots_core.specs.Lists.{AreFull, IsFirstEmpty, lines_of}
-use Rattle.lots_core.specs.Text.{AreTooFew, HasSelection, IsRefused, text_of}
+use Rattle.lots_core.specs.Text.{AreTooFew, IsRefused, text_of}
 use Rattle.lots_core.specs.declared.error.LotsError.{LotsError}
 use Rattle.lots_core.specs.declared.error.LotsError.TheVariants.{EmptyLine, Exhausted, Memory, TooFew}
 use Rattle.lots_record.specs.declared.record.Source.{Source as ASource}
@@ -79,17 +79,19 @@ pub record IsSum (sum : List ℕ) : Type 0 where
   pub long : length sum ≡ 32
   pub bytes : IsBytes sum
 
--- A draw from this list has a record: the seed is a text that is not empty, the list has no empty
--- line and enough entrants, and no draw fails.
-pub record HasRecord (source : Source) (list : List ℕ) : Type 0 where
-  pub some : source.seed ≢ []
-  pub utf8 : IsUtf8 source.seed
-  pub bytes : All (λ byte. byte < 256) source.seed
-  pub announcement : IfSome source.announcement IsSum
-  pub program : IfSome source.program IsSum
+-- A draw from this list succeeds: no line is empty, there are enough entrants, and no draw fails.
+pub record IsDrawable (source : Source) (list : List ℕ) : Type 0 where
   pub full : AreFull (lines_of list)
   pub enough : source.count ≤ length (lines_of list)
   pub answer : (drawing source.seed source.count (lines_of list)).answer ≡ Ok tt
+
+-- A draw from this list has a record: it succeeds, and its seed is a text that is not empty.
+pub record HasRecord (source : Source) (list : List ℕ) : Type 0 where
+  pub some : source.seed ≢ []
+  pub utf8 : IsUtf8 source.seed
+  pub announcement : IfSome source.announcement IsSum
+  pub program : IfSome source.program IsSum
+  pub draw : IsDrawable source list
 
 -- A record names this announcement, if one is given.
 abbrev pub NamesAnnouncement : Option (List ℕ) → Option (List ℕ) → Type 0
@@ -136,6 +138,6 @@ IsRefusedWith source list other = ⊥
 -- The result of making a record: its text, or the reason why there is none.
 abbrev pub Recorded : {A : Type 0} → ASource → List ℕ → Result (String A) LotsError → Type 0
 Recorded source list (Ok text) =
-    AreFull (lines_of list) × HasSelection (asked_of source) (lines_of list)
+    IsDrawable (source_of source (length (lines_of list))) list
     × (string_bytes text ≡ record_text (source_of source (length (lines_of list))) list)
 Recorded source list (Err error) = IsRefusedWith source list error

@@ -1,5 +1,6 @@
 //! The reasons why a record does not agree.
-ghost use Rattle.std.specs.Prelude.{◌≡◌};
+ghost use Rattle.std.specs.Prelude.{◌≡◌, Err};
+ghost use Rattle.lots_record.specs.Program.{check_status};
 ghost use Rattle.lots_record.specs.declared.check_error.CheckError.TheVariants.{Draw};
 ghost use Rattle.lots_core.specs.declared.error.LotsError.TheVariants.{Memory};
 
@@ -54,7 +55,9 @@ impl From<LotsError> for CheckError {
 
 impl CheckError {
     /// Returns the exit status for the error.
-    pub fn status(self) -> u8 {
+    pub fn status(self) -> u8
+        ensures { result ≡ check_status (Err self) }
+    {
         match self {
             CheckError::Draw(error) => error.status(),
             CheckError::Unreadable => 9,

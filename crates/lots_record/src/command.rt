@@ -1,4 +1,8 @@
 //! What the command line asks the program `lots` to do.
+ghost use Rattle.std.specs.Prelude.{◌≡◌, ◌∷◌, codes};
+ghost use Rattle.lots_core.specs.Arguments.{Asked, AsksFor, texts};
+ghost use Rattle.lots_record.specs.Command.{IsCommand};
+ghost use Rattle.lots_record.specs.declared.command.Command.TheVariants.{Draw};
 
 use lots_core::arguments::{Request, read};
 
@@ -25,7 +29,10 @@ pub enum Command<'a> {
 
 /// Returns the command of the arguments. A seed and a count are a draw, whatever the seed is, and so
 /// is anything that is no other command: `lots_core::run` then returns `Usage`.
-pub fn read_command(arguments: &[String]) -> Command<'_> {
+pub fn read_command(arguments: &[String]) -> Command<'_>
+    ensures is { IsCommand (texts arguments.now) result }
+    ensures draws { (asked : Asked) → AsksFor (texts arguments.now) asked → result ≡ Draw }
+{
     if read(arguments).is_some() {
         return Command::Draw;
     }
@@ -42,7 +49,9 @@ pub fn read_command(arguments: &[String]) -> Command<'_> {
 }
 
 /// Returns the command of the values after `--record`: SEED COUNT [ANNOUNCEMENT].
-fn record_command(values: &[String]) -> Command<'_> {
+fn record_command(values: &[String]) -> Command<'_>
+    ensures { IsCommand (codes "--record" ∷ texts values.now) result }
+{
     let (asked, announcement) = match values {
         [_, _, announcement] => (&values[..2], Some(announcement.as_str())),
         _ => (values, None),
@@ -57,7 +66,9 @@ fn record_command(values: &[String]) -> Command<'_> {
 }
 
 /// Returns the command of the values after `--check`: RECORD [ANNOUNCEMENT].
-fn check_command(values: &[String]) -> Command<'_> {
+fn check_command(values: &[String]) -> Command<'_>
+    ensures { IsCommand (codes "--check" ∷ texts values.now) result }
+{
     match values {
         [record] => Command::Check {
             record: record.as_str(),

@@ -1,4 +1,11 @@
 //! The commands that write and check a record, from the list to the text that is written.
+ghost use Rattle.std.specs.Prelude.{◌≡◌, ◌≢◌, ◌++◌, ℕ, List, IfErr, IfSome, OnOk, codes};
+ghost use Rattle.std.specs.Io.KnownBytes.{Appends};
+ghost use Rattle.lots_core.specs.Text.{WasRead};
+ghost use Rattle.lots_core.specs.declared.error.LotsError.TheVariants.{Write as Unwritten};
+ghost use Rattle.lots_record.specs.Program as spec;
+ghost use Rattle.lots_record.specs.Record.{IsDrawable, IsRecord, given, record_text};
+ghost use Rattle.lots_record.specs.declared.check_error.CheckError.TheVariants.{Draw};
 
 use crate::check::check;
 use crate::check_error::CheckError;
@@ -26,13 +33,18 @@ from these entrants and names ANNOUNCEMENT, if one is given.
 
 /// Writes a text to `out`, all at once, and then flushes. After an error, how much of the text `out`
 /// accepted is unspecified.
-pub fn write_text<W: Write>(text: &[u8], out: &mut W) -> Result<(), LotsError> {
+pub fn write_text<W: Write>(text: &[u8], out: &mut W) -> Result<(), LotsError>
+    ensures written { OnOk result (Appends (W.contents out.old) (W.contents out.new) text.now) }
+    ensures failure { IfErr result (λ error. error ≡ Unwritten) }
+{
     out.write_all(text).map_err(|_| LotsError::Write)?;
     out.flush().map_err(|_| LotsError::Write)
 }
 
 /// Returns the SHA-256 of the announcement, if there is one.
-fn sum_of(announcement: Option<&[u8]>) -> Option<[u8; 32]> {
+fn sum_of(announcement: Option<&[u8]>) -> Option<[u8; 32]>
+    ensures { result ≡ spec.sum_of announcement.entry }
+{
     match announcement {
         Some(text) => Some(Sha256::digest(text)),
         None => None,
@@ -51,7 +63,16 @@ pub fn write_record<A: Allocator, R: Read, W: Write>(
     announcement: Option<&[u8]>,
     input: &mut R,
     out: &mut W,
-) -> Result<(), LotsError> {
+) -> Result<(), LotsError>
+    // On success, the input was read to its end, and the record of the draw from the list that was
+    // read was appended to `out`.
+    ensures written { OnOk result ((list : List ℕ)
+        × WasRead (R.remaining input.old) (R.remaining input.new) list
+        × IsDrawable (spec.source_asked request.now announcement.entry list) list
+        × Appends (W.contents out.old) (W.contents out.new)
+        (record_text (spec.source_asked request.now announcement.entry list) list)) }
+    ensures untouched { IfErr result (λ error. error ≢ Unwritten → out.new ≡ out.old) }
+{
     let list = read_list(&alloc, input)?;
     let source = Source {
         seed: request.seed,
@@ -64,7 +85,9 @@ pub fn write_record<A: Allocator, R: Read, W: Write>(
 }
 
 /// The line that says that a record agrees.
-fn agreement(announcement: Option<&[u8]>) -> &'static str {
+fn agreement(announcement: Option<&[u8]>) -> &'static str
+    ensures { result.now ≡ spec.agreement announcement.entry }
+{
     match announcement {
         Some(_) => "the record agrees with the list, and names the announcement\n",
         None => "the record agrees with the list; no announcement was compared\n",
@@ -78,20 +101,34 @@ fn agreement(announcement: Option<&[u8]>) -> &'static str {
 /// accepted is unspecified. After any other error, nothing was written.
 pub fn check_record<A: Allocator, R: Read, W: Write>(
     alloc: A,
-    record: &[u8],
+    text: &[u8],
     announcement: Option<&[u8]>,
     input: &mut R,
     out: &mut W,
-) -> Result<(), CheckError> {
+) -> Result<(), CheckError>
+    // On success, the input was read to its end, the record is that of a draw from the list that was
+    // read, it names the announcement if one is given, and the line was appended to `out`.
+    ensures agrees { OnOk result ((list : List ℕ)
+        × WasRead (R.remaining input.old) (R.remaining input.new) list
+        × IsRecord text.now list (given announcement.entry)
+        × Appends (W.contents out.old) (W.contents out.new) (spec.agreement announcement.entry)) }
+    // So if the bytes of the reader are known and the record is one of theirs, only memory, the reader
+    // or the writer can fail.
+    ensures only { IfSome (R.remaining input.old) (λ list.
+        IsRecord text.now list (given announcement.entry) → IfErr result spec.IsFailedCheck) }
+    ensures untouched { IfErr result (λ error. error ≢ Draw Unwritten → out.new ≡ out.old) }
+{
     let list = read_list(&alloc, input)?;
-    check(&alloc, record, announcement, &list)?;
+    check(&alloc, text, announcement, &list)?;
     write_text(agreement(announcement).as_bytes(), out)?;
     Ok(())
 }
 
 /// Returns the exit status of a check. If the result is an error, it is written as one line to
 /// `err`; a failure to write that line is ignored.
-pub fn report_check<W: Write>(outcome: Result<(), CheckError>, err: &mut W) -> u8 {
+pub fn report_check<W: Write>(outcome: Result<(), CheckError>, err: &mut W) -> u8
+    ensures { result ≡ spec.check_status outcome }
+{
     let Err(error) = outcome else {
         return 0;
     };

@@ -21,7 +21,7 @@ use Rattle.lots_record.proofs.check.check.Goals as goal
 pub returns-in_err-count_entrants-clause-only : goal.returns-in_err-count_entrants-clause-only
 returns-in_err-count_entrants-clause-only g c = λ known.
     let error = c.in_err-count_entrants.ensures.refusal in
-    absurd (full_lines (lines_of c.args.list.now) error.0 known.has.full (c.in_err-count_entrants.ensures.empty error.0 (ap Err error.1)))
+    absurd (full_lines (lines_of c.args.list.now) error.0 known.has.draw.full (c.in_err-count_entrants.ensures.empty error.0 (ap Err error.1)))
 
 pub returns-in_err-claims-clause-only : goal.returns-in_err-claims-clause-only
 returns-in_err-claims-clause-only g c = λ known.
@@ -91,7 +91,7 @@ returns-clause-only g c = λ known.
     let asked : ASource = record { seed = c.in_ok-seed.seed; count = Of c.in_ok-claims.claims.count; announcement = c.in_ok-claims.claims.announcement; program = c.in_ok-claims.claims.program } in
     let same : source_of asked (length lines) ≡ source =
     λ i. record { seed = seed i; count = claimed.1 i; announcement = claimed.2 i; program = claimed.3 i } in
-    let written = c.in_ok-record.ensures.2 ∙ ap (λ s. record_text s c.args.list.now) same ∙ sym known.is in
+    let written = c.in_ok-record.ensures.1 ∙ ap (λ s. record_text s c.args.list.now) same ∙ sym known.is in
     let equal = c.eq.ensures ∙ ap (λ text. pointwise nat_eq text c.args.text.now) (c.as_bytes.ensures.value ∙ written)
     ∙ nat_list_eq_equiv.refl c.args.text.now in
     absurd (one_answer c.eq.result equal c.if-eq.false)
@@ -101,21 +101,17 @@ returns-then-eq-clause-agrees g c =
     let written = c.in_ok-record.ensures in
     let claims = c.in_ok-claims.claims in
     let sums = c.in_ok-claims.ensures.sums in
-    let same : c.in_ok-seed.seed.now ≡ claims.seed.items = grind (arith, common_steps) in
     let utf8 : IsUtf8 c.in_ok-seed.seed.now = grind (arith, common_steps) in
     let source : Source = record { seed = c.in_ok-seed.seed.now; count = claims.count; announcement = claims.announcement; program = claims.program } in
     let has : HasRecord source c.args.list.now = record {
       some = λ none. grind (arith, none, c.is_empty.ensures, c.if-is_empty.false);
       utf8 = utf8;
-      bytes = subst (All (λ byte. byte < 256)) (sym same) sums.seed;
       announcement = sums.announcement;
       program = sums.program;
-      full = written.0;
-      enough = written.1.enough;
-      answer = written.1.answer;
+      draw = written.0;
     } in record {
       source = source;
       has = has;
       names = c.names.ensures.0 c.if-not-names.false;
-      is = sym (same_text (c.as_bytes.result.now) c.args.text.now (sym c.if-eq.true ∙ c.eq.ensures)) ∙ c.as_bytes.ensures.value ∙ written.2;
+      is = sym (same_text (c.as_bytes.result.now) c.args.text.now (sym c.if-eq.true ∙ c.eq.ensures)) ∙ c.as_bytes.ensures.value ∙ written.1;
     }

@@ -1,4 +1,4 @@
-use Rattle.std.proofs.Common.{rules, ◌≡◌, Some, arith, sym}
+use Rattle.std.proofs.Common.{◌≡◌, Some, arith, sym}
 use Rattle.std.proofs.lemmas.Grind.{common_steps}
 use Rattle.lots_record.proofs.ClaimLemmas.{writes_number}
 use Rattle.lots_record.proofs.claims.claims_of.Goals as goal
@@ -38,7 +38,6 @@ returns-clause-found g c = λ source list n sum rest small read is.
 
 pub returns-clause-sums : goal.returns-clause-sums
 returns-clause-sums g c = record {
-    seed = λ k d within. search (rules, arith);
-    announcement = grind (arith, common_steps, c.announcement_of.ensures.sum);
-    program = grind (arith, common_steps, c.program_of.ensures.sum);
-  }
+  announcement = grind (arith, common_steps, c.announcement_of.ensures.sum);
+  program = grind (arith, common_steps, c.program_of.ensures.sum);
+}

@@ -27,4 +27,4 @@ returns g c =
     ∙ ap (λ xs. string_bytes c.push_source.new.text ++ result_lines xs) first in
     let text = resulted
     ∙ ap (λ start. start ++ result_lines (drawn source.seed.now (number_asked source.count (length lines)) lines)) sourced in
-    (selection.0, selection.1, text)
+    (record { full = selection.0; enough = selection.1.enough; answer = selection.1.answer }, text)
