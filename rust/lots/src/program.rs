@@ -86,13 +86,13 @@ fn agreement(announcement: Option<&[u8]>) -> &'static str {
 /// Returns the reason if the record does not agree. After `Write`, how much of the line `out`
 /// accepted is unspecified. After any other error, nothing was written.
 pub fn check_record<R: Read, W: Write>(
-    record: &[u8],
+    text: &[u8],
     announcement: Option<&[u8]>,
     input: &mut R,
     out: &mut W,
 ) -> Result<(), CheckError> {
     let list = read_list(input)?;
-    check(record, announcement, &list)?;
+    check(text, announcement, &list)?;
     write_text(agreement(announcement).as_bytes(), out)?;
     Ok(())
 }
