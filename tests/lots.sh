@@ -6,7 +6,8 @@
 #     tests/lots.sh kit      tests only the kit's builds
 #
 # It runs the program to each exit status but 8, and compares standard output, standard error and the status. Then
-# tests/second_opinion.py compares all builds with the Python code of docs/LOTS.md. The last line is N passed, M failed.
+# tests/second_opinion.py compares all builds with the Python code of docs/LOTS.md, and tests/compare_records.py their
+# records with those of tests/records.py. The last line is N passed, M failed.
 #
 # Status 8 is not tested here. It means that 128 random 64-bit words in a row were rejected, and no seed with such words
 # is known.
@@ -49,6 +50,226 @@ texts() {
     run 'one of two' 'a\nb\n' 0 'b\n' '' seed 1
 }
 
+# The record of the example in docs/LOTS.md without its first two lines, and its list and seed.
+twelve='Ada\nBarbara\nChidi\nDmitri\nElif\nFarid\nGrace\nHedy\nInes\nJun\nKatherine\nLise\n'
+throws='4 1 6 3 3 2 5 6 1 4 2 6 5 3 1 1 6 2 4 5'
+rest="seed: \"$throws\"
+list SHA-256: 32230fec7f4d73fc1dc4888e4bd9becc094a248cb2098b991ab26c2ef227e860
+entrants: 12
+drawn: 3
+result SHA-256: d44df65b613f78f8bb637295ecfbaf57109d9ec26487514c036dc826f6757939
+1: \"Katherine\"
+2: \"Jun\"
+3: \"Chidi\"
+end of the record
+"
+named='nanorand public draw 2\nannouncement SHA-256: '
+example="${named}none\n$rest"
+empty_sum=e3b0c44298fc1c149afbf4c8996fb92427ae41e4649b934ca495991b7852b855
+agrees='the record agrees with the list; no announcement was compared\n'
+agrees_too='the record agrees with the list, and names the announcement\n'
+
+# The files that the cases of records name.
+files() {
+    printf '%b' "$example" >"$work/record"
+    printf 'On Friday at noon.\n' >"$work/announcement"
+    : >"$work/empty"
+    sum=$(sha256sum <"$work/announcement")
+    sum=${sum%% *}
+    printf '%b' "$named$sum\n$rest" >"$work/full"
+}
+
+records() {
+    local odd=$' "\\\n\xc2\xa0\xe2\x80\x8d' k sum
+    files
+    run 'a record' "$twelve" 0 "$example" '' --record "$throws" 3
+    run 'a record, zeros in front' "$twelve" 0 "$example" '' --record "$throws" 003
+    run 'a record with an announcement' "$twelve" 0 "$named$sum\n$rest" '' --record "$throws" 3 "$work/announcement"
+    run 'a record with an empty announcement' "$twelve" 0 "$named$empty_sum\n$rest" '' \
+        --record "$throws" 3 "$work/empty"
+    run 'a record of nobody, by an odd seed' 'a\n' 0 "${named}none
+seed: \" \"\\\\x5c\\\\x0a\\\\xc2\\\\xa0\\\\xe2\\\\x80\\\\x8d\"
+list SHA-256: 87428fc522803d31065e7bce3cf03fe475096631e5e07bbd7a0fde60c4cf25c7
+entrants: 1\ndrawn: 0\nresult SHA-256: $empty_sum\nend of the record\n" '' --record "$odd" 0
+    run 'a record of odd entrants' '"\n\\\n \n\0377\0303\0251 \n\0303\0251\n' 0 "${named}none
+seed: \"a seed\"
+list SHA-256: 9edb7fe4aca523bf373ff4d30be39c4e4d374fe8dc41073840381dae50aea6d2
+entrants: 5\ndrawn: 5
+result SHA-256: c98475964a3af251221281952931b9f4ce27121562786284a1a8d9c27acc0888
+1: \"\\\\xff\\\\xc3\\\\xa9 \"\n2: \"\"\"\n3: \" \"\n4: \"\0303\0251\"\n5: \"\\\\x5c\"
+end of the record\n" '' --record 'a seed' all
+    run 'a record of none' '' 0 "${named}none\nseed: \"x\"\nlist SHA-256: $empty_sum
+entrants: 0\ndrawn: 0\nresult SHA-256: $empty_sum\nend of the record\n" '' --record x all
+    run 'a record, one too many' 'a\n' 3 '' 'lots: 1 entrants, 2 asked for\n' --record x 2
+    run 'a record, an empty line' 'a\n\n' 4 '' 'lots: line 2 is empty\n' --record x all
+    # The sums are those of the Python code's records.
+    seq 1002 >"$work/thousand"
+    while read -r k sum; do
+        begin
+        "$work/$compiler" --record 'a seed' "$k" <"$work/thousand" >"$work/out" 2>"$work/err" || status=$?
+        count "a record of $k" "$(
+            differs 'status' "$status" 0
+            differs 'the sum' "$(sha256sum <"$work/out")" "$sum  -"
+        )"
+        cp "$work/out" "$work/many"
+        begin
+        "$work/$compiler" --check "$work/many" <"$work/thousand" >"$work/out" 2>"$work/err" || status=$?
+        end "the check of a record of $k" 0 "$agrees" ''
+    done <<'END'
+1000 370ed1adbf1f80c8fc1367a4560bfc617f612b740caa4bd20b09a7351d16f6b1
+1001 7225566d77505334fdc5499ac0d8ee4236baa9e69568f19a1d3395f4d6b0bf3c
+1002 a5b1da1ad12d3d5e1e7c54e614794a344caf3997926d6fab18500b86591de53a
+END
+}
+
+checks() {
+    local unreadable='lots: this is no record of format 2\n' other='lots: the record names another announcement\n'
+    local differs='lots: the record is not that of a draw from this list\n' name
+    files
+    run 'a check' "$twelve" 0 "$agrees" '' --check "$work/record"
+    run 'a check without comparing the announcement' "$twelve" 0 "$agrees" '' --check "$work/full"
+    run 'a check with the announcement' "$twelve" 0 "$agrees_too" '' --check "$work/full" "$work/announcement"
+    run 'a check with another announcement' "$twelve" 10 '' "$other" --check "$work/full" "$work/empty"
+    run 'a record without an announcement' "$twelve" 10 '' "$other" --check "$work/record" "$work/announcement"
+    run 'an announcement beside an empty one' "$twelve" 10 '' "$other" --check "$work/record" "$work/empty"
+    sed "s/^result/module SHA-256: $empty_sum\n&/" "$work/record" >"$work/of the page"
+    run 'a record of the page' "$twelve" 0 "$agrees" '' --check "$work/of the page"
+    run 'no record' "$twelve" 9 '' "$unreadable" --check "$work/announcement"
+    run 'an empty record' "$twelve" 9 '' "$unreadable" --check "$work/empty"
+    run 'a list as the record' "$twelve" 9 '' "$unreadable" --check "$work/list"
+    sed '1s/2$/1/' "$work/record" >"$work/other"
+    run 'a record of format 1' "$twelve" 9 '' "$unreadable" --check "$work/other"
+    sed '3s/"4/"\\4/' "$work/record" >"$work/other"
+    run 'a bad escape' "$twelve" 9 '' "$unreadable" --check "$work/other"
+    sed '3s/".*"/""/' "$work/record" >"$work/other"
+    run 'a record without a seed' "$twelve" 9 '' "$unreadable" --check "$work/other"
+    printf '%b' "$twelve" >"$work/twelve"
+    run 'another list' "$letters" 11 '' "$differs" --check "$work/record"
+    run 'a list with another order' "Lise\n${twelve%Lise*}" 11 '' "$differs" --check "$work/record"
+    run 'a list without its last line feed' "${twelve%??}" 11 '' "$differs" --check "$work/record"
+    for name in 's/$/\r/' '2s/none/NONE/' '3s/4 1/41/' '4s/3/4/' '5s/12/13/' '6s/3/2/' '6s/3/03/' '6s/3/+3/' \
+        '7s/d/D/' '8s/1:/1 :/' '9s/Jun/Jan/' '9{h;d};10G' '10d' '11d' '$a more' '1i more' '3s/"4/"\\x34/'; do
+        sed "$name" "$work/record" >"$work/other"
+        begin
+        "$work/$compiler" --check "$work/other" <"$work/twelve" >"$work/out" 2>"$work/err" || status=$?
+        count "a record changed by $name" "$(
+            [[ $status = 9 || $status = 11 ]] || echo " status is $status;"
+            differs_in 'standard output' out ''
+            [ "$status" != 11 ] || differs_in 'standard error' err "$differs"
+            [ "$status" != 9 ] || differs_in 'standard error' err "$unreadable"
+        )"
+    done
+    head -c -1 "$work/record" >"$work/other"
+    run 'a record without its last line feed' "$twelve" 11 '' "$differs" --check "$work/other"
+    run 'a check, too few' 'a\nb\n' 3 '' 'lots: 2 entrants, 3 asked for\n' --check "$work/record"
+    run 'a check, no entrants' '' 3 '' 'lots: 0 entrants, 3 asked for\n' --check "$work/record"
+    run 'a check, an empty line' 'a\n\nb\n' 4 '' 'lots: line 2 is empty\n' --check "$work/record"
+}
+
+options() {
+    local name version help
+    version=$(sed -n 's/^version = "\(.*\)"$/\1/p' Cargo.toml | head -n 1)
+    help=$(
+        cat <<'END'
+usage: lots SEED COUNT|all < entrants
+       lots --record SEED COUNT|all [ANNOUNCEMENT] < entrants
+       lots --check RECORD [ANNOUNCEMENT] < entrants
+       lots --version
+       lots --help
+
+Draws COUNT of the entrants, one per line of standard input, as the seed determines, and writes them
+in the order drawn. `--record` writes the record of the draw, which names the SHA-256 of the file
+ANNOUNCEMENT. `--check` draws again: its status is 0 only if the file RECORD is the record of a draw
+from these entrants and names ANNOUNCEMENT, if one is given.
+END
+    )
+    run 'the version' '' 0 "lots $version\n" '' --version
+    run 'the help' '' 0 "$help\n" '' --help
+    begin
+    "$work/$compiler" --help <. >"$work/out" 2>"$work/err" || status=$?
+    end 'the help reads nothing' 0 "$help\n" ''
+    run 'a seed --record' "$letters" 0 'i\nd\nj\n' '' --record 3
+    run 'a seed --check' "$letters" 0 'f\nd\nh\n' '' --check 3
+    run 'a seed check' "$letters" 0 'd\ng\nb\n' '' check 3
+    run 'a seed --version' "$letters" 0 'h\nb\nc\n' '' --version 3
+    run 'a seed record' "$letters" 0 'c\nd\na\n' '' record 3
+    for name in --record --check --version --help; do
+        begin
+        "$work/$compiler" --record "$name" 1 </dev/null >"$work/out" 2>"$work/err" || status=$?
+        end "a record by the seed $name" 3 '' 'lots: 0 entrants, 1 asked for\n'
+        run "$name and four values" "$letters" 2 '' "$usage" "$name" a 1 b c
+    done
+    for name in --version --help; do
+        run "$name with an empty value" "$letters" 2 '' "$usage" "$name" ''
+        run "$name with a value" "$letters" 2 '' "$usage" "$name" x
+        run "$name twice" "$letters" 2 '' "$usage" "$name" "$name"
+    done
+    files
+    run '--record alone' "$letters" 2 '' "$usage" --record
+    run '--record with a seed' "$letters" 2 '' "$usage" --record x
+    run '--record with an empty seed' "$letters" 2 '' "$usage" --record '' 1
+    run '--record with an empty seed, and an announcement' "$letters" 2 '' "$usage" --record '' 1 "$work/empty"
+    run '--record after the seed' "$letters" 2 '' "$usage" x 1 --record
+    run '--check alone' "$letters" 2 '' "$usage" --check
+    run '--check with three values' "$letters" 2 '' "$usage" --check "$work/record" "$work/empty" 1
+    run '--check with a path that is no text' "$letters" 2 '' "$usage" --check $'\xff'
+    run '--record with a path that is no text' "$letters" 2 '' "$usage" --record x 1 $'\xff'
+    run '--record with a seed that is no text' "$letters" 2 '' "$usage" --record $'\xff' 1
+    for name in '' - +1 -1 1.5 ' 1' ALL 18446744073709551616 "$work/empty"; do
+        run "--record with the count '$name'" "$letters" 2 '' "$usage" --record x "$name"
+        run "--record with the count '$name', and an announcement" "$letters" 2 '' "$usage" \
+            --record x "$name" "$work/empty"
+    done
+}
+
+# Files that cannot be read, a standard input that cannot be read, and a standard output that accepts nothing.
+unread_files() {
+    local file command commands
+    files
+    printf '%b' "$twelve" >"$work/twelve"
+    printf x >"$work/private"
+    chmod 000 "$work/private"
+    for file in "$work/missing" "$work" / "$work/record/" "$work/record/x" '' "$work/private"; do
+        if [ "$file" = "$work/private" ] && [ -r "$file" ]; then
+            skip "a file that may not be read, by $compiler" 'this user reads any file'
+            continue
+        fi
+        run "a record that is '${file#"$work"}'" "$twelve" 6 '' 'lots: read failed\n' --check "$file"
+        run "a record that is '${file#"$work"}', with an announcement" "$twelve" 6 '' 'lots: read failed\n' \
+            --check "$file" "$work/announcement"
+        run "an announcement that is '${file#"$work"}'" "$twelve" 6 '' 'lots: read failed\n' \
+            --check "$work/record" "$file"
+        run "an announcement that is '${file#"$work"}', for a record" "$twelve" 6 '' 'lots: read failed\n' \
+            --record x 3 "$file"
+    done
+    chmod 600 "$work/private"
+    for command in '--record x 3' "--record x 3 $work/announcement" "--check $work/record" \
+        "--check $work/full $work/announcement"; do
+        read -r -a commands <<<"$command"
+        begin
+        "$work/$compiler" "${commands[@]}" <. >"$work/out" 2>"$work/err" || status=$?
+        end "${command//$work/}, a folder" 6 '' 'lots: read failed\n'
+        begin
+        "$work/$compiler" "${commands[@]}" <&- >"$work/out" 2>"$work/err" || status=$?
+        end "${command//$work/}, standard input closed" 6 '' 'lots: read failed\n'
+    done
+    for command in '--record x 3' "--check $work/record" --version --help; do
+        read -r -a commands <<<"$command"
+        begin
+        "$work/$compiler" "${commands[@]}" <"$work/twelve" >/dev/full 2>"$work/err" || status=$?
+        end "${command//$work/}, standard output full" 7 '' 'lots: write failed\n'
+        begin
+        "$work/$compiler" "${commands[@]}" <"$work/twelve" >&- 2>"$work/err" || status=$?
+        end "${command//$work/}, standard output closed" 7 '' 'lots: write failed\n'
+        begin
+        "$work/$compiler" "${commands[@]}" <"$work/twelve" >/dev/full 2>/dev/full || status=$?
+        end "${command//$work/}, both full" 7 '' ''
+    done
+    run_without_errors 'no record' "$twelve" 9 '' --check "$work/announcement"
+    run_without_errors 'another announcement' "$twelve" 10 '' --check "$work/record" "$work/announcement"
+    run_without_errors 'another list' "$letters" 11 '' --check "$work/record"
+}
+
 # What counts as a line.
 lines() {
     run 'no last line feed' 'a\nb' 0 'b\na\n' '' seed all
@@ -68,8 +289,8 @@ counts() {
     run 'zeros' "$letters" 0 '' '' 'a seed' 0000
     run 'no argument' "$letters" 2 '' "$usage"
     run 'one argument' "$letters" 2 '' "$usage" seed
-    run 'an option alone' "$letters" 2 '' "$usage" --help
-    run 'another option alone' "$letters" 2 '' "$usage" --version
+    run 'an unknown option alone' "$letters" 2 '' "$usage" --all
+    run 'a short option alone' "$letters" 2 '' "$usage" -h
     run 'two dashes before the arguments' "$letters" 2 '' "$usage" -- seed all
     run 'an option after the arguments' "$letters" 2 '' "$usage" seed all --help
     run 'three arguments' "$letters" 2 '' "$usage" seed 1 1
@@ -268,13 +489,21 @@ little_output() {
 # Less and less memory, until the program does not start. With enough memory it writes its text. With less it ends with
 # status 5 and writes nothing. With even less, the shell or the loader ends it.
 little_memory() {
-    local kibibytes refused=0 wrong=
     seq 100000 >"$work/list"
-    timeout 60 "$work/$compiler" seed all <"$work/list" >"$work/all" || true
+    timeout 60 "$work/$compiler" --record seed all <"$work/list" >"$work/long" || true
+    less_and_less seed all
+    less_and_less --record seed all
+    less_and_less --check "$work/long"
+}
+
+# The same for these arguments, and the list that is there.
+less_and_less() {
+    local kibibytes refused=0 wrong=
+    timeout 60 "$work/$compiler" "$@" <"$work/list" >"$work/all" || true
     for ((kibibytes = 24000; kibibytes >= 1000; kibibytes -= 250)); do
         begin
         {
-            prlimit --as="$((kibibytes * 1024))" "$work/$compiler" seed all \
+            prlimit --as="$((kibibytes * 1024))" "$work/$compiler" "$@" \
                 <"$work/list" >"$work/out" 2>"$work/err" || status=$?
         } 2>/dev/null
         case $status in
@@ -292,7 +521,7 @@ little_memory() {
     done
     [ "$refused" -gt 0 ] || wrong+=' it never runs out of memory;'
     [ "$status" -ge 126 ] || wrong+=" at last the status is $status;"
-    count 'less and less memory' "$wrong"
+    count "less and less memory for $1" "$wrong"
 }
 
 # The outcome is the same if standard error accepts nothing, because it is full or closed.
@@ -333,6 +562,10 @@ run_without_errors() {
 builds_of lots
 for compiler in $(builds); do
     texts
+    records
+    checks
+    options
+    unread_files
     lines
     counts
     empty_lines
@@ -350,4 +583,5 @@ done
 all_different
 mapfile -t programs < <(builds | sed "s|^|$work/|")
 part python3 tests/second_opinion.py "${programs[@]}"
+part python3 tests/compare_records.py "${programs[@]}"
 finish

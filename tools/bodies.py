@@ -61,9 +61,13 @@ class Package:
         return self.with_std is not None and module.partition("/")[0] not in self.with_std
 
 
+# The modules of `lots` that exist only with the feature std.
+LOTS_WITH_STD = ("arguments", "check", "check_error", "claims", "command", "program", "quoted", "record", "run",
+                 "selection", "text")
+
 PACKAGES = (
     Package("rust/nanorand-proved/src", ("nanorand_core", "nanorand_replay", "nanorand")),
-    Package("rust/lots/src", ("lots_core",), ("arguments", "run", "text")),
+    Package("rust/lots/src", ("lots_core", "lots_record"), LOTS_WITH_STD),
     Package("rust/draw/src", ("draw_core",), None),
 )
 

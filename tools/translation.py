@@ -40,6 +40,10 @@ SENTENCES = (
      "Both mean the same; Rust 1.63 supports only the second."),
     ("`uN::random(rng).cast_signed()`", "`uN::random(rng) as iN`",
      "Both keep the bits; Rust 1.63 has no `cast_signed`."),
+    ("`str::from_utf8(bytes)`", "`std::str::from_utf8(bytes)`",
+     "Both are the same function; Rust 1.63 has only the second."),
+    ("`Sha256::digest(bytes)`", "`sha256::digest(bytes)`",
+     "In Rattle, SHA-256 is a crate; in Rust, it is a module of the package."),
     ("`u32x4`, `u32x8`", "`U32x4`, `U32x8`", "Stable Rust has no such vector types, so `simd.rs` defines them."),
     ("`final fn`, `fn`", "`fn`, or `const fn`", "A `const fn` is an ordinary function at run time."),
     ("a function with a `Read`, a `Vec` or a `String`, and an error's traits", "with `#[cfg(feature = \"std\")]`",
@@ -94,11 +98,13 @@ REPLACED = (
     (whole(r", (?:& '\w+ )?A >"), ">"),
     (whole(r"< (?:& '\w+ )?A >"), ""),
     (whole(r"Formatter < W >"), "Formatter < '_ >"),
+    (whole(r"(?<!:: )str :: from_utf8"), "std :: str :: from_utf8"),
+    (whole(r"Sha256 :: digest"), "sha256 :: digest"),
     (whole(r"u(\d+) :: random \( rng \) \. cast_signed \( \)"), r"u\1 :: random ( rng ) as i\1"),
 )
 
 # The argument that passes an allocator on, `let P(x) = y else {`, `v.push(x)?;`, and a clone's `Ok(..)`.
-ALLOCATOR = re.compile(r"\( (?:& )?alloc (?:, |(?=\)))")
+ALLOCATOR = re.compile(r"(?<=\( )(?:& )?alloc (?:, |(?=\)))|, (?:& )?alloc (?=[,)])")
 BINDING = re.compile(r"(?<!if )(?<!while )(?<!&& )(?<!\S)let ([^=;]+) = ([^;{}]+) else \{(?!\S)")
 GROWTH = re.compile(r"""(?<=[;{}] )(\w+) \. (push|push_str|extend_from_slice) \( ([a-zA-Z_]\w*|b?["']\S*) \) \? ;""")
 CLONE = re.compile(r"\{ Ok \( ([^()]*(?:\([^()]*\)[^()]*)*) \) \}")
@@ -210,7 +216,7 @@ def function_in_rust(entry, facets, setting):
     words = [" ".join(word for word in text.split(" ") if word != "final") for text in facets["words"]]
     body, result, generics = facets["body"], facets["result"], facets["generics"]
     if parameters != facets["parameters"]:
-        body = [ALLOCATOR.sub("( ", text) for text in body]
+        body = [ALLOCATOR.sub("", text) for text in body]
         bounds = [part.partition(" ")[2] for part in generics]
         texts = (text_in_rust(text, setting) for text in (*bounds, *parameters, *result, *facets["conditions"]))
         used = " ".join(texts).split(" ")

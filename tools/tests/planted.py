@@ -1,7 +1,7 @@
 """Changes of the real tree in one place, for `test_bodies.py`: the file, a text in it, and its replacement."""
 
 CORE, NANORAND, REPLAY = "crates/nanorand_core/src", "crates/nanorand/src", "crates/nanorand_replay/src"
-LOTS, DRAW = "crates/lots_core/src", "crates/draw_core/src"
+LOTS, RECORD, DRAW = "crates/lots_core/src", "crates/lots_record/src", "crates/draw_core/src"
 
 # The comparison has to find each of these.
 PLANTED = (
@@ -36,6 +36,12 @@ PLANTED = (
     ("rust/nanorand-proved/src/rand/chacha_groups.rs", "self.chacha == other.chacha", "self.chacha != other.chacha"),
     ("rust/lots/src/draws.rs", "there < count", "there <= count"),
     (f"{LOTS}/draws.rt", "there < count", "there <= count"),
+    ("rust/lots/src/record.rs", "count <= 1000", "count < 1000"),
+    ("rust/lots/src/check.rs", "Count::Of(claims.count)", "Count::All"),
+    ("rust/lots/src/quoted.rs", "'\\u{1680}'", "'\\u{1681}'"),
+    (f"{RECORD}/record.rt", "end of the record", "end of a record"),
+    (f"{RECORD}/claims.rt", "after[end + 1..]", "after[end..]"),
+    (f"{RECORD}/check_error.rt", "CheckError::Differs => 11", "CheckError::Differs => 12"),
     ("rust/draw/src/bounds.rs", "Bound::Excluded(N::read(text)?)", "Bound::Included(N::read(text)?)"),
     (f"{DRAW}/bounds.rt", "text.split_once(\"..\")", "text.split_once(\"...\")"),
     ("rust/nanorand-proved/src/rand/pcg64.rs", ".wrapping_mul(FACTOR).wrapping_add(TERM)", ".wrapping_mul(FACTOR) + TERM"),
@@ -51,7 +57,7 @@ PLANTED = (
     ("rust/nanorand-proved/src/shuffles.rs", "    identity(scratch);\n", ""),
     (f"{CORE}/shuffles.rt", "identity(choices);", ""),
     ("rust/nanorand-proved/src/rand/chacha.rs", "system(source, &mut nonce)?", "system(source, &mut nonce)"),
-    ("rust/lots/src/run.rs", "draw(request.seed, &mut entrants, count)?", "draw(request.seed, &mut entrants, count)"),
+    ("rust/lots/src/selection.rs", "draw(seed, &mut entrants, drawn)?", "draw(seed, &mut entrants, drawn)"),
     (f"{DRAW}/run.rt", ".map_err(|_| DrawError::Write)?;", ";"),
     ("rust/lots/src/run.rs", "out.flush()", "out.by_ref().flush()"),
     ("rust/nanorand-proved/src/values/word.rs", "8 => u64::from(u8::random(rng)),\n        16 => u64::from(u16::random(rng)),",
@@ -200,7 +206,7 @@ PLANTED = (
     ("rust/nanorand-proved/src/lib.rs", "#[forbid(unsafe_code)]\npub mod samples;", "pub mod samples;"),
     ("rust/nanorand-proved/src/lib.rs", "mod swap;", "#[path = \"other.rs\"]\nmod swap;"),
     ("rust/nanorand-proved/src/lib.rs", "#![no_std]", ""),
-    ("rust/lots/src/lib.rs", "#[cfg(feature = \"std\")]\nmod arguments;", "mod arguments;"),
+    ("rust/lots/src/lib.rs", "#[cfg(feature = \"std\")]\npub mod arguments;", "pub mod arguments;"),
     ("rust/draw/src/lib.rs", "pub use error::DrawError;", "pub use error::*;"),
 )
 

@@ -269,6 +269,8 @@ class Rules(unittest.TestCase):
             "fn f<T>(t: &[T]) -> Result<Vec<u8>, std::collections::TryReserveError>"
             " { let v = Vec::new(); g(t, h())?; Ok(v) }",
         )
+        self.becomes("fn f<A: Allocator>(t: T, alloc: &A) { g(t, alloc, 1); h(t, &alloc); i(&alloc) }",
+                     "fn f(t: T) { g(t, 1); h(t); i() }")
         self.becomes("struct S<A: Allocator> { a: Vec<u8, A>, b: String<A> }", "struct S { a: Vec<u8>, b: String }")
         self.stays("fn f(alloc: u8) { g(other, alloc) }".replace("alloc: u8", "alloc_size: u8"))
         self.stays("fn f() { g(alloc, x) }")
@@ -345,6 +347,11 @@ class Rules(unittest.TestCase):
                      " let d = if let Ok(d) = e { d } else { return; }; }")
         self.stays("fn f() { let a = if b { c } else { d }; if let Some(a) = b { c } else { d } }")
 
+    def test_functions_of_other_modules(self):
+        self.becomes("fn f() { str::from_utf8(a).ok(); Sha256::digest(b) }",
+                     "fn f() { std::str::from_utf8(a).ok(); sha256::digest(b) }")
+        self.stays("fn f() { core::str::from_utf8(a); str::from_utf8_lossy(b); Sha256::new(); Sha512::digest(c) }")
+
     def test_signed_casts(self):
         self.becomes("fn f() { u8::random(rng).cast_signed() }", "fn f() { u8::random(rng) as i8 }")
         self.stays("fn f() { usize::random(rng).cast_signed(); u8::random(g).cast_signed(); a.cast_signed() }")
@@ -414,7 +421,7 @@ class Tree(InTree):
                 self.assertLess(len(found), 12, found)
 
     def test_planted_differences_are_of_all_kinds(self):
-        crates = ("nanorand", "nanorand_core", "nanorand_replay", "lots_core", "draw_core")
+        crates = ("nanorand", "nanorand_core", "nanorand_replay", "lots_core", "lots_record", "draw_core")
         for folder in ("rust/nanorand-proved/src/", "rust/lots/", "rust/draw/", *(f"crates/{one}/" for one in crates)):
             self.assertGreater(sum(name.startswith(folder) for name, _, _ in PLANTED), 2, folder)
 

@@ -22,7 +22,9 @@ impl Count {
 
 /// What the arguments ask for.
 pub struct Request<'a> {
+    /// The seed, which is not empty.
     pub seed: &'a str,
+    /// How many entrants to draw.
     pub count: Count,
 }
 

@@ -3,7 +3,7 @@
 use crate::error::LotsError;
 
 /// Returns the index of the first line feed, if there is one.
-fn line_end(text: &[u8]) -> Option<usize> {
+pub fn line_end(text: &[u8]) -> Option<usize> {
     text.iter().position(|byte| *byte == b'\n')
 }
 

@@ -8,18 +8,72 @@
 //! status is 0 on success, 2 if the arguments are not a seed and a count, 3 if there are too few
 //! entrants, 4 if a line is empty, 5 if memory runs out, 6 if a read failed, 7 if a write failed,
 //! and 8 if 128 words (random integers of 64 bits) in a row were rejected.
+//!
+//! `lots --record SEED COUNT|all [ANNOUNCEMENT] < entrants` prints the record of the draw, which
+//! names the SHA-256 of the file ANNOUNCEMENT. `lots --check RECORD [ANNOUNCEMENT] < entrants`
+//! draws again: the status is 0 only if the file RECORD is the record of a draw from these
+//! entrants, and names ANNOUNCEMENT if one is given; otherwise it is 9 if the file is no record, 10
+//! if it names another announcement, 11 if it is not the record of its draw from these entrants, or
+//! that of the error. `lots --version` and `lots --help` print a text. A seed and a count are
+//! always a draw, even if the seed is such an option: a record whose file is named `all` or by
+//! digits is checked by `lots --check ./all`.
 #![forbid(unsafe_code)]
 
-use lots::run::{report, run};
-use lots::LotsError;
+use lots::arguments::Request;
+use lots::command::{read_command, Command};
+use lots::program::{check_record, report_check, write_record, write_text, HELP};
+use lots::run::{read_list, report, run};
+use lots::{CheckError, LotsError};
 use nanorand_program::{arguments, input, output};
+use std::fs::File;
 use std::io::stderr;
 use std::process::ExitCode;
 
+/// What `lots --version` prints.
+const VERSION: &str = concat!("lots ", env!("CARGO_PKG_VERSION"), "\n");
+
+/// Returns the bytes of the file at the path.
+fn read_file(path: &str) -> Result<Vec<u8>, LotsError> {
+    let mut file = File::open(path).map_err(|_| LotsError::Read)?;
+    read_list(&mut file)
+}
+
+/// Writes the record of the draw.
+fn record(request: &Request<'_>, announcement: Option<&str>) -> Result<(), LotsError> {
+    let announcement = announcement.map(read_file).transpose()?;
+    let (input, out) = (&mut input(), &mut output());
+    write_record(request, announcement.as_deref(), input, out)
+}
+
+/// Checks a record.
+fn check(record: &str, announcement: Option<&str>) -> Result<(), CheckError> {
+    let record = read_file(record)?;
+    let announcement = announcement.map(read_file).transpose()?;
+    let (input, out) = (&mut input(), &mut output());
+    check_record(&record, announcement.as_deref(), input, out)
+}
+
+/// Carries out the command of the arguments, and returns the exit status.
+fn status_of(arguments: &[String]) -> u8 {
+    let (out, err) = (&mut output(), &mut stderr());
+    match read_command(arguments) {
+        Command::Draw => report(run(arguments, &mut input(), out), err),
+        Command::Record {
+            request,
+            announcement,
+        } => report(record(&request, announcement), err),
+        Command::Check {
+            record,
+            announcement,
+        } => report_check(check(record, announcement), err),
+        Command::Version => report(write_text(VERSION.as_bytes(), out), err),
+        Command::Help => report(write_text(HELP.as_bytes(), out), err),
+    }
+}
+
 fn main() -> ExitCode {
-    let outcome = match arguments() {
-        Some(arguments) => run(&arguments, &mut input(), &mut output()),
-        None => Err(LotsError::Usage),
-    };
-    ExitCode::from(report(outcome, &mut stderr()))
+    ExitCode::from(match arguments() {
+        Some(arguments) => status_of(&arguments),
+        None => report(Err(LotsError::Usage), &mut stderr()),
+    })
 }

@@ -1,14 +1,17 @@
 //! The whole run, from the arguments and the list to the text that is written.
 
 use crate::arguments::{read, Request};
-use crate::draws::draw;
-use crate::entrants::entrants_of;
 use crate::error::LotsError;
+use crate::selection::draw_lines;
 use crate::text::text_of;
 use std::io::{ErrorKind, Read, Write};
 
 /// Returns all bytes of the reader.
-fn read_list<R: Read>(input: &mut R) -> Result<Vec<u8>, LotsError> {
+///
+/// # Errors
+///
+/// Returns `Memory` if an allocation fails, and `Read` if a read fails.
+pub fn read_list<R: Read>(input: &mut R) -> Result<Vec<u8>, LotsError> {
     let mut list = Vec::new();
     match crate::reading::read_to_end(input, &mut list) {
         Ok(_) => Ok(list),
@@ -19,9 +22,7 @@ fn read_list<R: Read>(input: &mut R) -> Result<Vec<u8>, LotsError> {
 
 /// Returns the text of the selection that the request makes from the list, or the error.
 fn select(request: &Request<'_>, list: &[u8]) -> Result<Vec<u8>, LotsError> {
-    let mut entrants = entrants_of(list)?;
-    let count = request.count.among(entrants.len());
-    draw(request.seed, &mut entrants, count)?;
+    let (entrants, count) = draw_lines(request.seed, request.count, list)?;
     Ok(text_of(&entrants[..count])?)
 }
 

@@ -1,0 +1,55 @@
+//! The reasons why a record does not agree.
+
+use crate::LotsError;
+
+/// The reasons why a text does not agree with a list as the record of a draw.
+#[derive(Clone, Copy, Debug, PartialEq, Eq)]
+pub enum CheckError {
+    /// The text is not a record of format 2: its first lines, down to the number of entrants drawn
+    /// and the module, cannot be read.
+    Unreadable,
+    /// The record names another announcement, or none.
+    OtherAnnouncement,
+    /// The record is not the one of its draw from this list.
+    Differs,
+    /// The draw that the record describes fails.
+    Draw(LotsError),
+}
+
+impl core::fmt::Display for CheckError {
+    fn fmt(&self, f: &mut core::fmt::Formatter<'_>) -> core::fmt::Result {
+        match self {
+            CheckError::Unreadable => f.write_str("this is no record of format 2"),
+            CheckError::OtherAnnouncement => f.write_str("the record names another announcement"),
+            CheckError::Differs => f.write_str("the record is not that of a draw from this list"),
+            CheckError::Draw(field) => write!(f, "{field}"),
+        }
+    }
+}
+
+impl std::error::Error for CheckError {}
+
+impl From<std::collections::TryReserveError> for CheckError {
+    fn from(_error: std::collections::TryReserveError) -> CheckError {
+        CheckError::Draw(LotsError::Memory)
+    }
+}
+
+impl From<LotsError> for CheckError {
+    fn from(error: LotsError) -> CheckError {
+        CheckError::Draw(error)
+    }
+}
+
+impl CheckError {
+    /// Returns the exit status for the error.
+    #[must_use]
+    pub fn status(self) -> u8 {
+        match self {
+            CheckError::Draw(error) => error.status(),
+            CheckError::Unreadable => 9,
+            CheckError::OtherAnnouncement => 10,
+            CheckError::Differs => 11,
+        }
+    }
+}

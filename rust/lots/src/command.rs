@@ -1,0 +1,78 @@
+//! What the command line asks the program `lots` to do.
+
+use crate::arguments::{read, Request};
+
+/// A command of the program.
+pub enum Command<'a> {
+    /// Draw, as `run::run` does with the arguments.
+    Draw,
+    /// Draw, and write the record.
+    Record {
+        /// The seed and the count.
+        request: Request<'a>,
+        /// The path of the announcement, if there is one.
+        announcement: Option<&'a str>,
+    },
+    /// Check a record.
+    Check {
+        /// The path of the record.
+        record: &'a str,
+        /// The path of the announcement, if there is one.
+        announcement: Option<&'a str>,
+    },
+    /// Write the version of the program.
+    Version,
+    /// Write how the program is called.
+    Help,
+}
+
+/// Returns the command of the arguments. A seed and a count are a draw, whatever the seed is, and
+/// so is anything that is no other command: `run::run` then returns `Usage`.
+#[must_use]
+pub fn read_command(arguments: &[String]) -> Command<'_> {
+    if read(arguments).is_some() {
+        return Command::Draw;
+    }
+    let (name, values) = if let Some((name, values)) = arguments.split_first() {
+        (name, values)
+    } else {
+        return Command::Draw;
+    };
+    match name.as_str() {
+        "--record" => record_command(values),
+        "--check" => check_command(values),
+        "--version" if values.is_empty() => Command::Version,
+        "--help" if values.is_empty() => Command::Help,
+        _ => Command::Draw,
+    }
+}
+
+/// Returns the command of the values after `--record`: SEED COUNT [ANNOUNCEMENT].
+fn record_command(values: &[String]) -> Command<'_> {
+    let (asked, announcement) = match values {
+        [_, _, announcement] => (&values[..2], Some(announcement.as_str())),
+        _ => (values, None),
+    };
+    match read(asked) {
+        Some(request) => Command::Record {
+            request,
+            announcement,
+        },
+        None => Command::Draw,
+    }
+}
+
+/// Returns the command of the values after `--check`: RECORD [ANNOUNCEMENT].
+fn check_command(values: &[String]) -> Command<'_> {
+    match values {
+        [record] => Command::Check {
+            record: record.as_str(),
+            announcement: None,
+        },
+        [record, announcement] => Command::Check {
+            record: record.as_str(),
+            announcement: Some(announcement.as_str()),
+        },
+        _ => Command::Draw,
+    }
+}

@@ -1,0 +1,139 @@
+//! The program as a process that writes and checks records.
+#![cfg(target_os = "linux")]
+
+#[path = "common/process.rs"]
+mod process;
+#[path = "common/records.rs"]
+mod records;
+
+use process::{by_each_name, shell};
+use records::{EXAMPLE, LIST, SEED};
+use std::fs;
+use std::path::PathBuf;
+
+const USAGE: &str = "lots: usage: lots SEED COUNT|all < entrants\n";
+const AGREES: &str = "the record agrees with the list; no announcement was compared\n";
+const NAMES: &str = "the record agrees with the list, and names the announcement\n";
+
+/// A folder of the test with this name, with the list, the record of the example and an
+/// announcement.
+fn folder(name: &str) -> PathBuf {
+    let folder = PathBuf::from(env!("CARGO_TARGET_TMPDIR")).join(name);
+    let _ = fs::remove_dir_all(&folder);
+    fs::create_dir_all(&folder).unwrap();
+    for (file, text) in [
+        ("list", LIST),
+        ("record", EXAMPLE),
+        ("announcement", "noon\n"),
+    ] {
+        fs::write(folder.join(file), text).unwrap();
+    }
+    folder
+}
+
+/// Asserts the status of the commands and what they write to each stream. The folder is current.
+fn ends(folder: &str, commands: &str, status: i32, out: &str, err: &str) {
+    let commands = format!("cd {folder:?} && {commands}");
+    let wanted = (status, out.into(), err.into());
+    let found = shell(env!("CARGO_BIN_EXE_lots"), &commands);
+    assert_eq!(found, wanted, "{commands}");
+}
+
+#[test]
+fn records_and_checks() {
+    let folder = folder("records_and_checks");
+    let ends = |commands: &str, status, out: &str, err: &str| {
+        ends(folder.to_str().unwrap(), commands, status, out, err);
+    };
+    ends(&format!("\"$0\" --record '{SEED}' 3 <list"), 0, EXAMPLE, "");
+    ends("\"$0\" --check record <list", 0, AGREES, "");
+    ends("\"$0\" --record x all announcement <list >full", 0, "", "");
+    ends("\"$0\" --check full <list", 0, AGREES, "");
+    ends("\"$0\" --check full announcement <list", 0, NAMES, "");
+    let other = "lots: the record names another announcement\n";
+    ends("\"$0\" --check full list <list", 10, "", other);
+    ends("\"$0\" --check record announcement <list", 10, "", other);
+    ends(
+        "\"$0\" --check list <list",
+        9,
+        "",
+        "lots: this is no record of format 2\n",
+    );
+    let differs = "lots: the record is not that of a draw from this list\n";
+    ends(
+        "printf 'a\\nb\\nc\\n' | \"$0\" --check record",
+        11,
+        "",
+        differs,
+    );
+    let few = "lots: 0 entrants, 3 asked for\n";
+    ends("\"$0\" --check record </dev/null", 3, "", few);
+    ends("\"$0\" --record x 3 </dev/null", 3, "", few);
+    let empty = "lots: line 1 is empty\n";
+    ends("echo | \"$0\" --check record", 4, "", empty);
+    ends("echo | \"$0\" --record x 3", 4, "", empty);
+}
+
+#[test]
+fn streams_and_files_that_fail() {
+    let folder = folder("streams_and_files_that_fail");
+    let ends = |commands: &str, status, out: &str, err: &str| {
+        ends(folder.to_str().unwrap(), commands, status, out, err);
+    };
+    let (unread, unwritten) = ("lots: read failed\n", "lots: write failed\n");
+    for command in [
+        "--record x 3",
+        "--check record",
+        "--record x 3 announcement",
+    ] {
+        for input in ["<&-", "<.", "0>/dev/null"] {
+            ends(&format!("\"$0\" {command} {input}"), 6, "", unread);
+        }
+        for out in [">&-", ">/dev/full", "1</dev/null"] {
+            ends(&format!("\"$0\" {command} <list {out}"), 7, "", unwritten);
+            ends(&format!("\"$0\" {command} <list {out} 2>&-"), 7, "", "");
+        }
+    }
+    for file in ["missing", ".", "''", "record/record", "list/"] {
+        for command in [
+            format!("--check {file}"),
+            format!("--check record {file}"),
+            format!("--check {file} announcement"),
+            format!("--record x 3 {file}"),
+        ] {
+            ends(&format!("\"$0\" {command} <list"), 6, "", unread);
+        }
+    }
+    for command in ["--help", "--version"] {
+        ends(&format!("\"$0\" {command} >/dev/full"), 7, "", unwritten);
+        ends(&format!("\"$0\" {command} >&-"), 7, "", unwritten);
+    }
+}
+
+#[test]
+fn version_help_and_usage() {
+    let program = env!("CARGO_BIN_EXE_lots");
+    let version = concat!("lots ", env!("CARGO_PKG_VERSION"), "\n");
+    let text = |text: &str| (0, text.to_string(), String::new());
+    by_each_name(program, &["--version"], &text(version));
+    by_each_name(program, &["--help"], &text(lots::program::HELP));
+    for arguments in [
+        "--record",
+        "--record x",
+        "--record x +1",
+        "--record '' 1",
+        "--record x 1 a b",
+        "--check",
+        "--check a b c",
+        "--help x",
+        "--version x",
+        "--check \"$(printf '\\377')\"",
+    ] {
+        let found = shell(program, &format!("\"$0\" {arguments} </dev/null"));
+        assert_eq!(found, (2, String::new(), USAGE.into()), "{arguments}");
+    }
+    for seed in ["--record", "--check", "--help", "--version"] {
+        let found = shell(program, &format!("echo a | \"$0\" {seed} all"));
+        assert_eq!(found, text("a\n"), "{seed}");
+    }
+}
