@@ -139,6 +139,10 @@ checks() {
     run 'a list as the record' "$twelve" 9 '' "$unreadable" --check "$work/list"
     sed '1s/2$/1/' "$work/record" >"$work/other"
     run 'a record of format 1' "$twelve" 9 '' "$unreadable" --check "$work/other"
+    for version in 20 3 '2 ' 2x ''; do
+        sed "1s/2$/$version/" "$work/record" >"$work/other"
+        run "a record of format '$version'" "$twelve" 9 '' "$unreadable" --check "$work/other"
+    done
     sed '3s/"4/"\\4/' "$work/record" >"$work/other"
     run 'a bad escape' "$twelve" 9 '' "$unreadable" --check "$work/other"
     sed '3s/".*"/""/' "$work/record" >"$work/other"
@@ -180,7 +184,8 @@ usage: lots SEED COUNT|all < entrants
 Draws COUNT of the entrants, one per line of standard input, as the seed determines, and writes them
 in the order drawn. `--record` writes the record of the draw, which names the SHA-256 of the file
 ANNOUNCEMENT. `--check` draws again: its status is 0 only if the file RECORD is the record of a draw
-from these entrants and names ANNOUNCEMENT, if one is given.
+from these entrants and names ANNOUNCEMENT, if one is given. A seed and a count are always a draw:
+write ./2026 for a file of that name.
 END
     )
     run 'the version' '' 0 "lots $version\n" '' --version

@@ -1,7 +1,7 @@
 //! A public draw that anyone can repeat: a seed and a list of entrants determine a selection and
 //! its order.
 //!
-//! The program `lots` only calls `run` and `report`. `draw` and `draw_places` are the draw itself,
+//! The program `lots` draws by `run` and `report`. `draw` and `draw_places` are the draw itself,
 //! without text, for other callers. `laws` states that no place is preferred to another.
 //!
 //! `specs/Draws.antt` defines what a seed draws, `specs/Lists.antt` what the entrants of a list

@@ -70,6 +70,9 @@ plain_encoded (byte ∷ bytes) =
 pub plain_sum : (sum : List ℕ) → HasNoLineFeed (encode_lower sum)
 plain_sum sum = plain_encoded sum
 
+pub plain_two : HasNoLineFeed (codes "2")
+plain_two = plain_by_test (codes "2") refl
+
 pub plain_sum_or_none : (sum : Option (List ℕ)) → HasNoLineFeed (sum_or_none sum)
 plain_sum_or_none None = plain_by_test (codes "none") refl
 plain_sum_or_none (Some sum) = plain_sum sum

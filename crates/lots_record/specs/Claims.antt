@@ -1,5 +1,5 @@
 -- What is read back from a record.
-use Rattle.std.specs.Prelude.{◌≡◌, ◌<◌, ◌^◌, ℕ, List, [], All, decimal, Option, Some, None, IfSome, Result, Ok, Err, Vec}
+use Rattle.std.specs.Prelude.{◌≡◌, ◌<◌, ◌^◌, ℕ, List, [], All, codes, decimal, Option, Some, None, IfSome, Result, Ok, Err, Vec}
 use Rattle.hex.specs.Hex.{encode_lower}
 use Rattle.lots_core.specs.declared.error.LotsError.TheVariants.{Memory}
 use Rattle.lots_record.specs.Quoted.{quoted}
@@ -21,6 +21,7 @@ digits_of (Some sum) = encode_lower sum
 
 -- The values are those that a record of this source has.
 pub record AreValues (values : Values) (source : Source) : Type 0 where
+  pub format : values.format.now ≡ codes "2"
   pub announcement : values.announcement.now ≡ sum_or_none source.announcement
   pub seed : values.seed.now ≡ quoted source.seed
   pub drawn : values.drawn.now ≡ decimal source.count

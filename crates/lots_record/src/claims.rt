@@ -91,6 +91,7 @@ fn value_after<'a>(text: &'a [u8], name: &[u8]) -> (&'a [u8], &'a [u8])
 /// is missing.
 #[derive(Drop)]
 struct Values<'a> {
+    format: &'a [u8],
     announcement: &'a [u8],
     seed: &'a [u8],
     drawn: &'a [u8],
@@ -104,7 +105,7 @@ fn values_of(text: &[u8]) -> Values<'_>
         text.now ≡ source_lines source list n ++ (line (codes "result SHA-256: ") sum ++ rest) →
         spec.AreValues result source }
 {
-    let (_, text) = value_after(text, b"nanorand public draw 2");
+    let (format, text) = value_after(text, b"nanorand public draw ");
     let (announcement, text) = value_after(text, b"announcement SHA-256: ");
     let (seed, text) = value_after(text, b"seed: ");
     let (_, text) = value_after(text, b"list SHA-256: ");
@@ -112,6 +113,7 @@ fn values_of(text: &[u8]) -> Values<'_>
     let (drawn, text) = value_after(text, b"drawn: ");
     let (program, _) = value_after(text, b"module SHA-256: ");
     Values {
+        format,
         announcement,
         seed,
         drawn,
@@ -179,6 +181,9 @@ pub fn claims_of<A: Allocator>(alloc: A, text: &[u8]) -> Result<Claims<A>, Check
     ensures sums { IfOk result spec.AreSums }
 {
     let values = values_of(text);
+    if values.format != b"2".as_slice() {
+        return Err(CheckError::Unreadable);
+    }
     let count = number_of(values.drawn).ok_or(CheckError::Unreadable)?;
     let announcement = announcement_of(values.announcement).ok_or(CheckError::Unreadable)?;
     let program = program_of(values.program).ok_or(CheckError::Unreadable)?;

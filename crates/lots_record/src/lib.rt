@@ -1,8 +1,8 @@
 //! The record of a public draw: a text that tells others everything they need to repeat the draw
 //! with the list, and the check of such a text.
 //!
-//! `record` makes the text, and `check` accepts exactly the texts that `record` makes. The program
-//! `lots` calls `read_command` and the functions of `program`.
+//! `record` makes the text, and `check` accepts exactly the texts that `record` makes of seeds that
+//! are not empty. The program `lots` calls `read_command` and the functions of `program`.
 //!
 //! `specs/Quoted.antt` defines how bytes are written so that everything in them shows,
 //! `specs/Record.antt` what the text of a record is, and `specs/Command.antt` and

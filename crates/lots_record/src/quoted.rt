@@ -1,4 +1,4 @@
-//! Bytes as a text in quotation marks, in which everything shows, and back.
+//! Bytes as a text in quotation marks, with escapes of what does not show.
 ghost use Rattle.std.specs.Prelude.{◌≡◌, ◌++◌, OnOk, string_bytes};
 ghost use Rattle.lots_record.specs.Quoted as spec;
 

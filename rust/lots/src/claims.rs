@@ -63,6 +63,7 @@ fn value_after<'a>(text: &'a [u8], name: &[u8]) -> (&'a [u8], &'a [u8]) {
 /// The values of the lines of a record that say what it is made from. A value is empty if its line
 /// is missing.
 struct Values<'a> {
+    format: &'a [u8],
     announcement: &'a [u8],
     seed: &'a [u8],
     drawn: &'a [u8],
@@ -71,7 +72,7 @@ struct Values<'a> {
 
 /// Returns the values of the first lines of a record.
 fn values_of(text: &[u8]) -> Values<'_> {
-    let (_, text) = value_after(text, b"nanorand public draw 2");
+    let (format, text) = value_after(text, b"nanorand public draw ");
     let (announcement, text) = value_after(text, b"announcement SHA-256: ");
     let (seed, text) = value_after(text, b"seed: ");
     let (_, text) = value_after(text, b"list SHA-256: ");
@@ -79,6 +80,7 @@ fn values_of(text: &[u8]) -> Values<'_> {
     let (drawn, text) = value_after(text, b"drawn: ");
     let (program, _) = value_after(text, b"module SHA-256: ");
     Values {
+        format,
         announcement,
         seed,
         drawn,
@@ -125,6 +127,9 @@ pub struct Claims {
 /// Reads what a record says that it is made from.
 pub fn claims_of(text: &[u8]) -> Result<Claims, CheckError> {
     let values = values_of(text);
+    if values.format != b"2".as_slice() {
+        return Err(CheckError::Unreadable);
+    }
     let count = number_of(values.drawn).ok_or(CheckError::Unreadable)?;
     let announcement = announcement_of(values.announcement).ok_or(CheckError::Unreadable)?;
     let program = program_of(values.program).ok_or(CheckError::Unreadable)?;

@@ -9,7 +9,7 @@
 //! ```
 //!
 //! `record::record` makes the record of a draw, a text with which others repeat the draw, and
-//! `check::check` accepts exactly the texts that it makes.
+//! `check::check` accepts exactly the texts that it makes of seeds that are not empty.
 //!
 //! The functions have the bodies of the crates `lots_core` and `lots_record` in Rattle, whose
 //! contracts are proved. `sha256`, `hex`, `reading` and `growing` are hand-written. The program

@@ -20,7 +20,8 @@ usage: lots SEED COUNT|all < entrants
 Draws COUNT of the entrants, one per line of standard input, as the seed determines, and writes them
 in the order drawn. `--record` writes the record of the draw, which names the SHA-256 of the file
 ANNOUNCEMENT. `--check` draws again: its status is 0 only if the file RECORD is the record of a draw
-from these entrants and names ANNOUNCEMENT, if one is given.
+from these entrants and names ANNOUNCEMENT, if one is given. A seed and a count are always a draw:
+write ./2026 for a file of that name.
 ";
 
 /// Writes a text to `out`, all at once, and then flushes. After an error, how much of the text

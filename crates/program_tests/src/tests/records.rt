@@ -81,8 +81,9 @@ fn memory(rt: HostRuntime) -> Result<(), Fail> {
 }
 
 // Texts that differ from the record in one place, with what the check says of each.
-const OTHERS: [(&str, &str, CheckError); 8] = [
+const OTHERS: [(&str, &str, CheckError); 9] = [
     ("draw 2", "draw 1", CheckError::Unreadable),
+    ("draw 2", "draw 20", CheckError::Unreadable),
     ("5\"\n", "5\\xg0\"\n", CheckError::Unreadable),
     ("drawn: 3", "drawn: +3", CheckError::Differs),
     ("drawn: 3", "drawn: three", CheckError::Unreadable),

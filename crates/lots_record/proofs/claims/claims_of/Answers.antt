@@ -1,5 +1,6 @@
 use Rattle.std.proofs.Common.{arith}
 use Rattle.std.proofs.lemmas.Grind.{common_steps}
+use Rattle.std.proofs.lemmas.Cmp.{nat_list_eq_equiv}
 use Rattle.lots_record.proofs.ClaimLemmas.{writes_number}
 use Rattle.lots_record.proofs.claims.claims_of.Goals as goal
 
@@ -41,3 +42,9 @@ returns-clause-sums g c = record {
   announcement = grind (arith, common_steps, c.announcement_of.ensures.sum);
   program = grind (arith, common_steps, c.program_of.ensures.sum);
 }
+
+pub returns-then-ne-clause-found : goal.returns-then-ne-clause-found
+returns-then-ne-clause-found g c = λ source list n sum rest small read is.
+    let values = c.values_of-values.ensures source list n sum rest small read.count is in
+    let format = values.format in
+    grind (arith, common_steps, format, nat_list_eq_equiv.refl)

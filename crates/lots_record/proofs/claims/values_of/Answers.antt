@@ -5,7 +5,7 @@ use Rattle.lots_core.specs.Lists.{HasNoLineFeed}
 use Rattle.lots_record.specs.Claims.{digits_of}
 use Rattle.lots_record.specs.Quoted.{quoted}
 use Rattle.lots_record.specs.Record.{line, module_line, sum_or_none}
-use Rattle.lots_record.proofs.PlainLemmas.{none, plain_decimal, plain_quoted, plain_sum, plain_sum_or_none}
+use Rattle.lots_record.proofs.PlainLemmas.{plain_decimal, plain_quoted, plain_sum, plain_sum_or_none, plain_two}
 use Rattle.lots_record.proofs.claims.values_of.Goals as goal
 
 -- The parts of a text, one after another.
@@ -42,13 +42,14 @@ returns c = λ source list n sum rest small few is.
     let from_list = listed ++ from_entrants in
     let from_seed = seed ++ from_list in
     let from_announcement = announcement ++ from_seed in
-    let first = c.value_after.ensures.found [] from_announcement none (is ∙ in_turn title announcement seed listed entrants drawn program last) in
+    let first = c.value_after.ensures.found (codes "2") from_announcement plain_two (is ∙ in_turn title announcement seed listed entrants drawn program last) in
     let second = c.value_after-2.ensures.found (sum_or_none source.announcement) from_seed (plain_sum_or_none source.announcement) first.1 in
     let third = c.value_after-3.ensures.found (quoted source.seed) from_list (plain_quoted source.seed) second.1 in
     let fourth = c.value_after-4.ensures.found (encode_lower (sha256 list)) from_entrants (plain_sum (sha256 list)) third.1 in
     let fifth = c.value_after-5.ensures.found (decimal n) from_drawn (plain_decimal n small) fourth.1 in
     let sixth = c.value_after-6.ensures.found (decimal source.count) from_program (plain_decimal source.count few) fifth.1 in
     record {
+      format = first.0;
       announcement = second.0;
       seed = third.0;
       drawn = sixth.0;
