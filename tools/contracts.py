@@ -33,7 +33,8 @@ CRATES = {
     "nanorand": "The generators, their blocks, seeds from readers, and their laws",
     "nanorand_rand": "The generators for the kit's rand, and those of the kit for the library",
     "draw_core": "The program draw",
-    "lots_core": "The program lots",
+    "lots_core": "The draw of the program lots",
+    "lots_record": "The records and the commands of the program lots",
     "nanorand_calls": "The calls as C makes them: a status, and what is written",
     "nanorand_c": "The exports for C, Python and the page",
 }

@@ -32,7 +32,7 @@ GROUPS = [
         Box("users", ["nanorand_users"], "programs of users"),
         Box("kit", ["nanorand_rand", "nanorand_rand_users"], "for the kit's rand"),
         Box("draw", ["draw", "draw_core"], "arguments to a text"),
-        Box("lots", ["lots", "lots_core"], "a public draw by lot"),
+        Box("lots", ["lots", "lots_record", "lots_core"], "a public draw by lot, its record"),
         Box("exports", ["nanorand_calls", "nanorand_c"], "exports: C, Python, a web page"),
     ]),
     Group("nanorand", "nanorand: the generators and their laws", [

@@ -90,12 +90,12 @@ fn value_after<'a>(text: &'a [u8], name: &[u8]) -> (&'a [u8], &'a [u8])
 /// The values of the lines of a record that say what it is made from. A value is empty if its line
 /// is missing.
 #[derive(Drop)]
-struct Values<'a> {
-    format: &'a [u8],
-    announcement: &'a [u8],
-    seed: &'a [u8],
-    drawn: &'a [u8],
-    program: &'a [u8],
+pub struct Values<'a> {
+    pub format: &'a [u8],
+    pub announcement: &'a [u8],
+    pub seed: &'a [u8],
+    pub drawn: &'a [u8],
+    pub program: &'a [u8],
 }
 
 /// Returns the values of the first lines of a record.
