@@ -1,12 +1,11 @@
--- How bytes are written so that everything in them shows: in quotation marks, with escapes.
+-- How bytes are written in quotation marks, with escapes of what is hidden.
 use Rattle.std.specs.Prelude.{◌≡◌, ◌≢◌, ◌⊎◌, ◌<◌, ℕ, ◌/◌, ◌%◌, ◌==◌, ◌&&◌, ◌||◌, nat_le, nat_lt, Bool, if◌then◌else◌, List, [], ◌∷◌, ◌++◌, codes}
 use Rattle.std.specs.Char.{digit_char, encode_utf8}
 use Rattle.std.specs.List.{flat_map, list_any}
 use Rattle.std.specs.Str.{chars, is_utf8}
 
--- The characters that do not show, or look like a plain space, as ranges of their codes: controls
--- and format characters, spaces other than the plain one, private use, and characters without a
--- picture.
+-- The hidden characters, as ranges of their codes, whatever the version of Unicode: controls and
+-- format characters, spaces other than the plain one, private use, and some others that do not show.
 abbrev pub hidden : List (ℕ × ℕ)
 hidden =
     (0, 0x1f) ∷ (0x7f, 0xa0) ∷ (0xad, 0xad) ∷ (0x34f, 0x34f) ∷ (0x600, 0x605) ∷ (0x61c, 0x61c)
@@ -18,7 +17,7 @@ hidden =
     ∷ (0x110cd, 0x110cd) ∷ (0x13430, 0x1343f) ∷ (0x1bca0, 0x1bca3) ∷ (0x1d173, 0x1d17a)
     ∷ (0xe0000, 0x10ffff) ∷ []
 
--- Whether a character does not show.
+-- Whether a character is hidden.
 abbrev pub is_hidden : ℕ → Bool
 is_hidden letter = list_any (λ range. nat_le range.0 letter && nat_le letter range.1) hidden
 
@@ -33,7 +32,7 @@ escape byte = codes "\\x" ++ hex_digits byte
 abbrev pub escapes : List ℕ → List ℕ
 escapes bytes = flat_map escape bytes
 
--- A character: itself, or the escapes of its bytes if it is a backslash or does not show.
+-- A character: itself, or the escapes of its bytes if it is a backslash or hidden.
 abbrev pub letter_text : ℕ → List ℕ
 letter_text letter =
     if letter == 92 || is_hidden letter then escapes (encode_utf8 letter) else encode_utf8 letter
@@ -50,7 +49,7 @@ letters_text bytes = flat_map letter_text (chars bytes)
 abbrev pub bytes_text : List ℕ → List ℕ
 bytes_text bytes = flat_map byte_text bytes
 
--- Bytes so that everything in them shows: by characters if they are UTF-8, or byte by byte.
+-- Bytes with escapes of what is hidden: by characters if they are UTF-8, or byte by byte.
 abbrev pub shown : List ℕ → List ℕ
 shown bytes = if is_utf8 bytes then letters_text bytes else bytes_text bytes
 

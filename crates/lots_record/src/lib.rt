@@ -4,7 +4,7 @@
 //! `record` makes the text, and `check` accepts exactly the texts that `record` makes of seeds that
 //! are not empty. The program `lots` calls `read_command` and the functions of `program`.
 //!
-//! `specs/Quoted.antt` defines how bytes are written so that everything in them shows,
+//! `specs/Quoted.antt` defines how bytes are written, with escapes of what is hidden,
 //! `specs/Record.antt` what the text of a record is, and `specs/Command.antt` and
 //! `specs/Program.antt` what the program does with its arguments.
 #![tactic(auto)]

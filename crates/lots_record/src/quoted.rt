@@ -1,11 +1,12 @@
-//! Bytes as a text in quotation marks, with escapes of what does not show.
+//! Bytes as a text in quotation marks, with escapes of what is hidden.
 ghost use Rattle.std.specs.Prelude.{◌≡◌, ◌++◌, OnOk, string_bytes};
 ghost use Rattle.lots_record.specs.Quoted as spec;
 
 use std::alloc::{AllocError, Allocator};
 
-/// Whether a character does not show, or looks like a plain space: a control or format character, a
-/// space, a character without a picture of its own, or one of private use.
+/// Whether a character is hidden: a control or format character, a space other than the plain one, a
+/// character of private use, or one of some others that do not show. The table is fixed, and is not
+/// that of a version of Unicode.
 fn is_hidden(letter: char) -> bool
     ensures { result ≡ spec.is_hidden letter }
 {
@@ -40,7 +41,7 @@ fn push_escapes<A: Allocator>(text: &mut String<A>, bytes: &[u8]) -> Result<(), 
     Ok(())
 }
 
-/// Appends a character, escaped if it does not show.
+/// Appends a character, escaped if it is a backslash or hidden.
 fn push_letter<A: Allocator>(text: &mut String<A>, letter: char) -> Result<(), AllocError>
     ensures { OnOk result
         (string_bytes text.new ≡ string_bytes text.old ++ spec.letter_text letter) }
@@ -85,7 +86,7 @@ fn push_bytes<A: Allocator>(text: &mut String<A>, bytes: &[u8]) -> Result<(), Al
     Ok(())
 }
 
-/// Appends bytes so that everything in them shows.
+/// Appends bytes, with escapes of what is hidden.
 #[tactic(auto, using(crate::proofs::QuotedLemmas::shown_text, crate::proofs::QuotedLemmas::shown_bytes))]
 fn push_shown<A: Allocator>(text: &mut String<A>, bytes: &[u8]) -> Result<(), AllocError>
     ensures { OnOk result
@@ -97,7 +98,7 @@ fn push_shown<A: Allocator>(text: &mut String<A>, bytes: &[u8]) -> Result<(), Al
     }
 }
 
-/// Appends bytes in quotation marks, so that everything in them shows.
+/// Appends bytes in quotation marks, with escapes of what is hidden.
 pub fn push_quoted<A: Allocator>(text: &mut String<A>, bytes: &[u8]) -> Result<(), AllocError>
     ensures { OnOk result
         (string_bytes text.new ≡ string_bytes text.old ++ spec.quoted bytes.now) }

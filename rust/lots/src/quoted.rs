@@ -1,7 +1,8 @@
-//! Bytes as a text in quotation marks, in which everything shows, and back.
+//! Bytes as a text in quotation marks, with escapes of what is hidden.
 
-/// Whether a character does not show, or looks like a plain space: a control or format character, a
-/// space, a character without a picture of its own, or one of private use.
+/// Whether a character is hidden: a control or format character, a space other than the plain one, a
+/// character of private use, or one of some others that do not show. The table is fixed, and is not
+/// that of a version of Unicode.
 fn is_hidden(letter: char) -> bool {
     matches!(letter,
         '\0'..='\u{1f}' | '\u{7f}'..='\u{a0}' | '\u{ad}' | '\u{34f}' | '\u{600}'..='\u{605}'
@@ -27,7 +28,7 @@ fn push_escapes(text: &mut String, bytes: &[u8]) -> Result<(), std::collections:
     Ok(())
 }
 
-/// Appends a character, escaped if it does not show.
+/// Appends a character, escaped if it is a backslash or hidden.
 fn push_letter(text: &mut String, letter: char) -> Result<(), std::collections::TryReserveError> {
     if letter == '\\' || is_hidden(letter) {
         return push_escapes(text, letter.encode_utf8(&mut [0; 4]).as_bytes());
@@ -65,7 +66,7 @@ fn push_bytes(text: &mut String, bytes: &[u8]) -> Result<(), std::collections::T
     Ok(())
 }
 
-/// Appends bytes so that everything in them shows.
+/// Appends bytes, with escapes of what is hidden.
 fn push_shown(text: &mut String, bytes: &[u8]) -> Result<(), std::collections::TryReserveError> {
     match std::str::from_utf8(bytes) {
         Ok(letters) => push_letters(text, letters),
@@ -73,7 +74,7 @@ fn push_shown(text: &mut String, bytes: &[u8]) -> Result<(), std::collections::T
     }
 }
 
-/// Appends bytes in quotation marks, so that everything in them shows.
+/// Appends bytes in quotation marks, with escapes of what is hidden.
 pub fn push_quoted(
     text: &mut String,
     bytes: &[u8],
