@@ -166,7 +166,7 @@ def reasons(counts: Counts, page: Page) -> None:
     page.load()
     record = checks.first_record(page)
     seed, first = "the value of “seed” cannot be read. ", "the value of “1” cannot be read. "
-    advice = "Ask for the record as a file, or copy it as plain text."
+    advice = "Ask for the file, or copy it as plain text."
     marks = 'It has to be between two quotation marks (").'
     plain, written = "stands for a character that has to be written as it is.", "has to be written as"
     digits = "is not “\\x” and two digits (0-9, a-f). A backslash is \\x5c."
