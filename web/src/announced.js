@@ -1,7 +1,7 @@
 // The announcement that was opened again for its draw.
 
 import { announcedCount, announcedWords, unannouncedList, seedDifferences } from "./belongs.js";
-import { client, fieldChanged, refuse, session } from "./session.js";
+import { client, fieldChanged, markResult, refuse, session } from "./session.js";
 import { clearRefusals, part, say } from "./view.js";
 
 /** Reads a file that begins as an announcement does, and takes it for the draw. @param {Uint8Array} bytes */
@@ -11,7 +11,7 @@ export async function openAnnouncement(bytes) {
     const { announcement, digest } = await client.ask("announcement", { bytes });
     announceDraw({ bytes, announcement, digest });
     part("count").value = String(announcedCount(announcement));
-    fieldChanged();
+    markResult();
   } catch (error) {
     announceDraw(null);
     refuse(error);
@@ -25,15 +25,18 @@ export function takeAway() {
   part("seed").focus();
 }
 
-/** @param {?{bytes: Uint8Array, announcement: import("./announcement.js").Announcement, digest: string}} announced */
+/**
+ * Takes an announcement for the draw, or none.
+ * @param {?{bytes: Uint8Array, announcement: import("./announcement.js").Announcement, digest: string}} announced
+ */
 function announceDraw(announced) {
   session.announced = announced;
   part("announced").hidden = announced === null;
   part("announce").hidden = announced !== null;
   if (announced !== null) {
     const { occasion, entrants, source, form, example, time } = announced.announcement;
-    say("announced-words", `Announced: ${announcedWords(announced.announcement)} of ${entrants} entrants, for ${occasion}. ` +
-      `Seed: ${source}. Its form: ${form}, for example ${example}. Time: ${time}.`);
+    say("announced-words", `Announced: ${announcedWords(announced.announcement)} of ${entrants} entrants, ` +
+      `for ${occasion}. Seed: ${source}. Its form: ${form}, for example ${example}. Time: ${time}.`);
     say("announced-digest", announced.digest);
   }
   fieldChanged();
@@ -55,6 +58,6 @@ export function compareSeed() {
   const { announced } = session;
   const seed = part("seed").value;
   const differences = announced === null || seed === "" ? [] : seedDifferences(seed, announced.announcement);
-  say("seed-form", differences.length === 0 ? ""
-    : `The seed has another form than the announced example ${announced.announcement.example}: ${differences.join(" ")}`);
+  say("seed-form", differences.length === 0 ? "" : "The seed has another form than the announced example " +
+    `${announced.announcement.example}: ${differences.join(" ")}`);
 }

@@ -127,8 +127,8 @@ export function readAnnouncementFile(bytes) {
 }
 
 /**
- * Reads a pasted text, of which the page forgives what a mail program adds: white space at the ends of lines, `>` marks,
- * and empty lines above and below. Whoever compares a SHA-256 takes that of `writeAnnouncement`.
+ * Reads a pasted text. What a mail program adds is forgiven: white space at the ends of lines, `>` marks, and empty
+ * lines above and below. Compare the SHA-256 of what `writeAnnouncement` makes of it.
  * @param {string} text @returns {Announcement}
  */
 export function readPastedAnnouncement(text) {

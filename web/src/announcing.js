@@ -5,7 +5,7 @@ import { advisedThrows, enoughWords, setsOf } from "./enough.js";
 import { ANNOUNCE_FIELDS, announcementOf, faultOfFields, numberTyped } from "./fields.js";
 import { PRESETS } from "./presets.js";
 import { client, refuse, session } from "./session.js";
-import { clearRefusals, part, save, say } from "./view.js";
+import { clearRefusals, part, save, say, withDigests } from "./view.js";
 
 /** The name of the file that the page saves. */
 const ANNOUNCEMENT_FILE = "announcement.txt";
@@ -24,7 +24,10 @@ function fieldsTyped() {
   return Object.fromEntries(ANNOUNCE_FIELDS.map((id) => [id, part(id).value.replace(/\s*\n\s*/g, " ")]));
 }
 
-/** The values for a preset, or null if one is missing or out of its limits. @returns {?import("./presets.js").Values} */
+/**
+ * The values for a preset, or null if one is missing or out of its limits.
+ * @returns {?import("./presets.js").Values}
+ */
 function presetValues() {
   const { asks } = PRESETS[part("preset").value];
   const values = { key: part("preset-key").value.trim(), round: part("preset-round").value.trim() };
@@ -75,9 +78,10 @@ function sayEnough() {
 function markAnnouncement() {
   const { made, word } = announcing;
   const { facts } = session;
-  const isOld = made !== null && facts !== null && made.text !== writeAnnouncement(announcementOf(fieldsTyped(), facts));
-  say("announcement-stale", isOld ? `The announcement that you ${word} is out of date: the list or a field has changed ` +
-    "since. Save or print it again, and do not publish the one from before." : "");
+  const isOld = made !== null && facts !== null &&
+    made.text !== writeAnnouncement(announcementOf(fieldsTyped(), facts));
+  say("announcement-stale", isOld ? `The announcement that you ${word} is out of date: the list or a field has ` +
+    "changed since. Save or print it again, and do not publish the one from before." : "");
   part("announcement").classList.toggle("old", isOld);
 }
 
@@ -156,10 +160,11 @@ async function makeAnnouncement(word) {
 /** @param {string} text @param {string} digest */
 function showAnnouncement(text, digest) {
   part("announcement").hidden = false;
-  say("announcement-text", text);
+  part("announcement-text").replaceChildren(...withDigests(text));
   say("announcement-digest", digest);
   say("announcement-escapes", text.includes("\\")
-    ? "In the announcement, \\x and two digits stand for a byte that is no visible letter, and \\x5c for a backslash." : "");
+    ? "In the announcement, \\x and two digits stand for a byte that is no visible letter, and \\x5c for a backslash."
+    : "");
   markAnnouncement();
 }
 

@@ -24,13 +24,15 @@ function uncheckedWords({ lines: [first, last], others }) {
 }
 
 /** What was checked. @param {import("./check.js").Reading} reading */
-function showReading({ lines: [first, last], announcement, seed, list, entrants, drawn, named }) {
+function showReading({ lines: [first, last], announcement, seed, list, entrants, drawn, named, winners }) {
   say("reading-title", `What was checked, in lines ${first} to ${last} of the text:`);
   say("announcement-label", announcement === "none" ? "Announcement" : "SHA-256 of the announcement");
   say("reading-announcement", announcement);
   part("reading-seed").replaceChildren(...nodesOf(seed));
   say("reading-list", list);
   say("reading-count", `${grouped(drawn)} of ${grouped(entrants)}`);
+  say("drawn-label", winners === null || winners === drawn ? "Winners"
+    : `Winners (the first ${grouped(winners)}), and then reserves`);
   itemize("reading-drawn", named.slice(0, ANSWERED).map(itemOf));
   const left = drawn - Math.min(named.length, ANSWERED);
   say("reading-more", left > 0 ? `and ${grouped(left)} more` : "");

@@ -90,9 +90,10 @@ export function comparedWith(record, announcement) {
   return [
     "Compared with the announcement: its SHA-256, that of its list, the number of entrants, and how many are drawn: " +
       `${announcedWords(announcement)}. The winners are the first ${announcement.winners} of the record.`,
-    ...(differences.length === 0 ? [] : [`The seed has another form than the announced example: ${differences.join(" ")}`]),
+    ...(differences.length === 0 ? []
+      : [`The seed has another form than the announced example: ${differences.join(" ")}`]),
     `Only you can compare the seed with its source: ${source}. Its form: ${form}, for example ${example}.`,
-    `Only you can know when the announcement of ${occasion} was published. It has to be before the seed could be known. ` +
-      `The time that it names: ${time}.`,
+    `Only you can know when the announcement of ${occasion} was published. It has to be before the seed could be ` +
+      `known. The time that it names: ${time}.`,
   ];
 }

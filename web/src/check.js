@@ -38,6 +38,7 @@ import { Refusal } from "./refusal.js";
  * @property {number} entrants
  * @property {number} drawn
  * @property {import("./entrant.js").Shown[]} named
+ * @property {?number} winners how many of these are winners, if the announcement that belongs to the record was given
  */
 
 const TITLES = {
@@ -46,18 +47,18 @@ const TITLES = {
   "other module": "The result agrees, but the record was made by another version of the program.",
   "differs": "The record differs from the draw repeated here.",
   "no record": "This text is not a record of a draw.",
-  "no announcement": "The record can be read, but the other text is not an announcement as the page saves it. Nothing was " +
-    "compared.",
+  "no announcement": "The record can be read, but the other text is not an announcement as the page saves it. " +
+    "Nothing was compared.",
   "no list": "The record can be read. Open or paste its list above, and check again.",
 };
 
 const OTHER_LIST = "Another list:";
-const WITH_ANNOUNCEMENT = "The record agrees: the same list, the announcement that it names, and the draw repeated here " +
-  "gives the same result. What only you can compare is said below.";
+const WITH_ANNOUNCEMENT = "The record agrees: the same list, the announcement that it names, and the draw repeated " +
+  "here gives the same result. What only you can compare is said below.";
 const OTHER_ANNOUNCEMENT = "The draw repeated here gives the same result, but the record does not belong to this " +
   "announcement.";
-const NOT_COMPARED = "The record names an announcement, which was not compared. Paste it above or drop its file there, and " +
-  "check again.";
+const NOT_COMPARED = "The record names an announcement, which was not compared. Paste it above or drop its file there, " +
+  "and check again.";
 
 /**
  * The announcement that was given with a record, with its SHA-256.
@@ -91,7 +92,8 @@ function checked(outcome, findings, record = null, title = TITLES[outcome]) {
 /** @param {import("./record.js").Record} record @returns {Reading} */
 function readingOf({ lines, others, announcement, seed, list, entrants, drawn, named }) {
   const shownSeed = foreignMarked(quotedText(seed));
-  return { lines, others, announcement, seed: shownSeed, list, entrants, drawn, named: named.map(shown) };
+  const shownNamed = named.map(shown);
+  return { lines, others, announcement, seed: shownSeed, list, entrants, drawn, named: shownNamed, winners: null };
 }
 
 /**
@@ -129,7 +131,11 @@ export function check(module, maker, list, { text, announced = null }) {
   if (failed) return failed;
   if (list.length === 0 && record.entrants > 0) return checked("no list", [], record);
   const { value: named, failed: unread } = readOr(() => announcedFrom(module, announced), "no announcement", record);
-  return unread ?? compared(module, maker, list, record, named);
+  if (unread) return unread;
+  const answer = compared(module, maker, list, record, named);
+  const belongs = named !== null && differencesFrom(record, named.announcement, named.digest).length === 0;
+  if (belongs) answer.reading.winners = named.announcement.winners;
+  return answer;
 }
 
 /** Compares a record with the repeated draw and with its announcement. @param {?Announced} named @returns {Check} */

@@ -48,7 +48,7 @@ function showOutcome(outcome) {
   goTo("outcome-title");
 }
 
-/** Puts the text of a dropped file into its field: that of the announcement, or that of the record. @param {File} file */
+/** Puts the text of a dropped file into the field for the announcement or for the record. @param {File} file */
 export async function readForCheck(file) {
   clearRefusals("record");
   try {

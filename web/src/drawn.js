@@ -1,6 +1,6 @@
 // Shows the result of a draw.
 
-import { grouped, itemOf, made, part, say, unhideResult } from "./view.js";
+import { grouped, itemOf, part, say, unhideResult, withDigests } from "./view.js";
 
 /** The winners that are shown without a box in which they scroll. */
 const WITHOUT_BOX = 100;
@@ -19,7 +19,10 @@ function titleOfReserves(count) {
     : `The ${grouped(count)} reserves, in the order in which they take the places of winners who decline:`;
 }
 
-/** Shows some of the entrants drawn. @param {string} id @param {import("./entrant.js").Shown[]} named @param {number} first */
+/**
+ * Shows some of the entrants drawn.
+ * @param {string} id @param {import("./entrant.js").Shown[]} named @param {number} first the number of the first one
+ */
 function showNamed(id, named, first) {
   part(id).replaceChildren(...named.map(itemOf));
   part(id).start = first;
@@ -38,15 +41,9 @@ export function showResult({ entrants, drawn, winners, named, hasEscapes, record
   const left = drawn - named.length;
   say("more", left > 0 ? `and ${grouped(left)} more, in the result that you can save` : "");
   say("chance", drawn === 0 ? "" : `The chance of each entrant: ${grouped(won)} of ${grouped(entrants)}`);
-  say("unannounced", winners !== null ? "" : "The record names no announcement. So nothing shows that the list was closed " +
-    "before the seed was known.");
+  say("unannounced", winners !== null ? "" : "The record names no announcement. So nothing shows that the list was " +
+    "closed before the seed was known.");
   say("escapes", hasEscapes
     ? "In the record, \\x and two digits stand for a byte that is no visible letter, and \\x5c for a backslash." : "");
   part("record").replaceChildren(...withDigests(record));
-}
-
-/** The pieces of a text. Each digest is an element of its own, which the style breaks into rows. */
-function withDigests(text) {
-  return text.split(/\b([0-9a-f]{64})$/m).map((piece, index) =>
-    (index % 2 === 0 ? piece : made("span", "digest", piece)));
 }

@@ -60,8 +60,8 @@ function throwsWords(needed) {
   return needed === 1 ? ` ${enough}.` : ` ${enough}, ${needed - 1} ${needed === 2 ? "is" : "are"} not.`;
 }
 
-const MEANING = " Enough means: at least as many seeds as sets of winners, so that no set is impossible by counting. With " +
-  `exactly as many, some sets still come from no seed: take ${MORE_THROWS} throws of a die (or 5 bits) more.`;
+const MEANING = " Enough means: at least as many seeds as sets of winners, so that no set is impossible by counting. " +
+  `With exactly as many, some sets still come from no seed: take ${MORE_THROWS} throws of a die (or 5 bits) more.`;
 
 /** @param {?bigint} seeds @param {bigint} sets @param {string} words */
 function verdictOf(seeds, sets, words) {
@@ -80,8 +80,8 @@ export function enoughWords({ entrants, winners }, { seeds, words }) {
   const sets = setsOf(entrants, winners);
   const count = `${winners} of ${entrants}: ${asPower(bitsOfSets(entrants, winners))} sets of winners could come.`;
   if (sets === null) {
-    return `${count} That is more than the 2^256 keys that seeds are turned into, so no form of the seed is enough for ` +
-      `all sets. ${throwsFor(sets)} throws of a die use all keys that there are.`;
+    return `${count} That is more than the 2^256 keys that seeds are turned into, so no form of the seed is enough ` +
+      `for all sets. ${throwsFor(sets)} throws of a die use all keys that there are.`;
   }
   return `${count} ${verdictOf(seeds, sets, words)}${throwsWords(throwsFor(sets))}${MEANING}`;
 }

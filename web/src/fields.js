@@ -7,8 +7,8 @@ import { Refusal } from "./refusal.js";
 
 /** The fields with a text, and what each one is called in an error. */
 const TEXT_FIELDS = {
-  occasion: "the occasion", source: "the source of the seed", form: "the form of the seed", example: "the example of a seed",
-  time: "the time and the place",
+  occasion: "the occasion", source: "the source of the seed", form: "the form of the seed",
+  example: "the example of a seed", time: "the time and the place",
 };
 /** The fields in the order of the page. */
 export const ANNOUNCE_FIELDS = ["occasion", "winners", "reserves", "source", "form", "example", "time"];

@@ -49,7 +49,7 @@ export function formDifferences(seed, example) {
     other.length >= LONG_WORD && other.length !== words[place].length);
   return [
     ...kinds.filter((kind) => !wanted.includes(kind)).map((kind) => `The seed has ${kind}, the example has none.`),
-    ...wanted.filter((kind) => !kinds.includes(kind)).map((kind) => `The example has ${kind}, the seed has none.`),
+    ...wanted.filter((kind) => !kinds.includes(kind)).map((kind) => `The seed has no ${kind}, the example has.`),
     ...(words.length === others.length ? [] : [
       `The seed has ${countOfWords(words)} between spaces, the example has ${countOfWords(others)}.`]),
     ...(loose ? ["The seed has a space at an end or two spaces in a row, the example has not."] : []),

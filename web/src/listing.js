@@ -163,10 +163,14 @@ function bringBack(before) {
   listChanged(0);
 }
 
-/** @param {File|undefined} file @param {(bytes: Uint8Array) => void} takeAnnouncement is called if it is an announcement */
+/**
+ * Opens a file: a list, or an announcement.
+ * @param {File|undefined} file @param {(bytes: Uint8Array) => void} takeAnnouncement gets the bytes of an announcement
+ */
 export function openFile(file, takeAnnouncement) {
   if (!file) return;
-  const before = { file: held.file, name: held.name, origin: held.origin, before: held.before, kept: new Set(held.kept) };
+  const { file: last, name, origin, before: changes } = held;
+  const before = { file: last, name, origin, before: changes, kept: new Set(held.kept) };
   held.kept.clear();
   otherList(PAUSE, "opened");
   stopTimer();

@@ -74,8 +74,8 @@ export const PRESETS = {
     asks: ["prices"],
     texts: ({ prices }) => ({
       source: PRICES_TEXT,
-      form: "the prices in this order, each with a point and two decimals, without other signs, with one space between " +
-        "them",
+      form: "the prices in this order, each with a point and two decimals, without other signs, with one space " +
+        "between them",
       example: repeated(PRICES, prices).join(" "),
     }),
     seeds: ({ prices }) => ({
@@ -87,8 +87,8 @@ export const PRESETS = {
     asks: ["key", "round"],
     texts: ({ key, round }) => ({
       source: `round ${round || "[round]"} of the drand chain with the public key ${key || "[public key]"}`,
-      form: "the randomness of the round: 64 hexadecimal digits, with small letters. It is the SHA-256 of the signature " +
-        "of the round, which the public key verifies",
+      form: "the randomness of the round: 64 hexadecimal digits, with small letters. It is the SHA-256 of the " +
+        "signature of the round, which the public key verifies",
       example: RANDOMNESS,
     }),
     seeds: () => ({ seeds: 2n ** 256n, words: "64 hexadecimal digits" }),
@@ -97,10 +97,11 @@ export const PRESETS = {
     asks: ["numbers", "of", "prices", "throws"],
     texts: ({ numbers, of, prices, throws }) => ({
       source: `first, the ${numbers} numbers of [name of the lottery], drawn on [date], without additional numbers; ` +
-        `second, ${PRICES_TEXT}; third, ${throwsText(throws)}, thrown in [place] after the first two are published; ${FALLS}`,
-      form: "as RFC 3797 writes it: for each source in this order its numbers, each without leading zeros and with a full " +
-        "stop after it, and a slash after each source; the numbers of the lottery in ascending order, the prices in " +
-        "hundredths, the throws in order",
+        `second, ${PRICES_TEXT}; third, ${throwsText(throws)}, thrown in [place] after the first two are published; ` +
+        FALLS,
+      form: "as RFC 3797 writes it: for each source in this order its numbers, each without leading zeros and with a " +
+        "full stop after it, and a slash after each source; the numbers of the lottery in ascending order, the prices " +
+        "in hundredths, the throws in order",
       example: [increasing(numbers, of), inHundredths(prices), repeated(THROWS, throws)]
         .map((row) => `${row.map((number) => `${number}.`).join("")}/`).join(""),
     }),

@@ -2,7 +2,10 @@
 
 import { ANNOUNCING_REFUSALS } from "./unannounced.js";
 
-/** @typedef {"seed"|"count"|"list"|"question"|"record"|"announce"|"announcement"|"page"} Field  where the error is shown */
+/**
+ * Where the error is shown.
+ * @typedef {"seed"|"count"|"list"|"question"|"record"|"announce"|"announcement"|"page"} Field
+ */
 
 /** @type {Record<string, {field: Field, words: (values: Object) => string}>} */
 const REFUSALS = {

@@ -88,13 +88,13 @@ export function fieldChanged() {
 function changeSince({ seed, count, announced }) {
   if (seed !== part("seed").value || count !== part("count").value) {
     return ["The winners below belong to the seed and the number before this change.",
-      `These winners belong to the seed ${quotedText(seed)} and the number ` +
-      `${count}, and not to what you have typed since. Press Draw to draw with that.`];
+      `These winners belong to the seed ${quotedText(seed)} and the number ${count}, and not to what you have typed ` +
+      "since. Press Draw to draw with that."];
   }
   if (announced === digestAnnounced()) return null;
   return ["The record below was made before the announcement was opened or taken away.",
-    `This record ${announced === null ? "names no announcement" : `names the announcement with the SHA-256 ${announced}`}, ` +
-    "and not what is open now. Press Draw to draw with that."];
+    `This record names ${announced === null ? "no announcement" : `the announcement with the SHA-256 ${announced}`}. ` +
+    "Press Draw to draw with what is open now."];
 }
 
 /** The SHA-256 of the announcement that is open, or null. */

@@ -35,8 +35,8 @@ export const ANNOUNCING_REFUSALS = {
   },
   "list is not announced": {
     field: "announcement",
-    words: ({ announced, digest }) => `This list is not the announced one. The announcement names the SHA-256 ${announced}, ` +
-      `this list has ${digest}. Open the announced list, ${TAKE_AWAY}`,
+    words: ({ announced, digest }) => "This list is not the announced one. The announcement names the SHA-256 " +
+      `${announced}, this list has ${digest}. Open the announced list, ${TAKE_AWAY}`,
   },
   "entrants are not announced": {
     field: "announcement",

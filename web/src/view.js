@@ -19,7 +19,7 @@ export function say(id, text) {
  * A new element with a class and content.
  * @param {string} tag @param {string} name @param {...(string|Node)} content
  */
-export function made(tag, name, ...content) {
+function made(tag, name, ...content) {
   const element = document.createElement(tag);
   element.className = name;
   element.append(...content);
@@ -81,6 +81,12 @@ export function nodesOf(parts) {
     if (typeof piece === "string") return piece;
     return typeof piece === "number" ? made("span", "unseen", nameOf(piece)) : marked(piece);
   });
+}
+
+/** The pieces of a text. Each digest is an element of its own, which the style breaks into rows. */
+export function withDigests(text) {
+  return text.split(/\b([0-9a-f]{64})$/m).map((piece, index) =>
+    (index % 2 === 0 ? piece : made("span", "digest", piece)));
 }
 
 /** A list item for an entrant or a line. @param {import("./entrant.js").Shown} shown */
