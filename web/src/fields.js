@@ -23,7 +23,8 @@ export function numberTyped(text) {
 function faultOfText(text, name) {
   if (text.trim() === "") return new Refusal("field is empty", { name });
   if (hasHalfCharacter(text)) return new Refusal("field has half a character", { name });
-  const blank = BLANKS.find((one) => text.includes(one));
+  const [blank] = BLANKS.filter((one) => text.includes(one))
+    .sort((one, other) => text.indexOf(one) - text.indexOf(other));
   return blank === undefined ? null : new Refusal("field has a blank", { name, blank });
 }
 
