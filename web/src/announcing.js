@@ -82,7 +82,7 @@ function markAnnouncement() {
     made.text !== writeAnnouncement(announcementOf(fieldsTyped(), facts));
   say("announcement-stale", isOld ? `The announcement that you ${word} is out of date: the list or a field has ` +
     "changed since. Save or print it again, and do not publish the one from before." : "");
-  part("announcement").classList.toggle("old", isOld);
+  say("announcement-heading", isOld ? "The announcement that is out of date" : "The announcement");
 }
 
 /** Shows what follows from the fields and the list, after a change of one of them. */
@@ -127,6 +127,9 @@ function refuseField({ id, refusal }) {
   say("announce-error", refusal.words);
   part(id).setAttribute("aria-invalid", "true");
   part(id).focus();
+  const { blank } = refusal.values;
+  const first = part(id).value.indexOf(blank);
+  if (blank && first >= 0) part(id).setSelectionRange(first, first + blank.length);
 }
 
 /**

@@ -22,11 +22,11 @@ const SAVED = "entrants.txt";
  * "saved". `before` has the list before each change that can be undone. `sent` promises whether the
  * worker has the list. `pending` is the timer until a changed list is sent. `turn` counts the changes:
  * an answer to an earlier one is not shown. `questions` are those that are open, and `kept` has those
- * that were answered by keeping the list.
+ * that were answered by keeping the list. `reading` is the file that is being read or could not be read, or null.
  */
 const held = {
   file: null, name: "", bytes: new Uint8Array(0), origin: "unsaved", before: [], sent: Promise.resolve(false),
-  pending: 0, turn: 0, questions: [], kept: new Set(),
+  pending: 0, turn: 0, questions: [], kept: new Set(), reading: null,
 };
 
 /** The list as it is now: the file, or the text in the field. @returns {Uint8Array} */
@@ -101,6 +101,7 @@ function listChanged(pause) {
 function otherList(pause, origin) {
   held.before = [];
   held.origin = origin;
+  held.reading = null;
   listChanged(pause);
 }
 
@@ -147,10 +148,12 @@ async function readFile(file, before, takeAnnouncement) {
   }
   if (bytes === null || turn !== held.turn) return false;
   if (isAnnouncement(bytes)) {
-    bringBack(before);
+    if (before.reading) openFile(before.reading, takeAnnouncement);
+    else bringBack(before);
     takeAnnouncement(bytes);
     return listSent();
   }
+  held.reading = null;
   held.file = bytes;
   return sendList();
 }
@@ -169,10 +172,11 @@ function bringBack(before) {
  */
 export function openFile(file, takeAnnouncement) {
   if (!file) return;
-  const { file: last, name, origin, before: changes } = held;
-  const before = { file: last, name, origin, before: changes, kept: new Set(held.kept) };
+  const { file: last, name, origin, before: changes, reading } = held;
+  const before = { file: last, name, origin, before: changes, reading, kept: new Set(held.kept) };
   held.kept.clear();
   otherList(PAUSE, "opened");
+  held.reading = file;
   stopTimer();
   showFile(file.name);
   say("file-name", `${file.name}, ${grouped(file.size)} bytes`);

@@ -37,6 +37,19 @@ return ["entrants", "list-digest", "occasion", "save-announcement", "announcemen
   "announcement-digest", "announcement-stale", "list-warnings", "unsaved", "seed", "paper-title", "signatures"]
   .filter((id) => document.getElementById(id).checkVisibility());
 """
+# Reading a list takes until `letGo` is called, or fails then. An announcement is read at once.
+SLOW = """
+const [isLost] = arguments;
+window.read = Blob.prototype.arrayBuffer;
+const free = new Promise((resolve) => { window.letGo = resolve; });
+Blob.prototype.arrayBuffer = async function () {
+  const bytes = await window.read.call(this);
+  if (new TextDecoder().decode(bytes).startsWith("nanorand")) return bytes;
+  await free;
+  if (isLost) throw new Error("lost");
+  return bytes;
+};
+"""
 # Keeps the next file that the page saves, in place of the browser.
 CAUGHT = """
 window.saved = null;
@@ -196,7 +209,8 @@ def enough(counts: Counts, page: Page) -> None:
         counts.same(f"{preset}, {values}", seen(page, "enough")[0], wanted)
     page.browser.run(CHOOSE, "other")
     counts.same("something else", seen(page, "enough")[0],
-                f"{sets} How many seeds this form has, the page cannot know. There have to be as many as sets. {throws}{meaning}")
+                f"{sets} How many seeds this form has, the page cannot know. There have to be as many as sets. {throws}"
+                + meaning)
     page.browser.run(CHOOSE, "die")
     for winners in ("", "0", "341", "x"):
         put(page, winners=winners)
@@ -257,7 +271,7 @@ def presets(counts: Counts, page: Page) -> None:
 
 
 def stale(counts: Counts, page: Page) -> None:
-    """After a change of the list or of a field, the announcement that was saved is marked until the change is undone."""
+    """After a change of the list or of a field, the saved announcement is marked until the change is undone."""
     for name, value in FIELDS.items():
         begun(page)
         saved(page)
@@ -341,8 +355,8 @@ def whole_way(counts: Counts, page: Page, program: str, module: bytes, downloads
     counts.same("its number", page.browser.run("return document.getElementById('reserves-drawn').start;"), 4)
     counts.same("sheets of paper of the result", sheets(page.browser.printed()), 1)
     if page.browser.media("print"):
-        counts.same("reserves on paper", [bool(one) for one in seen(page, "reserves-title", "reserves-drawn", "chance")],
-                    [True] * 3)
+        on_paper = seen(page, "reserves-title", "reserves-drawn", "chance")
+        counts.same("reserves on paper", [bool(one) for one in on_paper], [True] * 3)
         page.browser.media()
     put(page, check_announcement=announcement.decode())
     shown = page.check(record)
@@ -420,6 +434,20 @@ def unreadable(counts: Counts, page: Page) -> None:
         counts.case(f"an announcement: {name}", "" if found[0].startswith(begin) and not found[1] else str(found))
         counts.same(f"the list after it: {name}", page.facts()["digest"], sha256(LIST))
     counts.same("no announcement is there", "SHA-256: none" in page.draw()["record"], True)
+    for is_lost in (False, True):
+        page.open_file(b"Eve\n")
+        page.facts()
+        page.browser.run(SLOW, is_lost)
+        page.open_file(LIST)
+        opened(page, KNOWN.encode())
+        page.browser.run("window.letGo();")
+        page.browser.wait("""return !document.getElementById("list-facts").hidden ||
+            !document.getElementById("list-error").hidden;""")
+        found = [page.shown()["digest"], page.shown()["list"]]
+        counts.same(f"a list that was being read, lost: {is_lost}", found,
+                    ["", "The file cannot be read."] if is_lost else [sha256(LIST), ""])
+        page.browser.run("Blob.prototype.arrayBuffer = window.read;")
+    page.browser.run("document.getElementById('take-away').click();")
     page.paste(KNOWN)
     page.facts(keep=False)
     counts.same("pasted as a list", page.draw(keep=False)["question"], "Answer the question about the list first.")
@@ -433,8 +461,8 @@ def forms(counts: Counts, page: Page) -> None:
     for seed, wanted in ((SEED[::-1], ""), ("", ""),
                          (SEED[2:], "The seed has 19 words between spaces, the example has 20 words."),
                          (SEED.replace(" ", ""), "The seed has no spaces, the example has. The seed has 1 word between "
-                          "spaces, the example has 20 words."), (SEED.replace("4", "x"), "The seed has small letters (a-z), the "
-                                                           "example has none.")):
+                          "spaces, the example has 20 words."),
+                         (SEED.replace("4", "x"), "The seed has small letters (a-z), the example has none.")):
         page.fill(seed)
         counts.same(f"the form of {seed!r}", seen(page, "seed-form"), [wanted and begin + wanted])
     page.fill(SEED[2:])
@@ -442,8 +470,8 @@ def forms(counts: Counts, page: Page) -> None:
     counts.same("it is drawn", f'seed: "{SEED[2:]}"' in record, True)
     put(page, check_announcement=KNOWN)
     counts.same("its check", page.check(record)["findings"][1],
-                "The seed has another form than the announced example: The seed has 19 words between spaces, the example "
-                "has 20 words.")
+                "The seed has another form than the announced example: The seed has 19 words between spaces, the "
+                "example has 20 words.")
 
 
 def dropped(page: Page, field: str, data: bytes) -> None:
@@ -461,7 +489,9 @@ def check_fields(counts: Counts, page: Page, program: str, module: bytes) -> Non
     marked = re.sub("(?m)^", "> ", KNOWN).replace("\n", " \r\n")
     counts.same("what a mail does", without_marks(marked), KNOWN)
     for name, text, wanted in (("as it is", KNOWN, "agrees"), ("of a mail", marked, "agrees"),
-                               ("blank", " \n ", "agrees"), ("another", KNOWN.replace("12:00", "12:01"), "differs"), ("none", "x", "no announcement"),
+                               ("blank", " \n ", "agrees"),
+                               ("another", KNOWN.replace("12:00", "12:01"), "differs"),
+                               ("none", "x", "no announcement"),
                                ("cut", KNOWN[:-30], "no announcement"), ("the record", record, "no announcement")):
         put(page, check_announcement=text)
         counts.same(f"an announcement: {name}", page.check(record)["outcome"], wanted)

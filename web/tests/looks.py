@@ -168,8 +168,8 @@ def names(counts: Counts, page: Page) -> None:
         counts.same(f"the name of {element}", found, label)
     roles = page.browser.run("""return Object.fromEntries(Array.from(document.querySelectorAll("[id][role]"),
         (element) => [element.id, element.getAttribute("role")]));""")
-    wanted = {f"{field}-error": "alert" for field in ("page", "list", "seed", "count", "announce",
-                                                          "announcement")}
+    wanted = {f"{field}-error": "alert"
+              for field in ("page", "list", "seed", "count", "announce", "announcement")}
     wanted.update({"announced-status": "status", "announcement-status": "status", "announcement-text": "region",
                    "enough-status": "status", "seed-form-status": "status",
                    "question-error": "alert", "record-error": "alert",
