@@ -128,8 +128,8 @@ def outcome_of(name: str) -> Dict[str, Any]:
     """An answer to a check. Some have findings."""
     findings = {"agrees": [], "no list": [], "no record": ["one"]}.get(name, ["one", "two"])
     reading = {"lines": [1, 9], "announcement": "none", "seed": ["a seed"], "list": "a sum", "entrants": 9,
-               "drawn": len(findings), "named": [{"isText": True, "parts": [finding]} for finding in findings],
-               "winners": None}
+               "drawn": len(findings), "winners": None,
+               "named": [{"isText": True, "parts": [finding]} for finding in findings]}
     return {"outcome": name, "title": f"what {name} says", "findings": [{"text": finding} for finding in findings],
             "reading": None if name == "no record" else reading}
 
@@ -144,8 +144,8 @@ def said_of(outcome: Dict[str, Any]) -> Tuple[Any, ...]:
 def drawing(names: List[str], drawn: int, winners: Optional[int] = None) -> Dict[str, Any]:
     """An answer to a draw that names these entrants, which was announced if it has a number of winners."""
     named = [{"isText": True, "parts": [name]} for name in names]
-    return {"list": "a sum", "entrants": 9, "drawn": drawn, "winners": winners, "named": named, "hasEscapes": len(names) > 1,
-            "record": f"the {drawn} drawn", "result": [10]}
+    return {"list": "a sum", "entrants": 9, "drawn": drawn, "winners": winners, "named": named,
+            "hasEscapes": len(names) > 1, "record": f"the {drawn} drawn", "result": [10]}
 
 
 def each_pair(names: List[str]) -> Iterator[str]:
