@@ -2,7 +2,7 @@
 
 import { announcedCount, announcedWords, unannouncedList, seedDifferences } from "./belongs.js";
 import { client, fieldChanged, markResult, refuse, session } from "./session.js";
-import { clearRefusals, part, say } from "./view.js";
+import { clearRefusals, part, say, sayOnce } from "./view.js";
 
 /** Reads a file that begins as an announcement does, and takes it for the draw. @param {Uint8Array} bytes */
 export async function openAnnouncement(bytes) {
@@ -58,6 +58,6 @@ export function compareSeed() {
   const { announced } = session;
   const seed = part("seed").value;
   const differences = announced === null || seed === "" ? [] : seedDifferences(seed, announced.announcement);
-  say("seed-form", differences.length === 0 ? "" : "The seed has another form than the announced example " +
+  sayOnce("seed-form", differences.length === 0 ? "" : "The seed has another form than the announced example " +
     `${announced.announcement.example}: ${differences.join(" ")}`);
 }

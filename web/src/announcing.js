@@ -5,7 +5,7 @@ import { advisedThrows, enoughWords, setsOf } from "./enough.js";
 import { ANNOUNCE_FIELDS, announcementOf, faultOfFields, numberTyped } from "./fields.js";
 import { PRESETS } from "./presets.js";
 import { client, refuse, session } from "./session.js";
-import { clearRefusals, part, save, say, withDigests } from "./view.js";
+import { clearRefusals, part, save, say, sayOnce, withDigests } from "./view.js";
 
 /** The name of the file that the page saves. */
 const ANNOUNCEMENT_FILE = "announcement.txt";
@@ -70,7 +70,7 @@ function sayEnough() {
   const winners = winnersTyped();
   const values = presetValues();
   const isKnown = winners !== null && values !== null;
-  say("enough", isKnown
+  sayOnce("enough", isKnown
     ? enoughWords({ entrants: session.facts.entrants, winners }, PRESETS[part("preset").value].seeds(values)) : "");
 }
 
@@ -80,9 +80,9 @@ function markAnnouncement() {
   const { facts } = session;
   const isOld = made !== null && facts !== null &&
     made.text !== writeAnnouncement(announcementOf(fieldsTyped(), facts));
-  say("announcement-stale", isOld ? `The announcement that you ${word} is out of date: the list or a field has ` +
+  sayOnce("announcement-stale", isOld ? `The announcement that you ${word} is out of date: the list or a field has ` +
     "changed since. Save or print it again, and do not publish the one from before." : "");
-  say("announcement-heading", isOld ? "The announcement that is out of date" : "The announcement");
+  sayOnce("announcement-heading", isOld ? "The announcement that is out of date" : "The announcement");
 }
 
 /** Shows what follows from the fields and the list, after a change of one of them. */

@@ -15,6 +15,11 @@ export function say(id, text) {
   part(id).hidden = text === "";
 }
 
+/** As `say`, but leaves a text that is there already, so that screen readers do not read it again at each key. */
+export function sayOnce(id, text) {
+  if (part(id).textContent !== text) say(id, text);
+}
+
 /**
  * A new element with a class and content.
  * @param {string} tag @param {string} name @param {...(string|Node)} content

@@ -298,9 +298,26 @@ def paper(counts: Counts, page: Page) -> None:
     counts.same("sheets of paper", sheets(page.browser.printed()), 1)
 
 
+def heard(counts: Counts, page: Page) -> None:
+    """A screen reader does not read the same again while a field is typed."""
+    begun(page)
+    pressed(page, "save-announcement")
+    put(page, winners="4")
+    page.browser.run("""window.changes = 0;
+        const watcher = new MutationObserver((records) => { window.changes += records.length; });
+        for (const id of ["enough-status", "announcement-status"]) {
+          watcher.observe(document.getElementById(id), { childList: true, characterData: true, subtree: true });
+        }""")
+    for text in ("a", "ab", "abc"):
+        put(page, occasion=text)
+    counts.same("what is said again", page.browser.run("return window.changes;"), 0)
+    put(page, winners="5")
+    counts.case("what is said anew", "" if page.browser.wait("return window.changes;") else "nothing")
+
+
 def run(counts: Counts, page: Page, downloads: Path) -> None:
     page.browser.size(1000, 900)
     known(counts, page, downloads)
-    for part in (fields, numbers, presets, stale, enough, paper):
+    for part in (fields, numbers, presets, stale, enough, paper, heard):
         part(counts, page)
     page.load()
