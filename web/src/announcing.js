@@ -39,7 +39,10 @@ function presetValues() {
   return values.numbers > values.of ? null : values;
 }
 
-/** Fills in the texts of the preset. A text that was edited stays, unless another preset is chosen. */
+/**
+ * Fills in the texts of the preset. A text that was edited stays, unless another preset is chosen.
+ * @param {boolean} isOther whether it is another preset than before
+ */
 function fillTexts(isOther) {
   const values = presetValues();
   if (values === null) return;
@@ -134,11 +137,13 @@ function refuseField({ id, refusal }) {
 
 /**
  * Makes the announcement of the fields and the list, and shows it.
- * @returns {Promise<?string>} its text, or null if it has a fault or has changed meanwhile
+ * @param {"saved"|"printed"} word what is done with it
+ * @returns {Promise<?string>} its text, or null if it has a fault, or a field or the list has changed meanwhile
  */
 async function makeAnnouncement(word) {
   clearRefusals("announce", "page");
   const { facts } = session;
+  if (facts === null) return null;
   const fields = fieldsTyped();
   const fault = faultOfFields(fields, facts.entrants);
   if (fault !== null) {
