@@ -5,6 +5,9 @@ import threading
 from pathlib import Path
 from typing import List
 
+from announced import opened
+from announcements import KNOWN
+from announcing import CHOOSE, begun, pressed, put
 from counts import Counts
 from drivers import ENTER, SPACE, TAB
 from page import Page
@@ -129,8 +132,33 @@ def refused(page: Page) -> None:
     page.draw()
 
 
+def announced_late(page: Page) -> None:
+    """An announcement that is out of date, with a long text and an error."""
+    begun(page, source="W" * 300)
+    page.browser.run(CHOOSE, "several")
+    put(page, source="W" * 300)
+    pressed(page, "save-announcement")
+    put(page, time="")
+    page.browser.run("document.getElementById('save-announcement').click();")
+
+
+def drawn_as_announced(page: Page) -> None:
+    """A draw with reserves, and then another list and another count."""
+    begun(page)
+    opened(page, KNOWN.encode())
+    page.fill("W" * 100)
+    page.draw()
+    page.fill(count="5")
+    page.draw()
+
+
+def winners_and_reserves(page: Page) -> None:
+    opened(page, KNOWN.encode())
+    page.draw()
+
+
 def widths_and_colours(counts: Counts, page: Page, pictures: Path) -> None:
-    for state in (before, after, checked, refused):
+    for state in (before, after, checked, refused, announced_late, drawn_as_announced, winners_and_reserves):
         state(page)
         for dark in (False, True):
             page.browser.dark(dark)
@@ -183,7 +211,7 @@ def names(counts: Counts, page: Page) -> None:
             element.getAttribute("for")]).filter(Boolean).flatMap((ids) => ids.split(" "))
           .filter((id) => !document.getElementById(id));"""), [])
     counts.same("what scrolls is reached by keys and has a name", page.browser.run("""
-        return Array.from(document.querySelectorAll("pre, #drawn, #preview"))
+        return Array.from(document.querySelectorAll("pre, #drawn, #reserves-drawn, #preview"))
           .filter((element) => element.tabIndex !== 0 ||
             !(element.ariaLabel || element.getAttribute("aria-labelledby")))
           .map((element) => element.outerHTML);"""), [])
