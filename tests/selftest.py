@@ -85,6 +85,7 @@ CHANGES = [
     ("tests/declarations.py", "docs/LANGUAGES.md", "`.._range_i64`", "`.._range_i46`"),
     ("tools/record.py --check", "docs/PAGE.md", '3: "Chidi"', '3: "Ada"'),
     ("tools/record.py --check", "docs/PAGE.md", "\nend of the record\n", "\n"),
+    ("tools/record.py --check", "docs/PAGE.md", "reserves: 1\n", "reserves: 2\n"),
     ("tools/record.py --check", "docs/RAFFLE.md", "  nanorand.html\n", "0  nanorand.html\n"),
     ("tools/record.py --check", "CHANGELOG.md", "`docs/nanorand.html`: `", "`docs/nanorand.html`: `0"),
     ("tools/record.py --check", "pyproject.toml", 'Repository = "', 'Repository = "https://'),

@@ -4,8 +4,9 @@
     tools/record.py            writes it
     tools/record.py --check    checks that the files have it: N passed, M failed
 
-- docs/PAGE.md: the record that the web page docs/nanorand.html makes of the example in docs/LOTS.md. The example's
-  list, seed and drawn lines are those in LOTS, which tests/second_opinion.py draws again.
+- docs/PAGE.md: the record that the web page docs/nanorand.html makes of the example in docs/LOTS.md, and an
+  announcement of this draw. The example's list, seed and drawn lines are those in LOTS, which tests/second_opinion.py
+  draws again.
 - docs/RAFFLE.md and CHANGELOG.md: the SHA-256 of the web page. In the changelog it is the first one, that of the newest
   version.
 - pyproject.toml: the repository's address, which its owner fills in in Cargo.toml.
@@ -35,11 +36,36 @@ def module_digest() -> str:
     return sha256(base64.b64decode(code))
 
 
-def record() -> str:
-    """The record of the first draw in docs/LOTS.md, whose seed and entrants need no escapes."""
+def example() -> "tuple[str, str, str]":
+    """The entrants, the seed and the lines drawn of the first draw in docs/LOTS.md, which need no escapes."""
     text = text_of("docs/LOTS.md")
     entrants = re.search(r"<!-- example: entrants -->\n```\n(.*?)^```$", text, re.M | re.S)[1]
     seed, drawn = re.search(r'^\$ lots "([^"\n]*)" \d+ < entrants\n(.*?)^```$', text, re.M | re.S).groups()
+    return entrants, seed, drawn
+
+
+def announcement() -> str:
+    """An announcement of the example's draw, with a reserve."""
+    entrants, seed, drawn = example()
+    lines = [
+        "nanorand announcement 1",
+        'occasion: "Summer raffle of the school"',
+        f"list SHA-256: {sha256(entrants.encode())}",
+        f"entrants: {len(entrants.splitlines())}",
+        f"winners: {len(drawn.splitlines())}",
+        "reserves: 1",
+        f'seed source: "{len(seed.split())} throws of a die, in the hall"',
+        'seed form: "the numbers thrown, in order, with one space between them"',
+        f'seed example: "{seed}"',
+        'time: "Friday 4 December 2026, 12:00, Madrid"',
+        "end of the announcement",
+    ]
+    return "".join(f"{line}\n" for line in lines)
+
+
+def record() -> str:
+    """The record of the example's draw."""
+    entrants, seed, drawn = example()
     names = drawn.splitlines()
     lines = [
         "nanorand public draw 2",
@@ -65,6 +91,7 @@ def parts() -> "list[tuple[str, str, str]]":
     page = sha256(PAGE.read_bytes())
     return [
         ("docs/PAGE.md", r"(?ms)(?<=^```\n)nanorand public draw 2\n.*?(?=^```$)", record()),
+        ("docs/PAGE.md", r"(?ms)(?<=^```\n)nanorand announcement 1\n.*?(?=^```$)", announcement()),
         ("docs/RAFFLE.md", r"(?m)^[0-9a-f]{64}(?=  nanorand\.html$)", page),
         ("CHANGELOG.md", r"(?<=The SHA-256 of `docs/nanorand\.html`: `)[0-9a-f]{64}", page),
         ("pyproject.toml", r'(?m)(?<=^Repository = ").*(?="$)', address()),

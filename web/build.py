@@ -173,6 +173,7 @@ def page_with(module: bytes, module32: bytes) -> str:
               "repository": html.escape(repository()), "source": source_sentence(repository()),
               "rule": rule(), "python": html.escape(python_code(), quote=False)}
     template = (SOURCES / "page.html").read_text(encoding="utf-8")
+    values["announce"] = (SOURCES / "announce.html").read_text(encoding="utf-8")
     return re.sub(r"\{\{(\w+)\}\}", lambda mark: values[mark[1]], template)
 
 

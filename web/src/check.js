@@ -1,7 +1,9 @@
 // Checks a record: repeats its draw with a list and compares the results.
 
 import { looksAlike } from "./alike.js";
-import { equalBytes, hex, textOf } from "./bytes.js";
+import { readAnnouncementFile, readPastedAnnouncement, writeAnnouncement } from "./announcement.js";
+import { comparedWith, differencesFrom } from "./belongs.js";
+import { equalBytes, hex, textOf, utf8 } from "./bytes.js";
 import { draw, resultOf } from "./draw.js";
 import { shown } from "./entrant.js";
 import { RecordError } from "./lines.js";
@@ -12,7 +14,7 @@ import { Refusal } from "./refusal.js";
 
 /**
  * @typedef {Object} Check
- * @property {"agrees"|"other module"|"differs"|"no record"|"no list"} outcome
+ * @property {"agrees"|"other module"|"differs"|"no record"|"no announcement"|"no list"} outcome
  * @property {string} title the outcome in a sentence
  * @property {Finding[]} findings what differs
  * @property {?Reading} reading what the record says, or null if there is no record
@@ -36,6 +38,7 @@ import { Refusal } from "./refusal.js";
  * @property {number} entrants
  * @property {number} drawn
  * @property {import("./entrant.js").Shown[]} named
+ * @property {?number} winners how many of these are winners, if the announcement that belongs to the record was given
  */
 
 const TITLES = {
@@ -44,10 +47,23 @@ const TITLES = {
   "other module": "The result agrees, but the record was made by another version of the program.",
   "differs": "The record differs from the draw repeated here.",
   "no record": "This text is not a record of a draw.",
+  "no announcement": "The record can be read, but the other text is not an announcement as the page saves it. " +
+    "Nothing was compared.",
   "no list": "The record can be read. Open or paste its list above, and check again.",
 };
 
 const OTHER_LIST = "Another list:";
+const WITH_ANNOUNCEMENT = "The record agrees: the same list, the announcement that it names, and the draw repeated " +
+  "here gives the same result. What only you can compare is said below.";
+const OTHER_ANNOUNCEMENT = "The draw repeated here gives the same result, but the record does not belong to this " +
+  "announcement.";
+const NOT_COMPARED = "The record names an announcement, which was not compared. Paste it above or drop its file there, " +
+  "and check again.";
+
+/**
+ * The announcement that was given with a record, with its SHA-256.
+ * @typedef {{announcement: import("./announcement.js").Announcement, digest: string}} Announced
+ */
 
 /**
  * @typedef {Object} Maker
@@ -60,14 +76,14 @@ const OTHER_LIST = "Another list:";
 
 /**
  * @param {Check["outcome"]} outcome @param {(string|Finding)[]} findings
- * @param {?import("./record.js").Record} [record] @returns {Check}
+ * @param {?import("./record.js").Record} [record] @param {string} [title] @returns {Check}
  */
-function checked(outcome, findings, record = null) {
+function checked(outcome, findings, record = null, title = TITLES[outcome]) {
   const asFinding = (finding) => (typeof finding === "string" ? { text: finding } : finding);
   const isOfOtherList = outcome === "differs" && String(findings[0]).startsWith(OTHER_LIST);
   return {
     outcome,
-    title: isOfOtherList ? "This is not the list that the record names." : TITLES[outcome],
+    title: isOfOtherList ? "This is not the list that the record names." : title,
     findings: findings.map(asFinding),
     reading: record && readingOf(record),
   };
@@ -76,27 +92,69 @@ function checked(outcome, findings, record = null) {
 /** @param {import("./record.js").Record} record @returns {Reading} */
 function readingOf({ lines, others, announcement, seed, list, entrants, drawn, named }) {
   const shownSeed = foreignMarked(quotedText(seed));
-  return { lines, others, announcement, seed: shownSeed, list, entrants, drawn, named: named.map(shown) };
+  const shownNamed = named.map(shown);
+  return { lines, others, announcement, seed: shownSeed, list, entrants, drawn, named: shownNamed, winners: null };
 }
 
 /**
- * @param {import("./module.js").Module} module @param {Maker} maker
- * @param {Uint8Array} list @param {string} text @returns {Check}
+ * Reads the announcement that was given: the bytes of its file, or a pasted text. Throws RecordError.
+ * @param {import("./module.js").Module} module @param {?{bytes?: Uint8Array, text?: string}} given
+ * @returns {?Announced}
  */
-export function check(module, maker, list, text) {
-  let record;
+function announcedFrom(module, given) {
+  if (given === null) return null;
+  const announcement = given.bytes ? readAnnouncementFile(given.bytes) : readPastedAnnouncement(given.text);
+  return { announcement, digest: hex(module.digest(utf8(writeAnnouncement(announcement)))) };
+}
+
+/**
+ * Reads with a function. Returns what it returns, or the check that says why it cannot.
+ * @param {() => *} read @param {Check["outcome"]} outcome @param {?import("./record.js").Record} [record]
+ */
+function readOr(read, outcome, record) {
   try {
-    record = readRecord(text);
+    return { value: read(), failed: null };
   } catch (error) {
-    if (error instanceof RecordError) return checked("no record", [error.message]);
+    if (error instanceof RecordError) return { value: null, failed: checked(outcome, [error.message], record) };
     throw error;
   }
+}
+
+/**
+ * @param {import("./module.js").Module} module @param {Maker} maker @param {Uint8Array} list
+ * @param {{text: string, announced?: ?{bytes?: Uint8Array, text?: string}}} given the text with the record, and the
+ * announcement if there is one
+ * @returns {Check}
+ */
+export function check(module, maker, list, { text, announced = null }) {
+  const { value: record, failed } = readOr(() => readRecord(text), "no record");
+  if (failed) return failed;
   if (list.length === 0 && record.entrants > 0) return checked("no list", [], record);
+  const { value: named, failed: unread } = readOr(() => announcedFrom(module, announced), "no announcement", record);
+  if (unread) return unread;
+  const answer = compared(module, maker, list, record, named);
+  const belongs = named !== null && differencesFrom(record, named.announcement, named.digest).length === 0;
+  if (belongs) answer.reading.winners = named.announcement.winners;
+  return answer;
+}
+
+/** Compares a record with the repeated draw and with its announcement. @param {?Announced} named @returns {Check} */
+function compared(module, maker, list, record, named) {
   const others = otherMakers(record, maker);
   const findings = [...others, ...otherOfPage(record, maker), ...withoutModule(record)];
   const differences = differencesOf(module, list, record);
-  if (differences.length > 0) return checked("differs", [...differences, ...findings], record);
-  return checked(others.length > 0 ? "other module" : "agrees", findings, record);
+  const unlike = named === null ? [] : differencesFrom(record, named.announcement, named.digest);
+  const said = [...findings, ...announcedFindings(record, named, unlike)];
+  if (differences.length > 0) return checked("differs", [...differences, ...unlike, ...said], record);
+  if (unlike.length > 0) return checked("differs", [...unlike, ...said], record, OTHER_ANNOUNCEMENT);
+  if (others.length > 0) return checked("other module", said, record);
+  return checked("agrees", said, record, named === null ? TITLES.agrees : WITH_ANNOUNCEMENT);
+}
+
+/** What was compared with the announcement, or that none was. @returns {string[]} */
+function announcedFindings(record, named, unlike) {
+  if (named === null) return record.announcement === "none" ? [] : [NOT_COMPARED];
+  return unlike.length > 0 ? [] : comparedWith(record, named.announcement);
 }
 
 /**

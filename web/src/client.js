@@ -26,7 +26,7 @@ export class Client {
   }
 
   /**
-   * @param {"start"|"list"|"tidy"|"draw"|"check"} task @param {Object} data
+   * @param {"start"|"list"|"tidy"|"digest"|"announcement"|"draw"|"check"} task @param {Object} data
    * @returns {Promise<Object>} rejected with a Refusal, or with the error of a message that cannot be sent
    */
   ask(task, data) {

@@ -47,7 +47,7 @@ function utf16Of(list) {
 }
 
 /** What documents begin with that are no lists, though all their bytes may be letters. */
-const DOCUMENT = /^(?:\xef\xbb\xbf)?\s*(?:%PDF-|\{\\rtf|<[!?a-z]|\{\s*"|BEGIN:V|nanorand public draw )/i;
+const DOCUMENT = /^(?:\xef\xbb\xbf)?\s*(?:%PDF-|\{\\rtf|<[!?a-z]|\{\s*"|BEGIN:V|nanorand (?:public draw|announcement) )/i;
 
 /** @param {Uint8Array} list */
 function isDocument(list) {

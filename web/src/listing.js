@@ -1,9 +1,10 @@
 // The list on the page: typed, pasted or opened, changed by buttons, and saved.
 
+import { isAnnouncement } from "./announcement.js";
 import { textOf } from "./bytes.js";
 import { listOfText } from "./list.js";
 import { Refusal } from "./refusal.js";
-import { client, hideResults, recallResult, refuse } from "./session.js";
+import { client, hideResults, recallResult, refuse, setFacts } from "./session.js";
 import { clearRefusals, grouped, hideList, part, save, say, showList, showQuestions, tabShown } from "./view.js";
 
 /** In milliseconds: the pause between the last change of a pasted list and sending it to the worker. */
@@ -21,11 +22,11 @@ const SAVED = "entrants.txt";
  * "saved". `before` has the list before each change that can be undone. `sent` promises whether the
  * worker has the list. `pending` is the timer until a changed list is sent. `turn` counts the changes:
  * an answer to an earlier one is not shown. `questions` are those that are open, and `kept` has those
- * that were answered by keeping the list.
+ * that were answered by keeping the list. `reading` is the file that is being read or could not be read, or null.
  */
 const held = {
   file: null, name: "", bytes: new Uint8Array(0), origin: "unsaved", before: [], sent: Promise.resolve(false),
-  pending: 0, turn: 0, questions: [], kept: new Set(),
+  pending: 0, turn: 0, questions: [], kept: new Set(), reading: null,
 };
 
 /** The list as it is now: the file, or the text in the field. @returns {Uint8Array} */
@@ -60,6 +61,7 @@ function showFacts(facts) {
   showOrigin();
   held.questions = facts.questions.filter(({ id }) => !held.kept.has(id));
   showQuestions(held.questions);
+  setFacts(facts);
   recallResult(facts.digest);
 }
 
@@ -86,6 +88,7 @@ function listChanged(pause) {
   hideResults();
   held.turn += 1;
   held.questions = [];
+  setFacts(null);
   stopTimer();
   clearRefusals("list", "question", "page");
   hideList();
@@ -98,6 +101,7 @@ function listChanged(pause) {
 function otherList(pause, origin) {
   held.before = [];
   held.origin = origin;
+  held.reading = null;
   listChanged(pause);
 }
 
@@ -129,10 +133,12 @@ export function askFirst() {
 }
 
 /**
- * Reads a file, and sends it to the worker unless the list has changed meanwhile.
- * @param {File} file @returns {Promise<boolean>} as sendList
+ * Reads a file, and sends it to the worker unless the list has changed meanwhile. If it is an announcement, brings the
+ * list before it back.
+ * @param {File} file @param {Object} before the list before it @param {(bytes: Uint8Array) => void} takeAnnouncement
+ * @returns {Promise<boolean>} as sendList
  */
-async function readFile(file) {
+async function readFile(file, before, takeAnnouncement) {
   const { turn } = held;
   let bytes = null;
   try {
@@ -141,19 +147,40 @@ async function readFile(file) {
     if (turn === held.turn) refuse(new Refusal("list cannot be read"));
   }
   if (bytes === null || turn !== held.turn) return false;
+  if (isAnnouncement(bytes)) {
+    if (before.reading) openFile(before.reading, takeAnnouncement);
+    else bringBack(before);
+    takeAnnouncement(bytes);
+    return listSent();
+  }
+  held.reading = null;
   held.file = bytes;
   return sendList();
 }
 
-/** @param {File|undefined} file */
-export function openFile(file) {
+/** Brings back the list that was there before a file was opened. @param {Object} before */
+function bringBack(before) {
+  Object.assign(held, before);
+  if (held.file === null) hideFile();
+  else showFile(held.name);
+  listChanged(0);
+}
+
+/**
+ * Opens a file: a list, or an announcement.
+ * @param {File|undefined} file @param {(bytes: Uint8Array) => void} takeAnnouncement gets the bytes of an announcement
+ */
+export function openFile(file, takeAnnouncement) {
   if (!file) return;
+  const { file: last, name, origin, before: changes, reading } = held;
+  const before = { file: last, name, origin, before: changes, reading, kept: new Set(held.kept) };
   held.kept.clear();
   otherList(PAUSE, "opened");
+  held.reading = file;
   stopTimer();
   showFile(file.name);
   say("file-name", `${file.name}, ${grouped(file.size)} bytes`);
-  held.sent = readFile(file);
+  held.sent = readFile(file, before, takeAnnouncement);
 }
 
 /** Shows the name of a file in place of the field. @param {string} name */
@@ -161,6 +188,12 @@ function showFile(name) {
   held.name = name;
   part("opened").hidden = false;
   part("pasted").hidden = true;
+}
+
+/** Shows the field in place of the name of a file. */
+function hideFile() {
+  part("opened").hidden = true;
+  part("pasted").hidden = false;
 }
 
 /** Keeps a long pasted text as if it were a file. @param {ClipboardEvent} event */
@@ -189,8 +222,7 @@ export function closeFile() {
   const { file, name, origin, before } = held;
   held.file = null;
   held.kept.clear();
-  part("opened").hidden = true;
-  part("pasted").hidden = false;
+  hideFile();
   part("list-text").focus();
   listTyped(0);
   if (origin !== "unsaved") return;

@@ -1,5 +1,11 @@
 // The web page: what its fields and buttons do.
 
+import { compareList, compareSeed, openAnnouncement, takeAway } from "./announced.js";
+import {
+  announceList, announceTyped, beginAnnouncing, presetChosen, printAnnouncement, saveAnnouncement,
+} from "./announcing.js";
+import { checkNow, readForCheck, recordChanged, showForCheck } from "./checking.js";
+import { showResult } from "./drawn.js";
 import { bitsOfBrowser } from "./module.js";
 import {
   answerQuestion, askFirst, askToLeave, closeFile, cure, listBegun, listSent, listTyped, openFile, pasteLong, saveList,
@@ -8,11 +14,9 @@ import {
 import { quotedText } from "./quoted.js";
 import { Refusal } from "./refusal.js";
 import {
-  client, enable, fieldChanged, forgetResult, markResult, refuse, refuseHere, session,
+  client, digestAnnounced, enable, fieldChanged, forgetResult, markResult, refuse, refuseHere, session,
 } from "./session.js";
-import {
-  clearRefusals, copy, fieldOf, goTo, part, save, say, showCheck, showPaper, showResult, showTab,
-} from "./view.js";
+import { clearRefusals, copy, fieldOf, goTo, part, save, say, showPaper, showTab, tabShown } from "./view.js";
 
 /** A longer seed than this is shown below its field, which is too short for it on a phone. */
 const LONG_SEED = 20;
@@ -25,6 +29,7 @@ function seedChanged() {
   const advice = isOdd ? " Each space, sign and accent counts: others must type exactly the same." : "";
   const isShown = isOdd || seed.length > LONG_SEED;
   say("seed-read", isShown ? `The seed is read as ${quotedText(seed)}.${advice}` : "");
+  compareSeed();
 }
 
 /** Tells screen readers how the seed is read, once it has been typed. */
@@ -46,8 +51,9 @@ async function drawNow() {
     if (await listSent()) {
       askFirst();
       const fields = { seed: part("seed").value, count: part("count").value };
-      const drawing = await client.ask("draw", fields);
-      if (turn === session.turn) showDrawing(drawing, fields);
+      const announced = digestAnnounced();
+      const drawing = await client.ask("draw", { ...fields, announced: session.announced && session.announced.bytes });
+      if (turn === session.turn) showDrawing(drawing, { ...fields, announced });
     } else if (turn === session.turn) {
       fieldOf("list").focus();
     }
@@ -65,63 +71,24 @@ function showDrawing(drawing, fields) {
   goTo("result-title");
 }
 
-async function checkNow() {
-  clearRefusals("record", "page");
-  part("outcome").hidden = true;
-  part("check").disabled = true;
-  const { turn } = session;
-  const text = part("check-text").value;
-  const isLate = () => turn !== session.turn || text !== part("check-text").value;
-  try {
-    if (await listSent()) {
-      const outcome = await client.ask("check", { text });
-      if (!isLate()) showOutcome(outcome);
-    } else if (!isLate()) {
-      fieldOf("list").focus();
-    }
-  } catch (error) {
-    if (turn === session.turn) refuseHere(error);
-  } finally {
-    enable("check");
-  }
-}
-
-function showOutcome(outcome) {
-  showCheck(outcome);
-  goTo("outcome-title");
-}
-
-/** Opens a dropped file: as the record if it is dropped on that step, otherwise as the list. */
-function dropped(event) {
+/** Opens a dropped file: for the check if it is dropped on that step, otherwise as the list or the announcement. */
+function droppedFile(event) {
   const [file] = event.dataTransfer.files;
   if (!file) return;
   event.preventDefault();
-  if (part("check-step").contains(event.target)) readRecordFile(file);
-  else openFile(file);
+  if (part("check-step").contains(event.target)) readForCheck(file);
+  else openFile(file, takeAnnouncement);
 }
 
-/** Puts the text of a file into the field for the record. @param {File} file */
-async function readRecordFile(file) {
-  try {
-    part("check-text").value = new TextDecoder().decode(await file.arrayBuffer());
-  } catch {
-    part("check-text").value = "";
-    refuse(new Refusal("record cannot be read"));
-    return;
-  } finally {
-    part("outcome").hidden = true;
-  }
-  clearRefusals("record");
-}
-
-function recordChanged() {
-  clearRefusals("record");
-  part("outcome").hidden = true;
+/** Takes an announcement for the draw or for the check, as the tab says. @param {Uint8Array} bytes */
+function takeAnnouncement(bytes) {
+  if (tabShown() === "check") showForCheck(bytes);
+  else openAnnouncement(bytes);
 }
 
 /** Opens the chosen file. The field forgets it, so that the same file can be opened again once it has changed. */
 function chosen() {
-  openFile(part("list-file").files[0]);
+  openFile(part("list-file").files[0], takeAnnouncement);
   part("list-file").value = "";
 }
 
@@ -148,7 +115,7 @@ async function start() {
 /** What a button prints, while it does so. The browser's own menu prints what the tab shows. */
 let paperAsked;
 
-/** @param {"list"|"result"|"check"} paper */
+/** @param {"list"|"announcement"|"result"|"check"} paper */
 function printPaper(paper) {
   paperAsked = paper;
   showPaper(paper);
@@ -204,8 +171,14 @@ for (const name of ["draw", "check"]) {
 document.addEventListener("dragover", (event) => {
   if (event.dataTransfer.types.includes("Files")) event.preventDefault();
 });
-document.addEventListener("drop", dropped);
+document.addEventListener("drop", droppedFile);
 on("check-text", "input", recordChanged);
+on("check-announcement", "input", recordChanged);
+for (const field of part("announce").querySelectorAll("input, textarea")) field.addEventListener("input", announceTyped);
+on("preset", "change", presetChosen);
+on("save-announcement", "click", saveAnnouncement);
+on("print-announcement", "click", () => printAnnouncement(printPaper));
+on("take-away", "click", takeAway);
 on("draw", "click", drawNow);
 on("check", "click", checkNow);
 on("copy-digest", "click", () =>
@@ -220,5 +193,10 @@ for (const [id, paper] of [["print-list", "list"], ["print", "result"], ["print-
 addEventListener("beforeprint", () => showPaper(paperAsked));
 addEventListener("afterprint", () => showPaper());
 addEventListener("beforeunload", askToLeave);
+session.watch = () => {
+  announceList();
+  compareList();
+};
+beginAnnouncing();
 showPaper();
 start();

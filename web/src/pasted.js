@@ -7,7 +7,7 @@ import { nameOf } from "./names.js";
 /** Quotation marks that word processors put in place of the plain ones. */
 const CURLY = /[\u201c-\u201f\u00ab\u00bb\u2033\uff02]/u;
 /** What to do about a text that was changed on its way. */
-export const AS_FILE = "Ask for the record as a file, or copy it as plain text.";
+export const AS_FILE = "Ask for the file, or copy it as plain text.";
 
 /** The first invisible character of a line that is not a plain space. @param {string} line */
 function firstInvisible(line) {

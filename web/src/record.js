@@ -7,7 +7,7 @@ import { FORMAT1 } from "./record1.js";
 import { FORMAT2 } from "./record2.js";
 
 /**
- * What a record says. The page writes no announcement yet.
+ * What a record says.
  * @typedef {Object} Record
  * @property {string} announcement SHA-256 of the announcement, 64 digits, or "none"
  * @property {string} seed

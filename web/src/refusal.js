@@ -1,6 +1,11 @@
 // The errors that the page shows, and their texts.
 
-/** @typedef {"seed"|"count"|"list"|"question"|"record"|"page"} Field  where the error is shown */
+import { ANNOUNCING_REFUSALS } from "./unannounced.js";
+
+/**
+ * Where the error is shown.
+ * @typedef {"seed"|"count"|"list"|"question"|"record"|"announce"|"announcement"|"page"} Field
+ */
 
 /** @type {Record<string, {field: Field, words: (values: Object) => string}>} */
 const REFUSALS = {
@@ -63,6 +68,7 @@ const REFUSALS = {
     field: "record",
     words: () => "The file cannot be read.",
   },
+  ...ANNOUNCING_REFUSALS,
   "words were rejected": {
     field: "page",
     words: () =>

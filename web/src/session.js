@@ -11,9 +11,17 @@ const MOMENT = 500;
 /**
  * `turn` counts the changes of the list, the seed and the count, and the draws: an answer to an earlier
  * turn is not shown. `result` is the result of the last draw, as bytes, with the SHA-256 of its list, and
- * the seed and the count that were typed for it, or null. `showing` is the timer until progress is shown.
+ * the seed, the count and the announcement that were there for it, or null. `announced` is the announcement that
+ * was opened, or null. `facts` has the SHA-256 of the list and its number of entrants, or is null while they are
+ * not known; `watch` is called after each change of them. `showing` is the timer until progress is shown.
  */
-export const session = { turn: 0, result: null, showing: 0 };
+export const session = { turn: 0, result: null, announced: null, facts: null, watch: () => {}, showing: 0 };
+
+/** @param {?{digest: string, entrants: number}} facts about the list, or null if it is being changed */
+export function setFacts(facts) {
+  session.facts = facts;
+  session.watch();
+}
 
 export const client = new Client(part("worker").textContent, tellProgress);
 
@@ -69,19 +77,35 @@ export function recallResult(digest) {
   markResult();
 }
 
-/** After a change of the seed or the count, the winners that are shown are marked as those of before. */
+/** After a change of the seed, the count or the announcement, the winners that are shown are marked as those of before. */
 export function fieldChanged() {
   session.turn += 1;
   part("outcome").hidden = true;
   markResult();
 }
 
-/** Says so if the winners that are shown are not of the seed and the count in the fields. */
+/** Why the winners that are shown are not of what is typed now, for the fields and beside the winners, or null. */
+function changeSince({ seed, count, announced }) {
+  if (seed !== part("seed").value || count !== part("count").value) {
+    return ["The winners below belong to the seed and the number before this change.",
+      `These winners belong to the seed ${quotedText(seed)} and the number ${count}, and not to what you have typed ` +
+      "since. Press Draw to draw with that."];
+  }
+  if (announced === digestAnnounced()) return null;
+  return ["The record below was made before the announcement was opened or taken away.",
+    `This record names ${announced === null ? "no announcement" : `the announcement with the SHA-256 ${announced}`}. ` +
+    "Press Draw to draw with what is open now."];
+}
+
+/** The SHA-256 of the announcement that is open, or null. */
+export function digestAnnounced() {
+  return session.announced && session.announced.digest;
+}
+
+/** Says so if the winners that are shown are not of the seed, the count and the announcement that are there now. */
 export function markResult() {
   const { result } = session;
-  const isOld = result !== null && !part("result").hidden &&
-    (result.seed !== part("seed").value || result.count !== part("count").value);
-  say("changed", isOld ? "The winners below belong to the seed and the number before this change." : "");
-  say("stale", isOld ? `These winners belong to the seed ${quotedText(result.seed)} and the number ` +
-    `${result.count}, and not to what you have typed since. Press Draw to draw with that.` : "");
+  const change = result === null || part("result").hidden ? null : changeSince(result);
+  say("changed", change === null ? "" : change[0]);
+  say("stale", change === null ? "" : change[1]);
 }

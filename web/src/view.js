@@ -1,10 +1,8 @@
 // What the page shows. Nothing here computes.
 
 import { isUnseen } from "./bytes.js";
+import { ANNOUNCE_FIELDS } from "./fields.js";
 import { nameOf } from "./names.js";
-
-/** The winners that are shown without a box in which they scroll. */
-const WITHOUT_BOX = 100;
 
 /** @param {string} id @returns {HTMLElement} */
 export function part(id) {
@@ -15,6 +13,11 @@ export function part(id) {
 export function say(id, text) {
   part(id).textContent = text;
   part(id).hidden = text === "";
+}
+
+/** As `say`, but leaves a text that is there already, so that screen readers do not read it again at each key. */
+export function sayOnce(id, text) {
+  if (part(id).textContent !== text) say(id, text);
 }
 
 /**
@@ -32,7 +35,7 @@ function made(tag, name, ...content) {
  * Shows one item for each element of a list, or hides the list if there are none.
  * @param {string} id @param {HTMLElement[]} items
  */
-function itemize(id, items) {
+export function itemize(id, items) {
   part(id).replaceChildren(...items);
   part(id).hidden = items.length === 0;
 }
@@ -40,7 +43,7 @@ function itemize(id, items) {
 /** The fields that each kind of error can belong to. A list is a pasted text or a file. */
 const FIELDS = {
   seed: ["seed"], count: ["count"], list: ["list-text", "open-file"], question: ["questions"],
-  record: ["check-text"], page: [],
+  record: ["check-text"], announcement: ["take-away", "open-file"], announce: ANNOUNCE_FIELDS, page: [],
 };
 
 /** The visible one of these fields. @param {string} kind @returns {HTMLElement|undefined} */
@@ -78,15 +81,21 @@ function marked(codes) {
  * What `partsOf` returns, as nodes: each invisible character is replaced by its name.
  * @param {(string|number|number[])[]} parts
  */
-function nodesOf(parts) {
+export function nodesOf(parts) {
   return parts.map((piece) => {
     if (typeof piece === "string") return piece;
     return typeof piece === "number" ? made("span", "unseen", nameOf(piece)) : marked(piece);
   });
 }
 
+/** The pieces of a text. Each digest is an element of its own, which the style breaks into rows. */
+export function withDigests(text) {
+  return text.split(/\b([0-9a-f]{64})$/m).map((piece, index) =>
+    (index % 2 === 0 ? piece : made("span", "digest", piece)));
+}
+
 /** A list item for an entrant or a line. @param {import("./entrant.js").Shown} shown */
-function itemOf({ isText, parts }) {
+export function itemOf({ isText, parts }) {
   return made("li", isText ? "text" : "bytes", ...nodesOf(parts));
 }
 
@@ -104,7 +113,7 @@ function buttonOf({ label, change }) {
 }
 
 /** A warning or a finding as a list item. @param {import("./warnings.js").Warning} note */
-function noteOf({ text, lines = [], cure }) {
+export function noteOf({ text, lines = [], cure }) {
   return made("li", "", text, ...(lines.length > 0 ? [linesOf(lines)] : []), ...(cure ? [" ", buttonOf(cure)] : []));
 }
 
@@ -161,22 +170,6 @@ export function showQuestions(questions) {
   }));
 }
 
-/** @param {Object} drawing the worker's answer to a draw */
-export function showResult({ entrants, drawn, named, hasEscapes, record }) {
-  unhideResult();
-  say("result-title", drawn === 0
-    ? "Nobody was drawn."
-    : `${grouped(drawn)} of ${grouped(entrants)} drawn, in this order:`);
-  part("drawn").replaceChildren(...named.map(itemOf));
-  part("drawn").hidden = named.length === 0;
-  part("drawn").classList.toggle("boxed", named.length > WITHOUT_BOX);
-  const left = drawn - named.length;
-  say("more", left > 0 ? `and ${grouped(left)} more, in the result that you can save` : "");
-  say("escapes", hasEscapes
-    ? "In the record, \\x and two digits stand for a byte that is no visible letter, and \\x5c for a backslash." : "");
-  part("record").replaceChildren(...withDigests(record));
-}
-
 /** Shows the result of a draw in place of the hint. */
 export function unhideResult() {
   part("result").hidden = false;
@@ -189,12 +182,6 @@ export function hideResult(words) {
   part("result").hidden = true;
   say("publish-hint", words || "Draw first. The winners and a record appear here.");
   showPaper();
-}
-
-/** The pieces of a text. Each digest is an element of its own, which the style breaks into rows. */
-function withDigests(text) {
-  return text.split(/\b([0-9a-f]{64})$/m).map((piece, index) =>
-    (index % 2 === 0 ? piece : made("span", "digest", piece)));
 }
 
 /** The texts around the list, for each tab. */
@@ -232,48 +219,17 @@ export function tabShown() {
   return part("check-step").hidden ? "draw" : "check";
 }
 
-/** @param {import("./check.js").Check} check */
-export function showCheck({ outcome, title, findings, reading }) {
-  part("outcome").hidden = false;
-  part("outcome").dataset.outcome = outcome;
-  say("outcome-title", title);
-  itemize("findings", findings.map(noteOf));
-  part("reading").hidden = reading === null;
-  say("unchecked", reading === null ? "" : uncheckedWords(reading));
-  if (reading !== null) showReading(reading);
-}
-
-/** Which lines of the text were not checked. @param {import("./check.js").Reading} reading */
-function uncheckedWords({ lines: [first, last], others }) {
-  if (others === 0) return "";
-  const lines = others === 1 ? "1 other line was" : `${grouped(others)} other lines were`;
-  return `Only lines ${first} to ${last} of the text are the record. Its ${lines} not checked, and may say anything.`;
-}
-
-/** What was checked. @param {import("./check.js").Reading} reading */
-function showReading({ lines: [first, last], announcement, seed, list, entrants, drawn, named }) {
-  say("reading-title", `What was checked, in lines ${first} to ${last} of the text:`);
-  say("announcement-label", announcement === "none" ? "Announcement" : "SHA-256 of the announcement");
-  say("reading-announcement", announcement);
-  part("reading-seed").replaceChildren(...nodesOf(seed));
-  say("reading-list", list);
-  say("reading-count", `${grouped(drawn)} of ${grouped(entrants)}`);
-  itemize("reading-drawn", named.slice(0, WITHOUT_BOX).map(itemOf));
-  const left = drawn - Math.min(named.length, WITHOUT_BOX);
-  say("reading-more", left > 0 ? `and ${grouped(left)} more` : "");
-}
-
 /** Moves the focus to a heading, and the heading to the top of the window. @param {string} id */
 export function goTo(id) {
   part(id).focus({ preventScroll: true });
   part(id).scrollIntoView({ block: "start" });
 }
 
-const PAPERS = { list: "the closed list", result: "the result", check: "a check" };
+const PAPERS = { list: "the closed list", announcement: "the announcement", result: "the result", check: "a check" };
 
 /**
  * Decides what is printed, with its title and the date.
- * @param {"list"|"result"|"check"} [paper] or else the one of the tab, with a result if there is one
+ * @param {"list"|"announcement"|"result"|"check"} [paper] or else the one of the tab, with a result if there is one
  */
 export function showPaper(paper) {
   const ofDraw = part("result").hidden ? "list" : "result";

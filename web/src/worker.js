@@ -1,11 +1,13 @@
 // The worker holds the module and the list, so that the page stays usable while they are busy.
 
-import { fromBase64, hex } from "./bytes.js";
+import { readAnnouncementFile } from "./announcement.js";
+import { unannouncedList, refuseOtherDraw } from "./belongs.js";
+import { fromBase64, hex, utf8 } from "./bytes.js";
 import { check } from "./check.js";
 import { draw, resultOf } from "./draw.js";
 import { encodingOf } from "./encoding.js";
 import { shown } from "./entrant.js";
-import { NAMED } from "./lines.js";
+import { NAMED, RecordError } from "./lines.js";
 import { previewOf } from "./list.js";
 import { Module, wordsOfModule } from "./module.js";
 import { questionsOf } from "./questions.js";
@@ -28,6 +30,26 @@ function countOf(list) {
     const isOfLine = error instanceof Refusal && error.reason === "line is empty";
     throw isOfLine && encodingOf(list) === "unknown" ? new Refusal("list is no text") : error;
   }
+}
+
+/**
+ * Reads the bytes of an announcement, and computes their SHA-256. Throws a Refusal if they are none.
+ * @param {Uint8Array} bytes
+ * @returns {{announcement: import("./announcement.js").Announcement, digest: string}}
+ */
+function announcedIn(bytes) {
+  try {
+    return { announcement: readAnnouncementFile(bytes), digest: hex(held.module.digest(bytes)) };
+  } catch (error) {
+    if (!(error instanceof RecordError)) throw error;
+    throw new Refusal("announcement cannot be read", { reason: error.message });
+  }
+}
+
+/** Throws a Refusal if a list is not the announced one. */
+function refuseOtherList(announcement, digest) {
+  const other = announcement && unannouncedList(announcement, { digest, entrants: countOf(held.list) });
+  if (other) throw other;
 }
 
 /** The tasks that the page can ask for. Each takes its data and a function to report progress. */
@@ -63,16 +85,29 @@ const TASKS = {
     return tidied(list, change);
   },
 
-  draw({ seed, count }, tell) {
+  /** The SHA-256 of a text in UTF-8. */
+  digest({ text }) {
+    return hex(held.module.digest(utf8(text)));
+  },
+
+  announcement({ bytes }) {
+    return announcedIn(bytes);
+  },
+
+  /** `announced` has the bytes of the announcement, or is null. */
+  draw({ seed, count, announced }, tell) {
     if (held.list.length === 0) throw new Refusal("no list");
     tell("Drawing");
+    const list = hex(held.module.digest(held.list));
+    const { announcement, digest } = announced ? announcedIn(announced) : { announcement: null, digest: "none" };
+    refuseOtherList(announcement, list);
     const { entrants, drawn } = draw(held.module, held.list, seed, count);
+    refuseOtherDraw(announcement, { digest: list, entrants, drawn: drawn.length });
     tell("Writing the result");
     const result = resultOf(drawn);
     const named = drawn.slice(0, NAMED);
-    const list = hex(held.module.digest(held.list));
     const record = writeRecord({
-      announcement: "none",
+      announcement: digest,
       seed,
       list,
       entrants,
@@ -83,12 +118,13 @@ const TASKS = {
       named,
     });
     const hasEscapes = record.includes("\\");
-    return { list, entrants, drawn: drawn.length, named: named.map(shown), hasEscapes, record, result };
+    const winners = announcement === null ? null : announcement.winners;
+    return { list, entrants, drawn: drawn.length, winners, named: named.map(shown), hasEscapes, record, result };
   },
 
-  check({ text }, tell) {
+  check({ text, announced }, tell) {
     tell("Repeating the draw");
-    return check(held.module, held.maker, held.list, text);
+    return check(held.module, held.maker, held.list, { text, announced });
   },
 };
 

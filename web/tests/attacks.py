@@ -287,7 +287,7 @@ def reasons(counts: Counts, page: Page, layout: Layout, record: str) -> None:
     curly = "The line has a curly quotation mark, {}, as word processors make it. "
     unseen = "The line has an invisible character, {}. "
     escape = "The character U+00A0 no-break space has to be written as \\xc2\\xa0 here. "
-    advice = "Ask for the record as a file, or copy it as plain text."
+    advice = "Ask for the file, or copy it as plain text."
     value, missing = "the value of “seed” cannot be read. ", "“list SHA-256: ” is missing. "
     title = f"a record begins with “{TITLE}” or “{OLD_TITLE}”. "
     within = escape if layout is FORMAT2 else unseen.format("U+00A0 no-break space")

@@ -3,7 +3,7 @@ read, and dropped items that are not files."""
 
 from itertools import cycle
 from pathlib import Path
-from typing import Any, Callable, Dict, Iterator, List, Tuple
+from typing import Any, Callable, Dict, Iterator, List, Optional, Tuple
 from urllib.parse import urlparse
 from urllib.request import url2pathname
 
@@ -128,7 +128,8 @@ def outcome_of(name: str) -> Dict[str, Any]:
     """An answer to a check. Some have findings."""
     findings = {"agrees": [], "no list": [], "no record": ["one"]}.get(name, ["one", "two"])
     reading = {"lines": [1, 9], "announcement": "none", "seed": ["a seed"], "list": "a sum", "entrants": 9,
-               "drawn": len(findings), "named": [{"isText": True, "parts": [finding]} for finding in findings]}
+               "drawn": len(findings), "winners": None,
+               "named": [{"isText": True, "parts": [finding]} for finding in findings]}
     return {"outcome": name, "title": f"what {name} says", "findings": [{"text": finding} for finding in findings],
             "reading": None if name == "no record" else reading}
 
@@ -140,11 +141,11 @@ def said_of(outcome: Dict[str, Any]) -> Tuple[Any, ...]:
     return ("", outcome["outcome"], outcome["title"], [finding["text"] for finding in outcome["findings"]], *read)
 
 
-def drawing(names: List[str], drawn: int) -> Dict[str, Any]:
-    """An answer to a draw that names these entrants."""
+def drawing(names: List[str], drawn: int, winners: Optional[int] = None) -> Dict[str, Any]:
+    """An answer to a draw that names these entrants, which was announced if it has a number of winners."""
     named = [{"isText": True, "parts": [name]} for name in names]
-    return {"list": "a sum", "entrants": 9, "drawn": drawn, "named": named, "hasEscapes": len(names) > 1,
-            "record": f"the {drawn} drawn", "result": [10]}
+    return {"list": "a sum", "entrants": 9, "drawn": drawn, "winners": winners, "named": named,
+            "hasEscapes": len(names) > 1, "record": f"the {drawn} drawn", "result": [10]}
 
 
 def each_pair(names: List[str]) -> Iterator[str]:
@@ -193,17 +194,26 @@ def checks_after_checks(counts: Counts, page: Page) -> None:
 def draws_after_draws(counts: Counts, page: Page) -> None:
     def ask() -> Tuple[Any, ...]:
         found = page.draw()
+        others = page.browser.run("""return ["reserves-title", "reserves-drawn", "unannounced"].filter((id) =>
+            document.getElementById(id).checkVisibility());""")
         return (found["page"], found["title"], found["drawn"], found["record"], found["more"] != "",
-                found["escapes"] != "", found["hint"] != "")
+                found["escapes"] != "", found["hint"] != "", others)
 
+    plain = ["unannounced"]
     kinds = {
-        "nobody": ([ANSWER, "draw", drawing([], 0)], ("", "Nobody was drawn.", [], "the 0 drawn", False, False, False)),
+        "nobody": ([ANSWER, "draw", drawing([], 0)],
+                   ("", "Nobody was drawn.", [], "the 0 drawn", False, False, False, plain)),
         "one": ([ANSWER, "draw", drawing(["Ada"], 1)],
-                ("", "1 of 9 drawn, in this order:", ["Ada"], "the 1 drawn", False, False, False)),
+                ("", "1 of 9 drawn, in this order:", ["Ada"], "the 1 drawn", False, False, False, plain)),
         "many": ([ANSWER, "draw", drawing(["Bob", "Cid"], 5)],
-                 ("", "5 of 9 drawn, in this order:", ["Bob", "Cid"], "the 5 drawn", True, True, False)),
+                 ("", "5 of 9 drawn, in this order:", ["Bob", "Cid"], "the 5 drawn", True, True, False, plain)),
+        "a winner": ([ANSWER, "draw", drawing(["Dora"], 1, 1)],
+                     ("", "The winner:", ["Dora"], "the 1 drawn", False, False, False, [])),
+        "a reserve": ([ANSWER, "draw", drawing(["Eve", "Fay"], 2, 1)],
+                      ("", "The winner:", ["Eve"], "the 2 drawn", False, True, False,
+                       ["reserves-title", "reserves-drawn"])),
     }
-    kinds.update({reason: (setting, (words, "", [], "", False, False, True))
+    kinds.update({reason: (setting, (words, "", [], "", False, False, True, []))
                   for reason, (setting, words) in failing("draw").items()})
     one_after_another(counts, page, "draw", kinds, ask)
 

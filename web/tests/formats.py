@@ -26,6 +26,7 @@ result SHA-256: d44df65b613f78f8bb637295ecfbaf57109d9ec26487514c036dc826f6757939
 end of the record
 """
 BY_PROGRAM = "The record names no drawing program (module), as records of the program lots do not."
+NOT_COMPARED = "The record names an announcement, which was not compared."
 READING = """
 return ["announcement-label", "reading-announcement"].map((id) => document.getElementById(id).innerText);
 """
@@ -103,7 +104,7 @@ def known(counts: Counts, page: Page, module: str) -> None:
         checks.outcome(counts, page, name, text, "agrees", *findings)
         counts.same(f"{name}: its announcement", page.browser.run(READING), ["Announcement", "none"])
         announced = checks.with_value(FORMAT2, text, "announcement SHA-256", "a1" * 32)
-        checks.outcome(counts, page, f"{name}, announced", announced, "agrees", *findings)
+        checks.outcome(counts, page, f"{name}, announced", announced, "agrees", *findings, NOT_COMPARED)
         counts.same(f"{name}: its sum", page.browser.run(READING), ["SHA-256 of the announcement", "a1" * 32])
     other = without_module(checks.with_entrant(FORMAT2, record, 1, "Ada"))
     wrong = 'Line 1 of the result: the record says "Ada"'
@@ -166,7 +167,7 @@ def reasons(counts: Counts, page: Page) -> None:
     page.load()
     record = checks.first_record(page)
     seed, first = "the value of “seed” cannot be read. ", "the value of “1” cannot be read. "
-    advice = "Ask for the record as a file, or copy it as plain text."
+    advice = "Ask for the file, or copy it as plain text."
     marks = 'It has to be between two quotation marks (").'
     plain, written = "stands for a character that has to be written as it is.", "has to be written as"
     digits = "is not “\\x” and two digits (0-9, a-f). A backslash is \\x5c."

@@ -7,7 +7,8 @@ from counts import Counts
 from drivers import BACKSPACE, TAB
 from page import Page
 
-STATUSES = {"draw": ["list-status", "changed-status", "progress-status", "heard"],
+STATUSES = {"draw": ["list-status", "announced-status", "seed-form-status", "changed-status", "progress-status",
+                     "heard"],
             "check": ["list-status", "outcome-status", "progress-status", "heard"]}
 # What the page says about the list in each tab: the heading, the hint, and the purpose of its SHA-256.
 LIST_WORDS = {

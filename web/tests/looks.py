@@ -5,6 +5,9 @@ import threading
 from pathlib import Path
 from typing import List
 
+from announced import opened
+from announcements import KNOWN
+from announcing import CHOOSE, begun, pressed, put
 from counts import Counts
 from drivers import ENTER, SPACE, TAB
 from page import Page
@@ -17,11 +20,16 @@ LABELS = {
     "copy-record": "Copy the record", "save-record": "Save the record", "save-result": "Save the result",
     "tidy-empty": "Remove the empty lines", "tidy-trim": "Remove spaces at the ends of lines",
     "tidy-unique": "Remove equal lines", "tab-draw": "Hold a draw", "tab-check": "Check a draw", "print": "Print",
-    "print-list": "Print the SHA-256",
+    "print-list": "Print the SHA-256", "occasion": "Occasion", "winners": "Winners", "reserves": "Reserves",
+    "preset": "Where the seed comes from", "preset-throws": "Number of throws", "source": "Source of the seed",
+    "form": "Form of the seed", "example": "Example of a seed", "time": "Time and place",
+    "save-announcement": "Save the announcement", "print-announcement": "Print the announcement",
+    "check-announcement": "Announcement, if there was one",
 }
-HIDDEN = ["check-text", "check"]
+HIDDEN = ["check-text", "check-announcement", "check"]
 ORDER = ["tab-draw", "open-file", "list-text", "tidy-empty", "tidy-trim", "tidy-unique", "copy-digest",
-         "save-list", "print-list", "seed", "count", "draw", "drawn", "record",
+         "save-list", "print-list", "occasion", "winners", "reserves", "preset", "preset-throws", "source", "form",
+         "example", "time", "save-announcement", "print-announcement", "seed", "count", "draw", "drawn", "record",
          "copy-record", "save-record", "save-result", "print"]
 COLOURS = """
 const number = (colour) => colour.match(/[\\d.]+/g).map(Number);
@@ -47,9 +55,9 @@ const low = (elements, least, colours) => Array.from(document.querySelectorAll(e
 # their surroundings.
 CONTRAST = COLOURS + """
 return [
-  ...low("p, li, label, h1, h2, h3, code, pre, summary, textarea, input, button, strong", 4.5,
+  ...low("p, li, label, h1, h2, h3, code, pre, summary, textarea, input, select, button, strong", 4.5,
     (element) => [getComputedStyle(element).color, behind(element)]),
-  ...low("textarea, input:not([type=file]), button:not([role=tab])", 3,
+  ...low("textarea, select, input:not([type=file]), button:not([role=tab])", 3,
     (element) => [getComputedStyle(element).borderTopColor, behind(element.parentElement)]),
   ...low("[role=tab][aria-selected=true]", 3,
     (tab) => [getComputedStyle(tab).borderBottomColor, behind(tab.parentElement)]),
@@ -124,8 +132,33 @@ def refused(page: Page) -> None:
     page.draw()
 
 
+def announced_late(page: Page) -> None:
+    """An announcement that is out of date, with a long text and an error."""
+    begun(page, source="W" * 300)
+    page.browser.run(CHOOSE, "several")
+    put(page, source="W" * 300)
+    pressed(page, "save-announcement")
+    put(page, time="")
+    page.browser.run("document.getElementById('save-announcement').click();")
+
+
+def drawn_as_announced(page: Page) -> None:
+    """A draw with reserves, and then another list and another count."""
+    begun(page)
+    opened(page, KNOWN.encode())
+    page.fill("W" * 100)
+    page.draw()
+    page.fill(count="5")
+    page.draw()
+
+
+def winners_and_reserves(page: Page) -> None:
+    opened(page, KNOWN.encode())
+    page.draw()
+
+
 def widths_and_colours(counts: Counts, page: Page, pictures: Path) -> None:
-    for state in (before, after, checked, refused):
+    for state in (before, after, checked, refused, announced_late, drawn_as_announced, winners_and_reserves):
         state(page)
         for dark in (False, True):
             page.browser.dark(dark)
@@ -163,8 +196,11 @@ def names(counts: Counts, page: Page) -> None:
         counts.same(f"the name of {element}", found, label)
     roles = page.browser.run("""return Object.fromEntries(Array.from(document.querySelectorAll("[id][role]"),
         (element) => [element.id, element.getAttribute("role")]));""")
-    wanted = {f"{field}-error": "alert" for field in ("page", "list", "seed", "count")}
-    wanted.update({"question-error": "alert", "record-error": "alert",
+    wanted = {f"{field}-error": "alert"
+              for field in ("page", "list", "seed", "count", "announce", "announcement")}
+    wanted.update({"announced-status": "status", "announcement-status": "status", "announcement-text": "region",
+                   "enough-status": "status", "seed-form-status": "status",
+                   "question-error": "alert", "record-error": "alert",
                    "list-status": "status", "progress-status": "status", "changed-status": "status",
                    "outcome-status": "status", "stale-status": "status",
                    "heard": "status", "panel": "tabpanel", "record": "region", "tab-draw": "tab", "tab-check": "tab"})
@@ -175,12 +211,12 @@ def names(counts: Counts, page: Page) -> None:
             element.getAttribute("for")]).filter(Boolean).flatMap((ids) => ids.split(" "))
           .filter((id) => !document.getElementById(id));"""), [])
     counts.same("what scrolls is reached by keys and has a name", page.browser.run("""
-        return Array.from(document.querySelectorAll("pre, #drawn, #preview"))
+        return Array.from(document.querySelectorAll("pre, #drawn, #reserves-drawn, #preview"))
           .filter((element) => element.tabIndex !== 0 ||
             !(element.ariaLabel || element.getAttribute("aria-labelledby")))
           .map((element) => element.outerHTML);"""), [])
     counts.same("each field has a label", page.browser.run("""
-        return Array.from(document.querySelectorAll("input:not([hidden]), textarea"))
+        return Array.from(document.querySelectorAll("input:not([hidden]), textarea, select"))
           .filter((field) => field.labels.length === 0).map((field) => field.id);"""), [])
 
 

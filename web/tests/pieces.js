@@ -285,14 +285,14 @@ function failedChecks() {
     for (const call of ["count", "draw", "digest"]) {
       const failing = { ...module, [call]: () => { throw error; } };
       try {
-        same(`${call} that fails`, check(failing, maker, list, writeRecord(record)).outcome, "an error");
+        same(`${call} that fails`, check(failing, maker, list, { text: writeRecord(record) }).outcome, "an error");
       } catch (thrown) {
         same(`${call} that fails`, refusalOf(thrown), wanted);
       }
     }
   }
   const few = { ...record, entrants: 3, drawn: 3, named: [utf8("Ada"), utf8("Bob"), utf8("Cid")] };
-  same("more than there are", check(module, maker, list, writeRecord(few)).findings,
+  same("more than there are", check(module, maker, list, { text: writeRecord(few) }).findings,
     [{ text: "Cannot draw 3: the list has only 2 entrants." }]);
 }
 
@@ -300,7 +300,7 @@ function failedChecks() {
 function unreadRecords() {
   const outcomeOf = (text) => {
     try {
-      return check({}, {}, utf8(""), text).outcome;
+      return check({}, {}, utf8(""), { text }).outcome;
     } catch (error) {
       return refusalOf(error);
     }

@@ -5,8 +5,8 @@
 
 For example, web/tests/run.py crates/lots/out/lots chromium firefox. LOTS is the program with which the page is
 compared. Each BROWSER is chromium or firefox; all run side by side. The parts are answers, glue, pieces, draws, sizes,
-refusals, checks, formats, attacks, failures, said, heard, late, steps, lists, clerk, looks, files, copies, long and
-old. The last line is N passed, M failed.
+refusals, checks, formats, announcements, announcing, announced, attacks, failures, said, heard, late, steps, lists,
+clerk, looks, files, copies, long and old. The last line is N passed, M failed.
 """
 
 import argparse
@@ -16,6 +16,9 @@ import traceback
 from concurrent.futures import ThreadPoolExecutor
 from pathlib import Path
 
+import announced
+import announcements
+import announcing
 import answers
 import attacks
 import checks
@@ -68,6 +71,9 @@ def in_browser(kind: type, program: str, pictures: Path, only: str) -> Counts:
             "refusals": lambda: refusals.run(counts, page, program),
             "checks": lambda: checks.run(counts, page, program, digests),
             "formats": lambda: formats.run(counts, page, program, digests),
+            "announcements": lambda: announcements.run(counts, page, program, modules[64]),
+            "announcing": lambda: announcing.run(counts, page, downloads),
+            "announced": lambda: announced.run(counts, page, program, modules[64], downloads),
             "attacks": lambda: attacks.run(counts, page, digests),
             "failures": lambda: failures.run(counts, page),
             "said": lambda: said.run(counts, page, module),

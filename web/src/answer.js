@@ -1,0 +1,39 @@
+// Shows the answer to a check.
+
+import { grouped, itemize, itemOf, nodesOf, noteOf, part, say } from "./view.js";
+
+/** How many entrants of a record the answer shows. */
+const ANSWERED = 100;
+
+/** @param {import("./check.js").Check} check */
+export function showCheck({ outcome, title, findings, reading }) {
+  part("outcome").hidden = false;
+  part("outcome").dataset.outcome = outcome;
+  say("outcome-title", title);
+  itemize("findings", findings.map(noteOf));
+  part("reading").hidden = reading === null;
+  say("unchecked", reading === null ? "" : uncheckedWords(reading));
+  if (reading !== null) showReading(reading);
+}
+
+/** Which lines of the text were not checked. @param {import("./check.js").Reading} reading */
+function uncheckedWords({ lines: [first, last], others }) {
+  if (others === 0) return "";
+  const lines = others === 1 ? "1 other line was" : `${grouped(others)} other lines were`;
+  return `Only lines ${first} to ${last} of the text are the record. Its ${lines} not checked, and may say anything.`;
+}
+
+/** What was checked. @param {import("./check.js").Reading} reading */
+function showReading({ lines: [first, last], announcement, seed, list, entrants, drawn, named, winners }) {
+  say("reading-title", `What was checked, in lines ${first} to ${last} of the text:`);
+  say("announcement-label", announcement === "none" ? "Announcement" : "SHA-256 of the announcement");
+  say("reading-announcement", announcement);
+  part("reading-seed").replaceChildren(...nodesOf(seed));
+  say("reading-list", list);
+  say("reading-count", `${grouped(drawn)} of ${grouped(entrants)}`);
+  say("drawn-label", winners === null || winners === drawn ? "Winners"
+    : `Winners (the first ${grouped(winners)}), and then reserves`);
+  itemize("reading-drawn", named.slice(0, ANSWERED).map(itemOf));
+  const left = drawn - Math.min(named.length, ANSWERED);
+  say("reading-more", left > 0 ? `and ${grouped(left)} more` : "");
+}

@@ -1,0 +1,58 @@
+// Compares the form of a seed with that of the announced example.
+
+import { isUnseen } from "./bytes.js";
+import { nameOf } from "./names.js";
+
+/** A word of at least this length, such as 64 hexadecimal digits, has to have the length of the example's. */
+const LONG_WORD = 16;
+
+/** The kind of a character. @param {string} letter */
+function kindOfLetter(letter) {
+  if (/[0-9]/.test(letter)) return "digits";
+  if (/[a-z]/.test(letter)) return "small letters (a-z)";
+  if (/[A-Z]/.test(letter)) return "capital letters (A-Z)";
+  if (letter === " ") return "spaces";
+  if (isUnseen(letter)) return nameOf(letter.codePointAt(0));
+  return /[\p{L}\p{M}]/u.test(letter) ? "letters beyond a-z" : `“${letter}”`;
+}
+
+/** The kinds of characters in a text. @param {string} text @returns {string[]} */
+function kindsOfText(text) {
+  return Array.from(new Set(Array.from(text, kindOfLetter)));
+}
+
+/** The words of a text, between spaces. @param {string} text @returns {string[]} */
+function wordsOfText(text) {
+  return text.split(" ").filter((word) => word !== "");
+}
+
+/** Whether spaces are at the ends of a text, or two in a row. @param {string} text */
+function hasLooseSpaces(text) {
+  return /^ | $| {2}/.test(text);
+}
+
+/** @param {string[]} words @returns {string} */
+function countOfWords(words) {
+  return words.length === 1 ? "1 word" : `${words.length} words`;
+}
+
+/**
+ * In which ways a seed has another form than an example, as sentences: the kinds of characters, the number of words, the
+ * spaces, and the lengths of long words.
+ * @param {string} seed @param {string} example @returns {string[]}
+ */
+export function formDifferences(seed, example) {
+  const [kinds, wanted] = [seed, example].map(kindsOfText);
+  const [words, others] = [seed, example].map(wordsOfText);
+  const loose = hasLooseSpaces(seed) && !hasLooseSpaces(example);
+  const isOtherLength = words.length === others.length && others.some((other, place) =>
+    other.length >= LONG_WORD && other.length !== words[place].length);
+  return [
+    ...kinds.filter((kind) => !wanted.includes(kind)).map((kind) => `The seed has ${kind}, the example has none.`),
+    ...wanted.filter((kind) => !kinds.includes(kind)).map((kind) => `The seed has no ${kind}, the example has.`),
+    ...(words.length === others.length ? [] : [
+      `The seed has ${countOfWords(words)} between spaces, the example has ${countOfWords(others)}.`]),
+    ...(loose ? ["The seed has a space at an end or two spaces in a row, the example has not."] : []),
+    ...(isOtherLength ? ["A word of the seed has another length than in the example."] : []),
+  ];
+}
