@@ -227,7 +227,6 @@ fn other_spellings() {
         ("seed: \"4 1", "seed: \"\\x34 1"),
         ("seed: \"4 1", "seed: '4 1"),
         ("1: \"Katherine\"", "1: \"\\x4batherine\""),
-        ("nanorand public draw 2\n", "nanorand public draw 2 \n"),
         ("end of the record\n", "end of the record \n"),
         ("drawn: 3\n", "drawn: 3\nmodule SHA-256: \n"),
     ] {
@@ -255,6 +254,9 @@ fn unreadable_texts() {
     for (old, new) in [
         ("draw 2", "draw "),
         ("draw 2", "draw 1"),
+        ("draw 2", "draw 2 "),
+        ("draw 2", "draw 20"),
+        ("4 5\"\n", "4 5\\\"\n"),
         ("nanorand", "Nanorand"),
         ("none", "None"),
         ("none", ""),

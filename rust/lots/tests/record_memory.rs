@@ -70,6 +70,25 @@ fn each_request_may_be_refused() {
     }
 }
 
+/// Where a text grows depends on the length of what stands before. So for some length of the seed each
+/// append is the one for which there is no memory.
+#[test]
+fn memory_may_run_out_at_each_append() {
+    let few = b"a\nab\xff\xff\n\"\x01\"\n".to_vec();
+    let many = b"a\n".repeat(1001);
+    let lengths = (1..=400).map(|length| (length, &few));
+    for (length, list) in lengths.chain((3600..=3720).step_by(5).map(|length| (length, &many))) {
+        let seed = "s".repeat(length);
+        let request = Request {
+            seed: &seed,
+            count: Count::All,
+        };
+        fails_until_it_does_not(true, &LotsError::Memory, |out| {
+            write_record(&request, None, &mut &**list, out)
+        });
+    }
+}
+
 /// What is no record is refused without much memory, whatever numbers it names.
 #[test]
 fn no_request_is_for_much_more_than_is_needed() {
