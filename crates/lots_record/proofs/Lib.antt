@@ -5,3 +5,4 @@ pub mod SpellingLemmas
 pub mod PlainLemmas
 pub mod CheckLemmas
 pub mod Utf8Lemmas
+mod CommandLemmas
