@@ -1,14 +1,20 @@
 #!/usr/bin/env python3
-"""Compares the records that builds of the program `lots` write and accept with those of tests/records.py.
+"""Compares the records and announcements that builds of the program `lots` write and accept with those of
+tests/records.py.
 
     tests/compare_records.py PROGRAM..
 
 For example, tests/compare_records.py target/release/lots. It compares:
 
-- 400 records of pseudorandom draws, the same in each run, with odd seeds, entrants and announcements: `lots --record`
-  writes the bytes that `record` returns, and `lots --check` accepts them, also with a line of a module.
+- 400 announcements of pseudorandom plans, the same in each run, with odd texts and entrants: `lots --announce` writes
+  the bytes that `announcement` returns.
+- 400 records of pseudorandom draws with odd seeds, entrants and announcements: `lots --record` writes the bytes that
+  `record` returns, and `lots --check` accepts them, also with a line of a module. Both refuse an announcement that is
+  not that of the draw.
 - 2,000 changes of records, lists and announcements: `lots --check` has status 0 if and only if `is_record` accepts the
   text.
+- 2,000 changes of announcements, and of their lists and numbers, with records that name what was changed: the same, and
+  `lots --record` has status 0 if and only if `is_announcement` accepts the text.
 
 The last line is N passed, M failed.
 """
@@ -20,10 +26,11 @@ import sys
 import tempfile
 from pathlib import Path
 
-from records import entrants_of, hidden, is_record, record
+from records import announcement as made_announcement
+from records import entrants_of, hidden, is_announcement, is_record, record
 from second_opinion import a_count, a_seed, result, some_entrants
 
-RECORDS, CHANGES = 400, 2000
+ANNOUNCEMENTS, RECORDS, CHANGES = 400, 400, 2000
 AGREES = b"the record agrees with the list; no announcement was compared\n"
 NAMES = b"the record agrees with the list, and names the announcement\n"
 FAILURES = {
@@ -32,7 +39,9 @@ FAILURES = {
     9: rb"lots: this is no record of format 2\n",
     10: rb"lots: the record names another announcement\n",
     11: rb"lots: the record is not that of a draw from this list\n",
+    12: rb"lots: the announcement is not that of this draw\n",
 }
+NOT_ANNOUNCED = (12, b"", FAILURES[12].replace(rb"\n", b"\n"))
 
 # Characters at the edges of the ranges that do not show, and others that may be taken for something else.
 EDGES = sorted(code for code in hidden | {one + 1 for one in hidden} | {one - 1 for one in hidden}
@@ -64,8 +73,24 @@ def a_draw(rng, size):
     text = b"".join(entrant + b"\n" for entrant in entrants)
     if size and rng.random() < 0.3:
         text = text[:-1]
-    announcement = rng.choice([None, b"", b"none", rng.randbytes(rng.randint(1, 200)), odd_text(rng, 50).encode()])
-    return seed, text, *a_count(rng, size), announcement
+    argument, count = a_count(rng, size)
+    return seed, text, argument, count, an_announcement(rng, text, count)
+
+
+def a_plan(rng, count):
+    """The occasion, how many winners and reserves, and the other texts of an announcement of `count` entrants."""
+    winners = rng.randint(1, count)
+    occasion, source, form, example, time = (odd_text(rng, rng.choice([1, 5, 40])) for _ in range(5))
+    if rng.random() < 0.1:
+        time += "\nend of the announcement\n"
+    return occasion, winners, count - winners, source, form, example, time
+
+
+def an_announcement(rng, text, count):
+    """An announcement of a draw of `count` entrants from the list, another text, or None."""
+    if count and rng.random() < 0.6:
+        return made_announcement(*a_plan(rng, count), text)
+    return rng.choice([None, None, None, b"", b"none", rng.randbytes(rng.randint(1, 200)), odd_text(rng, 50).encode()])
 
 
 def problem(program, case, found, wanted):
@@ -73,6 +98,21 @@ def problem(program, case, found, wanted):
     if found == wanted:
         return None
     return f"({Path(program).name}) {case}: {found} and not {wanted}"[:1000]
+
+
+def announced(programs):
+    """For each announcement and program, what is wrong, or None: what is written."""
+    rng = random.Random(39)
+    for number in range(ANNOUNCEMENTS):
+        _, text, _, _, _ = a_draw(rng, rng.choice([1, 2, rng.randint(1, 60)]))
+        plan = a_plan(rng, rng.randint(1, len(entrants_of(text))))
+        wanted = made_announcement(*plan, text)
+        case = f"announcement {number}: {plan}"
+        yield None if is_announcement(wanted, text, plan[1] + plan[2]) else f"{case}: none for is_announcement"
+        zeros = "0" * rng.choice([0, 0, 0, 1, 30])
+        values = [value.encode() if isinstance(value, str) else zeros + str(value) for value in plan]
+        for program in programs:
+            yield problem(program, case, result([program, "--announce", *values], text), (0, wanted, b""))
 
 
 def written_and_accepted(programs, folder):
@@ -85,7 +125,8 @@ def written_and_accepted(programs, folder):
             argument, count = "all", size
         case = f"record {number}: {argument} of {size} by {seed!r}"
         wanted = record(seed, text, count, announcement)
-        yield None if is_record(wanted, text, announcement) else f"{case}: no record for is_record"
+        is_refused = announcement is not None and not is_announcement(announcement, text, count)
+        yield None if is_record(wanted, text, announcement) != is_refused else f"{case}: {is_refused} for is_record"
         with_module = record(seed, text, count, announcement, b"a module")
         Path(folder, "record").write_bytes(wanted)
         Path(folder, "with module").write_bytes(with_module)
@@ -94,10 +135,12 @@ def written_and_accepted(programs, folder):
         line = AGREES if announcement is None else NAMES
         for program in programs:
             found = result([program, "--record", seed.encode(), argument, *path], text)
-            yield problem(program, case, found, (0, wanted, b""))
+            yield problem(program, case, found, NOT_ANNOUNCED if is_refused else (0, wanted, b""))
             for name in ("record", "with module"):
                 found = result([program, "--check", Path(folder, name), *path], text)
-                yield problem(program, f"{case}: the check", found, (0, line, b""))
+                yield problem(program, f"{case}: the check", found, NOT_ANNOUNCED if is_refused else (0, line, b""))
+                found = result([program, "--check", Path(folder, name)], text)
+                yield problem(program, f"{case}: the check without", found, (0, AGREES, b""))
 
 
 def changed_bytes(rng, text):
@@ -177,7 +220,7 @@ def accepted_or_not(programs, folder):
     for number in range(CHANGES):
         seed, entrants, _, count, announcement = rng.choice(draws)
         # The program may be given an announcement that the record does not name, or none.
-        given = announcement if rng.random() < 0.8 else rng.choice([None, b"another"])
+        given = announcement if rng.random() < 0.6 else rng.choice([None, None, b"another"])
         text = record(seed, entrants, count, announcement, rng.choice([None, b"a module"]))
         kind = rng.choice(kinds)
         which = rng.random()
@@ -206,12 +249,79 @@ def accepted_or_not(programs, folder):
     yield f"few changes have the statuses {few}" if few else None
 
 
+def with_other_values(rng, text):
+    """The announcement with other numbers or texts, most of which are no announcement of the same draw."""
+    one, two = rng.choice([(1, -1), (-1, 1), (1, 0), (0, 1), (2**64, 0)])
+    texts = [value.span(1) for value in re.finditer(rb'(?<=: ")(.*)(?="$)', text, re.M)]
+    begin, end = rng.choice(texts)
+
+    def raised(found):
+        return b"%s: %d" % (found[1], int(found[2]) + (one if found[1] == b"winners" else two))
+
+    def overflowing(found):
+        return b"winners: %d\nreserves: %d" % (2**64 - 1, int(found[1]) + int(found[2]) + 1)
+
+    return rng.choice([
+        lambda: re.sub(rb"\b(winners|reserves): (\d+)", raised, text),
+        lambda: re.sub(rb"(winners|reserves|entrants): ", rng.choice([rb"\g<0>0", rb"\g<0>+", rb"\g<0> "]), text),
+        lambda: re.sub(rb"winners: (\d+)\nreserves: (\d+)", rb"winners: \2\nreserves: \1", text),
+        lambda: re.sub(rb"winners: (\d+)\nreserves: (\d+)", rb"reserves: \2\nwinners: \1", text),
+        lambda: re.sub(rb"winners: (\d+)\nreserves: (\d+)", overflowing, text),
+        lambda: text[:begin] + text[end:],
+        lambda: text[:begin] + rng.choice([b"x", b"\\", b"\\x5c", b"\\xff", b"\\xc3\\xa9"]) + text[end:],
+        lambda: text[:begin] + rng.choice([b'"', b" ", b"\xc2\xa0", b"\t", b"\xff"]) + text[end:],
+        lambda: text[:begin] + b"another" + text[end:],
+        lambda: text.replace(b"announcement 1", rng.choice([b"announcement 2", b"announcement 1 ", b"announcement "])),
+    ])()
+
+
+def of_the_draw_or_not(programs, folder):
+    """For each change of an announcement and program, what is wrong, or None. The record names what was changed."""
+    rng = random.Random(40)
+    kinds = [changed_bytes, changed_lines, raised_digit, with_lookalike, respelled, with_other_values]
+    outcomes = []
+    for number in range(CHANGES):
+        seed, entrants, _, _, _ = a_draw(rng, rng.choice([1, 2, rng.randint(3, 30)]))
+        size = len(entrants_of(entrants))
+        count = rng.randint(1, size)
+        given = made_announcement(*a_plan(rng, count), entrants)
+        kind, which = rng.choice(kinds), rng.random()
+        if which < 0.8:
+            given = kind(rng, given)
+        elif which < 0.9:
+            count = max(0, min(size, count + rng.choice([-1, 1])))
+        else:
+            entrants = rng.choice([entrants + b"\nmore\n", entrants + b"more", entrants.removesuffix(b"\n"),
+                                   b"x" + entrants, entrants.replace(b"\n", b"\r\n")])
+            if entrants_of(entrants) is None:
+                continue
+        text = record(seed, entrants, count, given)
+        if rng.random() < 0.05:
+            given = kind(rng, given)
+        good, made = is_record(text, entrants, given), record(seed, entrants, count, given)
+        is_announced = is_announcement(given, entrants, count)
+        Path(folder, "record").write_bytes(text)
+        Path(folder, "announcement").write_bytes(given)
+        case = f"announcement {number}, {kind.__name__}: {given!r} of {entrants!r}, {count}"
+        for program in programs:
+            status = 0 if good else 12 if text == made else 10
+            outcomes.append(status)
+            wanted = (0, NAMES, b"") if good else (status, b"", FAILURES[status].replace(rb"\n", b"\n"))
+            found = result([program, "--check", Path(folder, "record"), Path(folder, "announcement")], entrants)
+            yield problem(program, f"{case}: the check", found, wanted)
+            found = result([program, "--record", seed.encode(), str(count), Path(folder, "announcement")], entrants)
+            yield problem(program, f"{case}: the record", found, (0, made, b"") if is_announced else NOT_ANNOUNCED)
+    few = [status for status in (0, 10, 12) if outcomes.count(status) < 50 * len(programs)]
+    yield f"few changes of announcements have the statuses {few}" if few else None
+
+
 def main():
     programs = [str(Path(name).resolve()) for name in sys.argv[1:]]
     if not programs or not all(os.access(program, os.X_OK) for program in programs):
         sys.exit(__doc__)
     with tempfile.TemporaryDirectory() as folder:
-        outcomes = [*written_and_accepted(programs, folder), *accepted_or_not(programs, folder)]
+        outcomes = [*announced(programs), *written_and_accepted(programs, folder), *accepted_or_not(programs, folder)]
+        outcomes += of_the_draw_or_not(programs, folder)
     wrong = [outcome for outcome in outcomes if outcome]
     for line in wrong[:10]:
         print(f"FAILED {line}")

@@ -68,15 +68,138 @@ example="${named}none\n$rest"
 empty_sum=e3b0c44298fc1c149afbf4c8996fb92427ae41e4649b934ca495991b7852b855
 agrees='the record agrees with the list; no announcement was compared\n'
 agrees_too='the record agrees with the list, and names the announcement\n'
+unannounced='lots: the announcement is not that of this draw\n'
+
+# The texts of the announcement of the example: the occasion, and those that stand after the numbers.
+occasion='Summer raffle of the school'
+seed_texts=('20 throws of a die, in the hall' 'the numbers thrown, in order, with one space between them' "$throws"
+    'Friday 4 December 2026, 12:00, Madrid')
+
+# Prints the announcement of the example with $1 winners and $2 reserves.
+announcement_of() {
+    cat <<END
+nanorand announcement 1
+occasion: "$occasion"
+list SHA-256: 32230fec7f4d73fc1dc4888e4bd9becc094a248cb2098b991ab26c2ef227e860
+entrants: 12
+winners: $1
+reserves: $2
+seed source: "${seed_texts[0]}"
+seed form: "${seed_texts[1]}"
+seed example: "${seed_texts[2]}"
+time: "${seed_texts[3]}"
+end of the announcement
+END
+}
 
 # The files that the cases of records name.
 files() {
     printf '%b' "$example" >"$work/record"
-    printf 'On Friday at noon.\n' >"$work/announcement"
+    announcement_of 2 1 >"$work/announcement"
+    printf 'On Friday at noon.\n' >"$work/noon"
     : >"$work/empty"
     sum=$(sha256sum <"$work/announcement")
     sum=${sum%% *}
     printf '%b' "$named$sum\n$rest" >"$work/full"
+}
+
+# Announcements of the example with other numbers, each wrong one, and each text empty.
+announcements() {
+    local place numbers entrants values
+    run 'an announcement' "$twelve" 0 "$(announcement_of 3 1)\n" '' --announce "$occasion" 3 1 "${seed_texts[@]}"
+    run 'an announcement of all' "$twelve" 0 "$(announcement_of 12 0)\n" '' --announce "$occasion" 12 0 "${seed_texts[@]}"
+    run 'an announcement, zeros in front' "$twelve" 0 "$(announcement_of 1 11)\n" '' \
+        --announce "$occasion" 0001 0000000000000000000000011 "${seed_texts[@]}"
+    run 'an announcement of odd texts' 'a\n' 0 'nanorand announcement 1
+occasion: " "\\x5c\\x0a\\xc2\\xa0\\xe2\\x80\\x8d"
+list SHA-256: 87428fc522803d31065e7bce3cf03fe475096631e5e07bbd7a0fde60c4cf25c7
+entrants: 1\nwinners: 1\nreserves: 0\nseed source: """\nseed form: "\\x5cx41"\nseed example: " "
+time: "a\\x0aend of the announcement\\x0a"\nend of the announcement\n' '' \
+        --announce $' "\\\n\xc2\xa0\xe2\x80\x8d' 1 0 '"' '\x41' ' ' $'a\nend of the announcement\n'
+    for numbers in '12 1' '13 0' '1 12' '0012 01'; do
+        read -r -a values <<<"$numbers"
+        run "an announcement of $numbers, too many" "$twelve" 3 '' 'lots: 12 entrants, 13 asked for\n' \
+            --announce "$occasion" "${values[@]}" "${seed_texts[@]}"
+    done
+    for numbers in '18446744073709551615 0' '1 18446744073709551615' '18446744073709551615 18446744073709551615' \
+        '18446744073709551615 13' '13 18446744073709551615'; do
+        read -r -a values <<<"$numbers"
+        run "an announcement of $numbers, far too many" "$twelve" 3 '' \
+            'lots: 12 entrants, 18446744073709551615 asked for\n' \
+            --announce "$occasion" "${values[@]}" "${seed_texts[@]}"
+    done
+    run 'an announcement of none' '' 3 '' 'lots: 0 entrants, 1 asked for\n' --announce a 1 0 b c d e
+    run 'an announcement, an empty line' 'a\n\n' 4 '' 'lots: line 2 is empty\n' --announce a 9 0 b c d e
+    for numbers in '0 0' '0 1' '00 1' 'all 0' '1 all' '+1 0' '1 +1' '-1 0' '1 -1' '1.0 0' '1 x' \
+        '18446744073709551616 0' '1 18446744073709551616'; do
+        read -r -a values <<<"$numbers"
+        run "an announcement of $numbers" "$twelve" 2 '' "$usage" \
+            --announce "$occasion" "${values[@]}" "${seed_texts[@]}"
+    done
+    for place in 0 1 2 3 4 5 6; do
+        values=(a 1 0 b c d e)
+        values[place]=
+        run "an announcement whose value $place is empty" "$twelve" 2 '' "$usage" --announce "${values[@]}"
+        values[place]=$'\xff'
+        run "an announcement whose value $place is no text" "$twelve" 2 '' "$usage" --announce "${values[@]}"
+        values=(a 1 0 b c d e)
+        run "an announcement of $place values" "$twelve" 2 '' "$usage" --announce "${values[@]:0:place}"
+    done
+    run 'an announcement of eight values' "$twelve" 2 '' "$usage" --announce a 1 0 b c d e f
+    # The record of a draw, and the check, accept only its announcement.
+    files
+    printf '%b' "$twelve" >"$work/twelve"
+    for numbers in '1 1' '3 1' '0 3' '12 0'; do
+        read -r -a values <<<"$numbers"
+        announcement_of "${values[@]}" >"$work/other"
+        not_announced "$numbers of 3"
+    done
+    for numbers in '1 2' '3 0'; do
+        read -r -a values <<<"$numbers"
+        announcement_of "${values[@]}" >"$work/other"
+        run "a record of $numbers" "$twelve" 0 "$named$(sum_of other)\n$rest" '' --record "$throws" 3 "$work/other"
+        cp "$work/out" "$work/named"
+        run "a check of $numbers" "$twelve" 0 "$agrees_too" '' --check "$work/named" "$work/other"
+    done
+    for values in '1s/1$/2/' '2s/S/\\x53/' '2s/".*"/""/' '2s/"//' '3s/3/4/' '4s/12/13/' '4s/12/012/' '5s/2/02/' \
+        '5s/2/+2/' '5d' '5{h;d};6G' '7s/".*"/""/' '8s/".*"/""/' '9s/".*"/""/' '10s/".*"/""/' '10s/$/ /' '11s/$/\r/' \
+        's/$/\r/' '11d' '$a more' '1i more'; do
+        sed "$values" "$work/announcement" >"$work/other"
+        not_announced "one changed by $values"
+    done
+    head -c -1 "$work/announcement" >"$work/other"
+    not_announced 'one without its last line feed'
+    cp "$work/noon" "$work/other"
+    not_announced 'another text'
+    : >"$work/other"
+    not_announced 'an empty text'
+    for entrants in "${twelve%Lise*}" "Lise\n${twelve%Lise*}" "${twelve%??}" "${twelve}Mia\n" 'a\n' ''; do
+        run 'a record of another list than the announced one' "$entrants" 12 '' "$unannounced" \
+            --record "$throws" 3 "$work/announcement"
+        run 'a check with another list than the announced one' "$entrants" 12 '' "$unannounced" \
+            --check "$work/full" "$work/announcement"
+    done
+    run 'a record of another number than the announced one' "$twelve" 12 '' "$unannounced" \
+        --record "$throws" all "$work/announcement"
+    run 'a record of too many, announced' "$twelve" 12 '' "$unannounced" --record "$throws" 13 "$work/announcement"
+    run 'an announced record, an empty line' 'a\n\n' 4 '' 'lots: line 2 is empty\n' \
+        --record "$throws" 3 "$work/announcement"
+}
+
+# The SHA-256 of the file $1.
+sum_of() {
+    local sum
+    sum=$(sha256sum <"$work/$1")
+    echo "${sum%% *}"
+}
+
+# The file `other`, $1, is not the announcement of the example: no record is written with it, and no record that names
+# it is accepted with it.
+not_announced() {
+    run "a record with $1" "$twelve" 12 '' "$unannounced" --record "$throws" 3 "$work/other"
+    printf '%b' "$named$(sum_of other)\n$rest" >"$work/named"
+    run "a check with $1" "$twelve" 12 '' "$unannounced" --check "$work/named" "$work/other"
+    run "a check that does not compare $1" "$twelve" 0 "$agrees" '' --check "$work/named"
 }
 
 records() {
@@ -85,8 +208,6 @@ records() {
     run 'a record' "$twelve" 0 "$example" '' --record "$throws" 3
     run 'a record, zeros in front' "$twelve" 0 "$example" '' --record "$throws" 003
     run 'a record with an announcement' "$twelve" 0 "$named$sum\n$rest" '' --record "$throws" 3 "$work/announcement"
-    run 'a record with an empty announcement' "$twelve" 0 "$named$empty_sum\n$rest" '' \
-        --record "$throws" 3 "$work/empty"
     run 'a record of nobody, by an odd seed' 'a\n' 0 "${named}none
 seed: \" \"\\\\x5c\\\\x0a\\\\xc2\\\\xa0\\\\xe2\\\\x80\\\\x8d\"
 list SHA-256: 87428fc522803d31065e7bce3cf03fe475096631e5e07bbd7a0fde60c4cf25c7
@@ -176,16 +297,19 @@ options() {
     help=$(
         cat <<'END'
 usage: lots SEED COUNT|all < entrants
+       lots --announce OCCASION WINNERS RESERVES SOURCE FORM EXAMPLE TIME < entrants
        lots --record SEED COUNT|all [ANNOUNCEMENT] < entrants
        lots --check RECORD [ANNOUNCEMENT] < entrants
        lots --version
        lots --help
 
 Draws COUNT of the entrants, one per line of standard input, as the seed determines, and writes them
-in the order drawn. `--record` writes the record of the draw, which names the SHA-256 of the file
-ANNOUNCEMENT. `--check` draws again: its status is 0 only if the file RECORD is the record of a draw
-from these entrants and names ANNOUNCEMENT, if one is given. A seed and a count are always a draw:
-write ./2026 for a file of that name.
+in the order drawn. `--announce` writes an announcement, to be published before the seed is known:
+what is drawn for, how many winners and reserves, where the seed will come from, its form, a seed of
+this form, and the time. `--record` writes the record of the draw. `--check` draws again: its status
+is 0 only if the file RECORD is the record of a draw from these entrants. If a file ANNOUNCEMENT is
+given, the record names its SHA-256, and it has to be the announcement of such a draw. A seed and a
+count are always a draw: write ./2026 for a file of that name.
 END
     )
     run 'the version' '' 0 "lots $version\n" '' --version
@@ -193,12 +317,14 @@ END
     begin
     "$work/$compiler" --help <. >"$work/out" 2>"$work/err" || status=$?
     end 'the help reads nothing' 0 "$help\n" ''
+    run 'a seed --announce' "$letters" 0 'g\ne\nc\n' '' --announce 3
+    run 'a seed announce' "$letters" 0 'b\nc\ng\n' '' announce 3
     run 'a seed --record' "$letters" 0 'i\nd\nj\n' '' --record 3
     run 'a seed --check' "$letters" 0 'f\nd\nh\n' '' --check 3
     run 'a seed check' "$letters" 0 'd\ng\nb\n' '' check 3
     run 'a seed --version' "$letters" 0 'h\nb\nc\n' '' --version 3
     run 'a seed record' "$letters" 0 'c\nd\na\n' '' record 3
-    for name in --record --check --version --help; do
+    for name in --announce --record --check --version --help; do
         begin
         "$work/$compiler" --record "$name" 1 </dev/null >"$work/out" 2>"$work/err" || status=$?
         end "a record by the seed $name" 3 '' 'lots: 0 entrants, 1 asked for\n'
@@ -248,8 +374,8 @@ unread_files() {
             --record x 3 "$file"
     done
     chmod 600 "$work/private"
-    for command in '--record x 3' "--record x 3 $work/announcement" "--check $work/record" \
-        "--check $work/full $work/announcement"; do
+    for command in '--announce a 2 1 b c d e' '--record x 3' "--record x 3 $work/announcement" \
+        "--check $work/record" "--check $work/full $work/announcement"; do
         read -r -a commands <<<"$command"
         begin
         "$work/$compiler" "${commands[@]}" <. >"$work/out" 2>"$work/err" || status=$?
@@ -258,7 +384,7 @@ unread_files() {
         "$work/$compiler" "${commands[@]}" <&- >"$work/out" 2>"$work/err" || status=$?
         end "${command//$work/}, standard input closed" 6 '' 'lots: read failed\n'
     done
-    for command in '--record x 3' "--check $work/record" --version --help; do
+    for command in '--announce a 2 1 b c d e' '--record x 3' "--check $work/record" --version --help; do
         read -r -a commands <<<"$command"
         begin
         "$work/$compiler" "${commands[@]}" <"$work/twelve" >/dev/full 2>"$work/err" || status=$?
@@ -273,6 +399,9 @@ unread_files() {
     run_without_errors 'no record' "$twelve" 9 '' --check "$work/announcement"
     run_without_errors 'another announcement' "$twelve" 10 '' --check "$work/record" "$work/announcement"
     run_without_errors 'another list' "$letters" 11 '' --check "$work/record"
+    run_without_errors 'a record of what is not announced' "$twelve" 12 '' --record x 2 "$work/announcement"
+    run_without_errors 'a check of what is not announced' "$letters" 12 '' --check "$work/full" "$work/announcement"
+    run_without_errors 'an announcement of too many' "$twelve" 3 '' --announce a 12 1 b c d e
 }
 
 # What counts as a line.
@@ -497,6 +626,7 @@ little_memory() {
     seq 100000 >"$work/list"
     timeout 60 "$work/$compiler" --record seed all <"$work/list" >"$work/long" || true
     less_and_less seed all
+    less_and_less --announce a 9 1 b c d e
     less_and_less --record seed all
     less_and_less --check "$work/long"
 }
@@ -567,6 +697,7 @@ run_without_errors() {
 builds_of lots
 for compiler in $(builds); do
     texts
+    announcements
     records
     checks
     options

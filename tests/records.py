@@ -1,8 +1,9 @@
-"""The record of a public draw, in format 2: a second definition, in Python.
+"""The record of a public draw, in format 2, and its announcement, in format 1: a second definition, in Python.
 
-`record` makes the record of a draw, and `is_record` says whether a text is the record of a draw from a list. The draw
-is the Python code of docs/LOTS.md. Nothing here is taken from the program `lots`, with which tests/compare_records.py
-compares both functions.
+`record` makes the record of a draw, and `is_record` says whether a text is the record of a draw from a list.
+`announcement` makes the announcement of a draw, and `is_announcement` says whether a text is one. The draw is the
+Python code of docs/LOTS.md. Nothing here is taken from the program `lots`, with which tests/compare_records.py compares
+these functions.
 """
 
 import hashlib
@@ -31,6 +32,21 @@ BEGIN = re.compile(
     rb"(?:module SHA-256: (?P<module>[0-9a-f]{64})\n)?"
     rb"result SHA-256: "
 )
+
+ANNOUNCEMENT = re.compile(
+    rb"nanorand announcement 1\n"
+    rb'occasion: "(?P<occasion>[^\n]+)"\n'
+    rb"list SHA-256: (?P<list>[0-9a-f]{64})\n"
+    rb"entrants: (?P<entrants>0|[1-9][0-9]{0,19})\n"
+    rb"winners: (?P<winners>[1-9][0-9]{0,19})\n"
+    rb"reserves: (?P<reserves>0|[1-9][0-9]{0,19})\n"
+    rb'seed source: "(?P<source>[^\n]+)"\n'
+    rb'seed form: "(?P<form>[^\n]+)"\n'
+    rb'seed example: "(?P<example>[^\n]+)"\n'
+    rb'time: "(?P<time>[^\n]+)"\n'
+    rb"end of the announcement\n"
+)
+TEXTS = ("occasion", "source", "form", "example", "time")
 
 
 def draw_of_the_page():
@@ -110,8 +126,50 @@ def record(seed, list_bytes, count, announcement=None, module=None):
     return record_by_sums(seed, list_bytes, count, *sums)
 
 
+def announcement(occasion, winners, reserves, source, form, example, time, list_bytes):
+    """The announcement of a draw from the list. The texts are not empty."""
+    entrants = entrants_of(list_bytes)
+    if entrants is None or winners < 1 or reserves < 0 or winners + reserves > len(entrants):
+        raise ValueError("there is no such draw")
+    if "" in (occasion, source, form, example, time):
+        raise ValueError("a text is empty")
+    values = [
+        ("occasion", f'"{shown(occasion.encode())}"'),
+        ("list SHA-256", sum_of(list_bytes)),
+        ("entrants", len(entrants)),
+        ("winners", winners),
+        ("reserves", reserves),
+        ("seed source", f'"{shown(source.encode())}"'),
+        ("seed form", f'"{shown(form.encode())}"'),
+        ("seed example", f'"{shown(example.encode())}"'),
+        ("time", f'"{shown(time.encode())}"'),
+    ]
+    lines = ["nanorand announcement 1", *(f"{name}: {value}" for name, value in values), "end of the announcement"]
+    return "".join(line + "\n" for line in lines).encode()
+
+
+def is_quoted(value):
+    """Whether the bytes are the shown text of UTF-8."""
+    try:
+        return shown(spelled(value).decode("utf-8").encode()).encode() == value
+    except UnicodeDecodeError:
+        return False
+
+
+def is_announcement(text, list_bytes, count):
+    """Whether the text is the announcement of a draw of `count` entrants, winners and reserves, from the list."""
+    found = ANNOUNCEMENT.fullmatch(text)
+    entrants = entrants_of(list_bytes)
+    if not found or entrants is None or not all(is_quoted(found[name]) for name in TEXTS):
+        return False
+    winners, reserves = int(found["winners"]), int(found["reserves"])
+    of_the_list = (found["list"].decode(), int(found["entrants"])) == (sum_of(list_bytes), len(entrants))
+    return of_the_list and winners + reserves == count <= len(entrants)
+
+
 def is_record(text, list_bytes, announcement=None):
-    """Whether the text is the record of a draw from the list, which names the announcement, if one is given."""
+    """Whether the text is the record of a draw from the list. If an announcement is given, the record has to name it,
+    and the announcement has to be that of the draw."""
     found = BEGIN.match(text)
     if not found:
         return False
@@ -120,8 +178,9 @@ def is_record(text, list_bytes, announcement=None):
     except UnicodeDecodeError:
         return False
     named = None if found["announcement"] == b"none" else found["announcement"].decode()
-    if announcement is not None and named != sum_of(announcement):
-        return False
+    if announcement is not None:
+        if named != sum_of(announcement) or not is_announcement(announcement, list_bytes, int(found["drawn"])):
+            return False
     try:
         made = record_by_sums(seed, list_bytes, int(found["drawn"]), named, (found["module"] or b"").decode())
     except ValueError:

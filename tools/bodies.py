@@ -62,8 +62,8 @@ class Package:
 
 
 # The modules of `lots` that exist only with the feature std.
-LOTS_WITH_STD = ("arguments", "check", "check_error", "claims", "command", "program", "quoted", "record", "run",
-                 "selection", "text")
+LOTS_WITH_STD = ("announcement", "arguments", "check", "check_error", "claims", "command", "program", "quoted",
+                 "record", "run", "selection", "text")
 
 PACKAGES = (
     Package("rust/nanorand-proved/src", ("nanorand_core", "nanorand_replay", "nanorand")),

@@ -9,13 +9,17 @@
 //! entrants, 4 if a line is empty, 5 if memory runs out, 6 if a read failed, 7 if a write failed,
 //! and 8 if 128 words (random integers of 64 bits) in a row were rejected.
 //!
-//! `lots --record SEED COUNT|all [ANNOUNCEMENT] < entrants` prints the record of the draw, which names
-//! the SHA-256 of the file ANNOUNCEMENT. `lots --check RECORD [ANNOUNCEMENT] < entrants` draws again:
-//! the status is 0 only if the file RECORD is the record of a draw from these entrants, and names
-//! ANNOUNCEMENT if one is given; otherwise it is 9 if the file is no record, 10 if it names another
-//! announcement, 11 if it is not the record of its draw from these entrants, or that of the error.
-//! `lots --version` and `lots --help` print a text. A seed and a count are always a draw, even if the
-//! seed is such an option.
+//! `lots --announce OCCASION WINNERS RESERVES SOURCE FORM EXAMPLE TIME < entrants` prints an
+//! announcement, which is published before the seed is known. `lots --record SEED COUNT|all
+//! [ANNOUNCEMENT] < entrants` prints the record of the draw, which names the SHA-256 of the file
+//! ANNOUNCEMENT; the status is 12 if that is not the announcement of such a draw. `lots --check
+//! RECORD [ANNOUNCEMENT] < entrants` draws again: the status is 0 only if the file RECORD is the
+//! record of a draw from these entrants, names ANNOUNCEMENT if one is given, and ANNOUNCEMENT is
+//! that of such a draw; otherwise it is 9 if the file is no record, 10 if it names another
+//! announcement, 12 if the announcement is not that of this draw, 11 if it is not the record of its
+//! draw from these entrants, or that of the error. `lots --version` and `lots --help` print a text.
+//! A seed and a count are always a draw, even if the seed is such an option: a record whose file is
+//! named `all` or by digits is checked by `lots --check ./all`.
 #![tactic(auto)]
 
 use lots_core::LotsError;
@@ -23,7 +27,9 @@ use lots_core::arguments::Request;
 use lots_core::run::{read_list, report, run};
 use lots_record::CheckError;
 use lots_record::command::{Command, read_command};
-use lots_record::program::{HELP, check_record, report_check, write_record, write_text};
+use lots_record::program::{
+    HELP, check_record, report_check, write_announcement, write_record, write_text,
+};
 use std::io::{ErrorKind, Input};
 use std::process::ExitCode;
 use std::{env, fs};
@@ -55,7 +61,7 @@ fn record(
     rt: &HostRuntime,
     request: &Request<'_>,
     announcement: Option<&str>,
-) -> Result<(), LotsError> {
+) -> Result<(), CheckError> {
     let input = &mut rt.reader();
     let out = &mut rt.stdout();
     match announcement {
@@ -87,10 +93,14 @@ fn status_of(rt: &HostRuntime, arguments: &[String]) -> u8 {
     let err = &mut rt.stderr();
     match read_command(arguments) {
         Command::Draw => report(run(rt.alloc(), arguments, &mut rt.reader(), out), err),
+        Command::Announce { plan } => report(
+            write_announcement(rt.alloc(), &plan, &mut rt.reader(), out),
+            err,
+        ),
         Command::Record {
             request,
             announcement,
-        } => report(record(rt, &request, announcement), err),
+        } => report_check(record(rt, &request, announcement), err),
         Command::Check {
             record,
             announcement,

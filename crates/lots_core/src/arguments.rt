@@ -32,7 +32,7 @@ pub struct Request<'a> {
 }
 
 /// Reads the count: `all`, or decimal digits of a number below 2^64.
-fn count_of(text: &str) -> Option<Count>
+pub fn count_of(text: &str) -> Option<Count>
     ensures found { IfSome result (IsCount text.now) }
     ensures only { (count : ACount) → IsCount text.now count → result ≡ Some count }
 {

@@ -70,6 +70,9 @@ plain_encoded (byte ∷ bytes) =
 pub plain_sum : (sum : List ℕ) → HasNoLineFeed (encode_lower sum)
 plain_sum sum = plain_encoded sum
 
+pub plain_one : HasNoLineFeed (codes "1")
+plain_one = plain_by_test (codes "1") refl
+
 pub plain_two : HasNoLineFeed (codes "2")
 plain_two = plain_by_test (codes "2") refl
 

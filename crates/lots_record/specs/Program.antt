@@ -10,7 +10,7 @@ use Rattle.lots_core.specs.Lists.{lines_of}
 use Rattle.lots_core.specs.declared.arguments.Request.{Request}
 use Rattle.lots_record.specs.Record.{Source}
 use Rattle.lots_record.specs.declared.check_error.CheckError.{CheckError}
-use Rattle.lots_record.specs.declared.check_error.CheckError.TheVariants.{Differs, Draw, OtherAnnouncement, Unreadable}
+use Rattle.lots_record.specs.declared.check_error.CheckError.TheVariants.{Differs, Draw, NotAnnounced, OtherAnnouncement, Unreadable}
 
 -- The SHA-256 of an announcement, if there is one.
 abbrev pub sum_of : Option (Bor (List ℕ)) → Option (List ℕ)
@@ -29,6 +29,7 @@ check_status (Err (Draw error)) = status_of (Err error)
 check_status (Err Unreadable) = 9
 check_status (Err OtherAnnouncement) = 10
 check_status (Err Differs) = 11
+check_status (Err NotAnnounced) = 12
 
 -- Memory ran out, the reader failed, or the writer did.
 abbrev pub IsFailure : LotsError → Type 0

@@ -1,6 +1,5 @@
 -- The text of a record: what a public draw was made from, and what it drew.
 use Rattle.std.specs.Prelude.{◌≡◌, ◌≢◌, ℕ, ◌+◌, ◌-◌, ◌≤◌, nat_le, if◌then◌else◌, List, [], ◌∷◌, ◌++◌, length, take, codes, decimal, Option, Some, None, Result, Ok, Err, String, string_bytes, IfSome, ⊤}
-use Rattle.std.specs.Borrow.{Bor}
 use Rattle.std.specs.Str.{IsUtf8}
 use Rattle.hex.specs.Hex.{IsBytes, encode_lower}
 use Rattle.sha2.specs.Sha256.{sha256}
@@ -92,24 +91,6 @@ pub record HasRecord (source : Source) (list : List ℕ) : Type 0 where
   pub announcement : IfSome source.announcement IsSum
   pub program : IfSome source.program IsSum
   pub draw : IsDrawable source list
-
--- A record names this announcement, if one is given.
-abbrev pub NamesAnnouncement : Option (List ℕ) → Option (List ℕ) → Type 0
-NamesAnnouncement None sum = ⊤
-NamesAnnouncement (Some text) sum = sum ≡ Some (sha256 text)
-
--- The text of an announcement that is given.
-abbrev pub given : Option (Bor (List ℕ)) → Option (List ℕ)
-given None = None
-given (Some text) = Some text.now
-
--- A text is the record of a draw from this list: there are a seed, a number and sums with which it
--- is written. It names the announcement, if one is given.
-pub record IsRecord (text list : List ℕ) (announcement : Option (List ℕ)) : Type 0 where
-  pub source : Source
-  pub has : HasRecord source list
-  pub names : NamesAnnouncement announcement source.announcement
-  pub is : text ≡ record_text source list
 
 -- What a source of the program describes, for a list with n entrants.
 abbrev pub source_of : ASource → ℕ → Source

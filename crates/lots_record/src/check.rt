@@ -1,14 +1,17 @@
 //! The check of a record.
-ghost use Rattle.std.specs.Prelude.{◌≡◌, Decides, IfErr, OnOk};
+ghost use Rattle.std.specs.Prelude.{◌≡◌, length, Decides, IfErr, OnOk};
 ghost use Rattle.lots_core.specs.declared.error.LotsError.TheVariants.{Memory};
-ghost use Rattle.lots_record.specs.Record.{IsRecord, NamesAnnouncement, given};
+ghost use Rattle.lots_core.specs.Lists.{lines_of};
+ghost use Rattle.lots_record.specs.Announcement.{Tells};
+ghost use Rattle.lots_record.specs.Check.{IsAnnounced, IsRecord, NamesAnnouncement, given};
 ghost use Rattle.lots_record.specs.declared.check_error.CheckError.TheVariants.{Draw};
 
+use crate::announcement::is_announcement;
 use crate::check_error::CheckError;
 use crate::claims::{Claims, claims_of};
 use crate::record::{Source, record};
 use lots_core::arguments::Count;
-use lots_core::count_entrants;
+use lots_core::{LotsError, count_entrants};
 use sha2::{Digest, Sha256};
 use std::alloc::Allocator;
 
@@ -23,9 +26,27 @@ fn names<A: Allocator>(claims: &Claims<A>, announcement: Option<&[u8]>) -> bool
     }
 }
 
+/// Whether the announcement, if one is given, is that of a draw of so many entrants from the list.
+pub fn is_announced<A: Allocator>(
+    alloc: &A,
+    announcement: Option<&[u8]>,
+    list: &[u8],
+    entrants: usize,
+    count: usize,
+) -> Result<bool, LotsError>
+    requires { entrants ≡ length (lines_of list.now) }
+    ensures { Tells (IsAnnounced (given announcement.entry) list.now count) result }
+{
+    match announcement {
+        Some(text) => is_announcement(alloc, text, list, entrants, count),
+        None => Ok(true),
+    }
+}
+
 /// Checks that the text is the record of a draw from the list, byte for byte: it reads from the
 /// text what it is made from, makes the record, and compares the two. If an announcement is given,
-/// the record has to name its SHA-256.
+/// the record has to name its SHA-256, and it has to be the announcement of a draw of so many
+/// entrants from the list.
 ///
 /// Returns the reason if it is not, and the error of the draw if the draw fails.
 pub fn check<A: Allocator>(
@@ -38,10 +59,13 @@ pub fn check<A: Allocator>(
     ensures only { IsRecord text.now list.now (given announcement.entry) →
         IfErr result (λ error. error ≡ Draw Memory) }
 {
-    count_entrants(list)?;
+    let entrants = count_entrants(list)?;
     let claims = claims_of(alloc, text)?;
     if !names(&claims, announcement) {
         return Err(CheckError::OtherAnnouncement);
+    }
+    if !is_announced(alloc, announcement, list, entrants, claims.count)? {
+        return Err(CheckError::NotAnnounced);
     }
     let seed = str::from_utf8(&claims.seed).map_err(|_| CheckError::Unreadable)?;
     if seed.is_empty() {

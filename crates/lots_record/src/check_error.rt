@@ -20,6 +20,10 @@ pub enum CheckError {
     #[error("the record names another announcement")]
     OtherAnnouncement,
 
+    /// The announcement is not that of a draw of so many entrants from the list, as the record says.
+    #[error("the announcement is not that of this draw")]
+    NotAnnounced,
+
     /// The record is not the one of its draw from this list.
     #[error("the record is not that of a draw from this list")]
     Differs,
@@ -63,6 +67,7 @@ impl CheckError {
             CheckError::Unreadable => 9,
             CheckError::OtherAnnouncement => 10,
             CheckError::Differs => 11,
+            CheckError::NotAnnounced => 12,
         }
     }
 }

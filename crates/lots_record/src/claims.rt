@@ -1,9 +1,11 @@
 //! Reads back what a record is made from.
-ghost use Rattle.std.specs.Prelude.{[], ◌≡◌, ◌++◌, ◌<◌, ◌^◌, ℕ, List, length, codes, Option, Some, IsSomeAnd, All, IfOk, IfSome};
+ghost use Rattle.std.specs.Prelude.{[], ◌≡◌, ◌⊎◌, ◌++◌, ◌<◌, ◌^◌, ℕ, List, length, codes, Option, Some, IsSomeAnd, All, IfErr, IfOk, IfSome};
 ghost use Rattle.std.specs.Char.{digit_char};
 ghost use Rattle.lots_core.specs.Lists.{HasNoLineFeed};
 ghost use Rattle.hex.specs.Hex.{encode_lower};
 ghost use Rattle.lots_record.specs.Quoted.{BeginsWith, Spells, quoted};
+ghost use Rattle.lots_core.specs.declared.error.LotsError.TheVariants.{Memory};
+ghost use Rattle.lots_record.specs.declared.check_error.CheckError.TheVariants.{Draw, Unreadable};
 ghost use Rattle.lots_record.specs.Claims as spec;
 ghost use Rattle.lots_core.specs.Arguments.{IsNumber};
 ghost use Rattle.lots_record.specs.Record.{IsSum, Source, line, source_lines, sum_or_none};
@@ -35,7 +37,8 @@ fn first_byte(text: &[u8]) -> Option<(u8, &[u8])>
 
 /// Returns the bytes that a text spells.
 fn spelled<A: Allocator>(alloc: A, text: &[u8]) -> Result<Vec<u8, A>, CheckError>
-    ensures { (bytes : List ℕ) → Spells bytes text.now → spec.Reads bytes result }
+    ensures found { (bytes : List ℕ) → Spells bytes text.now → spec.Reads bytes result }
+    ensures error { IfErr result (λ error. (error ≡ Unreadable) ⊎ (error ≡ Draw Memory)) }
 {
     let mut bytes = Vec::new(alloc);
     let mut rest = text;
@@ -50,9 +53,10 @@ fn spelled<A: Allocator>(alloc: A, text: &[u8]) -> Result<Vec<u8, A>, CheckError
 }
 
 /// Returns the bytes that a text in quotation marks shows.
-fn unquoted<A: Allocator>(alloc: A, text: &[u8]) -> Result<Vec<u8, A>, CheckError>
-    ensures { (bytes : List ℕ) → All (λ byte. byte < 256) bytes → text.now ≡ quoted bytes →
+pub fn unquoted<A: Allocator>(alloc: A, text: &[u8]) -> Result<Vec<u8, A>, CheckError>
+    ensures found { (bytes : List ℕ) → All (λ byte. byte < 256) bytes → text.now ≡ quoted bytes →
         spec.Reads bytes result }
+    ensures error { IfErr result (λ error. (error ≡ Unreadable) ⊎ (error ≡ Draw Memory)) }
 {
     if text.len() < 2 {
         return Err(CheckError::Unreadable);
@@ -74,7 +78,7 @@ fn first_value<'a>(text: &'a [u8], name: &[u8]) -> Option<(&'a [u8], &'a [u8])>
 
 /// Returns the value of the first line, if the line begins with the name, and the text after it.
 /// Otherwise both are empty.
-fn value_after<'a>(text: &'a [u8], name: &[u8]) -> (&'a [u8], &'a [u8])
+pub fn value_after<'a>(text: &'a [u8], name: &[u8]) -> (&'a [u8], &'a [u8])
     ensures found { (value rest : List ℕ) → HasNoLineFeed value →
         text.now ≡ line name.now value ++ rest →
         (result.0.now ≡ value) × (result.1.now ≡ rest) }
@@ -157,7 +161,7 @@ fn program_of(text: &[u8]) -> Option<Option<[u8; 32]>>
 }
 
 /// Returns the number that decimal digits write.
-fn number_of(digits: &[u8]) -> Option<usize>
+pub fn number_of(digits: &[u8]) -> Option<usize>
     ensures { (n : ℕ) → IsNumber digits.now n → result ≡ Some n }
 {
     str::from_utf8(digits).ok()?.parse().ok()

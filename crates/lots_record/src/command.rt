@@ -4,13 +4,18 @@ ghost use Rattle.lots_core.specs.Arguments.{Asked, AsksFor, texts};
 ghost use Rattle.lots_record.specs.Command.{IsCommand};
 ghost use Rattle.lots_record.specs.declared.command.Command.TheVariants.{Draw};
 
-use lots_core::arguments::{Request, read};
+use crate::announcement::Plan;
+use lots_core::arguments::{Count, Request, count_of, read};
 
 /// A command of the program.
 #[derive(Drop)]
 pub enum Command<'a> {
     /// Draw, as `lots_core::run` does with the arguments.
     Draw,
+    /// Write an announcement.
+    Announce {
+        plan: Plan<'a>,
+    },
     /// Draw, and write the record. `announcement` is the path of the announcement.
     Record {
         request: Request<'a>,
@@ -40,6 +45,7 @@ pub fn read_command(arguments: &[String]) -> Command<'_>
         return Command::Draw;
     };
     match name.as_str() {
+        "--announce" => announce_command(values),
         "--record" => record_command(values),
         "--check" => check_command(values),
         "--version" if values.is_empty() => Command::Version,
@@ -79,5 +85,41 @@ fn check_command(values: &[String]) -> Command<'_>
             announcement: Some(announcement.as_str()),
         },
         _ => Command::Draw,
+    }
+}
+
+/// Returns the command of the values after `--announce`: OCCASION WINNERS RESERVES SOURCE FORM EXAMPLE
+/// TIME. No text is empty, and there is a winner.
+fn announce_command(values: &[String]) -> Command<'_>
+    ensures { IsCommand (codes "--announce" ∷ texts values.now) result }
+{
+    let [occasion, winners, reserves, source, form, example, time] = values else {
+        return Command::Draw;
+    };
+    let (Some(Count::Of(winners)), Some(Count::Of(reserves))) = (
+        count_of(winners.as_str()),
+        count_of(reserves.as_str()),
+    ) else {
+        return Command::Draw;
+    };
+    if winners == 0
+        || occasion.is_empty()
+        || source.is_empty()
+        || form.is_empty()
+        || example.is_empty()
+        || time.is_empty()
+    {
+        return Command::Draw;
+    }
+    Command::Announce {
+        plan: Plan {
+            occasion: occasion.as_str(),
+            winners,
+            reserves,
+            source: source.as_str(),
+            form: form.as_str(),
+            example: example.as_str(),
+            time: time.as_str(),
+        },
     }
 }

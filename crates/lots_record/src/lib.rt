@@ -9,6 +9,7 @@
 //! `specs/Program.antt` what the program does with its arguments.
 #![tactic(auto)]
 
+pub mod announcement;
 pub mod check;
 mod check_error;
 mod claims;

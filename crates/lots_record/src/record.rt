@@ -25,7 +25,7 @@ pub struct Source<'a> {
 }
 
 /// Appends a line with a sum in hexadecimal digits.
-fn push_sum<A: Allocator>(
+pub fn push_sum<A: Allocator>(
     text: &mut String<A>,
     alloc: &A,
     name: &str,

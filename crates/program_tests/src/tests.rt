@@ -1,5 +1,6 @@
 //! What each program returns and writes, including when memory, a reader or a writer fails.
 
+mod announcements;
 mod callers;
 mod draw;
 mod lots;

@@ -29,7 +29,8 @@ pub struct Request<'a> {
 }
 
 /// Reads the count: `all`, or decimal digits of a number below 2^64.
-fn count_of(text: &str) -> Option<Count> {
+#[must_use]
+pub fn count_of(text: &str) -> Option<Count> {
     if text == "all" {
         return Some(Count::All);
     }

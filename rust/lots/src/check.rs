@@ -1,11 +1,12 @@
 //! The check of a record.
 
+use crate::announcement::is_announcement;
 use crate::arguments::Count;
 use crate::check_error::CheckError;
 use crate::claims::{claims_of, Claims};
-use crate::count_entrants;
 use crate::record::{record, Source};
 use crate::sha256;
+use crate::{count_entrants, LotsError};
 
 /// Whether the record names this announcement, if one is given.
 fn names(claims: &Claims, announcement: Option<&[u8]>) -> bool {
@@ -15,18 +16,41 @@ fn names(claims: &Claims, announcement: Option<&[u8]>) -> bool {
     }
 }
 
+/// Whether the announcement, if one is given, is that of a draw of so many entrants from the list.
+///
+/// The list has to have `entrants` entrants, as `count_entrants` counts them.
+///
+/// # Errors
+///
+/// Returns `Memory`, the only error, if an allocation fails.
+pub fn is_announced(
+    announcement: Option<&[u8]>,
+    list: &[u8],
+    entrants: usize,
+    count: usize,
+) -> Result<bool, LotsError> {
+    match announcement {
+        Some(text) => is_announcement(text, list, entrants, count),
+        None => Ok(true),
+    }
+}
+
 /// Checks that the text is the record of a draw from the list, byte for byte: it reads from the
 /// text what it is made from, makes the record, and compares the two. If an announcement is given,
-/// the record has to name its SHA-256.
+/// the record has to name its SHA-256, and the announcement has to be that of a draw of as many
+/// entrants from the list.
 ///
 /// # Errors
 ///
 /// Returns the reason if it is not, and the error of the draw if the draw fails.
 pub fn check(text: &[u8], announcement: Option<&[u8]>, list: &[u8]) -> Result<(), CheckError> {
-    count_entrants(list)?;
+    let entrants = count_entrants(list)?;
     let claims = claims_of(text)?;
     if !names(&claims, announcement) {
         return Err(CheckError::OtherAnnouncement);
+    }
+    if !is_announced(announcement, list, entrants, claims.count)? {
+        return Err(CheckError::NotAnnounced);
     }
     let seed = std::str::from_utf8(&claims.seed).map_err(|_| CheckError::Unreadable)?;
     if seed.is_empty() {

@@ -10,6 +10,8 @@ pub enum CheckError {
     Unreadable,
     /// The record names another announcement, or none.
     OtherAnnouncement,
+    /// The announcement is not that of a draw of so many entrants from the list, as the record says.
+    NotAnnounced,
     /// The record is not the one of its draw from this list.
     Differs,
     /// The draw that the record describes fails.
@@ -21,6 +23,7 @@ impl core::fmt::Display for CheckError {
         match self {
             CheckError::Unreadable => f.write_str("this is no record of format 2"),
             CheckError::OtherAnnouncement => f.write_str("the record names another announcement"),
+            CheckError::NotAnnounced => f.write_str("the announcement is not that of this draw"),
             CheckError::Differs => f.write_str("the record is not that of a draw from this list"),
             CheckError::Draw(field) => write!(f, "{field}"),
         }
@@ -50,6 +53,7 @@ impl CheckError {
             CheckError::Unreadable => 9,
             CheckError::OtherAnnouncement => 10,
             CheckError::Differs => 11,
+            CheckError::NotAnnounced => 12,
         }
     }
 }

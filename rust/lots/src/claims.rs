@@ -36,7 +36,7 @@ fn spelled(text: &[u8]) -> Result<Vec<u8>, CheckError> {
 }
 
 /// Returns the bytes that a text in quotation marks shows.
-fn unquoted(text: &[u8]) -> Result<Vec<u8>, CheckError> {
+pub fn unquoted(text: &[u8]) -> Result<Vec<u8>, CheckError> {
     if text.len() < 2 {
         return Err(CheckError::Unreadable);
     }
@@ -53,7 +53,7 @@ fn first_value<'a>(text: &'a [u8], name: &[u8]) -> Option<(&'a [u8], &'a [u8])> 
 /// Returns the value of the first line, if the line begins with the name, and the text after it.
 /// Otherwise both are empty.
 #[allow(clippy::manual_unwrap_or, clippy::manual_unwrap_or_default)] // the proved body is so
-fn value_after<'a>(text: &'a [u8], name: &[u8]) -> (&'a [u8], &'a [u8]) {
+pub fn value_after<'a>(text: &'a [u8], name: &[u8]) -> (&'a [u8], &'a [u8]) {
     match first_value(text, name) {
         Some(parts) => parts,
         None => (&[], &[]),
@@ -112,7 +112,7 @@ fn program_of(text: &[u8]) -> Option<Option<[u8; 32]>> {
 }
 
 /// Returns the number that decimal digits write.
-fn number_of(digits: &[u8]) -> Option<usize> {
+pub fn number_of(digits: &[u8]) -> Option<usize> {
     std::str::from_utf8(digits).ok()?.parse().ok()
 }
 

@@ -1,11 +1,17 @@
 //! What the command line asks the program `lots` to do.
 
-use crate::arguments::{read, Request};
+use crate::announcement::Plan;
+use crate::arguments::{count_of, read, Count, Request};
 
 /// A command of the program.
 pub enum Command<'a> {
     /// Draw, as `run::run` does with the arguments.
     Draw,
+    /// Write an announcement.
+    Announce {
+        /// What it says, besides the list.
+        plan: Plan<'a>,
+    },
     /// Draw, and write the record.
     Record {
         /// The seed and the count.
@@ -39,6 +45,7 @@ pub fn read_command(arguments: &[String]) -> Command<'_> {
         return Command::Draw;
     };
     match name.as_str() {
+        "--announce" => announce_command(values),
         "--record" => record_command(values),
         "--check" => check_command(values),
         "--version" if values.is_empty() => Command::Version,
@@ -74,5 +81,43 @@ fn check_command(values: &[String]) -> Command<'_> {
             announcement: Some(announcement.as_str()),
         },
         _ => Command::Draw,
+    }
+}
+
+/// Returns the command of the values after `--announce`: OCCASION WINNERS RESERVES SOURCE FORM
+/// EXAMPLE TIME. No text is empty, and there is a winner.
+fn announce_command(values: &[String]) -> Command<'_> {
+    let (occasion, winners, reserves, source, form, example, time) =
+        if let [occasion, winners, reserves, source, form, example, time] = values {
+            (occasion, winners, reserves, source, form, example, time)
+        } else {
+            return Command::Draw;
+        };
+    let (winners, reserves) = if let (Some(Count::Of(winners)), Some(Count::Of(reserves))) =
+        (count_of(winners.as_str()), count_of(reserves.as_str()))
+    {
+        (winners, reserves)
+    } else {
+        return Command::Draw;
+    };
+    if winners == 0
+        || occasion.is_empty()
+        || source.is_empty()
+        || form.is_empty()
+        || example.is_empty()
+        || time.is_empty()
+    {
+        return Command::Draw;
+    }
+    Command::Announce {
+        plan: Plan {
+            occasion: occasion.as_str(),
+            winners,
+            reserves,
+            source: source.as_str(),
+            form: form.as_str(),
+            example: example.as_str(),
+            time: time.as_str(),
+        },
     }
 }

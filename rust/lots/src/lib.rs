@@ -10,6 +10,8 @@
 //!
 //! `record::record` makes the record of a draw, a text with which others repeat the draw, and
 //! `check::check` accepts exactly the texts that it makes of seeds that are not empty.
+//! `announcement::announcement` makes the announcement of a draw, which is published before the seed
+//! is known, and `announcement::is_announcement` says whether a text is that of such a draw.
 //!
 //! The functions have the bodies of the crates `lots_core` and `lots_record` in Rattle, whose
 //! contracts are proved. `sha256`, `hex`, `reading` and `growing` are hand-written. The program
@@ -20,6 +22,8 @@
 #![cfg_attr(not(feature = "std"), no_std)]
 #![forbid(unsafe_code)]
 
+#[cfg(feature = "std")]
+pub mod announcement;
 #[cfg(feature = "std")]
 pub mod arguments;
 #[cfg(feature = "std")]

@@ -9,19 +9,24 @@
 //! entrants, 4 if a line is empty, 5 if memory runs out, 6 if a read failed, 7 if a write failed,
 //! and 8 if 128 words (random integers of 64 bits) in a row were rejected.
 //!
-//! `lots --record SEED COUNT|all [ANNOUNCEMENT] < entrants` prints the record of the draw, which
-//! names the SHA-256 of the file ANNOUNCEMENT. `lots --check RECORD [ANNOUNCEMENT] < entrants`
-//! draws again: the status is 0 only if the file RECORD is the record of a draw from these
-//! entrants, and names ANNOUNCEMENT if one is given; otherwise it is 9 if the file is no record, 10
-//! if it names another announcement, 11 if it is not the record of its draw from these entrants, or
-//! that of the error. `lots --version` and `lots --help` print a text. A seed and a count are
-//! always a draw, even if the seed is such an option: a record whose file is named `all` or by
-//! digits is checked by `lots --check ./all`.
+//! `lots --announce OCCASION WINNERS RESERVES SOURCE FORM EXAMPLE TIME < entrants` prints an
+//! announcement, which is published before the seed is known. `lots --record SEED COUNT|all
+//! [ANNOUNCEMENT] < entrants` prints the record of the draw, which names the SHA-256 of the file
+//! ANNOUNCEMENT; the status is 12 if that is not the announcement of such a draw. `lots --check
+//! RECORD [ANNOUNCEMENT] < entrants` draws again: the status is 0 only if the file RECORD is the
+//! record of a draw from these entrants, names ANNOUNCEMENT if one is given, and ANNOUNCEMENT is
+//! that of such a draw; otherwise it is 9 if the file is no record, 10 if it names another
+//! announcement, 12 if the announcement is not that of this draw, 11 if it is not the record of its
+//! draw from these entrants, or that of the error. `lots --version` and `lots --help` print a text.
+//! A seed and a count are always a draw, even if the seed is such an option: a record whose file is
+//! named `all` or by digits is checked by `lots --check ./all`.
 #![forbid(unsafe_code)]
 
 use lots::arguments::Request;
 use lots::command::{read_command, Command};
-use lots::program::{check_record, report_check, write_record, write_text, HELP};
+use lots::program::{
+    check_record, report_check, write_announcement, write_record, write_text, HELP,
+};
 use lots::run::{read_list, report, run};
 use lots::{CheckError, LotsError};
 use nanorand_program::{arguments, input, output};
@@ -39,7 +44,7 @@ fn read_file(path: &str) -> Result<Vec<u8>, LotsError> {
 }
 
 /// Writes the record of the draw.
-fn record(request: &Request<'_>, announcement: Option<&str>) -> Result<(), LotsError> {
+fn record(request: &Request<'_>, announcement: Option<&str>) -> Result<(), CheckError> {
     let announcement = announcement.map(read_file).transpose()?;
     let (input, out) = (&mut input(), &mut output());
     write_record(request, announcement.as_deref(), input, out)
@@ -58,10 +63,11 @@ fn status_of(arguments: &[String]) -> u8 {
     let (out, err) = (&mut output(), &mut stderr());
     match read_command(arguments) {
         Command::Draw => report(run(arguments, &mut input(), out), err),
+        Command::Announce { plan } => report(write_announcement(&plan, &mut input(), out), err),
         Command::Record {
             request,
             announcement,
-        } => report(record(&request, announcement), err),
+        } => report_check(record(&request, announcement), err),
         Command::Check {
             record,
             announcement,

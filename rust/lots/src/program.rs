@@ -1,27 +1,31 @@
 //! The commands that write and check a record, from the list to the text that is written.
 
+use crate::announcement::{announcement, Plan};
 use crate::arguments::Request;
-use crate::check::check;
+use crate::check::{check, is_announced};
 use crate::check_error::CheckError;
 use crate::record::{record, Source};
 use crate::run::read_list;
 use crate::sha256;
-use crate::LotsError;
+use crate::{count_entrants, LotsError};
 use std::io::{Read, Write};
 
 /// What `lots --help` writes.
 pub const HELP: &str = "\
 usage: lots SEED COUNT|all < entrants
+       lots --announce OCCASION WINNERS RESERVES SOURCE FORM EXAMPLE TIME < entrants
        lots --record SEED COUNT|all [ANNOUNCEMENT] < entrants
        lots --check RECORD [ANNOUNCEMENT] < entrants
        lots --version
        lots --help
 
 Draws COUNT of the entrants, one per line of standard input, as the seed determines, and writes them
-in the order drawn. `--record` writes the record of the draw, which names the SHA-256 of the file
-ANNOUNCEMENT. `--check` draws again: its status is 0 only if the file RECORD is the record of a draw
-from these entrants and names ANNOUNCEMENT, if one is given. A seed and a count are always a draw:
-write ./2026 for a file of that name.
+in the order drawn. `--announce` writes an announcement, to be published before the seed is known:
+what is drawn for, how many winners and reserves, where the seed will come from, its form, a seed of
+this form, and the time. `--record` writes the record of the draw. `--check` draws again: its status
+is 0 only if the file RECORD is the record of a draw from these entrants. If a file ANNOUNCEMENT is
+given, the record names its SHA-256, and it has to be the announcement of such a draw. A seed and a
+count are always a draw: write ./2026 for a file of that name.
 ";
 
 /// Writes a text to `out`, all at once, and then flushes. After an error, how much of the text
@@ -52,15 +56,21 @@ fn sum_of(announcement: Option<&[u8]>) -> Option<[u8; 32]> {
 ///
 /// # Errors
 ///
-/// Returns the errors that [`LotsError`] lists, except `Usage`. After `Write`, how much of the text
-/// `out` accepted is unspecified. After any other error, nothing was written.
+/// Returns `NotAnnounced` if the announcement is not that of a draw of so many entrants from this
+/// list, and otherwise the errors that [`LotsError`] lists, except `Usage`. After `Write`, how much
+/// of the text `out` accepted is unspecified. After any other error, nothing was written.
 pub fn write_record<R: Read, W: Write>(
     request: &Request<'_>,
     announcement: Option<&[u8]>,
     input: &mut R,
     out: &mut W,
-) -> Result<(), LotsError> {
+) -> Result<(), CheckError> {
     let list = read_list(input)?;
+    let entrants = count_entrants(&list)?;
+    let count = request.count.among(entrants);
+    if !is_announced(announcement, &list, entrants, count)? {
+        return Err(CheckError::NotAnnounced);
+    }
     let source = Source {
         seed: request.seed,
         count: request.count,
@@ -68,6 +78,24 @@ pub fn write_record<R: Read, W: Write>(
         program: None,
     };
     let text = record(&source, &list)?;
+    write_text(text.as_bytes(), out)?;
+    Ok(())
+}
+
+/// Writes the announcement of a draw from the list that `input` provides to `out`, all at once, and
+/// then flushes.
+///
+/// # Errors
+///
+/// Returns the errors of `announcement`, `Read` and `Write`. After `Write`, how much of the text
+/// `out` accepted is unspecified. After any other error, nothing was written.
+pub fn write_announcement<R: Read, W: Write>(
+    plan: &Plan<'_>,
+    input: &mut R,
+    out: &mut W,
+) -> Result<(), LotsError> {
+    let list = read_list(input)?;
+    let text = announcement(plan, &list)?;
     write_text(text.as_bytes(), out)
 }
 

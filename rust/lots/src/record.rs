@@ -19,7 +19,8 @@ pub struct Source<'a> {
 }
 
 /// Appends a line with a sum in hexadecimal digits.
-fn push_sum(
+#[doc(hidden)]
+pub fn push_sum(
     text: &mut String,
     name: &str,
     sum: &[u8],

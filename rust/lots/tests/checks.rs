@@ -7,9 +7,12 @@ use lots::arguments::Count;
 use lots::check::check;
 use lots::record::{record, Source};
 use lots::{sha256, CheckError, LotsError};
-use records::{recorded, EXAMPLE, LIST, SEED};
+use records::{announced, recorded, EXAMPLE, LIST, SEED};
 
-const ANNOUNCEMENT: &[u8] = b"On Friday at noon, 20 people throw a die each.\n";
+/// The announcement of a draw of all entrants.
+fn announcement() -> Vec<u8> {
+    announced(10, 2, LIST.as_bytes()).unwrap().into_bytes()
+}
 
 /// A record of a draw of all entrants, so that each other seed draws another order.
 fn long_record() -> String {
@@ -21,7 +24,7 @@ fn full_record() -> String {
     let made = Source {
         seed: SEED,
         count: Count::All,
-        announcement: Some(sha256::digest(ANNOUNCEMENT)),
+        announcement: Some(sha256::digest(&announcement())),
         program: Some(sha256::digest(b"module")),
     };
     record(&made, LIST.as_bytes()).unwrap()
@@ -52,16 +55,17 @@ fn what_record_writes() {
 /// If an announcement is given, the record has to name it. Otherwise it may name any.
 #[test]
 fn announcements() {
-    let (full, list) = (full_record(), LIST.as_bytes());
+    let (full, list, named) = (full_record(), LIST.as_bytes(), announcement());
     let other = Err(CheckError::OtherAnnouncement);
     assert_eq!(check(full.as_bytes(), None, list), Ok(()));
-    assert_eq!(check(full.as_bytes(), Some(ANNOUNCEMENT), list), Ok(()));
+    assert_eq!(check(full.as_bytes(), Some(&named), list), Ok(()));
     for announcement in [
         &b""[..],
         b"none",
-        &ANNOUNCEMENT[1..],
-        &ANNOUNCEMENT[..ANNOUNCEMENT.len() - 1],
-        &[ANNOUNCEMENT, b"\n"].concat(),
+        &named[1..],
+        &named[..named.len() - 1],
+        &[&*named, b"\n"].concat(),
+        announced(11, 1, list).unwrap().as_bytes(),
         LIST.as_bytes(),
     ] {
         assert_eq!(check(full.as_bytes(), Some(announcement), list), other);
@@ -131,13 +135,14 @@ fn each_changed_byte_of_a_full_record() {
     let name = b"module SHA-256: ";
     let found = text.windows(name.len()).position(|part| part == name);
     let module = found.unwrap() + name.len();
+    let named = announcement();
     for place in 0..text.len() {
         for byte in others(text[place]) {
             let mut changed = text.clone();
             changed[place] = byte;
             let wanted =
                 (module..module + 64).contains(&place) && b"0123456789abcdef".contains(&byte);
-            let found = check(&changed, Some(ANNOUNCEMENT), LIST.as_bytes());
+            let found = check(&changed, Some(&named), LIST.as_bytes());
             assert_eq!(found.is_ok(), wanted, "{byte} at {place}");
         }
     }
@@ -311,6 +316,11 @@ fn texts_and_statuses_of_the_errors() {
             CheckError::Differs,
             "the record is not that of a draw from this list",
             11,
+        ),
+        (
+            CheckError::NotAnnounced,
+            "the announcement is not that of this draw",
+            12,
         ),
         (
             CheckError::Draw(LotsError::EmptyLine(7)),

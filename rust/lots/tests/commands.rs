@@ -8,6 +8,16 @@ fn command(words: &[&str]) -> String {
     let arguments: Vec<String> = words.iter().map(|word| (*word).to_string()).collect();
     match read_command(&arguments) {
         Command::Draw => "draw".into(),
+        Command::Announce { plan } => format!(
+            "announce {:?} {} {} {:?} {:?} {:?} {:?}",
+            plan.occasion,
+            plan.winners,
+            plan.reserves,
+            plan.source,
+            plan.form,
+            plan.example,
+            plan.time
+        ),
         Command::Record {
             request,
             announcement,
@@ -27,7 +37,7 @@ fn command(words: &[&str]) -> String {
     }
 }
 
-const NAMES: [&str; 4] = ["--record", "--check", "--version", "--help"];
+const NAMES: [&str; 5] = ["--announce", "--record", "--check", "--version", "--help"];
 
 /// A seed and a count are a draw, whatever the seed is.
 #[test]
@@ -38,12 +48,86 @@ fn seeds_that_look_like_options() {
         }
     }
     for name in [
-        "record", "check", "version", "help", "-h", "-V", "--", "--Record",
+        "announce", "record", "check", "version", "help", "-h", "-V", "--", "--Record",
     ] {
         for values in [&[][..], &["3"], &["a"], &["a", "3"], &["a", "3", "b"]] {
             assert_eq!(command(&[&[name], values].concat()), "draw", "{name}");
         }
     }
+}
+
+const PLAN: [&str; 8] = [
+    "--announce",
+    "what",
+    "3",
+    "1",
+    "where",
+    "how",
+    "4 1",
+    "when",
+];
+
+#[test]
+fn announcements() {
+    let wanted = r#"announce "what" 3 1 "where" "how" "4 1" "when""#;
+    assert_eq!(command(&PLAN), wanted);
+    for (place, text, wanted) in [
+        (2, "007", Some("announce \"what\" 7 1")),
+        (2, "1", Some("announce \"what\" 1 1")),
+        (
+            2,
+            "18446744073709551615",
+            Some("announce \"what\" 18446744073709551615 1"),
+        ),
+        (3, "0", Some("announce \"what\" 3 0 \"where\"")),
+        (
+            3,
+            "18446744073709551615",
+            Some("announce \"what\" 3 18446744073709551615"),
+        ),
+        (1, "--help", Some("announce \"--help\" 3")),
+        (1, " ", Some("announce \" \" 3")),
+        (7, "all", Some("\"all\"")),
+        (1, "", None),
+        (4, "", None),
+        (5, "", None),
+        (6, "", None),
+        (7, "", None),
+        (2, "0", None),
+        (2, "00", None),
+        (2, "all", None),
+        (3, "all", None),
+    ] {
+        let mut words = PLAN;
+        words[place] = text;
+        let found = command(&words);
+        match wanted {
+            Some(part) => assert!(found.contains(part), "{found}"),
+            None => assert_eq!(found, "draw", "{words:?}"),
+        }
+    }
+    for place in [2, 3] {
+        for text in [
+            "",
+            "+1",
+            "-1",
+            "1.5",
+            " 1",
+            "1 ",
+            "x",
+            "0x1",
+            "18446744073709551616",
+        ] {
+            let mut words = PLAN;
+            words[place] = text;
+            assert_eq!(command(&words), "draw", "{words:?}");
+        }
+    }
+    for most in 0..PLAN.len() {
+        assert_eq!(command(&PLAN[..most]), "draw", "{most}");
+    }
+    assert_eq!(command(&[&PLAN[..], &["x"]].concat()), "draw");
+    assert_eq!(command(&PLAN[1..]), "draw");
 }
 
 #[test]

@@ -6,14 +6,14 @@ mod records;
 mod writer;
 
 use lots::arguments::{Count, Request};
-use lots::program::{check_record, report_check, write_record, write_text, HELP};
+use lots::program::{
+    check_record, report_check, write_announcement, write_record, write_text, HELP,
+};
 use lots::{sha256, CheckError, LotsError};
-use records::{digits, EXAMPLE, LIST, SEED};
+use records::{announced, digits, ANNOUNCEMENT, EXAMPLE, LIST, PLAN, SEED};
 use std::io::{ErrorKind, Read, Result};
 use writer::kinds::{faults, Fault};
 use writer::{fails_with_its_writer, reports_without_its_writer, Writer};
-
-const ANNOUNCEMENT: &[u8] = b"On Friday at noon.";
 
 /// The lines that say that a record agrees, without an announcement and with one.
 const AGREES: &str = "the record agrees with the list; no announcement was compared\n";
@@ -39,8 +39,12 @@ const REQUEST: Request<'_> = Request {
     count: Count::Of(3),
 };
 
-fn record(input: &mut impl Read, out: &mut Writer) -> std::result::Result<(), LotsError> {
+fn record(input: &mut impl Read, out: &mut Writer) -> std::result::Result<(), CheckError> {
     write_record(&REQUEST, None, input, out)
+}
+
+fn announce(input: &mut impl Read, out: &mut Writer) -> std::result::Result<(), LotsError> {
+    write_announcement(&PLAN, input, out)
 }
 
 fn check(input: &mut impl Read, out: &mut Writer) -> std::result::Result<(), CheckError> {
@@ -59,25 +63,40 @@ fn what_is_written() {
     assert_eq!(check(&mut &*list, &mut out), Ok(()));
     assert_eq!(out.taken, AGREES.as_bytes());
     assert_eq!(out.calls, [Some(AGREES.len()), None]);
+    let mut out = Writer::willing();
+    assert_eq!(announce(&mut &*list, &mut out), Ok(()));
+    assert_eq!(out.taken, ANNOUNCEMENT.as_bytes());
+    assert_eq!(out.calls, [Some(ANNOUNCEMENT.len()), None]);
 
     let (mut text, mut out) = (Writer::willing(), Writer::willing());
-    let announcement = Some(ANNOUNCEMENT);
+    let named = announced(2, 1, list).unwrap();
+    let announcement = Some(named.as_bytes());
     let written = write_record(&REQUEST, announcement, &mut &*list, &mut text);
     assert_eq!(written, Ok(()));
-    let sum = digits("", &sha256::digest(ANNOUNCEMENT));
+    let sum = digits("", &sha256::digest(named.as_bytes()));
     let wanted = EXAMPLE.replace("256: none", &format!("256: {sum}"));
     assert_eq!(text.taken, wanted.as_bytes());
     let checked = check_record(&text.taken, announcement, &mut &*list, &mut out);
     assert_eq!((checked, out.taken.as_slice()), (Ok(()), NAMES.as_bytes()));
 }
 
-/// If the record does not agree, nothing is written.
+/// If the record does not agree, or the announcement is not that of the draw, nothing is written.
 #[test]
 fn what_does_not_agree() {
     let list = LIST.as_bytes();
+    let announcement = Some(ANNOUNCEMENT.as_bytes());
+    let mut out = Writer::willing();
+    let written = write_record(&REQUEST, announcement, &mut &*list, &mut out);
+    let failed = Err(CheckError::NotAnnounced);
+    assert_eq!((written, out.calls), (failed, vec![]));
+    let sum = digits("", &sha256::digest(ANNOUNCEMENT.as_bytes()));
+    let named = EXAMPLE.replace("256: none", &format!("256: {sum}"));
+    let mut out = Writer::willing();
+    let checked = check_record(named.as_bytes(), announcement, &mut &*list, &mut out);
+    assert_eq!((checked, out.calls), (failed, vec![]));
     for (text, announcement, error) in [
         ("", None, CheckError::Unreadable),
-        (EXAMPLE, Some(ANNOUNCEMENT), CheckError::OtherAnnouncement),
+        (EXAMPLE, announcement, CheckError::OtherAnnouncement),
         (&EXAMPLE[..EXAMPLE.len() - 1], None, CheckError::Differs),
     ] {
         let mut out = Writer::willing();
@@ -95,8 +114,16 @@ fn what_does_not_agree() {
         ),
     ] {
         let mut out = Writer::willing();
-        assert_eq!(record(&mut &*list, &mut out), Err(error));
+        assert_eq!(record(&mut &*list, &mut out), Err(CheckError::Draw(error)));
         assert_eq!(check(&mut &*list, &mut out), Err(CheckError::Draw(error)));
+        let too_few = matches!(error, LotsError::TooFew { .. });
+        let (entrants, count) = (1, 4);
+        let wanted = if too_few {
+            LotsError::TooFew { entrants, count }
+        } else {
+            error
+        };
+        assert_eq!(announce(&mut &*list, &mut out), Err(wanted));
         assert!(out.calls.is_empty());
     }
 }
@@ -114,8 +141,12 @@ fn a_read_that_fails_by_any_kind_of_error() {
             let input = || Failing(LIST.as_bytes(), read, fault);
             let recorded = record(&mut input(), &mut text);
             let checked = check(&mut input(), &mut line);
-            assert_eq!(recorded.err(), error, "{fault:?} at {read}");
-            assert_eq!(checked.err(), error.map(CheckError::Draw));
+            let wanted = error.map(CheckError::Draw);
+            assert_eq!(recorded.err(), wanted, "{fault:?} at {read}");
+            assert_eq!(checked.err(), wanted);
+            let mut out = Writer::willing();
+            assert_eq!(announce(&mut input(), &mut out).err(), error);
+            assert_eq!(out.calls.is_empty(), error.is_some());
             assert_eq!(text.calls.is_empty(), error.is_some());
             assert_eq!(line.calls.is_empty(), error.is_some());
         }
@@ -128,8 +159,14 @@ fn a_write_or_flush_that_fails() {
     for fault in [ErrorKind::BrokenPipe, ErrorKind::OutOfMemory].map(Fault::from) {
         for call in 0..=EXAMPLE.len() {
             let mut out = Writer::failing(call, fault);
-            assert_eq!(record(&mut &*list, &mut out), Err(LotsError::Write));
+            let failed = Err(CheckError::Draw(LotsError::Write));
+            assert_eq!(record(&mut &*list, &mut out), failed);
             assert_eq!(out.taken, EXAMPLE.as_bytes()[..call]);
+        }
+        for call in 0..=ANNOUNCEMENT.len() {
+            let mut out = Writer::failing(call, fault);
+            assert_eq!(announce(&mut &*list, &mut out), Err(LotsError::Write));
+            assert_eq!(out.taken, ANNOUNCEMENT.as_bytes()[..call]);
         }
         for call in 0..=AGREES.len() {
             let mut out = Writer::failing(call, fault);
@@ -162,6 +199,11 @@ fn reports() {
             CheckError::Differs,
             "the record is not that of a draw from this list",
             11,
+        ),
+        (
+            CheckError::NotAnnounced,
+            "the announcement is not that of this draw",
+            12,
         ),
         (CheckError::Draw(LotsError::Read), "read failed", 6),
     ] {

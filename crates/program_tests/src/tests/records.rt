@@ -5,7 +5,6 @@ use super::readers::Feed;
 use super::writers::Pieces;
 use crate::comparing::{equal, equal_at, holds};
 use lots_core::arguments::{Count, Request};
-use lots_core::run::report;
 use lots_record::CheckError;
 use lots_record::check::check;
 use lots_record::program::{check_record, report_check, write_record};
@@ -45,7 +44,7 @@ impl Program for Writes {
             count: Count::Of(3),
         };
         let mut input = Feed::honest(NAMES.as_bytes(), usize::MAX);
-        report(write_record(alloc, &request, None, &mut input, out), err)
+        report_check(write_record(alloc, &request, None, &mut input, out), err)
     }
 }
 

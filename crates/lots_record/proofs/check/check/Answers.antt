@@ -10,16 +10,17 @@ use Rattle.lots_core.specs.declared.arguments.Count.TheVariants.{Of}
 use Rattle.lots_core.specs.Draws.{drawn}
 use Rattle.lots_core.specs.Lists.{lines_of}
 use Rattle.lots_core.specs.Text.{text_of}
-use Rattle.lots_record.specs.Record.{HasRecord, NamesAnnouncement, Source, drawn_lines, given, record_text, source_of}
+use Rattle.lots_record.specs.Check.{IsAnnounced, NamesAnnouncement, given}
+use Rattle.lots_record.specs.Record.{HasRecord, Source, drawn_lines, record_text, source_of}
 use Rattle.lots_record.specs.declared.record.Source.{Source as ASource}
 use Rattle.lots_record.proofs.CheckLemmas.{can_be_read, full_lines, refused}
 use Rattle.lots_record.proofs.ClaimLemmas.{one_answer}
 use Rattle.lots_record.proofs.check.check.Goals as goal
 
-pub returns-in_err-count_entrants-clause-only : goal.returns-in_err-count_entrants-clause-only
-returns-in_err-count_entrants-clause-only g c = λ known.
-    let error = c.in_err-count_entrants.ensures.refusal in
-    absurd (full_lines (lines_of c.args.list.now) error.0 known.has.draw.full (c.in_err-count_entrants.ensures.empty error.0 (ap Err error.1)))
+pub returns-in_err-entrants-clause-only : goal.returns-in_err-entrants-clause-only
+returns-in_err-entrants-clause-only g c = λ known.
+    let error = c.in_err-entrants.ensures.refusal in
+    absurd (full_lines (lines_of c.args.list.now) error.0 known.has.draw.full (c.in_err-entrants.ensures.empty error.0 (ap Err error.1)))
 
 pub returns-in_err-claims-clause-only : goal.returns-in_err-claims-clause-only
 returns-in_err-claims-clause-only g c = λ known.
@@ -111,5 +112,17 @@ returns-then-eq-clause-agrees g c =
       source = source;
       has = has;
       names = c.names.ensures.0 c.if-not-names.false;
+      announced = c.in_ok-is_announced.ensures.0 c.if-not-branch.false;
       is = sym (same_text (c.as_bytes.result.now) c.args.text.now (sym c.if-eq.true ∙ c.eq.ensures)) ∙ c.as_bytes.ensures.value ∙ written.1;
     }
+
+pub returns-then-not-branch-clause-only : goal.returns-then-not-branch-clause-only
+returns-then-not-branch-clause-only g c = λ known.
+    let source = known.source in
+    let lines = lines_of c.args.list.now in
+    let entrants = drawn source.seed source.count lines in
+    let small : length lines < 2 ^ 64 = grind (arith, common_steps) in
+    let claimed = c.in_ok-claims.ensures.found source c.args.list.now (length lines) (encode_lower (sha256 (text_of entrants))) (drawn_lines entrants)
+    small (can_be_read source c.args.list.now known.has small) known.is in
+    let announced = subst (λ count. IsAnnounced (given c.args.announcement) c.args.list.now count) (sym claimed.1) known.announced in
+    absurd (one_answer c.in_ok-is_announced.field-0 (c.in_ok-is_announced.ensures.1 announced) c.if-not-branch.true)

@@ -25,7 +25,7 @@ returns-in_err-program-clause-found g c = λ source list n sum rest small read i
 pub returns-in_err-seed-clause-found : goal.returns-in_err-seed-clause-found
 returns-in_err-seed-clause-found g c = λ source list n sum rest small read is.
     let values = c.values_of-values.ensures source list n sum rest small read.count is in
-    let seed = c.unquoted.ensures source.seed read.seed values.seed in
+    let seed = c.unquoted.ensures.found source.seed read.seed values.seed in
     grind (arith, common_steps, seed)
 
 pub returns-clause-found : goal.returns-clause-found
@@ -34,7 +34,7 @@ returns-clause-found g c = λ source list n sum rest small read is.
     let count = c.number_of.ensures source.count (writes_number _ source.count read.count values.drawn) in
     let announcement = c.announcement_of.ensures.found source.announcement read.announcement values.announcement in
     let program = c.program_of.ensures.found source.program read.program values.program in
-    let seed = c.unquoted.ensures source.seed read.seed values.seed in
+    let seed = c.unquoted.ensures.found source.seed read.seed values.seed in
     grind (arith, common_steps, count, announcement, program, seed)
 
 pub returns-clause-sums : goal.returns-clause-sums

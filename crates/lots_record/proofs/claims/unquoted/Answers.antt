@@ -4,6 +4,6 @@ use Rattle.lots_record.proofs.ClaimLemmas.{inside}
 use Rattle.lots_record.proofs.SpellingLemmas.{spells_shown}
 use Rattle.lots_record.proofs.claims.unquoted.Goals as goal
 
-pub returns : goal.returns
-returns g c = λ bytes all is.
-    c.spelled.ensures bytes (subst (Spells bytes) (sym (inside c.args.text.now (shown bytes) is)) (spells_shown bytes all))
+pub returns-clause-found : goal.returns-clause-found
+returns-clause-found g c = λ bytes all is.
+    c.spelled.ensures.found bytes (subst (Spells bytes) (sym (inside c.args.text.now (shown bytes) is)) (spells_shown bytes all))
