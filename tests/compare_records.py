@@ -37,9 +37,9 @@ FAILURES = {
     3: rb"lots: \d+ entrants, \d+ asked for\n",
     4: rb"lots: line \d+ is empty\n",
     9: rb"lots: this is no record of format 2\n",
-    10: rb"lots: the record names another announcement\n",
+    10: rb"lots: the record names another announcement, or none\n",
     11: rb"lots: the record is not that of a draw from this list\n",
-    12: rb"lots: the announcement is not that of this draw\n",
+    12: rb"lots: the announcement is not that of a draw of so many entrants from this list\n",
 }
 NOT_ANNOUNCED = (12, b"", FAILURES[12].replace(rb"\n", b"\n"))
 

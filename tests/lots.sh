@@ -68,7 +68,7 @@ example="${named}none\n$rest"
 empty_sum=e3b0c44298fc1c149afbf4c8996fb92427ae41e4649b934ca495991b7852b855
 agrees='the record agrees with the list; no announcement was compared\n'
 agrees_too='the record agrees with the list, and names the announcement\n'
-unannounced='lots: the announcement is not that of this draw\n'
+unannounced='lots: the announcement is not that of a draw of so many entrants from this list\n'
 
 # The texts of the announcement of the example: the occasion, and those that stand after the numbers.
 occasion='Summer raffle of the school'
@@ -244,7 +244,7 @@ END
 }
 
 checks() {
-    local unreadable='lots: this is no record of format 2\n' other='lots: the record names another announcement\n'
+    local unreadable='lots: this is no record of format 2\n' other='lots: the record names another announcement, or none\n'
     local differs='lots: the record is not that of a draw from this list\n' name
     files
     run 'a check' "$twelve" 0 "$agrees" '' --check "$work/record"
@@ -308,8 +308,9 @@ in the order drawn. `--announce` writes an announcement, to be published before 
 what is drawn for, how many winners and reserves, where the seed will come from, its form, a seed of
 this form, and the time. `--record` writes the record of the draw. `--check` draws again: its status
 is 0 only if the file RECORD is the record of a draw from these entrants. If a file ANNOUNCEMENT is
-given, the record names its SHA-256, and it has to be the announcement of such a draw. A seed and a
-count are always a draw: write ./2026 for a file of that name.
+given, the record names its SHA-256, and it has to be the announcement of such a draw, whose winners
+and reserves are COUNT together. A seed and a count are always a draw: write ./2026 for a file of
+that name.
 END
     )
     run 'the version' '' 0 "lots $version\n" '' --version

@@ -56,19 +56,22 @@ text_of plan list n =
     ++ seed_lines plan
     ++ codes "end of the announcement\n"
 
--- The result of making an announcement: its text, or the reason why there is none. The number that is
--- too large is the sum of winners and reserves, at most 2^64 - 1. When an allocation fails is not
--- specified. There are no other errors.
+-- The reason why there is no announcement. The number that is too large is the sum of winners and
+-- reserves, at most 2^64 - 1. When an allocation fails is not specified. There are no other errors.
+abbrev pub IsUnannounced : Plan → List ℕ → LotsError → Type 0
+IsUnannounced plan list (EmptyLine k) = IsFirstEmpty (lines_of list) k
+IsUnannounced plan list (TooFew n k) =
+    AreFull (lines_of list) × (n ≡ length (lines_of list)) × (n < plan.winners + plan.reserves)
+    × (k ≡ min (plan.winners + plan.reserves) (2 ^ 64 - 1))
+IsUnannounced plan list Memory = ⊤
+IsUnannounced plan list other = ⊥
+
+-- The result of making an announcement: its text, or the reason why there is none.
 abbrev pub Announced : {A : Type 0} → Plan → List ℕ → Result (String A) LotsError → Type 0
 Announced plan list (Ok text) =
     AreFull (lines_of list) × (plan.winners + plan.reserves ≤ length (lines_of list))
     × (string_bytes text ≡ text_of plan list (length (lines_of list)))
-Announced plan list (Err (EmptyLine k)) = IsFirstEmpty (lines_of list) k
-Announced plan list (Err (TooFew n k)) =
-    AreFull (lines_of list) × (n ≡ length (lines_of list)) × (n < plan.winners + plan.reserves)
-    × (k ≡ min (plan.winners + plan.reserves) (2 ^ 64 - 1))
-Announced plan list (Err Memory) = ⊤
-Announced plan list (Err other) = ⊥
+Announced plan list (Err error) = IsUnannounced plan list error
 
 -- No text of the plan is empty, there is a winner, and so many entrants are drawn.
 abbrev pub Announces : Plan → ℕ → Type 0

@@ -1,14 +1,17 @@
 -- The commands of the program that write and check records.
-use Rattle.std.specs.Prelude.{ℕ, List, length, ⊤, codes, Option, Some, None, Result, Ok, Err}
+use Rattle.std.specs.Prelude.{◌⊎◌, ℕ, List, length, ⊤, codes, Option, Some, None, Result, Ok, Err}
 use Rattle.std.specs.Borrow.{Bor}
 use Rattle.sha2.specs.Sha256.{sha256}
 use Rattle.lots_core.specs.Arguments.{number_asked}
 use Rattle.lots_core.specs.Text.{status_of}
 use Rattle.lots_core.specs.declared.error.LotsError.{LotsError}
 use Rattle.lots_core.specs.declared.error.LotsError.TheVariants.{Memory, Read, Write}
-use Rattle.lots_core.specs.Lists.{lines_of}
+use Rattle.lots_core.specs.Lists.{AreFull, lines_of}
+use Rattle.lots_core.specs.Text.{WasRead}
 use Rattle.lots_core.specs.declared.arguments.Request.{Request}
-use Rattle.lots_record.specs.Record.{Source}
+use Rattle.lots_record.specs.Check.{IsAnnounced, given}
+use Rattle.lots_record.specs.Record.{IsRefusedWith, Source}
+use Rattle.lots_record.specs.declared.record.Source.{Source as ASource}
 use Rattle.lots_record.specs.declared.check_error.CheckError.{CheckError}
 use Rattle.lots_record.specs.declared.check_error.CheckError.TheVariants.{Differs, Draw, NotAnnounced, OtherAnnouncement, Unreadable}
 
@@ -50,3 +53,17 @@ source_asked request announcement list = record {
   announcement = sum_of announcement;
   program = None;
 }
+
+-- Why there is no record of a request for a list.
+abbrev pub IsUnrecorded : Request → Option (Bor (List ℕ)) → List ℕ → CheckError → Type 0
+IsUnrecorded request announcement list (Draw error) =
+    IsRefusedWith (record { seed = request.seed; count = request.count; announcement = None; program = None })
+    list error
+IsUnrecorded request announcement list NotAnnounced =
+    AreFull (lines_of list)
+    × (IsAnnounced (given announcement) list (number_asked request.count (length (lines_of list))) → ⊥)
+IsUnrecorded request announcement list other = ⊥
+
+-- The list was read to its end, and there is this reason in it.
+abbrev pub InList : Option (List ℕ) → Option (List ℕ) → (List ℕ → Type 0) → Type 0
+InList before after Reason = (list : List ℕ) × WasRead before after list × Reason list

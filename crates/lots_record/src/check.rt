@@ -3,7 +3,7 @@ ghost use Rattle.std.specs.Prelude.{◌≡◌, length, Decides, IfErr, OnOk};
 ghost use Rattle.lots_core.specs.declared.error.LotsError.TheVariants.{Memory};
 ghost use Rattle.lots_core.specs.Lists.{lines_of};
 ghost use Rattle.lots_record.specs.Announcement.{Tells};
-ghost use Rattle.lots_record.specs.Check.{IsAnnounced, IsRecord, NamesAnnouncement, given};
+ghost use Rattle.lots_record.specs.Check.{IsAnnounced, IsRecord, IsRefusal, NamesAnnouncement, given};
 ghost use Rattle.lots_record.specs.declared.check_error.CheckError.TheVariants.{Draw};
 
 use crate::announcement::is_announcement;
@@ -48,7 +48,9 @@ pub fn is_announced<A: Allocator>(
 /// the record has to name its SHA-256, and it has to be the announcement of a draw of so many
 /// entrants from the list.
 ///
-/// Returns the reason if it is not, and the error of the draw if the draw fails.
+/// Returns the reason if it is not, and the error of the draw if the draw fails. A record of a draw
+/// from this list is refused only with `OtherAnnouncement`, if it does not name the announcement, with
+/// `NotAnnounced`, if the announcement is not that of the draw, or with `Memory`.
 pub fn check<A: Allocator>(
     alloc: &A,
     text: &[u8],
@@ -58,6 +60,7 @@ pub fn check<A: Allocator>(
     ensures agrees { OnOk result (IsRecord text.now list.now (given announcement.entry)) }
     ensures only { IsRecord text.now list.now (given announcement.entry) →
         IfErr result (λ error. error ≡ Draw Memory) }
+    ensures refusal { IfErr result (IsRefusal text.now list.now (given announcement.entry)) }
 {
     let entrants = count_entrants(list)?;
     let claims = claims_of(alloc, text)?;

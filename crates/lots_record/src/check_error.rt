@@ -17,11 +17,11 @@ pub enum CheckError {
     Unreadable,
 
     /// The record names another announcement, or none.
-    #[error("the record names another announcement")]
+    #[error("the record names another announcement, or none")]
     OtherAnnouncement,
 
     /// The announcement is not that of a draw of so many entrants from the list, as the record says.
-    #[error("the announcement is not that of this draw")]
+    #[error("the announcement is not that of a draw of so many entrants from this list")]
     NotAnnounced,
 
     /// The record is not the one of its draw from this list.

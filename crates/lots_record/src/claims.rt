@@ -11,6 +11,7 @@ ghost use Rattle.lots_core.specs.Arguments.{IsNumber};
 ghost use Rattle.lots_record.specs.Record.{IsSum, Source, line, source_lines, sum_or_none};
 
 use crate::check_error::CheckError;
+use lots_core::arguments::{Count, count_of};
 use lots_core::line_end;
 use std::alloc::Allocator;
 
@@ -160,11 +161,15 @@ fn program_of(text: &[u8]) -> Option<Option<[u8; 32]>>
     Some(Some(sum_of(text)?))
 }
 
-/// Returns the number that decimal digits write.
+/// Returns the number that decimal digits write, if it is below 2^64.
 pub fn number_of(digits: &[u8]) -> Option<usize>
-    ensures { (n : ℕ) → IsNumber digits.now n → result ≡ Some n }
+    ensures found { IfSome result (IsNumber digits.now) }
+    ensures only { (n : ℕ) → IsNumber digits.now n → result ≡ Some n }
 {
-    str::from_utf8(digits).ok()?.parse().ok()
+    match count_of(str::from_utf8(digits).ok()?)? {
+        Count::Of(number) => Some(number),
+        Count::All => None,
+    }
 }
 
 /// What a record says that it is made from.
@@ -183,6 +188,7 @@ pub fn claims_of<A: Allocator>(alloc: A, text: &[u8]) -> Result<Claims<A>, Check
         text.now ≡ source_lines source list n ++ (line (codes "result SHA-256: ") sum ++ rest) →
         spec.IsClaimed source result }
     ensures sums { IfOk result spec.AreSums }
+    ensures error { IfErr result (λ error. (error ≡ Unreadable) ⊎ (error ≡ Draw Memory)) }
 {
     let values = values_of(text);
     if values.format != b"2".as_slice() {

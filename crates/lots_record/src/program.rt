@@ -1,13 +1,13 @@
 //! The commands that write and check a record, from the list to the text that is written.
-ghost use Rattle.std.specs.Prelude.{◌≡◌, ◌≢◌, ◌+◌, ◌≤◌, ℕ, List, length, IfErr, IfSome, OnOk, codes};
+ghost use Rattle.std.specs.Prelude.{◌≡◌, ◌≢◌, ◌+◌, ◌≤◌, ℕ, List, length, IfErr, IfSome, OnOk, codes, ◌⊎◌};
 ghost use Rattle.std.specs.Io.KnownBytes.{Appends};
 ghost use Rattle.lots_core.specs.Text.{WasRead};
 ghost use Rattle.lots_core.specs.declared.error.LotsError.TheVariants.{Write as Unwritten};
 ghost use Rattle.lots_record.specs.Program as spec;
 ghost use Rattle.lots_core.specs.Arguments.{number_asked};
 ghost use Rattle.lots_core.specs.Lists.{AreFull, lines_of};
-ghost use Rattle.lots_record.specs.Announcement.{plan_of, text_of};
-ghost use Rattle.lots_record.specs.Check.{IsAnnounced, IsRecord, given};
+ghost use Rattle.lots_record.specs.Announcement.{IsUnannounced, plan_of, text_of};
+ghost use Rattle.lots_record.specs.Check.{IsAnnounced, IsRecord, IsRefusal, given};
 ghost use Rattle.lots_record.specs.Record.{IsDrawable, record_text};
 ghost use Rattle.lots_record.specs.declared.check_error.CheckError.TheVariants.{Draw};
 
@@ -36,8 +36,9 @@ in the order drawn. `--announce` writes an announcement, to be published before 
 what is drawn for, how many winners and reserves, where the seed will come from, its form, a seed of
 this form, and the time. `--record` writes the record of the draw. `--check` draws again: its status
 is 0 only if the file RECORD is the record of a draw from these entrants. If a file ANNOUNCEMENT is
-given, the record names its SHA-256, and it has to be the announcement of such a draw. A seed and a
-count are always a draw: write ./2026 for a file of that name.
+given, the record names its SHA-256, and it has to be the announcement of such a draw, whose winners
+and reserves are COUNT together. A seed and a count are always a draw: write ./2026 for a file of
+that name.
 ";
 
 /// Writes a text to `out`, all at once, and then flushes. After an error, how much of the text `out`
@@ -82,6 +83,10 @@ pub fn write_record<A: Allocator, R: Read, W: Write>(
         × IsDrawable (spec.source_asked request.now announcement.entry list) list
         × Appends (W.contents out.old) (W.contents out.new)
         (record_text (spec.source_asked request.now announcement.entry list) list)) }
+    // Otherwise memory, the reader or the writer failed, or there is no record for the list.
+    ensures refusal { IfErr result (λ error. spec.IsFailedCheck error
+        ⊎ spec.InList (R.remaining input.old) (R.remaining input.new)
+        (λ list. spec.IsUnrecorded request.now announcement.entry list error)) }
     ensures untouched { IfErr result (λ error. error ≢ Draw Unwritten → out.new ≡ out.old) }
 {
     let list = read_list(&alloc, input)?;
@@ -118,6 +123,9 @@ pub fn write_announcement<A: Allocator, R: Read, W: Write>(
         × (plan.now.winners + plan.now.reserves ≤ length (lines_of list))
         × Appends (W.contents out.old) (W.contents out.new)
         (text_of (plan_of plan.now) list (length (lines_of list)))) }
+    ensures refusal { IfErr result (λ error. spec.IsFailure error
+        ⊎ spec.InList (R.remaining input.old) (R.remaining input.new)
+        (λ list. IsUnannounced (plan_of plan.now) list error)) }
     ensures untouched { IfErr result (λ error. error ≢ Unwritten → out.new ≡ out.old) }
 {
     let list = read_list(&alloc, input)?;
@@ -157,6 +165,9 @@ pub fn check_record<A: Allocator, R: Read, W: Write>(
     // or the writer can fail.
     ensures only { IfSome (R.remaining input.old) (λ list.
         IsRecord text.now list (given announcement.entry) → IfErr result spec.IsFailedCheck) }
+    ensures refusal { IfErr result (λ error. spec.IsFailedCheck error
+        ⊎ spec.InList (R.remaining input.old) (R.remaining input.new)
+        (λ list. IsRefusal text.now list (given announcement.entry) error)) }
     ensures untouched { IfErr result (λ error. error ≢ Draw Unwritten → out.new ≡ out.old) }
 {
     let list = read_list(&alloc, input)?;

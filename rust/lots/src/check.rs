@@ -42,7 +42,9 @@ pub fn is_announced(
 ///
 /// # Errors
 ///
-/// Returns the reason if it is not, and the error of the draw if the draw fails.
+/// Returns the reason if it is not, and the error of the draw if the draw fails. A record of a draw
+/// from this list is refused only with `OtherAnnouncement`, if it does not name the announcement, with
+/// `NotAnnounced`, if the announcement is not that of the draw, or with `Memory`.
 pub fn check(text: &[u8], announcement: Option<&[u8]>, list: &[u8]) -> Result<(), CheckError> {
     let entrants = count_entrants(list)?;
     let claims = claims_of(text)?;

@@ -22,8 +22,12 @@ impl core::fmt::Display for CheckError {
     fn fmt(&self, f: &mut core::fmt::Formatter<'_>) -> core::fmt::Result {
         match self {
             CheckError::Unreadable => f.write_str("this is no record of format 2"),
-            CheckError::OtherAnnouncement => f.write_str("the record names another announcement"),
-            CheckError::NotAnnounced => f.write_str("the announcement is not that of this draw"),
+            CheckError::OtherAnnouncement => {
+                f.write_str("the record names another announcement, or none")
+            }
+            CheckError::NotAnnounced => f.write_str(
+                "the announcement is not that of a draw of so many entrants from this list",
+            ),
             CheckError::Differs => f.write_str("the record is not that of a draw from this list"),
             CheckError::Draw(field) => write!(f, "{field}"),
         }

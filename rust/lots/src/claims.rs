@@ -1,5 +1,6 @@
 //! Reads back what a record is made from.
 
+use crate::arguments::{count_of, Count};
 use crate::check_error::CheckError;
 use crate::line_end;
 
@@ -111,9 +112,12 @@ fn program_of(text: &[u8]) -> Option<Option<[u8; 32]>> {
     Some(Some(sum_of(text)?))
 }
 
-/// Returns the number that decimal digits write.
+/// Returns the number that decimal digits write, if it is below 2^64.
 pub fn number_of(digits: &[u8]) -> Option<usize> {
-    std::str::from_utf8(digits).ok()?.parse().ok()
+    match count_of(std::str::from_utf8(digits).ok()?)? {
+        Count::Of(number) => Some(number),
+        Count::All => None,
+    }
 }
 
 /// What a record says that it is made from.

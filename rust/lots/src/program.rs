@@ -24,8 +24,9 @@ in the order drawn. `--announce` writes an announcement, to be published before 
 what is drawn for, how many winners and reserves, where the seed will come from, its form, a seed of
 this form, and the time. `--record` writes the record of the draw. `--check` draws again: its status
 is 0 only if the file RECORD is the record of a draw from these entrants. If a file ANNOUNCEMENT is
-given, the record names its SHA-256, and it has to be the announcement of such a draw. A seed and a
-count are always a draw: write ./2026 for a file of that name.
+given, the record names its SHA-256, and it has to be the announcement of such a draw, whose winners
+and reserves are COUNT together. A seed and a count are always a draw: write ./2026 for a file of
+that name.
 ";
 
 /// Writes a text to `out`, all at once, and then flushes. After an error, how much of the text

@@ -309,7 +309,7 @@ fn texts_and_statuses_of_the_errors() {
         (CheckError::Unreadable, "this is no record of format 2", 9),
         (
             CheckError::OtherAnnouncement,
-            "the record names another announcement",
+            "the record names another announcement, or none",
             10,
         ),
         (
@@ -319,7 +319,7 @@ fn texts_and_statuses_of_the_errors() {
         ),
         (
             CheckError::NotAnnounced,
-            "the announcement is not that of this draw",
+            "the announcement is not that of a draw of so many entrants from this list",
             12,
         ),
         (

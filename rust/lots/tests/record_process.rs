@@ -51,7 +51,8 @@ fn records_and_checks() {
     ends("\"$0\" --record x 3 announcement <list >full", 0, "", "");
     ends("\"$0\" --check full <list", 0, AGREES, "");
     ends("\"$0\" --check full announcement <list", 0, NAMES, "");
-    let unannounced = "lots: the announcement is not that of this draw\n";
+    let unannounced =
+        "lots: the announcement is not that of a draw of so many entrants from this list\n";
     for command in [
         "--record x 2 announcement <list",
         "--record x all announcement <list",
@@ -69,7 +70,7 @@ fn records_and_checks() {
         unannounced,
     );
     ends("\"$0\" --check named <list", 0, AGREES, "");
-    let other = "lots: the record names another announcement\n";
+    let other = "lots: the record names another announcement, or none\n";
     ends("\"$0\" --check full list <list", 10, "", other);
     ends("\"$0\" --check record announcement <list", 10, "", other);
     ends(

@@ -181,7 +181,7 @@ fn a_write_or_flush_that_fails() {
 fn a_text_or_report_that_fails_by_any_kind_of_error() {
     let text = &HELP.as_bytes()[..50];
     fails_with_its_writer(text, LotsError::Write, |out| write_text(text, out));
-    let line = b"lots: the record names another announcement\n";
+    let line = b"lots: the record names another announcement, or none\n";
     let error = Err(CheckError::OtherAnnouncement);
     reports_without_its_writer(line, 10, |err| report_check(error, err));
 }
@@ -192,7 +192,7 @@ fn reports() {
         (CheckError::Unreadable, "this is no record of format 2", 9),
         (
             CheckError::OtherAnnouncement,
-            "the record names another announcement",
+            "the record names another announcement, or none",
             10,
         ),
         (
@@ -202,7 +202,7 @@ fn reports() {
         ),
         (
             CheckError::NotAnnounced,
-            "the announcement is not that of this draw",
+            "the announcement is not that of a draw of so many entrants from this list",
             12,
         ),
         (CheckError::Draw(LotsError::Read), "read failed", 6),

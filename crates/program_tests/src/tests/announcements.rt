@@ -37,7 +37,8 @@ time: "Friday 4 December 2026, 12:00, Madrid"
 end of the announcement
 "#;
 
-const NOT_ANNOUNCED: &str = "lots: the announcement is not that of this draw\n";
+const NOT_ANNOUNCED: &str =
+    "lots: the announcement is not that of a draw of so many entrants from this list\n";
 
 // The arguments of the command that writes it.
 const ARGUMENTS: [&str; 8] = [

@@ -25,7 +25,7 @@ returns-in_default g c =
     no _ (λ known.
     let lines = c.lines_in-lines.ensures known.plan c.args.list.now (length (lines_of c.args.list.now)) small known.is_text known.is in
     none_is_none c.number_of.result known.plan.winners c.in_default.is
-    (c.number_of.ensures known.plan.winners (writes_number _ known.plan.winners known.is_text.winners lines.winners)))
+    (c.number_of.ensures.only known.plan.winners (writes_number _ known.plan.winners known.is_text.winners lines.winners)))
 
 pub returns-in_default-number_of : goal.returns-in_default-number_of
 returns-in_default-number_of g c =
@@ -33,7 +33,7 @@ returns-in_default-number_of g c =
     no _ (λ known.
     let lines = c.lines_in-lines.ensures known.plan c.args.list.now (length (lines_of c.args.list.now)) small known.is_text known.is in
     none_is_none c.number_of-2.result known.plan.reserves c.in_default-number_of.is
-    (c.number_of-2.ensures known.plan.reserves (writes_number _ known.plan.reserves known.is_text.reserves lines.reserves)))
+    (c.number_of-2.ensures.only known.plan.reserves (writes_number _ known.plan.reserves known.is_text.reserves lines.reserves)))
 
 pub returns-in_err-texts : goal.returns-in_err-texts
 returns-in_err-texts g c =
@@ -63,9 +63,9 @@ returns-then-not-announces g c =
     let lines = c.lines_in-lines.ensures known.plan c.args.list.now (length (lines_of c.args.list.now)) small known.is_text known.is in
     let texts = subst (λ found. ReadsTexts known.plan (Ok found)) c.in-Some-2.is (c.in_ok-texts.ensures.found known.plan known.is_text lines) in
     let winners = some_same c.number_of.result c.in-Some.winners known.plan.winners c.in-Some.is
-    (c.number_of.ensures known.plan.winners (writes_number _ known.plan.winners known.is_text.winners lines.winners)) in
+    (c.number_of.ensures.only known.plan.winners (writes_number _ known.plan.winners known.is_text.winners lines.winners)) in
     let reserves = some_same c.number_of-2.result c.in-Some-number_of.reserves known.plan.reserves c.in-Some-number_of.is
-    (c.number_of-2.ensures known.plan.reserves (writes_number _ known.plan.reserves known.is_text.reserves lines.reserves)) in
+    (c.number_of-2.ensures.only known.plan.reserves (writes_number _ known.plan.reserves known.is_text.reserves lines.reserves)) in
     let occasion = c.as_str.ensures.value ∙ texts.0 in
     let source = c.as_str-2.ensures.value ∙ texts.1 in
     let form = c.as_str-3.ensures.value ∙ texts.2 in
@@ -114,9 +114,9 @@ returns g c =
           let lines = c.lines_in-lines.ensures known.plan c.args.list.now (length (lines_of c.args.list.now)) small known.is_text known.is in
           let texts = subst (λ found. ReadsTexts known.plan (Ok found)) c.in-Some-2.is (c.in_ok-texts.ensures.found known.plan known.is_text lines) in
           let winners = some_same c.number_of.result c.in-Some.winners known.plan.winners c.in-Some.is
-          (c.number_of.ensures known.plan.winners (writes_number _ known.plan.winners known.is_text.winners lines.winners)) in
+          (c.number_of.ensures.only known.plan.winners (writes_number _ known.plan.winners known.is_text.winners lines.winners)) in
           let reserves = some_same c.number_of-2.result c.in-Some-number_of.reserves known.plan.reserves c.in-Some-number_of.is
-          (c.number_of-2.ensures known.plan.reserves (writes_number _ known.plan.reserves known.is_text.reserves lines.reserves)) in
+          (c.number_of-2.ensures.only known.plan.reserves (writes_number _ known.plan.reserves known.is_text.reserves lines.reserves)) in
           let occasion = c.as_str.ensures.value ∙ texts.0 in
           let source = c.as_str-2.ensures.value ∙ texts.1 in
           let form = c.as_str-3.ensures.value ∙ texts.2 in

@@ -7,7 +7,7 @@ use Rattle.lots_record.proofs.claims.claims_of.Goals as goal
 pub returns-in_err-count-clause-found : goal.returns-in_err-count-clause-found
 returns-in_err-count-clause-found g c = λ source list n sum rest small read is.
     let values = c.values_of-values.ensures source list n sum rest small read.count is in
-    let count = c.number_of.ensures source.count (writes_number _ source.count read.count values.drawn) in
+    let count = c.number_of.ensures.only source.count (writes_number _ source.count read.count values.drawn) in
     grind (arith, common_steps, count)
 
 pub returns-in_err-announcement-clause-found : goal.returns-in_err-announcement-clause-found
@@ -31,7 +31,7 @@ returns-in_err-seed-clause-found g c = λ source list n sum rest small read is.
 pub returns-clause-found : goal.returns-clause-found
 returns-clause-found g c = λ source list n sum rest small read is.
     let values = c.values_of-values.ensures source list n sum rest small read.count is in
-    let count = c.number_of.ensures source.count (writes_number _ source.count read.count values.drawn) in
+    let count = c.number_of.ensures.only source.count (writes_number _ source.count read.count values.drawn) in
     let announcement = c.announcement_of.ensures.found source.announcement read.announcement values.announcement in
     let program = c.program_of.ensures.found source.program read.program values.program in
     let seed = c.unquoted.ensures.found source.seed read.seed values.seed in
