@@ -163,15 +163,16 @@ def examples(programs, page, folder):
     Path(folder, "entrants").write_text(entrants, encoding="utf-8")
     here = {**os.environ, "PATH": f"{folder}:{os.environ['PATH']}"}
     pages = page + RECORDS.read_text(encoding="utf-8")
-    blocks = re.findall(r"^<!-- example: (?:sum|draw) -->\n```\n\$ (.*)\n((?:.*\n)*?)```$", pages, re.M)
+    blocks = re.findall(r"^<!-- example: (?:sum|draw) -->\n```\n\$ (.*\n(?:> .*\n)*)((?:.*\n)*?)```$", pages, re.M)
     for program in programs:
         Path(folder, "lots").unlink(missing_ok=True)
         os.symlink(program, Path(folder, "lots"))
-        for command, wanted in blocks:
+        for typed, wanted in blocks:
+            command = typed.replace("\n> ", "\n")
             done = subprocess.run(command, shell=True, cwd=folder, env=here, capture_output=True, text=True, timeout=60)
             good = (done.returncode, done.stdout) == (0, wanted)
             yield None if good else f"({Path(program).name}) the example: {command}: {done.stdout}"
-    yield None if len(blocks) == 6 else f"the example has {len(blocks)} commands"
+    yield None if len(blocks) == 8 else f"the example has {len(blocks)} commands"
 
 
 def main():

@@ -47,6 +47,8 @@ def example() -> "tuple[str, str, str]":
 def announcement() -> str:
     """An announcement of the example's draw, with a reserve."""
     entrants, seed, drawn = example()
+    throws = len(seed.split())
+    numbers = " ".join(str(number % 6 + 1) for number in range(throws))
     lines = [
         "nanorand announcement 1",
         'occasion: "Summer raffle of the school"',
@@ -54,9 +56,9 @@ def announcement() -> str:
         f"entrants: {len(entrants.splitlines())}",
         f"winners: {len(drawn.splitlines())}",
         "reserves: 1",
-        f'seed source: "{len(seed.split())} throws of a die, in the hall"',
+        f'seed source: "{throws} throws of a die, in the hall"',
         'seed form: "the numbers thrown, in order, with one space between them"',
-        f'seed example: "{seed}"',
+        f'seed example: "{numbers}"',
         'time: "Friday 4 December 2026, 12:00, Madrid"',
         "end of the announcement",
     ]

@@ -3,7 +3,7 @@
 import re
 from pathlib import Path
 
-from announcements import EXAMPLE, KNOWN, LIST, SEED, without_marks
+from announcements import EXAMPLE, KNOWN, LIST, SAMPLE, SEED, without_marks
 from announcing import begun, put, saved_file, seen
 from counts import Counts, lots, sha256
 from page import Page
@@ -173,7 +173,7 @@ def forms(counts: Counts, page: Page) -> None:
     """A seed of another form than the example is a warning, and no error."""
     begun(page)
     opened(page, KNOWN.encode())
-    begin = f'The seed has another form than the announced example "{SEED}": '
+    begin = f'The seed has another form than the announced example "{SAMPLE}": '
     for seed, wanted in ((SEED[::-1], ""), ("", ""),
                          (SEED[2:], "The seed has 19 words between spaces, the example has 20 words."),
                          (SEED.replace(" ", ""), "The seed has no spaces, the example has. The seed has 1 word between "

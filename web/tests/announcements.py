@@ -15,6 +15,7 @@ from records import bytes_of, quoted, record_of, without_module
 
 LIST = b"Ada\nBarbara\nChidi\nDmitri\nElif\nFarid\nGrace\nHedy\nInes\nJun\nKatherine\nLise\n"
 SEED = "4 1 6 3 3 2 5 6 1 4 2 6 5 3 1 1 6 2 4 5"
+SAMPLE = "1 2 3 4 5 6 1 2 3 4 5 6 1 2 3 4 5 6 1 2"
 TITLE, END = "nanorand announcement 1", "end of the announcement"
 NAMES = ["occasion", "list SHA-256", "entrants", "winners", "reserves", "seed source", "seed form", "seed example",
          "time"]
@@ -28,7 +29,7 @@ winners: 3
 reserves: 1
 seed source: "20 throws of a die, in the hall"
 seed form: "the numbers thrown, in order, with one space between them"
-seed example: "4 1 6 3 3 2 5 6 1 4 2 6 5 3 1 1 6 2 4 5"
+seed example: "1 2 3 4 5 6 1 2 3 4 5 6 1 2 3 4 5 6 1 2"
 time: "Friday 4 December 2026, 12:00, Madrid"
 end of the announcement
 """
@@ -83,7 +84,7 @@ class Announcement(NamedTuple):
 
 EXAMPLE = Announcement(*(quoted(value.encode()) if number in TEXTS else value for number, value in enumerate((
     "Summer raffle of the school", sha256(LIST), 12, 3, 1, "20 throws of a die, in the hall",
-    "the numbers thrown, in order, with one space between them", SEED, "Friday 4 December 2026, 12:00, Madrid"))))
+    "the numbers thrown, in order, with one space between them", SAMPLE, "Friday 4 December 2026, 12:00, Madrid"))))
 
 
 def is_quoted(value: str) -> bool:

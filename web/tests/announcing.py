@@ -6,7 +6,7 @@ import time
 from pathlib import Path
 from typing import List
 
-from announcements import EXAMPLE, KNOWN, LIST, SEED, needed
+from announcements import EXAMPLE, KNOWN, LIST, SAMPLE, needed
 from counts import Counts, sha256
 from page import SET, Page
 from records import quoted
@@ -14,7 +14,7 @@ from steps import focused, sheets
 
 FIELDS = {"occasion": "Summer raffle of the school", "winners": "3", "reserves": "1",
           "source": "20 throws of a die, in the hall",
-          "form": "the numbers thrown, in order, with one space between them", "example": SEED,
+          "form": "the numbers thrown, in order, with one space between them", "example": SAMPLE,
           "time": "Friday 4 December 2026, 12:00, Madrid"}
 CALLED = {"occasion": "the occasion", "source": "the source of the seed", "form": "the form of the seed",
           "example": "the example of a seed", "time": "the time and the place"}

@@ -4,3 +4,4 @@ pub mod nanorand_fairness
 pub mod nanorand
 pub mod nanorand_calls
 pub mod draw_core
+pub mod lots_record

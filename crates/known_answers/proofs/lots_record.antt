@@ -1,0 +1,2 @@
+pub mod QuotedTexts
+pub mod Documents
