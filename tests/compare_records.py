@@ -38,7 +38,7 @@ FAILURES = {
     4: rb"lots: line \d+ is empty\n",
     9: rb"lots: this is no record of format 2\n",
     10: rb"lots: the record names another announcement, or none\n",
-    11: rb"lots: the record is not that of a draw from this list\n",
+    11: rb"lots: the record is (not that of a draw from this list|that of a draw from another list)\n",
     12: rb"lots: the announcement is not that of a draw of so many entrants from this list\n",
 }
 NOT_ANNOUNCED = (12, b"", FAILURES[12].replace(rb"\n", b"\n"))
@@ -197,6 +197,8 @@ def respelled(rng, text):
         lambda: re.sub(rb"\\x[0-9a-f]{2}", lambda found: bytes([int(found[0][2:], 16)]), text, count=1),
         lambda: re.sub(rb"[0-9a-f]{64}", lambda found: found[0].upper(), text, count=1),
         lambda: re.sub(rb"(drawn|entrants): ", rng.choice([rb"\g<0>0", rb"\g<0>+", rb"\g<0> ", rb"\1:"]), text),
+        lambda: re.sub(rb"(?<=drawn: )", rng.choice([b"9", b"50", b"1000"]), text, count=1),
+        lambda: re.sub(rb"(?<=drawn: )[0-9]+", rb"\g<0>00", text, count=1),
         lambda: re.sub(rb"(?<=module SHA-256: )[0-9a-f]{64}", b"0" * 64, text),
         lambda: re.sub(rb"(?<=announcement SHA-256: )(none|[0-9a-f]{64})", b"0123456789abcdef" * 4, text),
         lambda: re.sub(rb"(?<=announcement SHA-256: )[0-9a-f]{64}", b"none", text),

@@ -246,6 +246,7 @@ END
 checks() {
     local unreadable='lots: this is no record of format 2\n' other='lots: the record names another announcement, or none\n'
     local differs='lots: the record is not that of a draw from this list\n' name
+    local other_list='lots: the record is that of a draw from another list\n'
     files
     run 'a check' "$twelve" 0 "$agrees" '' --check "$work/record"
     run 'a check without comparing the announcement' "$twelve" 0 "$agrees" '' --check "$work/full"
@@ -269,9 +270,11 @@ checks() {
     sed '3s/".*"/""/' "$work/record" >"$work/other"
     run 'a record without a seed' "$twelve" 9 '' "$unreadable" --check "$work/other"
     printf '%b' "$twelve" >"$work/twelve"
-    run 'another list' "$letters" 11 '' "$differs" --check "$work/record"
-    run 'a list with another order' "Lise\n${twelve%Lise*}" 11 '' "$differs" --check "$work/record"
-    run 'a list without its last line feed' "${twelve%??}" 11 '' "$differs" --check "$work/record"
+    run 'another list' "$letters" 11 '' "$other_list" --check "$work/record"
+    run 'a list with another order' "Lise\n${twelve%Lise*}" 11 '' "$other_list" --check "$work/record"
+    run 'a list without its last line feed' "${twelve%??}" 11 '' "$other_list" --check "$work/record"
+    run 'another list, with an announcement' "$letters" 11 '' "$other_list" --check "$work/full" "$work/announcement"
+    run 'another list and announcement' "$letters" 11 '' "$other_list" --check "$work/full" "$work/empty"
     for name in 's/$/\r/' '2s/none/NONE/' '3s/4 1/41/' '4s/3/4/' '5s/12/13/' '6s/3/2/' '6s/3/03/' '6s/3/+3/' \
         '7s/d/D/' '8s/1:/1 :/' '9s/Jun/Jan/' '9{h;d};10G' '10d' '11d' '$a more' '1i more' '3s/"4/"\\x34/'; do
         sed "$name" "$work/record" >"$work/other"
@@ -280,14 +283,17 @@ checks() {
         count "a record changed by $name" "$(
             [[ $status = 9 || $status = 11 ]] || echo " status is $status;"
             differs_in 'standard output' out ''
-            [ "$status" != 11 ] || differs_in 'standard error' err "$differs"
+            [[ $status != 11 || $name = 4* ]] || differs_in 'standard error' err "$differs"
+            [[ $status != 11 || $name != 4* ]] || differs_in 'standard error' err "$other_list"
             [ "$status" != 9 ] || differs_in 'standard error' err "$unreadable"
         )"
     done
     head -c -1 "$work/record" >"$work/other"
     run 'a record without its last line feed' "$twelve" 11 '' "$differs" --check "$work/other"
-    run 'a check, too few' 'a\nb\n' 3 '' 'lots: 2 entrants, 3 asked for\n' --check "$work/record"
-    run 'a check, no entrants' '' 3 '' 'lots: 0 entrants, 3 asked for\n' --check "$work/record"
+    sed '6s/3/13/' "$work/record" >"$work/other"
+    run 'a check, too few' "$twelve" 3 '' 'lots: 12 entrants, 13 asked for\n' --check "$work/other"
+    run 'a check, a shorter list' 'a\nb\n' 11 '' "$other_list" --check "$work/record"
+    run 'a check, no entrants' '' 11 '' "$other_list" --check "$work/record"
     run 'a check, an empty line' 'a\n\nb\n' 4 '' 'lots: line 2 is empty\n' --check "$work/record"
 }
 

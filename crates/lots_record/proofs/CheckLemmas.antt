@@ -1,6 +1,6 @@
 -- What a record of a draw excludes, and why a text is refused.
-use Rattle.std.proofs.Common.{◌≡◌, ◌⊎◌, inl, inr, ℕ, ◌-◌, ◌<◌, ◌^◌, List, [], ◌++◌, length, codes, Option, Result, Ok, Err, ap, refl, subst, sym, ◌∙◌, arith}
-use Rattle.std.specs.Prelude.{IfErr}
+use Rattle.std.proofs.Common.{◌≡◌, ◌⊎◌, inl, inr, Bool, true, ℕ, ◌-◌, ◌<◌, ◌^◌, List, [], ◌++◌, length, codes, Option, Result, Ok, Err, ap, refl, subst, sym, ◌∙◌, arith}
+use Rattle.std.specs.Prelude.{Decides, IfErr}
 use Rattle.hex.specs.Hex.{encode_lower}
 use Rattle.sha2.specs.Sha256.{sha256}
 use Rattle.nanorand_core.specs.declared.values.range.RangeError.TheVariants as ranges
@@ -16,7 +16,7 @@ use Rattle.lots_record.specs.Claims.{CanBeRead, IsClaimed}
 use Rattle.lots_record.specs.Record.{HasRecord, IsRefusedWith, Source, drawn_lines, line, source_lines}
 use Rattle.lots_record.proofs.Utf8Lemmas.{utf8_bytes}
 use Rattle.lots_record.specs.declared.check_error.CheckError.{CheckError}
-use Rattle.lots_record.specs.declared.check_error.CheckError.TheVariants.{Differs, Draw, NotAnnounced, OtherAnnouncement, Unreadable}
+use Rattle.lots_record.specs.declared.check_error.CheckError.TheVariants.{Differs, Draw, NotAnnounced, OtherAnnouncement, OtherList, Unreadable}
 use Rattle.lots_record.specs.declared.claims.Claims.{Claims}
 use Rattle.lots_record.specs.declared.record.Source.{Source as ASource}
 
@@ -70,6 +70,18 @@ claimed text list source result reading small of =
     let entrants = drawn source.seed source.count lines in
     reading source list (length lines) (encode_lower (sha256 (text_of entrants))) (drawn_lines entrants)
     small (can_be_read source list of.has small) of.is
+
+-- A record names its list.
+pub names_its_list : (text list : List ℕ) (source : Source) (named : Bool)
+    → ((source : Source) (other : List ℕ) (n : ℕ) (sum rest : List ℕ) → n < 2 ^ 64 → source.count < 2 ^ 64
+    → text ≡ source_lines source other n ++ (line (codes "result SHA-256: ") sum ++ rest)
+    → Decides named (sha256 other ≡ sha256 list))
+    → length (lines_of list) < 2 ^ 64 → IsRecordOf text list source → named ≡ true
+names_its_list text list source named decided small of =
+    let lines = lines_of list in
+    let entrants = drawn source.seed source.count lines in
+    let count : source.count < 2 ^ 64 = omega (arith, of.has.draw.enough, small) in
+    (decided source list (length lines) (encode_lower (sha256 (text_of entrants))) (drawn_lines entrants) small count of.is).1 refl
 
 pub record_of : (text list : List ℕ) (announcement : Option (List ℕ)) (known : IsRecord text list announcement)
     → IsRecordOf text list known.source
@@ -128,6 +140,8 @@ agreed : (text list : List ℕ) (announcement : Option (List ℕ)) (error : Chec
     → IsRecord text list announcement → IsRefusal text list announcement error → error ≡ Draw Memory
 agreed text list announcement (Draw error) known is = ap Draw (failed_draw text list announcement error known is)
 agreed text list announcement Unreadable known is =
+    absurd (is known.source (record_of text list announcement known))
+agreed text list announcement OtherList known is =
     absurd (is known.source (record_of text list announcement known))
 agreed text list announcement Differs known is =
     absurd (is known.source (record_of text list announcement known))

@@ -5,4 +5,5 @@ pub mod SpellingLemmas
 pub mod PlainLemmas
 pub mod CheckLemmas
 pub mod Utf8Lemmas
+pub mod SumLemmas
 mod CommandLemmas

@@ -8,7 +8,7 @@ use Rattle.lots_core.specs.declared.error.LotsError.TheVariants.{EmptyLine, Exha
 use Rattle.lots_record.specs.Announcement.{IsAnnouncement}
 use Rattle.lots_record.specs.Record.{HasRecord, Source, record_text}
 use Rattle.lots_record.specs.declared.check_error.CheckError.{CheckError}
-use Rattle.lots_record.specs.declared.check_error.CheckError.TheVariants.{Differs, Draw, NotAnnounced, OtherAnnouncement, Unreadable}
+use Rattle.lots_record.specs.declared.check_error.CheckError.TheVariants.{Differs, Draw, NotAnnounced, OtherAnnouncement, OtherList, Unreadable}
 
 -- A record names this announcement, if one is given.
 abbrev pub NamesAnnouncement : Option (List ℕ) → Option (List ℕ) → Type 0
@@ -57,6 +57,7 @@ IsFailedDraw text list other = ⊥
 abbrev pub IsRefusal : List ℕ → List ℕ → Option (List ℕ) → CheckError → Type 0
 IsRefusal text list announcement (Draw error) = IsFailedDraw text list error
 IsRefusal text list announcement Unreadable = IsNoRecord text list
+IsRefusal text list announcement OtherList = IsNoRecord text list
 IsRefusal text list announcement Differs = IsNoRecord text list
 IsRefusal text list announcement OtherAnnouncement =
     (source : Source) → IsRecordOf text list source

@@ -1,6 +1,7 @@
 -- What is read back from a record.
 use Rattle.std.specs.Prelude.{◌≡◌, ◌<◌, ◌^◌, ℕ, List, [], All, codes, decimal, Option, Some, None, IfSome, Result, Ok, Err, Vec}
 use Rattle.hex.specs.Hex.{encode_lower}
+use Rattle.sha2.specs.Sha256.{sha256}
 use Rattle.lots_core.specs.declared.error.LotsError.TheVariants.{Memory}
 use Rattle.lots_record.specs.Quoted.{quoted}
 use Rattle.lots_record.specs.Record.{IsSum, Source, sum_or_none}
@@ -19,11 +20,12 @@ abbrev pub digits_of : Option (List ℕ) → List ℕ
 digits_of None = []
 digits_of (Some sum) = encode_lower sum
 
--- The values are those that a record of this source has.
-pub record AreValues (values : Values) (source : Source) : Type 0 where
+-- The values are those that a record of this source has, for a list with these bytes.
+pub record AreValues (values : Values) (source : Source) (bytes : List ℕ) : Type 0 where
   pub format : values.format.now ≡ codes "2"
   pub announcement : values.announcement.now ≡ sum_or_none source.announcement
   pub seed : values.seed.now ≡ quoted source.seed
+  pub list : values.list.now ≡ encode_lower (sha256 bytes)
   pub drawn : values.drawn.now ≡ decimal source.count
   pub program : values.program.now ≡ digits_of source.program
 

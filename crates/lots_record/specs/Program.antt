@@ -1,5 +1,5 @@
 -- The commands of the program that write and check records.
-use Rattle.std.specs.Prelude.{◌⊎◌, ℕ, List, length, ⊤, codes, Option, Some, None, Result, Ok, Err}
+use Rattle.std.specs.Prelude.{ℕ, List, length, ⊤, codes, Option, Some, None, Result, Ok, Err}
 use Rattle.std.specs.Borrow.{Bor}
 use Rattle.sha2.specs.Sha256.{sha256}
 use Rattle.lots_core.specs.Arguments.{number_asked}
@@ -11,9 +11,8 @@ use Rattle.lots_core.specs.Text.{WasRead}
 use Rattle.lots_core.specs.declared.arguments.Request.{Request}
 use Rattle.lots_record.specs.Check.{IsAnnounced, given}
 use Rattle.lots_record.specs.Record.{IsRefusedWith, Source}
-use Rattle.lots_record.specs.declared.record.Source.{Source as ASource}
 use Rattle.lots_record.specs.declared.check_error.CheckError.{CheckError}
-use Rattle.lots_record.specs.declared.check_error.CheckError.TheVariants.{Differs, Draw, NotAnnounced, OtherAnnouncement, Unreadable}
+use Rattle.lots_record.specs.declared.check_error.CheckError.TheVariants.{Differs, Draw, NotAnnounced, OtherAnnouncement, OtherList, Unreadable}
 
 -- The SHA-256 of an announcement, if there is one.
 abbrev pub sum_of : Option (Bor (List ℕ)) → Option (List ℕ)
@@ -31,6 +30,7 @@ check_status (Ok tt) = 0
 check_status (Err (Draw error)) = status_of (Err error)
 check_status (Err Unreadable) = 9
 check_status (Err OtherAnnouncement) = 10
+check_status (Err OtherList) = 11
 check_status (Err Differs) = 11
 check_status (Err NotAnnounced) = 12
 

@@ -8,7 +8,7 @@ ghost use Rattle.lots_record.specs.declared.check_error.CheckError.TheVariants.{
 
 use crate::announcement::is_announcement;
 use crate::check_error::CheckError;
-use crate::claims::{Claims, claims_of};
+use crate::claims::{Claims, claims_of, names_list};
 use crate::record::{Source, record};
 use lots_core::arguments::Count;
 use lots_core::{LotsError, count_entrants};
@@ -64,6 +64,9 @@ pub fn check<A: Allocator>(
 {
     let entrants = count_entrants(list)?;
     let claims = claims_of(alloc, text)?;
+    if !names_list(text, list) {
+        return Err(CheckError::OtherList);
+    }
     if !names(&claims, announcement) {
         return Err(CheckError::OtherAnnouncement);
     }

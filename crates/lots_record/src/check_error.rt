@@ -16,6 +16,10 @@ pub enum CheckError {
     #[error("this is no record of format 2")]
     Unreadable,
 
+    /// The record names the SHA-256 of another list.
+    #[error("the record is that of a draw from another list")]
+    OtherList,
+
     /// The record names another announcement, or none.
     #[error("the record names another announcement, or none")]
     OtherAnnouncement,
@@ -66,7 +70,7 @@ impl CheckError {
             CheckError::Draw(error) => error.status(),
             CheckError::Unreadable => 9,
             CheckError::OtherAnnouncement => 10,
-            CheckError::Differs => 11,
+            CheckError::OtherList | CheckError::Differs => 11,
             CheckError::NotAnnounced => 12,
         }
     }

@@ -1,8 +1,9 @@
 //! Reads back what a record is made from.
-ghost use Rattle.std.specs.Prelude.{[], ◌≡◌, ◌⊎◌, ◌++◌, ◌<◌, ◌^◌, ℕ, List, length, codes, Option, Some, IsSomeAnd, All, IfErr, IfOk, IfSome};
+ghost use Rattle.std.specs.Prelude.{[], ◌≡◌, ◌⊎◌, ◌++◌, ◌<◌, ◌^◌, ℕ, List, length, codes, Option, Some, IsSomeAnd, All, Decides, IfErr, IfOk, IfSome};
 ghost use Rattle.std.specs.Char.{digit_char};
 ghost use Rattle.lots_core.specs.Lists.{HasNoLineFeed};
 ghost use Rattle.hex.specs.Hex.{encode_lower};
+ghost use Rattle.sha2.specs.Sha256.{sha256};
 ghost use Rattle.lots_record.specs.Quoted.{BeginsWith, Spells, quoted};
 ghost use Rattle.lots_core.specs.declared.error.LotsError.TheVariants.{Memory};
 ghost use Rattle.lots_record.specs.declared.check_error.CheckError.TheVariants.{Draw, Unreadable};
@@ -13,6 +14,7 @@ ghost use Rattle.lots_record.specs.Record.{IsSum, Source, line, source_lines, su
 use crate::check_error::CheckError;
 use lots_core::arguments::{Count, count_of};
 use lots_core::line_end;
+use sha2::{Digest, Sha256};
 use std::alloc::Allocator;
 
 /// Returns the value of a hexadecimal digit.
@@ -99,6 +101,7 @@ pub struct Values<'a> {
     pub format: &'a [u8],
     pub announcement: &'a [u8],
     pub seed: &'a [u8],
+    pub list: &'a [u8],
     pub drawn: &'a [u8],
     pub program: &'a [u8],
 }
@@ -108,12 +111,12 @@ fn values_of(text: &[u8]) -> Values<'_>
     ensures { (source : Source) (list : List ℕ) (n : ℕ) (sum rest : List ℕ) → n < 2 ^ 64 →
         source.count < 2 ^ 64 →
         text.now ≡ source_lines source list n ++ (line (codes "result SHA-256: ") sum ++ rest) →
-        spec.AreValues result source }
+        spec.AreValues result source list }
 {
     let (format, text) = value_after(text, b"nanorand public draw ");
     let (announcement, text) = value_after(text, b"announcement SHA-256: ");
     let (seed, text) = value_after(text, b"seed: ");
-    let (_, text) = value_after(text, b"list SHA-256: ");
+    let (list, text) = value_after(text, b"list SHA-256: ");
     let (_, text) = value_after(text, b"entrants: ");
     let (drawn, text) = value_after(text, b"drawn: ");
     let (program, _) = value_after(text, b"module SHA-256: ");
@@ -121,6 +124,7 @@ fn values_of(text: &[u8]) -> Values<'_>
         format,
         announcement,
         seed,
+        list,
         drawn,
         program,
     }
@@ -170,6 +174,16 @@ pub fn number_of(digits: &[u8]) -> Option<usize>
         Count::Of(number) => Some(number),
         Count::All => None,
     }
+}
+
+/// Whether a record names the SHA-256 of this list.
+pub fn names_list(text: &[u8], list: &[u8]) -> bool
+    ensures { (source : Source) (other : List ℕ) (n : ℕ) (sum rest : List ℕ) → n < 2 ^ 64 →
+        source.count < 2 ^ 64 →
+        text.now ≡ source_lines source other n ++ (line (codes "result SHA-256: ") sum ++ rest) →
+        Decides result (sha256 other ≡ sha256 list.now) }
+{
+    sum_of(values_of(text).list) == Some(Sha256::digest(list))
 }
 
 /// What a record says that it is made from.

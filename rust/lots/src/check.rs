@@ -3,7 +3,7 @@
 use crate::announcement::is_announcement;
 use crate::arguments::Count;
 use crate::check_error::CheckError;
-use crate::claims::{claims_of, Claims};
+use crate::claims::{claims_of, names_list, Claims};
 use crate::record::{record, Source};
 use crate::sha256;
 use crate::{count_entrants, LotsError};
@@ -48,6 +48,9 @@ pub fn is_announced(
 pub fn check(text: &[u8], announcement: Option<&[u8]>, list: &[u8]) -> Result<(), CheckError> {
     let entrants = count_entrants(list)?;
     let claims = claims_of(text)?;
+    if !names_list(text, list) {
+        return Err(CheckError::OtherList);
+    }
     if !names(&claims, announcement) {
         return Err(CheckError::OtherAnnouncement);
     }

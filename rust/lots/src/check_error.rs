@@ -8,6 +8,8 @@ pub enum CheckError {
     /// The text is not a record of format 2: its first lines, down to the number of entrants drawn
     /// and the module, cannot be read.
     Unreadable,
+    /// The record names the SHA-256 of another list.
+    OtherList,
     /// The record names another announcement, or none.
     OtherAnnouncement,
     /// The announcement is not that of a draw of so many entrants from the list, as the record says.
@@ -22,6 +24,7 @@ impl core::fmt::Display for CheckError {
     fn fmt(&self, f: &mut core::fmt::Formatter<'_>) -> core::fmt::Result {
         match self {
             CheckError::Unreadable => f.write_str("this is no record of format 2"),
+            CheckError::OtherList => f.write_str("the record is that of a draw from another list"),
             CheckError::OtherAnnouncement => {
                 f.write_str("the record names another announcement, or none")
             }
@@ -56,7 +59,7 @@ impl CheckError {
             CheckError::Draw(error) => error.status(),
             CheckError::Unreadable => 9,
             CheckError::OtherAnnouncement => 10,
-            CheckError::Differs => 11,
+            CheckError::OtherList | CheckError::Differs => 11,
             CheckError::NotAnnounced => 12,
         }
     }

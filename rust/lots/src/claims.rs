@@ -3,6 +3,7 @@
 use crate::arguments::{count_of, Count};
 use crate::check_error::CheckError;
 use crate::line_end;
+use crate::sha256;
 
 /// Returns the value of a hexadecimal digit.
 #[allow(clippy::cast_possible_truncation)] // it is below 16
@@ -67,6 +68,7 @@ pub struct Values<'a> {
     pub format: &'a [u8],
     pub announcement: &'a [u8],
     pub seed: &'a [u8],
+    pub list: &'a [u8],
     pub drawn: &'a [u8],
     pub program: &'a [u8],
 }
@@ -76,7 +78,7 @@ fn values_of(text: &[u8]) -> Values<'_> {
     let (format, text) = value_after(text, b"nanorand public draw ");
     let (announcement, text) = value_after(text, b"announcement SHA-256: ");
     let (seed, text) = value_after(text, b"seed: ");
-    let (_, text) = value_after(text, b"list SHA-256: ");
+    let (list, text) = value_after(text, b"list SHA-256: ");
     let (_, text) = value_after(text, b"entrants: ");
     let (drawn, text) = value_after(text, b"drawn: ");
     let (program, _) = value_after(text, b"module SHA-256: ");
@@ -84,6 +86,7 @@ fn values_of(text: &[u8]) -> Values<'_> {
         format,
         announcement,
         seed,
+        list,
         drawn,
         program,
     }
@@ -118,6 +121,11 @@ pub fn number_of(digits: &[u8]) -> Option<usize> {
         Count::Of(number) => Some(number),
         Count::All => None,
     }
+}
+
+/// Whether a record names the SHA-256 of this list.
+pub fn names_list(text: &[u8], list: &[u8]) -> bool {
+    sum_of(values_of(text).list) == Some(sha256::digest(list))
 }
 
 /// What a record says that it is made from.

@@ -75,7 +75,7 @@ fn announcements() {
 
 #[test]
 fn other_lists() {
-    let differs = Err(CheckError::Differs);
+    let other = Err(CheckError::OtherList);
     let mut lists = vec![
         LIST.trim_end().to_string(),
         LIST.replace('\n', "\r\n"),
@@ -86,11 +86,14 @@ fn other_lists() {
         LIST.replace("Ada\nBarbara\n", "Barbara\nAda\n"),
     ];
     for list in lists.drain(..) {
-        assert_eq!(check(EXAMPLE.as_bytes(), None, list.as_bytes()), differs);
+        assert_eq!(check(EXAMPLE.as_bytes(), None, list.as_bytes()), other);
     }
-    let (entrants, count) = (2, 3);
+    // The list is compared first, also before the announcement.
+    assert_eq!(check(EXAMPLE.as_bytes(), Some(b"none"), b"a\nb\n"), other);
+    let (entrants, count) = (12, 13);
     let few = Err(LotsError::TooFew { entrants, count }.into());
-    assert_eq!(check(EXAMPLE.as_bytes(), None, b"a\nb\n"), few);
+    let text = EXAMPLE.replace("drawn: 3", "drawn: 13");
+    assert_eq!(check(text.as_bytes(), None, LIST.as_bytes()), few);
     // An empty line is an error, whatever the text is.
     let empty = Err(CheckError::Draw(LotsError::EmptyLine(3)));
     for text in [EXAMPLE, "", "no record"] {
@@ -224,7 +227,6 @@ fn other_spellings() {
     let differs = Err(CheckError::Differs);
     for (old, new) in [
         ("drawn: 3", "drawn: 03"),
-        ("drawn: 3", "drawn: +3"),
         ("entrants: 12", "entrants: 012"),
         ("entrants: 12", "entrants: x"),
         ("list SHA-256: 32230fec", "list SHA-256: 32230FEC"),
@@ -257,6 +259,7 @@ fn other_spellings() {
 fn unreadable_texts() {
     let unreadable = Err(CheckError::Unreadable);
     for (old, new) in [
+        ("drawn: 3", "drawn: +3"),
         ("draw 2", "draw "),
         ("draw 2", "draw 1"),
         ("draw 2", "draw 2 "),
@@ -311,6 +314,11 @@ fn texts_and_statuses_of_the_errors() {
             CheckError::OtherAnnouncement,
             "the record names another announcement, or none",
             10,
+        ),
+        (
+            CheckError::OtherList,
+            "the record is that of a draw from another list",
+            11,
         ),
         (
             CheckError::Differs,

@@ -79,15 +79,15 @@ fn records_and_checks() {
         "",
         "lots: this is no record of format 2\n",
     );
+    let other = "lots: the record is that of a draw from another list\n";
+    for list in ["printf 'a\\nb\\nc\\n'", "printf ''"] {
+        ends(&format!("{list} | \"$0\" --check record"), 11, "", other);
+        ends(&format!("{list} | \"$0\" --check full list"), 11, "", other);
+    }
     let differs = "lots: the record is not that of a draw from this list\n";
-    ends(
-        "printf 'a\\nb\\nc\\n' | \"$0\" --check record",
-        11,
-        "",
-        differs,
-    );
+    let changed = "sed 's/Jun/Ada/' record >changed && \"$0\" --check changed <list";
+    ends(changed, 11, "", differs);
     let few = "lots: 0 entrants, 3 asked for\n";
-    ends("\"$0\" --check record </dev/null", 3, "", few);
     ends("\"$0\" --record x 3 </dev/null", 3, "", few);
     let empty = "lots: line 1 is empty\n";
     ends("echo | \"$0\" --check record", 4, "", empty);

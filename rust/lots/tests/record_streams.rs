@@ -115,8 +115,13 @@ fn what_does_not_agree() {
     ] {
         let mut out = Writer::willing();
         assert_eq!(record(&mut &*list, &mut out), Err(CheckError::Draw(error)));
-        assert_eq!(check(&mut &*list, &mut out), Err(CheckError::Draw(error)));
         let too_few = matches!(error, LotsError::TooFew { .. });
+        let checked = if too_few {
+            CheckError::OtherList
+        } else {
+            CheckError::Draw(error)
+        };
+        assert_eq!(check(&mut &*list, &mut out), Err(checked));
         let (entrants, count) = (1, 4);
         let wanted = if too_few {
             LotsError::TooFew { entrants, count }
@@ -194,6 +199,11 @@ fn reports() {
             CheckError::OtherAnnouncement,
             "the record names another announcement, or none",
             10,
+        ),
+        (
+            CheckError::OtherList,
+            "the record is that of a draw from another list",
+            11,
         ),
         (
             CheckError::Differs,

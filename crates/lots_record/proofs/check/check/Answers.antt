@@ -9,10 +9,10 @@ use Rattle.lots_core.specs.Lists.{lines_of}
 use Rattle.lots_record.specs.Check.{IsAnnounced, IsNoRecord, IsRecordOf, NamesAnnouncement, given}
 use Rattle.lots_record.specs.Claims.{IsClaimed}
 use Rattle.lots_record.specs.Record.{HasRecord, Source, record_text, source_of}
-use Rattle.lots_record.specs.declared.check_error.CheckError.TheVariants.{Differs, NotAnnounced, OtherAnnouncement, Unreadable}
+use Rattle.lots_record.specs.declared.check_error.CheckError.TheVariants.{Differs, NotAnnounced, OtherAnnouncement, OtherList, Unreadable}
 use Rattle.lots_record.specs.declared.claims.Claims.{Claims}
 use Rattle.lots_record.specs.declared.record.Source.{Source as ASource}
-use Rattle.lots_record.proofs.CheckLemmas.{agreed_result, claimed, draw_failed, not_read}
+use Rattle.lots_record.proofs.CheckLemmas.{agreed_result, claimed, draw_failed, names_its_list, not_read}
 use Rattle.lots_record.proofs.ClaimLemmas.{one_answer}
 use Rattle.lots_record.proofs.check.check.Goals as goal
 
@@ -30,6 +30,17 @@ returns-in_err-claims-clause-refusal g c =
 pub returns-in_err-claims-clause-only : goal.returns-in_err-claims-clause-only
 returns-in_err-claims-clause-only g c =
     agreed_result c.args.text.now c.args.list.now (given c.args.announcement) c.from_residual-in_err-claims.result (returns-in_err-claims-clause-refusal g c)
+
+pub returns-then-not-names_list-clause-refusal : goal.returns-then-not-names_list-clause-refusal
+returns-then-not-names_list-clause-refusal g c = λ source of.
+    let list = c.args.list.now in
+    let small : length (lines_of list) < 2 ^ 64 = grind (arith, common_steps) in
+    let named = names_its_list c.args.text.now list source c.names_list.result c.names_list.ensures small of in
+    one_answer c.names_list.result named c.if-not-names_list.true
+
+pub returns-then-not-names_list-clause-only : goal.returns-then-not-names_list-clause-only
+returns-then-not-names_list-clause-only g c =
+    agreed_result c.args.text.now c.args.list.now (given c.args.announcement) (Err OtherList) (returns-then-not-names_list-clause-refusal g c)
 
 pub returns-then-not-names-clause-refusal : goal.returns-then-not-names-clause-refusal
 returns-then-not-names-clause-refusal g c = λ source of names.

@@ -52,6 +52,7 @@ returns c = λ source list n sum rest small few is.
       format = first.0;
       announcement = second.0;
       seed = third.0;
+      list = fourth.0;
       drawn = sixth.0;
       program = program_value source.program _ sum rest _ sixth.1
           (λ digits after plain other. (c.value_after-7.ensures.found digits after plain other).0) c.value_after-7.ensures.absent;
