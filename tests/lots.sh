@@ -68,6 +68,7 @@ example="${named}none\n$rest"
 empty_sum=e3b0c44298fc1c149afbf4c8996fb92427ae41e4649b934ca495991b7852b855
 agrees='the record agrees with the list; no announcement was compared\n'
 agrees_too='the record agrees with the list, and names the announcement\n'
+other_list='lots: the record is that of a draw from another list\n'
 unannounced='lots: the announcement is not that of a draw of so many entrants from this list\n'
 
 # The texts of the announcement of the example: the occasion, and those that stand after the numbers.
@@ -176,7 +177,7 @@ time: "a\\x0aend of the announcement\\x0a"\nend of the announcement\n' '' \
     for entrants in "${twelve%Lise*}" "Lise\n${twelve%Lise*}" "${twelve%??}" "${twelve}Mia\n" 'a\n' ''; do
         run 'a record of another list than the announced one' "$entrants" 12 '' "$unannounced" \
             --record "$throws" 3 "$work/announcement"
-        run 'a check with another list than the announced one' "$entrants" 12 '' "$unannounced" \
+        run 'a check with another list than the announced one' "$entrants" 11 '' "$other_list" \
             --check "$work/full" "$work/announcement"
     done
     run 'a record of another number than the announced one' "$twelve" 12 '' "$unannounced" \
@@ -246,7 +247,6 @@ END
 checks() {
     local unreadable='lots: this is no record of format 2\n' other='lots: the record names another announcement, or none\n'
     local differs='lots: the record is not that of a draw from this list\n' name
-    local other_list='lots: the record is that of a draw from another list\n'
     files
     run 'a check' "$twelve" 0 "$agrees" '' --check "$work/record"
     run 'a check without comparing the announcement' "$twelve" 0 "$agrees" '' --check "$work/full"
@@ -407,7 +407,8 @@ unread_files() {
     run_without_errors 'another announcement' "$twelve" 10 '' --check "$work/record" "$work/announcement"
     run_without_errors 'another list' "$letters" 11 '' --check "$work/record"
     run_without_errors 'a record of what is not announced' "$twelve" 12 '' --record x 2 "$work/announcement"
-    run_without_errors 'a check of what is not announced' "$letters" 12 '' --check "$work/full" "$work/announcement"
+    printf '%b' "$named$(sum_of noon)\n$rest" >"$work/named"
+    run_without_errors 'a check of what is not announced' "$twelve" 12 '' --check "$work/named" "$work/noon"
     run_without_errors 'an announcement of too many' "$twelve" 3 '' --announce a 12 1 b c d e
 }
 

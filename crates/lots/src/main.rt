@@ -15,9 +15,10 @@
 //! ANNOUNCEMENT; the status is 12 if that is not the announcement of such a draw. `lots --check
 //! RECORD [ANNOUNCEMENT] < entrants` draws again: the status is 0 only if the file RECORD is the
 //! record of a draw from these entrants, names ANNOUNCEMENT if one is given, and ANNOUNCEMENT is
-//! that of such a draw; otherwise it is 9 if the file is no record, 10 if it names another
-//! announcement, 12 if the announcement is not that of this draw, 11 if it is not the record of its
-//! draw from these entrants, or that of the error. `lots --version` and `lots --help` print a text.
+//! that of such a draw; otherwise it is 9 if the file is no record, 11 if it names another list or is
+//! not the record of its draw from these entrants, 10 if it names another announcement, 12 if the
+//! announcement is not that of this draw, or that of the error. `lots --version` and `lots --help`
+//! print a text.
 //! A seed and a count are always a draw, even if the seed is such an option: a record whose file is
 //! named `all` or by digits is checked by `lots --check ./all`.
 #![tactic(auto)]
