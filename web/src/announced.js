@@ -1,6 +1,6 @@
 // The announcement that was opened again for its draw.
 
-import { announcedCount, announcedWords, unannouncedList, seedDifferences } from "./belongs.js";
+import { announcedCount, announcedWords, unannouncedList, seedWarning } from "./belongs.js";
 import { client, fieldChanged, markResult, refuse, session } from "./session.js";
 import { clearRefusals, part, say, sayOnce } from "./view.js";
 
@@ -53,11 +53,9 @@ export function compareList() {
   if (other) refuse(other);
 }
 
-/** Warns if the seed has another form than the announced example. */
+/** Warns if the seed has another form than the announced example, or is this example. */
 export function compareSeed() {
   const { announced } = session;
   const seed = part("seed").value;
-  const differences = announced === null || seed === "" ? [] : seedDifferences(seed, announced.announcement);
-  sayOnce("seed-form", differences.length === 0 ? "" : "The seed has another form than the announced example " +
-    `${announced.announcement.example}: ${differences.join(" ")}`);
+  sayOnce("seed-form", announced === null || seed === "" ? "" : seedWarning(seed, announced.announcement));
 }

@@ -3,7 +3,7 @@
 import re
 from pathlib import Path
 
-from announcements import EXAMPLE, KNOWN, LIST, SAMPLE, SEED, without_marks
+from announcements import EXAMPLE, KNOWN, LIST, SAMPLE, SEED, with_text, without_marks
 from announcing import begun, put, saved_file, seen
 from counts import Counts, lots, sha256
 from page import Page
@@ -139,6 +139,8 @@ def unreadable(counts: Counts, page: Page) -> None:
              "Line 6: the value of “reserves” cannot be read. It has to be a decimal number without leading zeros."),
             ("empty", KNOWN.replace('"Summer raffle of the school"', '""').encode(),
              "Line 2: the value of “occasion” cannot be read. It must not be empty."),
+            ("no UTF-8", with_text(8, b"Friday \xff").text().encode(),
+             "Line 10: the value of “time” cannot be read. Its bytes are not UTF-8."),
             ("another format", KNOWN.replace("announcement 1", "announcement 2").encode(), "Line 1: “nanorand"),
             ("bytes", KNOWN.encode().replace(b"school", b"sch\xff"), "Line 1: the file is not UTF-8.")):
         opened(page, KNOWN.encode())
@@ -175,19 +177,24 @@ def forms(counts: Counts, page: Page) -> None:
     opened(page, KNOWN.encode())
     begin = f'The seed has another form than the announced example "{SAMPLE}": '
     for seed, wanted in ((SEED[::-1], ""), ("", ""),
+                         (SEED.replace("4", "9"), "The seed has the digit 9, which no die has; the example has only "
+                          "1 to 6."),
                          (SEED[2:], "The seed has 19 words between spaces, the example has 20 words."),
                          (SEED.replace(" ", ""), "The seed has no spaces, the example has. The seed has 1 word between "
                           "spaces, the example has 20 words."),
                          (SEED.replace("4", "x"), "The seed has small letters (a-z), the example has none.")):
         page.fill(seed)
         counts.same(f"the form of {seed!r}", seen(page, "seed-form"), [wanted and begin + wanted])
-    page.fill(SEED[2:])
-    record = page.draw()["record"]
-    counts.same("it is drawn", f'seed: "{SEED[2:]}"' in record, True)
-    put(page, check_announcement=KNOWN)
-    counts.same("its check", page.check(record)["findings"][1],
-                "The seed has another form than the announced example: The seed has 19 words between spaces, the "
-                "example has 20 words.")
+    for seed, warning in ((SEED[2:], f"{begin}The seed has 19 words between spaces, the example has 20 words."),
+                          (SAMPLE, "The seed is the announced example.")):
+        page.tab("draw")
+        page.fill(seed)
+        counts.same(f"the warning of {seed!r}", seen(page, "seed-form"), [warning])
+        record = page.draw()["record"]
+        counts.same(f"{seed!r} is drawn", f'seed: "{seed}"' in record, True)
+        put(page, check_announcement=KNOWN)
+        shown = page.check(record)
+        counts.same(f"the check of {seed!r}", [shown["outcome"], shown["findings"][1]], ["agrees", warning])
 
 
 def dropped(page: Page, field: str, data: bytes) -> None:
