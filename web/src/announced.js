@@ -18,6 +18,12 @@ export async function openAnnouncement(bytes) {
   }
 }
 
+/** Opens the announcement that was saved or printed. @param {Uint8Array} bytes */
+export async function openMade(bytes) {
+  await openAnnouncement(bytes);
+  part("seed").focus();
+}
+
 /** Takes the announcement away: the draw is one that was not announced. */
 export function takeAway() {
   announceDraw(null);
@@ -33,6 +39,7 @@ function announceDraw(announced) {
   session.announced = announced;
   part("announced").hidden = announced === null;
   part("announce").hidden = announced !== null;
+  part("unopened").hidden = announced !== null;
   if (announced !== null) {
     const { occasion, entrants, source, form, example, time } = announced.announcement;
     say("announced-words", `Announced: ${announcedWords(announced.announcement)} of ${entrants} entrants, ` +

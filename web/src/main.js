@@ -1,8 +1,8 @@
 // The web page: what its fields and buttons do.
 
-import { compareList, compareSeed, openAnnouncement, takeAway } from "./announced.js";
+import { compareList, compareSeed, openAnnouncement, openMade, takeAway } from "./announced.js";
 import {
-  announceList, announceTyped, beginAnnouncing, presetChosen, printAnnouncement, saveAnnouncement,
+  announceList, announceTyped, beginAnnouncing, bytesMade, presetChosen, printAnnouncement, saveAnnouncement,
 } from "./announcing.js";
 import { checkNow, readForCheck, recordChanged, showForCheck } from "./checking.js";
 import { showResult } from "./drawn.js";
@@ -178,6 +178,7 @@ for (const field of part("announce").querySelectorAll("input, textarea")) field.
 on("preset", "change", presetChosen);
 on("save-announcement", "click", saveAnnouncement);
 on("print-announcement", "click", () => printAnnouncement(printPaper));
+on("open-made", "click", () => openMade(bytesMade()));
 on("take-away", "click", takeAway);
 on("draw", "click", drawNow);
 on("check", "click", checkNow);

@@ -141,7 +141,7 @@ def mutated(rng: random.Random, text: str) -> str:
 
 
 def no_text() -> List[bytes]:
-    """Bytes that are not UTF-8: single ones, and ones that are too long, cut off, halves of characters, or too large."""
+    """Bytes that are not UTF-8: single ones, and too long, cut off, too large ones, or halves of characters."""
     odd = [*ODD, b"Friday \xff", b"\xe2\x80", b"\xf0\x9f\x91", b"\xe0\x80\x80", b"\xed\xbf\xbf",
            b"\xed\xa0\xbd\xed\xb0\x80", *(bytes([byte]) for byte in range(0x80, 0x100))]
     return [one for one in odd if one and not is_text(one)]
