@@ -4,7 +4,7 @@ import re
 from pathlib import Path
 
 from announcements import EXAMPLE, KNOWN, LIST, SAMPLE, SEED, with_text, without_marks
-from announcing import begun, put, saved_file, seen
+from announcing import FIELDS, begun, pressed, put, saved, saved_file, seen
 from counts import Counts, lots, sha256
 from page import Page
 from records import END, record_of
@@ -82,6 +82,52 @@ def whole_way(counts: Counts, page: Page, program: str, module: bytes, downloads
         "the seed could be known. The time that it names"])
     counts.same("sheets of paper of the check", sheets(page.browser.printed()), 1)
     counts.same("who won", seen(page, "drawn-label"), ["Winners (the first 3), and then reserves"])
+
+
+def made_here(counts: Counts, page: Page, program: str, module: bytes) -> None:
+    """An announcement that was saved or printed a moment ago: the page says that it is not open, and opens it."""
+    words = "You {} an announcement of this draw. Open it before you draw, so that the record names it."
+    page.load()
+    counts.same("nothing was saved, without a list", seen(page, "made"), [""])
+    begun(page)
+    counts.same("nothing was saved", seen(page, "made"), [""])
+    page.browser.run("window.print = () => {};")
+    for word, data in (("printed", KNOWN.encode()), ("saved", EXAMPLE._replace(time='"x"').text().encode())):
+        put(page, time="x" if word == "saved" else FIELDS["time"])
+        pressed(page, "print-announcement") if word == "printed" else saved(page)
+        counts.same(f"it was {word}", seen(page, "made")[0].split("\n")[::2], [
+            words.format(word), "Open this announcement"])
+        for name, value in FIELDS.items():
+            before = seen(page, name)[0]
+            put(page, **{name: "2" if value.isdigit() else "another"})
+            counts.same(f"{word}, and {name} has changed", seen(page, "made"), [""])
+            put(page, **{name: before})
+            counts.same(f"{word}, and {name} is as before", seen(page, "made-words"), [words.format(word)])
+        for other in (LIST + b"Max\n", b"Ada\n\n", b""):
+            page.open_file(other)
+            page.browser.wait("return !document.getElementById('made').checkVisibility();")
+            page.facts()
+            counts.same(f"{word}, and the list {other!r}", seen(page, "made"), [""])
+            page.open_file(LIST)
+            page.browser.wait("return document.getElementById('made').checkVisibility();")
+        page.tab("check")
+        counts.same(f"{word}: not in a check", seen(page, "made-words"), [""])
+        page.fill(SEED, "4")
+        counts.same(f"{word}, but not opened", ["SHA-256: none" in page.draw()["record"], *seen(page, "made-words")],
+                    [True, words.format(word)])
+        page.browser.run("""document.getElementById("announced").hidden = true;
+            document.getElementById("count").value = ""; document.getElementById("open-made").click();""")
+        page.browser.wait("return document.activeElement.id === 'seed';")
+        counts.same(f"{word} and opened", seen(page, "made-words", "announced-digest", "count", "announcement-error"),
+                    ["", sha256(data), "4", ""])
+        record = page.draw()["record"]
+        counts.same(f"{word}: the record", record, record_of(SEED, LIST, lots(program, SEED, "4", LIST).output,
+                                                             sha256(module), sha256(data)))
+        page.browser.run("document.getElementById('take-away').click();")
+        counts.same(f"{word}, and taken away", seen(page, "made-words"), [words.format(word)])
+        opened(page, EXAMPLE._replace(winners=2).text().encode())
+        counts.same(f"{word}, and another one opened", seen(page, "made-words"), [""])
+        page.browser.run("document.getElementById('take-away').click();")
 
 
 def refused(counts: Counts, page: Page) -> None:
@@ -262,6 +308,7 @@ def many(counts: Counts, page: Page, program: str, module: bytes) -> None:
 def run(counts: Counts, page: Page, program: str, module: bytes, downloads: Path) -> None:
     page.browser.size(1000, 900)
     whole_way(counts, page, program, module, downloads)
+    made_here(counts, page, program, module)
     for part in (refused, unreadable, forms):
         part(counts, page)
     check_fields(counts, page, program, module)
