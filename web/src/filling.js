@@ -12,7 +12,7 @@ const PRESET_TEXTS = ["source", "form", "example"];
 
 /**
  * `filled` has the texts of the preset, and `words` are those for its values. `last` has the texts that were in the
- * fields last. `edited` has them as they were after the last change by hand, with the words of that time.
+ * fields last. `edited` has them as they were when a text or a value was last typed, with the words of that time.
  */
 const filling = { filled: {}, words: [], last: {}, edited: { texts: {}, words: [] } };
 
@@ -44,12 +44,15 @@ export function isEdited() {
   return PRESET_TEXTS.some((id) => part(id).value !== filling.filled[id]);
 }
 
+/** Keeps the texts with the words for the values. These words change while another value is typed. */
+export function keepTexts() {
+  filling.last = textsTyped();
+  filling.edited = { texts: filling.last, words: filling.words };
+}
+
 /** Keeps the texts if one of them was changed by hand. */
 export function keepEdited() {
-  const texts = textsTyped();
-  if (PRESET_TEXTS.every((id) => texts[id] === filling.last[id])) return;
-  filling.edited = { texts, words: filling.words };
-  filling.last = texts;
+  if (PRESET_TEXTS.some((id) => part(id).value !== filling.last[id])) keepTexts();
 }
 
 /** The text for a field: that of the preset, or the edited one with the words for the values. */

@@ -6,6 +6,7 @@ import {
 } from "./announcing.js";
 import { checkNow, readForCheck, recordChanged, showForCheck } from "./checking.js";
 import { showResult } from "./drawn.js";
+import { keepTexts } from "./filling.js";
 import { bitsOfBrowser } from "./module.js";
 import {
   answerQuestion, askFirst, askToLeave, closeFile, cure, listBegun, listSent, listTyped, openFile, pasteLong, saveList,
@@ -176,6 +177,7 @@ on("check-text", "input", recordChanged);
 on("check-announcement", "input", recordChanged);
 for (const field of part("announce").querySelectorAll("input, textarea")) field.addEventListener("input", announceTyped);
 on("preset", "change", presetChosen);
+on("announce", "change", keepTexts);
 on("save-announcement", "click", saveAnnouncement);
 on("print-announcement", "click", () => printAnnouncement(printPaper));
 on("open-made", "click", () => openMade(bytesMade()));

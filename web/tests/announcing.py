@@ -30,6 +30,10 @@ const preset = document.getElementById("preset");
 preset.value = arguments[0];
 preset.dispatchEvent(new Event("change"));
 """
+# Tells the page that a field is left after something was typed.
+LEAVE = """
+document.getElementById(arguments[0]).dispatchEvent(new Event("change", { bubbles: true }));
+"""
 ASKED = "return Array.from(document.querySelectorAll('[data-ask]')).filter((one) => one.checkVisibility())" \
         ".map((one) => one.dataset.ask);"
 PAPER = """
@@ -352,6 +356,14 @@ def apart(counts: Counts, page: Page) -> None:
     put(page, source="a die, 20 times", preset_throws="30")
     counts.same("throws that no words have", seen(page, "source", "disagreements"),
                 ["a die, 20 times", compare.format("30 throws")])
+    of_preset(page, "die")
+    put(page, source="30 throws, 2 throws each")
+    for value in ("30", "40", "1", "20", "25"):
+        for key in (value[0], value):
+            put(page, preset_throws=key)
+        page.browser.run(LEAVE, "preset-throws")
+        counts.same(f"the source first, then {value} throws", seen(page, "source", "disagreements"), [
+            f"{value} {'throw' if value == '1' else 'throws'}, 2 throws each", ""])
     of_preset(page, "die")
     put(page, example="1 2 3")
     counts.same("a short example", seen(page, "disagreements"), ["The example has 3 words between spaces, and not 20."])
