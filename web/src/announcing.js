@@ -55,9 +55,10 @@ function markAnnouncement() {
   const { facts } = session;
   const isKnown = made !== null && facts !== null;
   const isOld = isKnown && made.text !== writeAnnouncement(announcementOf(fieldsTyped(), facts));
-  part("made").hidden = !isKnown || isOld;
-  sayOnce("made-words", !isKnown || isOld ? "" : `You ${word} an announcement of this draw. Open it before you draw, so ` +
-    "that the record names it.");
+  const isNew = isKnown && !isOld;
+  part("made").hidden = !isNew;
+  sayOnce("made-words", isNew ? `You ${word} an announcement of this draw. Open it before you draw, so that the record ` +
+    "names it." : "");
   sayOnce("announcement-stale", isOld ? `The announcement that you ${word} is out of date: the list or a field has ` +
     "changed since. Save or print it again, and do not publish the one from before." : "");
   sayOnce("announcement-heading", isOld ? "The announcement that is out of date" : "The announcement");

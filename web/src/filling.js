@@ -1,5 +1,5 @@
-// The texts of the announcement that a preset fills in, and its values. A text that was edited by hand stays, and only the
-// words for a value change with it.
+// The texts of the announcement that a preset fills in, and its values. A text that was edited by hand stays, and only
+// the words for a value change with it.
 
 import { numberTyped } from "./fields.js";
 import { PRESETS } from "./presets.js";
@@ -95,12 +95,14 @@ export function disagreements() {
   const values = presetValues();
   if (values === null) return [];
   const missing = missingIn(part("source").value, preset().said(values));
-  return [...missing.map((words) => `The source of the seed does not say “${words}”. Compare the two.`), ...otherLength()];
+  const sentences = missing.map((words) => `The source of the seed does not say “${words}”. Compare the two.`);
+  return [...sentences, ...otherLength()];
 }
 
 /** The number of throws that the source says, and that of its field, if they differ; or null. */
 export function throwsApart() {
-  const throws = presetValues()?.throws;
-  const said = throws === undefined ? null : otherThrows(part("source").value, throws);
+  const throws = numberTyped(part("preset-throws").value);
+  if (!preset().asks.includes("throws") || Number.isNaN(throws)) return null;
+  const said = otherThrows(part("source").value, throws);
   return said === null ? null : { said, throws };
 }

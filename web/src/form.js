@@ -48,8 +48,8 @@ function countOfWords(words) {
 }
 
 /**
- * In which ways a seed has another form than an example, as sentences: the kinds of characters, the number of words, the
- * spaces, the digits that no die has, and the lengths of long words.
+ * In which ways a seed has another form than an example, as sentences: the kinds of characters, the number of words,
+ * the spaces, the digits that no die has, and the lengths of long words.
  * @param {string} seed @param {string} example @returns {string[]}
  */
 export function formDifferences(seed, example) {

@@ -43,6 +43,11 @@ function inHundredths(count) {
 }
 
 /** @param {number} count */
+function numbersSaid(count) {
+  return count === 1 ? "1 number" : `${count} numbers`;
+}
+
+/** @param {number} count */
 function throwsSaid(count) {
   return count === 1 ? "1 throw" : `${count} throws`;
 }
@@ -70,13 +75,16 @@ export const PRESETS = {
   },
   lottery: {
     asks: ["numbers", "of"],
-    said: ({ numbers }) => [`${numbers} numbers`],
+    said: ({ numbers }) => [numbersSaid(numbers)],
     texts: ({ numbers, of }) => ({
-      source: `the ${numbers} numbers of [name of the lottery], drawn on [date], without additional numbers`,
+      source: `the ${numbersSaid(numbers)} of [name of the lottery], drawn on [date], without additional numbers`,
       form: "the numbers in ascending order, without leading zeros, with one space between them",
       example: increasing(numbers, of).join(" "),
     }),
-    seeds: ({ numbers, of }) => ({ seeds: setsOf(of, numbers) ?? 2n ** 256n, words: `${numbers} numbers of ${of}` }),
+    seeds: ({ numbers, of }) => ({
+      seeds: setsOf(of, numbers) ?? 2n ** 256n,
+      words: `${numbersSaid(numbers)} of ${of}`,
+    }),
   },
   prices: {
     asks: ["prices"],
@@ -105,10 +113,10 @@ export const PRESETS = {
   },
   several: {
     asks: ["numbers", "of", "prices", "throws"],
-    said: ({ numbers, throws }) => [`${numbers} numbers`, throwsSaid(throws)],
+    said: ({ numbers, throws }) => [numbersSaid(numbers), throwsSaid(throws)],
     texts: ({ numbers, of, prices, throws }) => ({
-      source: `first, the ${numbers} numbers of [name of the lottery], drawn on [date], without additional numbers; ` +
-        `second, ${PRICES_TEXT}; third, ${throwsText(throws)}, thrown in [place] after the first two are published; ` +
+      source: `first, the ${numbersSaid(numbers)} of [name of the lottery], drawn on [date], without additional ` +
+        `numbers; second, ${PRICES_TEXT}; third, ${throwsText(throws)}, thrown in [place] after the first two are published; ` +
         FALLS,
       form: "as RFC 3797 writes it: for each source in this order its numbers, each without leading zeros and with a " +
         "full stop after it, and a slash after each source; the numbers of the lottery in ascending order, the prices " +

@@ -21,10 +21,10 @@ export function missingIn(source, words) {
 }
 
 /**
- * The number of throws that a source says, if it is another one; or null. It may say further ones.
- * @param {string} source @param {number} throws
+ * The number of throws that a source says, if it says only other ones; or null.
+ * @param {string} source @param {number} throws @returns {?string}
  */
 export function otherThrows(source, throws) {
-  const said = Array.from(source.matchAll(/(\d+)\s+throws?\b/gi), ([, count]) => Number(count));
-  return said.length === 0 || said.includes(throws) ? null : said[0];
+  const said = Array.from(source.matchAll(/(\d+)\s+throws?\b/gi), ([, count]) => count);
+  return said.length === 0 || said.some((count) => Number(count) === throws) ? null : said[0];
 }

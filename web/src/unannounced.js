@@ -18,8 +18,8 @@ export const ANNOUNCING_REFUSALS = {
   },
   "throws differ": {
     field: "announce",
-    words: ({ said, throws }) => `The source of the seed says ${said} throws, but the number of throws is ${throws}. ` +
-      "Change one of them.",
+    words: ({ said, throws }) => `The source of the seed says ${said} ${said === "1" ? "throw" : "throws"}, but the ` +
+      `number of throws is ${throws}. Change one of them.`,
   },
   "winners are no number": {
     field: "announce",

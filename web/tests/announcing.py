@@ -333,7 +333,8 @@ def apart(counts: Counts, page: Page) -> None:
             ("die", "20 THROWS: 10 throws by each", "20", "", None), ("die", "1 throw", "1", "", None),
             ("die", "25 throws", "20", "20 throws", 25), ("die", "25 throws, 7 throws", "20", "20 throws", 25),
             ("die", "120 throws", "20", "20 throws", 120), ("die", "2 throws", "20", "20 throws", 2),
-            ("die", "1 throw", "20", "20 throws", 1), ("die", "twenty throws", "20", "20 throws", None),
+            ("die", "1 throw", "20", "20 throws", 1), ("die", "20 throws", "1001", "", 20),
+            ("die", "20 throws", "", "", None), ("die", "twenty throws", "20", "20 throws", None),
             ("die", "a die, 20 times", "20", "20 throws", None),
             ("several", "6 numbers, 25 throws", "20", "20 throws", 25),
             ("several", "7 numbers, 20 throws", "20", "6 numbers", None),
@@ -349,13 +350,22 @@ def apart(counts: Counts, page: Page) -> None:
         pressed(page, "save-announcement")
         error, text = seen(page, "announce-error", "announcement-text")
         counts.same(f"{preset}, {source!r}: saved", [error, bool(text)], [
-            "" if said is None else f"The source of the seed says {said} throws, but the number of throws is {throws}. "
-            "Change one of them.", said is None])
+            "" if said is None else f"The source of the seed says {said} throw{'s' * (said != 1)}, but the number of "
+            f"throws is {throws}. Change one of them.", said is None])
         counts.same(f"{preset}, {source!r}: the field", focused(page) == "source", said is not None)
     of_preset(page, "die")
     put(page, source="a die, 20 times", preset_throws="30")
     counts.same("throws that no words have", seen(page, "source", "disagreements"),
                 ["a die, 20 times", compare.format("30 throws")])
+    of_preset(page, "several")
+    put(page, source="25 throws", preset_numbers="x")
+    pressed(page, "save-announcement")
+    counts.same("another value is missing", seen(page, "announce-error"), [
+        "The source of the seed says 25 throws, but the number of throws is 20. Change one of them."])
+    of_preset(page, "lottery")
+    put(page, source=seen(page, "source")[0] + ".", preset_numbers="1")
+    counts.same("one number", seen(page, "source", "disagreements"), [
+        "the 1 number of [name of the lottery], drawn on [date], without additional numbers.", ""])
     of_preset(page, "die")
     put(page, source="30 throws, 2 throws each")
     for value in ("30", "40", "1", "20", "25"):
