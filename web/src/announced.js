@@ -1,6 +1,6 @@
 // The announcement that was opened again for its draw.
 
-import { announcedCount, announcedWords, unannouncedList, seedDifferences } from "./belongs.js";
+import { announcedCount, announcedWords, unannouncedList, seedWarning } from "./belongs.js";
 import { client, fieldChanged, markResult, refuse, session } from "./session.js";
 import { clearRefusals, part, say, sayOnce } from "./view.js";
 
@@ -18,6 +18,12 @@ export async function openAnnouncement(bytes) {
   }
 }
 
+/** Opens the announcement that was saved or printed. @param {Uint8Array} bytes */
+export async function openMade(bytes) {
+  await openAnnouncement(bytes);
+  part("seed").focus();
+}
+
 /** Takes the announcement away: the draw is one that was not announced. */
 export function takeAway() {
   announceDraw(null);
@@ -33,6 +39,7 @@ function announceDraw(announced) {
   session.announced = announced;
   part("announced").hidden = announced === null;
   part("announce").hidden = announced !== null;
+  part("unopened").hidden = announced !== null;
   if (announced !== null) {
     const { occasion, entrants, source, form, example, time } = announced.announcement;
     say("announced-words", `Announced: ${announcedWords(announced.announcement)} of ${entrants} entrants, ` +
@@ -53,11 +60,9 @@ export function compareList() {
   if (other) refuse(other);
 }
 
-/** Warns if the seed has another form than the announced example. */
+/** Warns if the seed has another form than the announced example, or is this example. */
 export function compareSeed() {
   const { announced } = session;
   const seed = part("seed").value;
-  const differences = announced === null || seed === "" ? [] : seedDifferences(seed, announced.announcement);
-  sayOnce("seed-form", differences.length === 0 ? "" : "The seed has another form than the announced example " +
-    `${announced.announcement.example}: ${differences.join(" ")}`);
+  sayOnce("seed-form", announced === null || seed === "" ? "" : seedWarning(seed, announced.announcement));
 }

@@ -24,14 +24,14 @@ import { unquoted } from "./quoted.js";
 const ANNOUNCEMENT_TITLE = "nanorand announcement 1";
 const ANNOUNCEMENT_END = "end of the announcement";
 
-/** @param {string} text @returns {?string} the text, if it is the quoted form of something that is not empty */
+/** @param {string} text @returns {?string} the text, if it is the quoted form of UTF-8 that is not empty */
 function readFilled(text) {
   const bytes = unquoted(text);
-  return bytes === null || bytes.length === 0 ? null : text;
+  return bytes === null || !textOf(bytes) ? null : text;
 }
 
 function reasonInFilled(text) {
-  return reasonInQuoted(text) || " It must not be empty.";
+  return reasonInQuoted(text) || (text === "\"\"" ? " It must not be empty." : " Its bytes are not UTF-8.");
 }
 
 function reasonInNumber(text) {

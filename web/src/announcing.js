@@ -1,56 +1,28 @@
 // The part of step 1 that makes the announcement: fills its fields, and saves and prints it.
 
 import { writeAnnouncement } from "./announcement.js";
+import { utf8 } from "./bytes.js";
 import { advisedThrows, enoughWords, setsOf } from "./enough.js";
 import { ANNOUNCE_FIELDS, announcementOf, faultOfFields, numberTyped } from "./fields.js";
-import { PRESETS } from "./presets.js";
+import {
+  disagreements, fillAnew, isEdited, keepEdited, preset, presetValues, refill, throwsApart,
+} from "./filling.js";
+import { Refusal } from "./refusal.js";
 import { client, refuse, session } from "./session.js";
 import { clearRefusals, part, save, say, sayOnce, withDigests } from "./view.js";
 
 /** The name of the file that the page saves. */
 const ANNOUNCEMENT_FILE = "announcement.txt";
-/** The values that a preset asks for: their least and their greatest number. */
-const LIMITS = { throws: [1, 1000], numbers: [1, 100], of: [1, 1000], prices: [1, 100] };
-const PRESET_TEXTS = ["source", "form", "example"];
 
 /**
- * `filled` has the texts that the page has filled in, and `advised` the number of throws. `made` is the announcement
- * that was saved or printed last, or null, and `word` says which. `turn` counts the changes of the fields.
+ * `advised` is the number of throws that the page has filled in. `made` is the announcement that was saved or printed
+ * last, or null, and `word` says which. `turn` counts the changes of the fields.
  */
-const announcing = { filled: { source: "", form: "", example: "" }, advised: "", made: null, word: "", turn: 0 };
+const announcing = { advised: "", made: null, word: "", turn: 0 };
 
 /** What is typed in the fields. Line ends in a text become spaces. @returns {Record<string, string>} */
 function fieldsTyped() {
   return Object.fromEntries(ANNOUNCE_FIELDS.map((id) => [id, part(id).value.replace(/\s*\n\s*/g, " ")]));
-}
-
-/**
- * The values for a preset, or null if one is missing or out of its limits.
- * @returns {?import("./presets.js").Values}
- */
-function presetValues() {
-  const { asks } = PRESETS[part("preset").value];
-  const values = { key: part("preset-key").value.trim(), round: part("preset-round").value.trim() };
-  for (const name of asks.filter((one) => one in LIMITS)) {
-    values[name] = numberTyped(part(`preset-${name}`).value);
-    const [least, most] = LIMITS[name];
-    if (!(least <= values[name] && values[name] <= most)) return null;
-  }
-  return values.numbers > values.of ? null : values;
-}
-
-/**
- * Fills in the texts of the preset. A text that was edited stays, unless another preset is chosen.
- * @param {boolean} isOther whether it is another preset than before
- */
-function fillTexts(isOther) {
-  const values = presetValues();
-  if (values === null) return;
-  const texts = PRESETS[part("preset").value].texts(values);
-  for (const id of PRESET_TEXTS) {
-    if (isOther || part(id).value === announcing.filled[id]) part(id).value = texts[id];
-  }
-  announcing.filled = texts;
 }
 
 /** The winners that are typed, if the list has as many entrants; or null. */
@@ -60,10 +32,10 @@ function winnersTyped() {
   return facts !== null && winners >= 1 && winners <= facts.entrants ? winners : null;
 }
 
-/** Advises a number of throws that is enough for the winners, unless another number was typed. */
+/** Advises a number of throws that is enough for the winners, unless another number was typed or a text was edited. */
 function adviseThrows() {
   const winners = winnersTyped();
-  if (winners === null || part("preset-throws").value !== announcing.advised) return;
+  if (winners === null || isEdited() || part("preset-throws").value !== announcing.advised) return;
   announcing.advised = String(advisedThrows(setsOf(session.facts.entrants, winners)));
   part("preset-throws").value = announcing.advised;
 }
@@ -74,15 +46,19 @@ function sayEnough() {
   const values = presetValues();
   const isKnown = winners !== null && values !== null;
   sayOnce("enough", isKnown
-    ? enoughWords({ entrants: session.facts.entrants, winners }, PRESETS[part("preset").value].seeds(values)) : "");
+    ? enoughWords({ entrants: session.facts.entrants, winners }, preset().seeds(values)) : "");
 }
 
-/** Says so if the announcement that was saved or printed is not that of the fields and the list. */
+/** Says whether the announcement that was saved or printed is that of the fields and the list. */
 function markAnnouncement() {
   const { made, word } = announcing;
   const { facts } = session;
-  const isOld = made !== null && facts !== null &&
-    made.text !== writeAnnouncement(announcementOf(fieldsTyped(), facts));
+  const isKnown = made !== null && facts !== null;
+  const isOld = isKnown && made.text !== writeAnnouncement(announcementOf(fieldsTyped(), facts));
+  const isNew = isKnown && !isOld;
+  part("made").hidden = !isNew;
+  sayOnce("made-words", isNew ? `You ${word} an announcement of this draw. Open it before you draw, so that the record ` +
+    "names it." : "");
   sayOnce("announcement-stale", isOld ? `The announcement that you ${word} is out of date: the list or a field has ` +
     "changed since. Save or print it again, and do not publish the one from before." : "");
   sayOnce("announcement-heading", isOld ? "The announcement that is out of date" : "The announcement");
@@ -90,8 +66,10 @@ function markAnnouncement() {
 
 /** Shows what follows from the fields and the list, after a change of one of them. */
 function showAnnouncing() {
+  keepEdited();
   adviseThrows();
-  fillTexts(false);
+  refill();
+  sayOnce("disagreements", disagreements().join(" "));
   sayEnough();
   markAnnouncement();
 }
@@ -105,10 +83,10 @@ export function announceTyped() {
 
 /** Shows the fields of the preset that is chosen, and fills in its texts. */
 export function presetChosen() {
-  const { asks } = PRESETS[part("preset").value];
+  const { asks } = preset();
   for (const ask of document.querySelectorAll("[data-ask]")) ask.hidden = !asks.includes(ask.dataset.ask);
   part("preset-checks").hidden = part("preset").value !== "drand";
-  fillTexts(true);
+  fillAnew();
   announceTyped();
 }
 
@@ -123,6 +101,13 @@ export function announceList() {
   announcing.turn += 1;
   clearRefusals("announce");
   if (session.facts !== null) showAnnouncing();
+  else part("made").hidden = true;
+}
+
+/** The first field that cannot be announced, and why; or null. @param {Record<string, string>} fields */
+function faultOf(fields, entrants) {
+  const apart = throwsApart();
+  return faultOfFields(fields, entrants) ?? (apart && { id: "source", refusal: new Refusal("throws differ", apart) });
 }
 
 /** Shows what is wrong with a field, beside the buttons, and moves the focus to the field. */
@@ -145,7 +130,7 @@ async function makeAnnouncement(word) {
   const { facts } = session;
   if (facts === null) return null;
   const fields = fieldsTyped();
-  const fault = faultOfFields(fields, facts.entrants);
+  const fault = faultOf(fields, facts.entrants);
   if (fault !== null) {
     refuseField(fault);
     return null;
@@ -180,6 +165,11 @@ function showAnnouncement(text, digest) {
 export async function saveAnnouncement() {
   const text = await makeAnnouncement("saved");
   if (text !== null) save(text, ANNOUNCEMENT_FILE);
+}
+
+/** @returns {Uint8Array} the bytes of the announcement that was saved or printed */
+export function bytesMade() {
+  return utf8(announcing.made.text);
 }
 
 /** Prints the announcement. @param {(paper: "announcement") => void} print */

@@ -70,13 +70,15 @@ export function differencesFrom(record, announcement, digest) {
 }
 
 /**
- * In which ways a seed has another form than the announced example. Empty if it has the same one, or if the example is
- * not UTF-8.
- * @param {string} seed @param {import("./announcement.js").Announcement} announcement @returns {string[]}
+ * A warning if a seed has another form than the announced example, or is this example. Otherwise an empty text.
+ * @param {string} seed @param {import("./announcement.js").Announcement} announcement @returns {string}
  */
-export function seedDifferences(seed, { example }) {
+export function seedWarning(seed, { example }) {
   const text = textOf(unquoted(example));
-  return text === null ? [] : formDifferences(seed, text);
+  if (seed === text) return "The seed is the announced example.";
+  const differences = formDifferences(seed, text);
+  return differences.length === 0 ? ""
+    : `The seed has another form than the announced example ${example}: ${differences.join(" ")}`;
 }
 
 /**
@@ -86,12 +88,11 @@ export function seedDifferences(seed, { example }) {
  */
 export function comparedWith(record, announcement) {
   const { occasion, source, form, example, time } = announcement;
-  const differences = seedDifferences(record.seed, announcement);
+  const warning = seedWarning(record.seed, announcement);
   return [
     "Compared with the announcement: its SHA-256, that of its list, the number of entrants, and how many are drawn: " +
       `${announcedWords(announcement)}. The winners are the first ${announcement.winners} of the record.`,
-    ...(differences.length === 0 ? []
-      : [`The seed has another form than the announced example: ${differences.join(" ")}`]),
+    ...(warning === "" ? [] : [warning]),
     `Only you can compare the seed with its source: ${source}. Its form: ${form}, for example ${example}.`,
     `Only you can know when the announcement of ${occasion} was published. It has to be before the seed could be ` +
       `known. The time that it names: ${time}.`,

@@ -31,14 +31,25 @@ function hasLooseSpaces(text) {
   return /^ | $| {2}/.test(text);
 }
 
+/** Throws of a die: digits from 1 to 6, each a word of its own, or all in one word. */
+const OF_A_DIE = /^[1-6]+$|^[1-6]( [1-6])*$/;
+
+/** The digits of a seed that no die has, as a sentence in a list, if the example has throws. */
+function otherThanThrows(seed, example) {
+  const digits = Array.from(new Set(seed.match(/[07-9]/g)));
+  if (digits.length === 0 || !OF_A_DIE.test(example)) return [];
+  const found = `${digits.length === 1 ? "digit" : "digits"} ${digits.join(", ")}`;
+  return [`The seed has the ${found}, which no die has; the example has only 1 to 6.`];
+}
+
 /** @param {string[]} words @returns {string} */
 function countOfWords(words) {
   return words.length === 1 ? "1 word" : `${words.length} words`;
 }
 
 /**
- * In which ways a seed has another form than an example, as sentences: the kinds of characters, the number of words, the
- * spaces, and the lengths of long words.
+ * In which ways a seed has another form than an example, as sentences: the kinds of characters, the number of words,
+ * the spaces, the digits that no die has, and the lengths of long words.
  * @param {string} seed @param {string} example @returns {string[]}
  */
 export function formDifferences(seed, example) {
@@ -53,6 +64,7 @@ export function formDifferences(seed, example) {
     ...(words.length === others.length ? [] : [
       `The seed has ${countOfWords(words)} between spaces, the example has ${countOfWords(others)}.`]),
     ...(loose ? ["The seed has a space at an end or two spaces in a row, the example has not."] : []),
+    ...otherThanThrows(seed, example),
     ...(isOtherLength ? ["A word of the seed has another length than in the example."] : []),
   ];
 }

@@ -1,11 +1,12 @@
 // The web page: what its fields and buttons do.
 
-import { compareList, compareSeed, openAnnouncement, takeAway } from "./announced.js";
+import { compareList, compareSeed, openAnnouncement, openMade, takeAway } from "./announced.js";
 import {
-  announceList, announceTyped, beginAnnouncing, presetChosen, printAnnouncement, saveAnnouncement,
+  announceList, announceTyped, beginAnnouncing, bytesMade, presetChosen, printAnnouncement, saveAnnouncement,
 } from "./announcing.js";
 import { checkNow, readForCheck, recordChanged, showForCheck } from "./checking.js";
 import { showResult } from "./drawn.js";
+import { keepTexts } from "./filling.js";
 import { bitsOfBrowser } from "./module.js";
 import {
   answerQuestion, askFirst, askToLeave, closeFile, cure, listBegun, listSent, listTyped, openFile, pasteLong, saveList,
@@ -176,8 +177,10 @@ on("check-text", "input", recordChanged);
 on("check-announcement", "input", recordChanged);
 for (const field of part("announce").querySelectorAll("input, textarea")) field.addEventListener("input", announceTyped);
 on("preset", "change", presetChosen);
+on("announce", "change", keepTexts);
 on("save-announcement", "click", saveAnnouncement);
 on("print-announcement", "click", () => printAnnouncement(printPaper));
+on("open-made", "click", () => openMade(bytesMade()));
 on("take-away", "click", takeAway);
 on("draw", "click", drawNow);
 on("check", "click", checkNow);

@@ -22,6 +22,7 @@ const RANDOMNESS = "5a0de1b6c9f2437788e14c0d93ab62f70c41d8be2a6f95733ed0417ac8b9
  * `seeds` is the number of possible seeds, or null if the page cannot know it; `words` says what was counted.
  * @typedef {Object} Preset
  * @property {string[]} asks the names of the values that it needs
+ * @property {(values: Values) => string[]} said the words of the source for the values
  * @property {(values: Values) => {source: string, form: string, example: string}} texts
  * @property {(values: Values) => {seeds: ?bigint, words: string}} seeds
  */
@@ -42,8 +43,18 @@ function inHundredths(count) {
 }
 
 /** @param {number} count */
+function numbersSaid(count) {
+  return count === 1 ? "1 number" : `${count} numbers`;
+}
+
+/** @param {number} count */
+function throwsSaid(count) {
+  return count === 1 ? "1 throw" : `${count} throws`;
+}
+
+/** @param {number} count */
 function throwsText(count) {
-  return count === 1 ? "1 throw of a die" : `${count} throws of a die`;
+  return `${throwsSaid(count)} of a die`;
 }
 
 const FALLS = "a die that falls off the table is thrown again";
@@ -54,6 +65,7 @@ const PRICES_TEXT = "the closing prices of [names of the prices, in order] at [e
 export const PRESETS = {
   die: {
     asks: ["throws"],
+    said: ({ throws }) => [throwsSaid(throws)],
     texts: ({ throws }) => ({
       source: `${throwsText(throws)}, in public, in [place]; ${FALLS}`,
       form: "the numbers thrown, in order, with one space between them",
@@ -63,15 +75,20 @@ export const PRESETS = {
   },
   lottery: {
     asks: ["numbers", "of"],
+    said: ({ numbers }) => [numbersSaid(numbers)],
     texts: ({ numbers, of }) => ({
-      source: `the ${numbers} numbers of [name of the lottery], drawn on [date], without additional numbers`,
+      source: `the ${numbersSaid(numbers)} of [name of the lottery], drawn on [date], without additional numbers`,
       form: "the numbers in ascending order, without leading zeros, with one space between them",
       example: increasing(numbers, of).join(" "),
     }),
-    seeds: ({ numbers, of }) => ({ seeds: setsOf(of, numbers) ?? 2n ** 256n, words: `${numbers} numbers of ${of}` }),
+    seeds: ({ numbers, of }) => ({
+      seeds: setsOf(of, numbers) ?? 2n ** 256n,
+      words: `${numbersSaid(numbers)} of ${of}`,
+    }),
   },
   prices: {
     asks: ["prices"],
+    said: () => [],
     texts: ({ prices }) => ({
       source: PRICES_TEXT,
       form: "the prices in this order, each with a point and two decimals, without other signs, with one space " +
@@ -85,6 +102,7 @@ export const PRESETS = {
   },
   drand: {
     asks: ["key", "round"],
+    said: ({ key, round }) => [`round ${round || "[round]"}`, `public key ${key || "[public key]"}`],
     texts: ({ key, round }) => ({
       source: `round ${round || "[round]"} of the drand chain with the public key ${key || "[public key]"}`,
       form: "the randomness of the round: 64 hexadecimal digits, with small letters. It is the SHA-256 of the " +
@@ -95,9 +113,10 @@ export const PRESETS = {
   },
   several: {
     asks: ["numbers", "of", "prices", "throws"],
+    said: ({ numbers, throws }) => [numbersSaid(numbers), throwsSaid(throws)],
     texts: ({ numbers, of, prices, throws }) => ({
-      source: `first, the ${numbers} numbers of [name of the lottery], drawn on [date], without additional numbers; ` +
-        `second, ${PRICES_TEXT}; third, ${throwsText(throws)}, thrown in [place] after the first two are published; ` +
+      source: `first, the ${numbersSaid(numbers)} of [name of the lottery], drawn on [date], without additional ` +
+        `numbers; second, ${PRICES_TEXT}; third, ${throwsText(throws)}, thrown in [place] after the first two are published; ` +
         FALLS,
       form: "as RFC 3797 writes it: for each source in this order its numbers, each without leading zeros and with a " +
         "full stop after it, and a slash after each source; the numbers of the lottery in ascending order, the prices " +
@@ -115,6 +134,7 @@ export const PRESETS = {
   },
   other: {
     asks: [],
+    said: () => [],
     texts: () => ({ source: "", form: "", example: "" }),
     seeds: () => ({ seeds: null, words: "" }),
   },

@@ -16,6 +16,11 @@ export const ANNOUNCING_REFUSALS = {
     field: "announce",
     words: ({ name, blank }) => `Replace ${blank} in ${name}.`,
   },
+  "throws differ": {
+    field: "announce",
+    words: ({ said, throws }) => `The source of the seed says ${said} ${said === "1" ? "throw" : "throws"}, but the ` +
+      `number of throws is ${throws}. Change one of them.`,
+  },
   "winners are no number": {
     field: "announce",
     words: () => "Type how many winners there are: a number from 1 on, with digits only.",

@@ -3,8 +3,8 @@
 import re
 from pathlib import Path
 
-from announcements import EXAMPLE, KNOWN, LIST, SAMPLE, SEED, without_marks
-from announcing import begun, put, saved_file, seen
+from announcements import EXAMPLE, KNOWN, LIST, SAMPLE, SEED, with_text, without_marks
+from announcing import FIELDS, begun, pressed, put, saved, saved_file, seen
 from counts import Counts, lots, sha256
 from page import Page
 from records import END, record_of
@@ -84,6 +84,52 @@ def whole_way(counts: Counts, page: Page, program: str, module: bytes, downloads
     counts.same("who won", seen(page, "drawn-label"), ["Winners (the first 3), and then reserves"])
 
 
+def made_here(counts: Counts, page: Page, program: str, module: bytes) -> None:
+    """An announcement that was saved or printed a moment ago: the page says that it is not open, and opens it."""
+    words = "You {} an announcement of this draw. Open it before you draw, so that the record names it."
+    page.load()
+    counts.same("nothing was saved, without a list", seen(page, "made"), [""])
+    begun(page)
+    counts.same("nothing was saved", seen(page, "made"), [""])
+    page.browser.run("window.print = () => {};")
+    for word, data in (("printed", KNOWN.encode()), ("saved", EXAMPLE._replace(time='"x"').text().encode())):
+        put(page, time="x" if word == "saved" else FIELDS["time"])
+        pressed(page, "print-announcement") if word == "printed" else saved(page)
+        counts.same(f"it was {word}", seen(page, "made")[0].split("\n")[::2], [
+            words.format(word), "Open this announcement"])
+        for name, value in FIELDS.items():
+            before = seen(page, name)[0]
+            put(page, **{name: "2" if value.isdigit() else "another"})
+            counts.same(f"{word}, and {name} has changed", seen(page, "made"), [""])
+            put(page, **{name: before})
+            counts.same(f"{word}, and {name} is as before", seen(page, "made-words"), [words.format(word)])
+        for other in (LIST + b"Max\n", b"Ada\n\n", b""):
+            page.open_file(other)
+            page.browser.wait("return !document.getElementById('made').checkVisibility();")
+            page.facts()
+            counts.same(f"{word}, and the list {other!r}", seen(page, "made"), [""])
+            page.open_file(LIST)
+            page.browser.wait("return document.getElementById('made').checkVisibility();")
+        page.tab("check")
+        counts.same(f"{word}: not in a check", seen(page, "made-words"), [""])
+        page.fill(SEED, "4")
+        counts.same(f"{word}, but not opened", ["SHA-256: none" in page.draw()["record"], *seen(page, "made-words")],
+                    [True, words.format(word)])
+        page.browser.run("""document.getElementById("announced").hidden = true;
+            document.getElementById("count").value = ""; document.getElementById("open-made").click();""")
+        page.browser.wait("return document.activeElement.id === 'seed';")
+        counts.same(f"{word} and opened", seen(page, "made-words", "announced-digest", "count", "announcement-error"),
+                    ["", sha256(data), "4", ""])
+        record = page.draw()["record"]
+        counts.same(f"{word}: the record", record, record_of(SEED, LIST, lots(program, SEED, "4", LIST).output,
+                                                             sha256(module), sha256(data)))
+        page.browser.run("document.getElementById('take-away').click();")
+        counts.same(f"{word}, and taken away", seen(page, "made-words"), [words.format(word)])
+        opened(page, EXAMPLE._replace(winners=2).text().encode())
+        counts.same(f"{word}, and another one opened", seen(page, "made-words"), [""])
+        page.browser.run("document.getElementById('take-away').click();")
+
+
 def refused(counts: Counts, page: Page) -> None:
     """A draw from another list or with another number is refused until the announcement is taken away."""
     begun(page)
@@ -139,6 +185,8 @@ def unreadable(counts: Counts, page: Page) -> None:
              "Line 6: the value of “reserves” cannot be read. It has to be a decimal number without leading zeros."),
             ("empty", KNOWN.replace('"Summer raffle of the school"', '""').encode(),
              "Line 2: the value of “occasion” cannot be read. It must not be empty."),
+            ("no UTF-8", with_text(8, b"Friday \xff").text().encode(),
+             "Line 10: the value of “time” cannot be read. Its bytes are not UTF-8."),
             ("another format", KNOWN.replace("announcement 1", "announcement 2").encode(), "Line 1: “nanorand"),
             ("bytes", KNOWN.encode().replace(b"school", b"sch\xff"), "Line 1: the file is not UTF-8.")):
         opened(page, KNOWN.encode())
@@ -175,19 +223,24 @@ def forms(counts: Counts, page: Page) -> None:
     opened(page, KNOWN.encode())
     begin = f'The seed has another form than the announced example "{SAMPLE}": '
     for seed, wanted in ((SEED[::-1], ""), ("", ""),
+                         (SEED.replace("4", "9"), "The seed has the digit 9, which no die has; the example has only "
+                          "1 to 6."),
                          (SEED[2:], "The seed has 19 words between spaces, the example has 20 words."),
                          (SEED.replace(" ", ""), "The seed has no spaces, the example has. The seed has 1 word between "
                           "spaces, the example has 20 words."),
                          (SEED.replace("4", "x"), "The seed has small letters (a-z), the example has none.")):
         page.fill(seed)
         counts.same(f"the form of {seed!r}", seen(page, "seed-form"), [wanted and begin + wanted])
-    page.fill(SEED[2:])
-    record = page.draw()["record"]
-    counts.same("it is drawn", f'seed: "{SEED[2:]}"' in record, True)
-    put(page, check_announcement=KNOWN)
-    counts.same("its check", page.check(record)["findings"][1],
-                "The seed has another form than the announced example: The seed has 19 words between spaces, the "
-                "example has 20 words.")
+    for seed, warning in ((SEED[2:], f"{begin}The seed has 19 words between spaces, the example has 20 words."),
+                          (SAMPLE, "The seed is the announced example.")):
+        page.tab("draw")
+        page.fill(seed)
+        counts.same(f"the warning of {seed!r}", seen(page, "seed-form"), [warning])
+        record = page.draw()["record"]
+        counts.same(f"{seed!r} is drawn", f'seed: "{seed}"' in record, True)
+        put(page, check_announcement=KNOWN)
+        shown = page.check(record)
+        counts.same(f"the check of {seed!r}", [shown["outcome"], shown["findings"][1]], ["agrees", warning])
 
 
 def dropped(page: Page, field: str, data: bytes) -> None:
@@ -255,6 +308,7 @@ def many(counts: Counts, page: Page, program: str, module: bytes) -> None:
 def run(counts: Counts, page: Page, program: str, module: bytes, downloads: Path) -> None:
     page.browser.size(1000, 900)
     whole_way(counts, page, program, module, downloads)
+    made_here(counts, page, program, module)
     for part in (refused, unreadable, forms):
         part(counts, page)
     check_fields(counts, page, program, module)

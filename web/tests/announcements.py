@@ -88,10 +88,10 @@ EXAMPLE = Announcement(*(quoted(value.encode()) if number in TEXTS else value fo
 
 
 def is_quoted(value: str) -> bool:
-    """Whether a value is the one way to quote some bytes that are not none."""
+    """Whether a value is the one way to quote some UTF-8 that is not empty."""
     body = value[1:-1]
     return (len(value) > 2 and value[0] == value[-1] == '"' and re.search(r"\\(?!x[0-9a-f]{2})", body) is None
-            and quoted(bytes_of(value)) == value)
+            and quoted(bytes_of(value)) == value and is_text(bytes_of(value)))
 
 
 def read(data: bytes) -> Optional[Announcement]:
@@ -140,9 +140,21 @@ def mutated(rng: random.Random, text: str) -> str:
     return "\n".join(lines)
 
 
+def no_text() -> List[bytes]:
+    """Bytes that are not UTF-8: single ones, and too long, cut off, too large ones, or halves of characters."""
+    odd = [*ODD, b"Friday \xff", b"\xe2\x80", b"\xf0\x9f\x91", b"\xe0\x80\x80", b"\xed\xbf\xbf",
+           b"\xed\xa0\xbd\xed\xb0\x80", *(bytes([byte]) for byte in range(0x80, 0x100))]
+    return [one for one in odd if one and not is_text(one)]
+
+
+def with_text(number: int, data: bytes) -> Announcement:
+    """The example with other bytes in place of one of its texts."""
+    return EXAMPLE._replace(**{EXAMPLE._fields[number]: quoted(data)})
+
+
 def some(rng: random.Random) -> Announcement:
     """An announcement with odd texts."""
-    pieces = [*(one for one in ODD if one), *(letter.encode() for letter in edges()), b"Ada", b" ", b'"']
+    pieces = [*filter(is_text, ODD), *(letter.encode() for letter in edges()), b"Ada", b" ", b'"']
     values = [quoted(b"".join(rng.choices(pieces, k=rng.randint(1, 5)))) for _ in TEXTS]
     entrants = rng.choice([1, 2, 12, 10**15 - 1])
     winners = rng.randint(1, entrants)
@@ -160,6 +172,7 @@ def texts(counts: Counts, page: Page) -> None:
     files += [KNOWN.replace("\n", "\r\n").encode(), b"\xef\xbb\xbf" + KNOWN.encode(), KNOWN[:-1].encode(), b"",
               KNOWN.encode() + b"\n", KNOWN.encode() + b" ", b"\n" + KNOWN.encode(), KNOWN.encode() * 2,
               KNOWN.encode("utf-16"), KNOWN.encode().replace(b"school", b"sch\xffl")]
+    files += [with_text(number, one).text().encode() for one in no_text() for number in TEXTS]
     pasted = [one.decode() for one in files if is_text(one)]
     pasted += [re.sub("(?m)^", "> ", KNOWN), re.sub("(?m)$", " \t", KNOWN), f"\n\n{KNOWN}\n \n", f"Mallory\n{KNOWN}",
                f"{KNOWN}Mallory\n", KNOWN.replace("source: ", "source:\n")]
@@ -260,6 +273,15 @@ def forged(counts: Counts, page: Page, program: str, module: bytes) -> None:
         counts.case(f"announcements: {name}", "" if right else f"{outcome}, {with_it}, {winners}: {findings}")
 
 
+def not_utf8(counts: Counts, page: Page, program: str, module: bytes) -> None:
+    """A text that is not UTF-8 makes no announcement, even if a record names it: the line is told."""
+    cases = [(number, with_text(number, one).text()) for one in no_text() for number in TEXTS]
+    pairs = [(example_record(program, module, text), text) for _, text in cases]
+    for (number, text), (outcome, _, findings, _) in zip(cases, run_checks(page, module, list(pairs))):
+        counts.same(f"not UTF-8: {text!r}", [outcome, findings], ["no announcement", [
+            f"Line {number + 2}: the value of “{NAMES[number]}” cannot be read. Its bytes are not UTF-8."]])
+
+
 def needed(sets: int) -> int:
     """The least number of throws with at least as many outcomes."""
     throws = 0
@@ -299,6 +321,7 @@ def forms(counts: Counts, page: Page) -> None:
     hexadecimal = "5a0de1b6c9f2437788e14c0d93ab62f7"
     none, end = "The seed has {}, the example has none.", "The seed has a space at an end or two spaces in a row, " \
         "the example has not."
+    die = "The seed has the {}, which no die has; the example has only 1 to 6."
     lacks, words = "The seed has no {}, the example has.", "The seed has {} between spaces, the example has {}."
     cases = {
         (SEED, SEED): [], ("1 2", "3 4"): [], ("1 2", "3 4 5"): [words.format("2 words", "3 words")],
@@ -312,6 +335,10 @@ def forms(counts: Counts, page: Page) -> None:
         ("\u0430", "a"): [none.format("letters beyond a-z"), lacks.format("small letters (a-z)")],
         (hexadecimal, hexadecimal[::-1]): [],
         (hexadecimal[1:], hexadecimal): ["A word of the seed has another length than in the example."],
+        ("7 0 9", "4 1 6"): [die.format("digits 7, 0, 9")], ("416338", "416335"): [die.format("digit 8")],
+        ("8 8 1", "6 6 6"): [die.format("digit 8")], ("0", "1"): [die.format("digit 0")], ("6 5 4", "1 2 3"): [],
+        ("7 0 9", "4 1 7"): [], ("7 18 39", "5 13 24"): [], ("9.1", "4.1"): [],
+        ("9 1", "4 1 6"): [words.format("2 words", "3 words"), die.format("digit 9")],
     }
     script = "return arguments[0].map(([seed, example]) => formDifferences(seed, example));"
     found = page.browser.run('"use strict";\n' + build.joined("form", set()) + script, list(cases))
@@ -322,6 +349,7 @@ def forms(counts: Counts, page: Page) -> None:
 def run(counts: Counts, page: Page, program: str, module: bytes) -> None:
     texts(counts, page)
     forged(counts, page, program, module)
+    not_utf8(counts, page, program, module)
     pairs_mutated(counts, page, program, module)
     bits(counts, page)
     forms(counts, page)

@@ -1,6 +1,7 @@
 """The announcement on the page: its fields, its file and its paper, and what follows from changes."""
 
 import math
+import random
 import re
 import time
 from pathlib import Path
@@ -28,6 +29,10 @@ CHOOSE = """
 const preset = document.getElementById("preset");
 preset.value = arguments[0];
 preset.dispatchEvent(new Event("change"));
+"""
+# Tells the page that a field is left after something was typed.
+LEAVE = """
+document.getElementById(arguments[0]).dispatchEvent(new Event("change", { bubbles: true }));
 """
 ASKED = "return Array.from(document.querySelectorAll('[data-ask]')).filter((one) => one.checkVisibility())" \
         ".map((one) => one.dataset.ask);"
@@ -255,6 +260,159 @@ def presets(counts: Counts, page: Page) -> None:
     page.browser.run(CHOOSE, "die")
 
 
+def filled(page: Page) -> List[str]:
+    return seen(page, "source", "form", "example", "preset-throws", "preset-numbers")
+
+
+def of_preset(page: Page, preset: str) -> None:
+    """A fresh page with the texts of a preset, without blanks and not edited otherwise."""
+    page.load()
+    page.open_file("".join(f"n{number}\n" for number in range(340)).encode())
+    page.facts()
+    put(page, **{**{name: FIELDS[name] for name in ("occasion", "time")}, "winners": "2", "reserves": "0"})
+    page.browser.run(CHOOSE, preset)
+
+
+def edited(counts: Counts, page: Page) -> None:
+    """After a text was edited, more winners change no text and no number: the page says that it is not enough."""
+    for preset in ("die", "several", "lottery", "prices"):
+        for text in ("source", "form", "example"):
+            of_preset(page, preset)
+            put(page, winners="100")
+            before = filled(page)
+            counts.same(f"{preset}: advised", before[3], "" if preset in ("lottery", "prices") else "100")
+            put(page, winners="2")
+            put(page, **{text: seen(page, text)[0] + " x"})
+            before = filled(page)
+            for winners in ("12", "100", "1", "170"):
+                put(page, winners=winners)
+                counts.same(f"{preset}, {text} was edited, {winners} winners", filled(page), before)
+            put(page, winners="12")
+            found = seen(page, "enough")[0]
+            counts.same(f"{preset}, {text} was edited: not enough", [
+                "That is not enough: some sets cannot come." in found, "28 throws of a die are enough" in found],
+                        [preset != "several", True])
+            page.open_file("".join(f"n{number}\n" for number in range(5000)).encode())
+            page.facts()
+            counts.same(f"{preset}, {text} was edited, another list", filled(page), before)
+            put(page, **{text: before[("source", "form", "example").index(text)][:-2]})
+            put(page, winners="13")
+            counts.same(f"{preset}, {text} is as before: advised", filled(page)[3] != before[3], "throws" in before[0])
+
+
+def typed_anew(counts: Counts, page: Page) -> None:
+    """A value that changes after a text was edited: the words for it change, whatever is typed in between."""
+    kept = "120 throws, 20 throwsters and 2 throws"
+    for preset, field, keys, old, new in (
+            ("die", "preset_throws", ("2", "", "0", "3", "30"), "20 throws", "30 throws"),
+            ("die", "preset_throws", ("x", "1"), "20 throws", "1 throw"),
+            ("several", "preset_throws", ("2", "22", "228"), "20 throws", "228 throws"),
+            ("several", "preset_numbers", ("", "2", "20"), "6 numbers", "20 numbers"),
+            ("lottery", "preset_numbers", ("60", "7"), "6 numbers", "7 numbers"),
+            ("drand", "preset_round", ("4", "42"), "round [round]", "round 42"),
+            ("drand", "preset_key", ("$&", "$1 (a.c)"), "public key [public key]", "public key $1 (a.c)")):
+        of_preset(page, preset)
+        source, form = seen(page, "source", "form")
+        put(page, source=f"Look: {source}; {kept}", form=f"{form} ({old})")
+        for key in keys:
+            put(page, **{field: key})
+        found = seen(page, "source", "form", "disagreements")
+        counts.same(f"{preset}, {field}: {keys[-1]}", found, [
+            f"Look: {source}; {kept}".replace(old, new, 1), f"{form} ({new})", ""])
+        put(page, source=found[0].replace(new, new.replace(" ", " \n", 1), 1))
+        counts.same(f"{preset}, {field}: another line", seen(page, "disagreements"), [""])
+        put(page, **{field: "5"})
+        counts.same(f"{preset}, {field}: typed again", new not in " ".join(seen(page, "source")[0].split()), True)
+
+
+def apart(counts: Counts, page: Page) -> None:
+    """A source without the words of a value is a warning, and one with another number of throws is not saved."""
+    compare = "The source of the seed does not say “{}”. Compare the two."
+    for preset, source, throws, warning, said in (
+            ("die", "20 throws", "20", "", None), ("die", "20\n throws", "20", "", None),
+            ("die", "20 THROWS: 10 throws by each", "20", "", None), ("die", "1 throw", "1", "", None),
+            ("die", "25 throws", "20", "20 throws", 25), ("die", "25 throws, 7 throws", "20", "20 throws", 25),
+            ("die", "120 throws", "20", "20 throws", 120), ("die", "2 throws", "20", "20 throws", 2),
+            ("die", "1 throw", "20", "20 throws", 1), ("die", "20 throws", "1001", "", 20),
+            ("die", "20 throws", "", "", None), ("die", "twenty throws", "20", "20 throws", None),
+            ("die", "a die, 20 times", "20", "20 throws", None),
+            ("several", "6 numbers, 25 throws", "20", "20 throws", 25),
+            ("several", "7 numbers, 20 throws", "20", "6 numbers", None),
+            ("lottery", "6 numbers, 25 throws", "20", "", None), ("lottery", "some", "20", "6 numbers", None),
+            ("other", "25 throws", "20", "", None)):
+        of_preset(page, preset)
+        put(page, preset_throws=throws)
+        put(page, source=source)
+        if preset == "other":
+            put(page, form="a form", example="an example")
+        counts.same(f"{preset}, {source!r}: a warning", seen(page, "disagreements"),
+                    [warning and compare.format(warning)])
+        pressed(page, "save-announcement")
+        error, text = seen(page, "announce-error", "announcement-text")
+        counts.same(f"{preset}, {source!r}: saved", [error, bool(text)], [
+            "" if said is None else f"The source of the seed says {said} throw{'s' * (said != 1)}, but the number of "
+            f"throws is {throws}. Change one of them.", said is None])
+        counts.same(f"{preset}, {source!r}: the field", focused(page) == "source", said is not None)
+    of_preset(page, "die")
+    put(page, source="a die, 20 times", preset_throws="30")
+    counts.same("throws that no words have", seen(page, "source", "disagreements"),
+                ["a die, 20 times", compare.format("30 throws")])
+    of_preset(page, "several")
+    put(page, source="25 throws", preset_numbers="x")
+    pressed(page, "save-announcement")
+    counts.same("another value is missing", seen(page, "announce-error"), [
+        "The source of the seed says 25 throws, but the number of throws is 20. Change one of them."])
+    of_preset(page, "lottery")
+    put(page, source=seen(page, "source")[0] + ".", preset_numbers="1")
+    counts.same("one number", seen(page, "source", "disagreements"), [
+        "the 1 number of [name of the lottery], drawn on [date], without additional numbers.", ""])
+    of_preset(page, "die")
+    put(page, source="30 throws, 2 throws each")
+    for value in ("30", "40", "1", "20", "25"):
+        for key in (value[0], value):
+            put(page, preset_throws=key)
+        page.browser.run(LEAVE, "preset-throws")
+        counts.same(f"the source first, then {value} throws", seen(page, "source", "disagreements"), [
+            f"{value} {'throw' if value == '1' else 'throws'}, 2 throws each", ""])
+    of_preset(page, "die")
+    put(page, example="1 2 3")
+    counts.same("a short example", seen(page, "disagreements"), ["The example has 3 words between spaces, and not 20."])
+    put(page, form="as they fall")
+    counts.same("a short example of another form", seen(page, "disagreements"), [""])
+
+
+def by_chance(counts: Counts, page: Page) -> None:
+    """Whatever is changed in any order: what is saved does not say another number of throws than its field."""
+    rng = random.Random(7)
+    page.browser.run(CHOOSE, "die")
+    saves = 0
+    for turn in range(300):
+        kind = rng.randrange(6)
+        if kind == 0:
+            put(page, winners=str(rng.randint(1, 340)))
+        elif kind == 1:
+            put(page, preset_throws=rng.choice(["", "1", "2", "20", "30", "99", "x"]))
+        elif kind == 2:
+            page.browser.run(CHOOSE, rng.choice(["die", "several"]))
+        elif kind == 3:
+            text = rng.choice(["source", "form", "example"])
+            old = seen(page, text)[0]
+            put(page, **{text: rng.choice([f"{old}.", f"2 {old}", old.replace("20", "30"), old[3:] or "x"])})
+        else:
+            put(page, source=BLANKS.sub("X", seen(page, "source")[0]))
+        throws, before = seen(page, "preset-throws", "source")
+        pressed(page, "save-announcement")
+        told, text = seen(page, "announce-error", "announcement-text")
+        said = [int(one) for one in re.findall(r"(?i)([0-9]+)\s+throws?\b", before)]
+        is_apart = throws not in ("", "x") and bool(said) and int(throws) not in said
+        if is_apart:
+            counts.same(f"turn {turn}: {throws} and {before!r}", told != "", True)
+        elif not told:
+            saves += 1
+            counts.same(f"turn {turn}: saved", quoted(before.encode()) in text, True)
+    counts.case("some are saved", "" if saves > 40 else str(saves))
+
+
 def stale(counts: Counts, page: Page) -> None:
     """After a change of the list or of a field, the saved announcement is marked until the change is undone."""
     for name, value in FIELDS.items():
@@ -318,6 +476,6 @@ def heard(counts: Counts, page: Page) -> None:
 def run(counts: Counts, page: Page, downloads: Path) -> None:
     page.browser.size(1000, 900)
     known(counts, page, downloads)
-    for part in (fields, numbers, presets, stale, enough, paper, heard):
+    for part in (fields, numbers, presets, edited, typed_anew, apart, by_chance, stale, enough, paper, heard):
         part(counts, page)
     page.load()
