@@ -82,7 +82,7 @@ export function seedDifferences(seed, { example }) {
 /**
  * What was compared with an announcement that belongs to a record, and what only a reader can compare.
  * @param {import("./record.js").Record} record @param {import("./announcement.js").Announcement} announcement
- * @returns {string[]}
+ * @returns {(string|import("./check.js").Finding)[]}
  */
 export function comparedWith(record, announcement) {
   const { occasion, source, form, example, time } = announcement;
@@ -90,8 +90,9 @@ export function comparedWith(record, announcement) {
   return [
     "Compared with the announcement: its SHA-256, that of its list, the number of entrants, and how many are drawn: " +
       `${announcedWords(announcement)}. The winners are the first ${announcement.winners} of the record.`,
-    ...(differences.length === 0 ? []
-      : [`The seed has another form than the announced example: ${differences.join(" ")}`]),
+    ...(differences.length === 0 ? [] : [{
+      text: `The seed has another form than the announced example: ${differences.join(" ")}`, isWarning: true,
+    }]),
     `Only you can compare the seed with its source: ${source}. Its form: ${form}, for example ${example}.`,
     `Only you can know when the announcement of ${occasion} was published. It has to be before the seed could be ` +
       `known. The time that it names: ${time}.`,

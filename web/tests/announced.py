@@ -185,9 +185,9 @@ def forms(counts: Counts, page: Page) -> None:
     record = page.draw()["record"]
     counts.same("it is drawn", f'seed: "{SEED[2:]}"' in record, True)
     put(page, check_announcement=KNOWN)
-    counts.same("its check", page.check(record)["findings"][1],
-                "The seed has another form than the announced example: The seed has 19 words between spaces, the "
-                "example has 20 words.")
+    counts.same("its check", page.check(record)["warned"], [
+        "Warning: The seed has another form than the announced example: The seed has 19 words between spaces, the "
+        "example has 20 words."])
 
 
 def dropped(page: Page, field: str, data: bytes) -> None:
@@ -226,9 +226,9 @@ def check_fields(counts: Counts, page: Page, program: str, module: bytes) -> Non
     counts.same("opened beside the list", [page.facts()["digest"], page.check_again()["outcome"]],
                 [sha256(LIST), "agrees"])
     put(page, check_announcement="")
-    counts.same("without it", page.check_again()["findings"], [
-        "The record names an announcement, which was not compared. Paste it above or drop its file there, and check "
-        "again."])
+    counts.same("without it", page.check_again()["warned"], [
+        "Warning: The record names an announcement, which was not compared. Paste it above or drop its file there, and "
+        "check again."])
 
 
 def many(counts: Counts, page: Page, program: str, module: bytes) -> None:

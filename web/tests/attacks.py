@@ -300,7 +300,7 @@ def reasons(counts: Counts, page: Page, layout: Layout, record: str) -> None:
             (f"SHA-256: {sum_of_list}", f"SHA-256:\u202f{sum_of_list}", digest,
              missing + unseen.format("U+202F narrow no-break space")),
             ("public draw", "public\u00a0draw", 1, title + unseen.format("U+00A0 no-break space")),
-            ("nanorand", "\ufeffnanorand", 1, title + unseen.format("U+FEFF byte order mark"))):
+            ("nanorand", "\ufeff\ufeffnanorand", 1, title + unseen.format("U+FEFF byte order mark"))):
         shown = page.check(record.replace(before, after, 1))
         counts.same(f"{after!r} for {before!r}", (shown["outcome"], shown["findings"]),
                     ("no record", [f"Line {line}: {reason}{advice}"]))
