@@ -225,13 +225,15 @@ def beside_a_record(counts: Counts, page: Page, record: str) -> None:
 
 
 def lookalikes_in_records(counts: Counts, page: Page, layout: Layout, record: str) -> None:
-    """No letter of a record can be replaced by one that looks like it."""
+    """No letter of a record can be replaced by one that looks like it. A byte order mark before the first one is
+    ignored."""
     others = [layout.line(name) for name in ("version", "module SHA-256") if name in layout.names]
     texts = {}
     for name, change in LOOKALIKES.items():
         for place, letter in enumerate(record):
             if letter != "\n" and change(letter) != letter and record[place + 1:place + 2] != "\n":
                 texts[name, place] = record[:place] + change(letter) + record[place + 1:]
+    del texts["a byte order mark", 0]
     wrong = {}
     for (name, place), (outcome, _) in zip(texts, checked(page, list(texts.values()))):
         right = outcome in ("no record", "differs")

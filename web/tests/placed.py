@@ -1,6 +1,8 @@
 """Files that are opened or dropped: each goes where its first line says, and what is in a wrong place is said."""
 
 import re
+import shlex
+import subprocess
 import time
 from itertools import permutations
 from typing import Dict, List
@@ -61,7 +63,8 @@ def begin(page: Page, tab: str) -> None:
     page.tab(tab)
 
 
-BEFORE = {"list": sha256(OTHER_LIST).encode(), "record": b"the record before", "announcement": b"the announcement before"}
+BEFORE = {"list": sha256(OTHER_LIST).encode(), "record": b"the record before",
+          "announcement": b"the announcement before"}
 
 
 def wait_for(page: Page, wanted: Dict[str, bytes]) -> None:
@@ -198,8 +201,8 @@ def on_a_field(counts: Counts, page: Page, texts: Dict[str, bytes]) -> None:
         page.browser.run("document.getElementById('check-announcement-error').hidden = true;")
         drop(page, "check-announcement", "some.txt", data)
         page.browser.wait("return document.getElementById('check-announcement-error').checkVisibility();")
-        counts.same(f"{name} on the announcement", [held(page), *seen(page, "check-announcement-error", "record-error")],
-                    [{**BEFORE, "announcement": b""}, NONE, ""])
+        said = seen(page, "check-announcement-error", "record-error")
+        counts.same(f"{name} on the announcement", [held(page), *said], [{**BEFORE, "announcement": b""}, NONE, ""])
         invalid = page.browser.run("""return ["check-announcement", "check-text"].map((id) =>
             document.getElementById(id).getAttribute("aria-invalid"));""")
         counts.same(f"{name}: which field", invalid, ["true", None])
@@ -333,10 +336,28 @@ def marks(counts: Counts, page: Page, texts: Dict[str, bytes]) -> None:
         counts.same(f"{number} marks", pasted["outcome"], "no record" if number == 2 else "agrees")
 
 
+def commands(counts: Counts, page: Page, texts: Dict[str, bytes], program: str) -> None:
+    """What the page says to check a draw without it can be called, with files of these names."""
+    page.load()
+    shown = page.browser.run("return document.querySelector('pre[aria-label=\"How to call lots\"]').textContent;")
+    lines = [line for line in shown.split("\n") if line.startswith("lots ")]
+    for name, kind in (("entrants", "list"), ("record", "record"), ("announcement", "announcement")):
+        (page.folder / f"{name}.txt").write_bytes(texts[kind])
+    without_module = re.sub(rb"module SHA-256: .*\n", b"", texts["record"])
+    for record in (texts["record"], without_module):
+        (page.folder / "record.txt").write_bytes(record)
+        for line in lines:
+            done = subprocess.run(line.replace("lots ", f"{shlex.quote(program)} ", 1), shell=True, cwd=page.folder,
+                                  stdout=subprocess.PIPE, stderr=subprocess.STDOUT, check=False)
+            counts.same(f"the page's {line!r}", (done.returncode, done.stdout if done.returncode else b""), (0, b""))
+    counts.same("a draw and a check", [line.split()[1] for line in lines], ['"4', "--check"])
+
+
 def run(counts: Counts, page: Page, program: str, module: bytes) -> None:
     page.browser.size(1000, 900)
     texts = texts_of(program, module)
     for part in (together, two_of_a_kind, together_for_a_draw, opened, fast, on_a_field, mails, uncompared, published,
                  marks):
         part(counts, page, texts)
+    commands(counts, page, texts, program)
     page.load()
