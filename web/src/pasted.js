@@ -47,7 +47,7 @@ function plain(text) {
 }
 
 const TITLE_WORDS = "nanorandpublicdraw";
-const ANNOUNCEMENT_WORDS = "nanorandannouncement";
+const ANNOUNCEMENT_TITLE_WORDS = /^nanorandannouncement\d+$/;
 const END_WORDS = "endoftherecord";
 
 /** Whether a line begins like the title of a record of this or another format. @param {string} line */
@@ -55,12 +55,12 @@ export function isLikeTitle(line) {
   return line.split(LINE_ENDS).some((part) => plain(part).startsWith(TITLE_WORDS));
 }
 
-/** What is said of a line that begins like an announcement. */
+/** What is said of a line that begins an announcement. */
 export const BELOW = "this is an announcement: paste it below.";
 
-/** Whether a line begins like the title of an announcement. @param {string} line */
+/** Whether a line looks like the title of an announcement. @param {string} line */
 export function isLikeAnnouncement(line) {
-  return plain(line).startsWith(ANNOUNCEMENT_WORDS);
+  return ANNOUNCEMENT_TITLE_WORDS.test(plain(line));
 }
 
 /** Whether a text outside of a record has the words of a title. @param {string} text */

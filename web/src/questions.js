@@ -87,7 +87,8 @@ const AS_IT_IS = { label: "Keep the file as it is" };
 
 /** @param {Uint8Array} list @param {string} encoding @returns {Question} */
 function encodingQuestion(list, encoding) {
-  const text = kindOfFile(list) === "record" ? A_RECORD : ENCODINGS[encoding];
+  const isRecord = encoding === "unknown" && kindOfFile(list) === "record";
+  const text = isRecord ? A_RECORD : ENCODINGS[encoding];
   const question = { id: `encoding ${encoding}`, text };
   if (encoding === "unknown") return { ...question, above: "", lines: [], choices: [AS_IT_IS] };
   return {

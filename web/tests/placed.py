@@ -244,6 +244,8 @@ def mails(counts: Counts, page: Page, texts: Dict[str, bytes]) -> None:
             shown = page.check(given)
             counts.same(f"a mail, {name}, {way}", [shown["outcome"], shown["findings"]],
                         ["no record", [f"Line {line}: this is an announcement: paste it below."]])
+    shown = page.check(f"Nanorand announcement: see below.\n{record}")
+    counts.same("words about an announcement", shown["outcome"], "agrees")
     shown = page.check(f"list SHA-256: {'0' * 64}\n{record}")
     counts.same("a line of a record above it", "ask who wrote it" in shown["findings"][0], True)
 
