@@ -10,10 +10,16 @@ export function showCheck({ outcome, title, findings, reading }) {
   part("outcome").hidden = false;
   part("outcome").dataset.outcome = outcome;
   say("outcome-title", title);
-  itemize("findings", findings.map(noteOf));
+  itemize("findings", findings.filter(({ isWarning }) => !isWarning).map(noteOf));
+  itemize("check-warnings", findings.filter(({ isWarning }) => isWarning).map(warningOf));
   part("reading").hidden = reading === null;
   say("unchecked", reading === null ? "" : uncheckedWords(reading));
   if (reading !== null) showReading(reading);
+}
+
+/** @param {import("./check.js").Finding} finding */
+function warningOf({ text }) {
+  return noteOf({ text: `Warning: ${text}` });
 }
 
 /** Which lines of the text were not checked. @param {import("./check.js").Reading} reading */
@@ -23,16 +29,24 @@ function uncheckedWords({ lines: [first, last], others }) {
   return `Only lines ${first} to ${last} of the text are the record. Its ${lines} not checked, and may say anything.`;
 }
 
+/** The heading above the entrants. Nobody is called a winner unless the announcement was compared. */
+function titleOfDrawn({ announcement, drawn, winners }) {
+  if (winners === drawn) return "Winners";
+  if (winners !== null) return `Winners (the first ${grouped(winners)}), and then reserves`;
+  return announcement === "none" ? "In the order drawn"
+    : "In the order drawn: winners, and then reserves if there are any";
+}
+
 /** What was checked. @param {import("./check.js").Reading} reading */
-function showReading({ lines: [first, last], announcement, seed, list, entrants, drawn, named, winners }) {
+function showReading(reading) {
+  const { lines: [first, last], announcement, seed, list, entrants, drawn, named } = reading;
   say("reading-title", `What was checked, in lines ${first} to ${last} of the text:`);
   say("announcement-label", announcement === "none" ? "Announcement" : "SHA-256 of the announcement");
   say("reading-announcement", announcement);
   part("reading-seed").replaceChildren(...nodesOf(seed));
   say("reading-list", list);
   say("reading-count", `${grouped(drawn)} of ${grouped(entrants)}`);
-  say("drawn-label", winners === null || winners === drawn ? "Winners"
-    : `Winners (the first ${grouped(winners)}), and then reserves`);
+  say("drawn-label", titleOfDrawn(reading));
   itemize("reading-drawn", named.slice(0, ANSWERED).map(itemOf));
   const left = drawn - Math.min(named.length, ANSWERED);
   say("reading-more", left > 0 ? `and ${grouped(left)} more` : "");

@@ -84,7 +84,7 @@ export function seedWarning(seed, { example }) {
 /**
  * What was compared with an announcement that belongs to a record, and what only a reader can compare.
  * @param {import("./record.js").Record} record @param {import("./announcement.js").Announcement} announcement
- * @returns {string[]}
+ * @returns {(string|import("./check.js").Finding)[]}
  */
 export function comparedWith(record, announcement) {
   const { occasion, source, form, example, time } = announcement;
@@ -92,7 +92,7 @@ export function comparedWith(record, announcement) {
   return [
     "Compared with the announcement: its SHA-256, that of its list, the number of entrants, and how many are drawn: " +
       `${announcedWords(announcement)}. The winners are the first ${announcement.winners} of the record.`,
-    ...(warning === "" ? [] : [warning]),
+    ...(warning === "" ? [] : [{ text: warning, isWarning: true }]),
     `Only you can compare the seed with its source: ${source}. Its form: ${form}, for example ${example}.`,
     `Only you can know when the announcement of ${occasion} was published. It has to be before the seed could be ` +
       `known. The time that it names: ${time}.`,

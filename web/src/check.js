@@ -21,8 +21,8 @@ import { Refusal } from "./refusal.js";
  */
 
 /**
- * A sentence and, of two results that look alike, what the page shows of each.
- * @typedef {{text: string, lines?: {name: string, line: import("./entrant.js").Shown}[]}} Finding
+ * A sentence, whether it is a warning, and, of two results that look alike, what the page shows of each.
+ * @typedef {{text: string, isWarning?: boolean, lines?: {name: string, line: import("./entrant.js").Shown}[]}} Finding
  */
 
 /**
@@ -57,8 +57,10 @@ const WITH_ANNOUNCEMENT = "The record agrees: the same list, the announcement th
   "here gives the same result. What only you can compare is said below.";
 const OTHER_ANNOUNCEMENT = "The draw repeated here gives the same result, but the record does not belong to this " +
   "announcement.";
-const NOT_COMPARED = "The record names an announcement, which was not compared. Paste it above or drop its file there, " +
-  "and check again.";
+const NOT_COMPARED = {
+  text: "The record names an announcement, which was not compared. Paste it above or drop its file there, and check again.",
+  isWarning: true,
+};
 
 /**
  * The announcement that was given with a record, with its SHA-256.
@@ -151,7 +153,7 @@ function compared(module, maker, list, record, named) {
   return checked("agrees", said, record, named === null ? TITLES.agrees : WITH_ANNOUNCEMENT);
 }
 
-/** What was compared with the announcement, or that none was. @returns {string[]} */
+/** What was compared with the announcement, or that none was. @returns {(string|Finding)[]} */
 function announcedFindings(record, named, unlike) {
   if (named === null) return record.announcement === "none" ? [] : [NOT_COMPARED];
   return unlike.length > 0 ? [] : comparedWith(record, named.announcement);

@@ -1,11 +1,11 @@
 // The tab that checks a record: its fields, and its answer.
 
-import { isAnnouncement } from "./announcement.js";
 import { showCheck } from "./answer.js";
+import { kindOfFile } from "./kinds.js";
 import { listSent } from "./listing.js";
 import { Refusal } from "./refusal.js";
 import { client, enable, refuse, refuseHere, session } from "./session.js";
-import { clearRefusals, fieldOf, goTo, part } from "./view.js";
+import { clearRefusals, fieldOf, goTo, part, tell } from "./view.js";
 
 /** The bytes of the announcement that was dropped, and the text that the field then had; or null. */
 const dropped = { announcement: null };
@@ -22,7 +22,7 @@ function givenAnnouncement(text) {
 }
 
 export async function checkNow() {
-  clearRefusals("record", "page");
+  clearRefusals("record", "check-announcement", "page");
   part("outcome").hidden = true;
   part("check").disabled = true;
   const { turn } = session;
@@ -48,30 +48,36 @@ function showOutcome(outcome) {
   goTo("outcome-title");
 }
 
-/** Puts the text of a dropped file into the field for the announcement or for the record. @param {File} file */
-export async function readForCheck(file) {
-  clearRefusals("record");
+/**
+ * Reads a file that was dropped on a field. An announcement is for its own field, and another file is no announcement. A
+ * record may have other text above it.
+ * @param {File} file @param {"check-text"|"check-announcement"} field
+ */
+export async function readForField(file, field) {
+  recordChanged();
   try {
-    showForCheck(new Uint8Array(await file.arrayBuffer()));
-  } catch {
-    part("check-text").value = "";
-    refuse(new Refusal("record cannot be read"));
-  } finally {
-    part("outcome").hidden = true;
+    const bytes = new Uint8Array(await file.arrayBuffer());
+    const kind = kindOfFile(bytes) === "announcement" ? "announcement" : "record";
+    if (kind === "record" && field === "check-announcement") throw new Refusal("file is no announcement");
+    showForCheck(kind, bytes);
+  } catch (error) {
+    part(field).value = "";
+    const unread = field === "check-text" ? "record cannot be read" : "announcement to check cannot be read";
+    refuse(error instanceof Refusal ? error : new Refusal(unread));
   }
 }
 
-/** @param {Uint8Array} bytes of a record or an announcement */
-export function showForCheck(bytes) {
-  const isAnnounced = isAnnouncement(bytes);
-  const field = part(isAnnounced ? "check-announcement" : "check-text");
-  field.value = new TextDecoder().decode(bytes);
-  if (isAnnounced) dropped.announcement = { bytes, text: field.value };
-  part("outcome").hidden = true;
+/** Puts the text of a file into its field. @param {"record"|"announcement"} kind @param {Uint8Array} bytes */
+export function showForCheck(kind, bytes) {
+  const field = part(kind === "announcement" ? "check-announcement" : "check-text");
+  field.value = new TextDecoder("utf-8", { ignoreBOM: true }).decode(bytes);
+  if (kind === "announcement") dropped.announcement = { bytes, text: field.value };
+  recordChanged();
+  tell(`Opened as the ${kind}`);
 }
 
 /** Handles a change of one of the fields. */
 export function recordChanged() {
-  clearRefusals("record");
+  clearRefusals("record", "check-announcement");
   part("outcome").hidden = true;
 }

@@ -34,6 +34,8 @@ function showNamed(id, named, first) {
 export function showResult({ entrants, drawn, winners, named, hasEscapes, record }) {
   const won = winners ?? drawn;
   unhideResult();
+  say("publish-words", "Save the record, and publish it beside the list" +
+    `${winners === null ? "" : " and the announcement"}.`);
   say("result-title", titleOfResult({ entrants, drawn, winners }));
   showNamed("drawn", named.slice(0, won), 1);
   say("reserves-title", titleOfReserves(drawn - won));

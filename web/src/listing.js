@@ -1,11 +1,13 @@
 // The list on the page: typed, pasted or opened, changed by buttons, and saved.
 
-import { isAnnouncement } from "./announcement.js";
 import { textOf } from "./bytes.js";
+import { kindOfFile } from "./kinds.js";
 import { listOfText } from "./list.js";
 import { Refusal } from "./refusal.js";
 import { client, hideResults, recallResult, refuse, setFacts } from "./session.js";
-import { clearRefusals, grouped, hideList, part, save, say, showList, showQuestions, tabShown } from "./view.js";
+import {
+  clearRefusals, grouped, hideList, part, save, say, showList, showOpened, showQuestions, tabShown,
+} from "./view.js";
 
 /** In milliseconds: the pause between the last change of a pasted list and sending it to the worker. */
 const PAUSE = 300;
@@ -133,12 +135,12 @@ export function askFirst() {
 }
 
 /**
- * Reads a file, and sends it to the worker unless the list has changed meanwhile. If it is an announcement, brings the
- * list before it back.
- * @param {File} file @param {Object} before the list before it @param {(bytes: Uint8Array) => void} takeAnnouncement
+ * Reads a file, and sends it to the worker unless the list has changed meanwhile. If it is no list, brings the list
+ * before it back.
+ * @param {File} file @param {Object} before the list before it @param {Function} takeOther as in openFile
  * @returns {Promise<boolean>} as sendList
  */
-async function readFile(file, before, takeAnnouncement) {
+async function readFile(file, before, takeOther) {
   const { turn } = held;
   let bytes = null;
   try {
@@ -147,30 +149,32 @@ async function readFile(file, before, takeAnnouncement) {
     if (turn === held.turn) refuse(new Refusal("list cannot be read"));
   }
   if (bytes === null || turn !== held.turn) return false;
-  if (isAnnouncement(bytes)) {
-    if (before.reading) openFile(before.reading, takeAnnouncement);
-    else bringBack(before);
-    takeAnnouncement(bytes);
-    return listSent();
-  }
+  const kind = kindOfFile(bytes);
   held.reading = null;
-  held.file = bytes;
-  return sendList();
+  if (kind === "list") {
+    held.file = bytes;
+    return sendList();
+  }
+  const takeEarlier = (other, data) => { if (other !== kind) takeOther(other, data); };
+  if (before.reading) openFile(before.reading, takeEarlier);
+  else bringBack(before);
+  takeOther(kind, bytes);
+  return listSent();
 }
 
 /** Brings back the list that was there before a file was opened. @param {Object} before */
 function bringBack(before) {
   Object.assign(held, before);
-  if (held.file === null) hideFile();
+  if (held.file === null) showOpened(false);
   else showFile(held.name);
   listChanged(0);
 }
 
 /**
- * Opens a file: a list, or an announcement.
- * @param {File|undefined} file @param {(bytes: Uint8Array) => void} takeAnnouncement gets the bytes of an announcement
+ * Opens a file as the list. If it is none, `takeOther` gets its kind and its bytes, and the list stays.
+ * @param {File|undefined} file @param {(kind: import("./kinds.js").Kind, bytes: Uint8Array) => void} takeOther
  */
-export function openFile(file, takeAnnouncement) {
+export function openFile(file, takeOther) {
   if (!file) return;
   const { file: last, name, origin, before: changes, reading } = held;
   const before = { file: last, name, origin, before: changes, reading, kept: new Set(held.kept) };
@@ -180,20 +184,13 @@ export function openFile(file, takeAnnouncement) {
   stopTimer();
   showFile(file.name);
   say("file-name", `${file.name}, ${grouped(file.size)} bytes`);
-  held.sent = readFile(file, before, takeAnnouncement);
+  held.sent = readFile(file, before, takeOther);
 }
 
 /** Shows the name of a file in place of the field. @param {string} name */
 function showFile(name) {
   held.name = name;
-  part("opened").hidden = false;
-  part("pasted").hidden = true;
-}
-
-/** Shows the field in place of the name of a file. */
-function hideFile() {
-  part("opened").hidden = true;
-  part("pasted").hidden = false;
+  showOpened(true);
 }
 
 /** Keeps a long pasted text as if it were a file. @param {ClipboardEvent} event */
@@ -222,7 +219,7 @@ export function closeFile() {
   const { file, name, origin, before } = held;
   held.file = null;
   held.kept.clear();
-  hideFile();
+  showOpened(false);
   part("list-text").focus();
   listTyped(0);
   if (origin !== "unsaved") return;

@@ -1,23 +1,23 @@
 // The web page: what its fields and buttons do.
 
-import { compareList, compareSeed, openAnnouncement, openMade, takeAway } from "./announced.js";
+import { compareList, compareSeed, openMade, takeAway } from "./announced.js";
 import {
   announceList, announceTyped, beginAnnouncing, bytesMade, presetChosen, printAnnouncement, saveAnnouncement,
 } from "./announcing.js";
-import { checkNow, readForCheck, recordChanged, showForCheck } from "./checking.js";
+import { checkNow, recordChanged } from "./checking.js";
 import { showResult } from "./drawn.js";
+import { fileChosen, filesDropped } from "./files.js";
 import { keepTexts } from "./filling.js";
 import { bitsOfBrowser } from "./module.js";
 import {
-  answerQuestion, askFirst, askToLeave, closeFile, cure, listBegun, listSent, listTyped, openFile, pasteLong, saveList,
-  tidy, undo,
+  answerQuestion, askFirst, askToLeave, closeFile, cure, listBegun, listSent, listTyped, pasteLong, saveList, tidy, undo,
 } from "./listing.js";
 import { quotedText } from "./quoted.js";
 import { Refusal } from "./refusal.js";
 import {
   client, digestAnnounced, enable, fieldChanged, forgetResult, markResult, refuse, refuseHere, session,
 } from "./session.js";
-import { clearRefusals, copy, fieldOf, goTo, part, save, say, showPaper, showTab, tabShown } from "./view.js";
+import { clearRefusals, copy, fieldOf, goTo, part, save, say, showPaper, showTab } from "./view.js";
 
 /** A longer seed than this is shown below its field, which is too short for it on a phone. */
 const LONG_SEED = 20;
@@ -70,27 +70,6 @@ function showDrawing(drawing, fields) {
   showResult(drawing);
   markResult();
   goTo("result-title");
-}
-
-/** Opens a dropped file: for the check if it is dropped on that step, otherwise as the list or the announcement. */
-function droppedFile(event) {
-  const [file] = event.dataTransfer.files;
-  if (!file) return;
-  event.preventDefault();
-  if (part("check-step").contains(event.target)) readForCheck(file);
-  else openFile(file, takeAnnouncement);
-}
-
-/** Takes an announcement for the draw or for the check, as the tab says. @param {Uint8Array} bytes */
-function takeAnnouncement(bytes) {
-  if (tabShown() === "check") showForCheck(bytes);
-  else openAnnouncement(bytes);
-}
-
-/** Opens the chosen file. The field forgets it, so that the same file can be opened again once it has changed. */
-function chosen() {
-  openFile(part("list-file").files[0], takeAnnouncement);
-  part("list-file").value = "";
 }
 
 /**
@@ -154,7 +133,7 @@ function drawOnEnter(event) {
 on("list-text", "input", () => listTyped());
 on("list-text", "paste", pasteLong);
 on("open-file", "click", () => part("list-file").click());
-on("list-file", "change", chosen);
+on("list-file", "change", fileChosen);
 on("close-file", "click", closeFile);
 for (const change of ["empty", "trim", "unique"]) on(`tidy-${change}`, "click", () => tidy(change));
 on("undo", "click", undo);
@@ -172,7 +151,7 @@ for (const name of ["draw", "check"]) {
 document.addEventListener("dragover", (event) => {
   if (event.dataTransfer.types.includes("Files")) event.preventDefault();
 });
-document.addEventListener("drop", droppedFile);
+document.addEventListener("drop", filesDropped);
 on("check-text", "input", recordChanged);
 on("check-announcement", "input", recordChanged);
 for (const field of part("announce").querySelectorAll("input, textarea")) field.addEventListener("input", announceTyped);

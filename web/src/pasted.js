@@ -47,11 +47,20 @@ function plain(text) {
 }
 
 const TITLE_WORDS = "nanorandpublicdraw";
+const ANNOUNCEMENT_TITLE_WORDS = /^nanorandannouncement\d+$/;
 const END_WORDS = "endoftherecord";
 
 /** Whether a line begins like the title of a record of this or another format. @param {string} line */
 export function isLikeTitle(line) {
   return line.split(LINE_ENDS).some((part) => plain(part).startsWith(TITLE_WORDS));
+}
+
+/** What is said of a line that begins an announcement. */
+export const BELOW = "this is an announcement: paste it below.";
+
+/** Whether a line looks like the title of an announcement. @param {string} line */
+export function isLikeAnnouncement(line) {
+  return ANNOUNCEMENT_TITLE_WORDS.test(plain(line));
 }
 
 /** Whether a text outside of a record has the words of a title. @param {string} text */
@@ -88,6 +97,7 @@ export function misleadingLine(lines, first, end, names) {
     if (hasTitle(lines[index]) || isFolded) {
       return { index, reason: "a second record begins here. Check one record at a time." };
     }
+    if (isLikeAnnouncement(lines[index])) return { index, reason: BELOW };
     if (isLikeLine(lines[index], names) || REORDERING.test(lines[index])) {
       return { index, reason: "this line is not part of the record, but looks as if it were. Remove it, and ask who wrote it." };
     }

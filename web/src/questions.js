@@ -5,6 +5,7 @@ import { textOf, utf8 } from "./bytes.js";
 import { decoded, encodingOf } from "./encoding.js";
 import { shown } from "./entrant.js";
 import { withoutInvisible } from "./invisible.js";
+import { kindOfFile } from "./kinds.js";
 import { Refusal } from "./refusal.js";
 
 /** The words of which the headings of columns consist, in the languages of spreadsheets that we have seen. */
@@ -68,6 +69,9 @@ const ENCODINGS = {
   "unknown": new Refusal("list is no text").words,
 };
 
+/** What is said of a record that was pasted as a list. */
+const A_RECORD = new Refusal("file is a record").words;
+
 const AS_IT_IS = { label: "Keep the file as it is" };
 
 /**
@@ -83,7 +87,9 @@ const AS_IT_IS = { label: "Keep the file as it is" };
 
 /** @param {Uint8Array} list @param {string} encoding @returns {Question} */
 function encodingQuestion(list, encoding) {
-  const question = { id: `encoding ${encoding}`, text: ENCODINGS[encoding] };
+  const isRecord = encoding === "unknown" && kindOfFile(list) === "record";
+  const text = isRecord ? A_RECORD : ENCODINGS[encoding];
+  const question = { id: `encoding ${encoding}`, text };
   if (encoding === "unknown") return { ...question, above: "", lines: [], choices: [AS_IT_IS] };
   return {
     ...question,

@@ -2,7 +2,7 @@
 // are read, and those of the second one are written.
 
 import { linesOfRecord, RecordError } from "./lines.js";
-import { isLikeTitle, misleadingLine, reasonIn } from "./pasted.js";
+import { BELOW, isLikeAnnouncement, isLikeTitle, misleadingLine, reasonIn } from "./pasted.js";
 import { FORMAT1 } from "./record1.js";
 import { FORMAT2 } from "./record2.js";
 
@@ -43,6 +43,8 @@ function titleIn(lines) {
   if (titles.length > 1) {
     throw new RecordError(titles[1] + 1, "a second record begins here. Check one record at a time.");
   }
+  const announced = titles.length === 0 ? lines.findIndex(isLikeAnnouncement) : -1;
+  if (announced >= 0) throw new RecordError(announced + 1, BELOW);
   const first = lines.findIndex((line) => line !== "");
   if (first < 0) throw new RecordError(1, "the text is empty.");
   return titles[0] ?? first;
@@ -58,11 +60,11 @@ function formatOf(line, index) {
 
 /**
  * Reads the record in a text. Throws RecordError, also if a second record begins in the text: a
- * reader could take one for the other.
+ * reader could take one for the other. A byte order mark at the beginning of the text is ignored.
  * @param {string} text @returns {Record}
  */
 export function readRecord(text) {
-  const lines = linesOfRecord(text);
+  const lines = linesOfRecord(text.replace(/^\ufeff/, ""));
   const first = titleIn(lines);
   const { record, end } = formatOf(lines[first], first).read(lines, first + 1);
   const misleading = misleadingLine(lines, first, end, VALUE_NAMES);

@@ -1,10 +1,12 @@
 // The errors that the page shows, and their texts.
 
+import { MISPLACED_REFUSALS } from "./misplaced.js";
 import { ANNOUNCING_REFUSALS } from "./unannounced.js";
 
 /**
  * Where the error is shown.
- * @typedef {"seed"|"count"|"list"|"question"|"record"|"announce"|"announcement"|"page"} Field
+ * @typedef {"seed"|"count"|"list"|"file"|"question"|"record"|"check-announcement"|"announce"|"announcement"|
+ *   "page"} Field
  */
 
 /** @type {Record<string, {field: Field, words: (values: Object) => string}>} */
@@ -68,6 +70,7 @@ const REFUSALS = {
     field: "record",
     words: () => "The file cannot be read.",
   },
+  ...MISPLACED_REFUSALS,
   ...ANNOUNCING_REFUSALS,
   "words were rejected": {
     field: "page",

@@ -43,7 +43,8 @@ export function itemize(id, items) {
 /** The fields that each kind of error can belong to. A list is a pasted text or a file. */
 const FIELDS = {
   seed: ["seed"], count: ["count"], list: ["list-text", "open-file"], question: ["questions"],
-  record: ["check-text"], announcement: ["take-away", "open-file"], announce: ANNOUNCE_FIELDS, page: [],
+  record: ["check-text"], "check-announcement": ["check-announcement"], announcement: ["take-away", "open-file"],
+  announce: ANNOUNCE_FIELDS, file: ["open-file"], page: [],
 };
 
 /** The visible one of these fields. @param {string} kind @returns {HTMLElement|undefined} */
@@ -115,6 +116,12 @@ function buttonOf({ label, change }) {
 /** A warning or a finding as a list item. @param {import("./warnings.js").Warning} note */
 export function noteOf({ text, lines = [], cure }) {
   return made("li", "", text, ...(lines.length > 0 ? [linesOf(lines)] : []), ...(cure ? [" ", buttonOf(cure)] : []));
+}
+
+/** Shows the name of a file in place of the field for a list, or the field. @param {boolean} isOpened */
+export function showOpened(isOpened) {
+  part("opened").hidden = !isOpened;
+  part("pasted").hidden = isOpened;
 }
 
 /** Hides what the page shows about the list. */
@@ -211,6 +218,7 @@ export function showTab(name) {
   for (const id of ["draw-step", "publish-step"]) part(id).hidden = name !== "draw";
   part("check-step").hidden = name !== "check";
   for (const [id, words] of Object.entries(LIST_WORDS[name])) say(id, words);
+  clearRefusals("file");
   showPaper();
 }
 
@@ -241,7 +249,7 @@ export function showPaper(paper) {
 }
 
 /** Tells screen readers something for two seconds. @param {string} text */
-function tell(text) {
+export function tell(text) {
   part("heard").textContent = text;
   setTimeout(() => { part("heard").textContent = ""; }, 2000);
 }

@@ -240,7 +240,7 @@ def forms(counts: Counts, page: Page) -> None:
         counts.same(f"{seed!r} is drawn", f'seed: "{seed}"' in record, True)
         put(page, check_announcement=KNOWN)
         shown = page.check(record)
-        counts.same(f"the check of {seed!r}", [shown["outcome"], shown["findings"][1]], ["agrees", warning])
+        counts.same(f"the check of {seed!r}", [shown["outcome"], shown["warned"]], ["agrees", [f"Warning: {warning}"]])
 
 
 def dropped(page: Page, field: str, data: bytes) -> None:
@@ -279,9 +279,9 @@ def check_fields(counts: Counts, page: Page, program: str, module: bytes) -> Non
     counts.same("opened beside the list", [page.facts()["digest"], page.check_again()["outcome"]],
                 [sha256(LIST), "agrees"])
     put(page, check_announcement="")
-    counts.same("without it", page.check_again()["findings"], [
-        "The record names an announcement, which was not compared. Paste it above or drop its file there, and check "
-        "again."])
+    counts.same("without it", page.check_again()["warned"], [
+        "Warning: The record names an announcement, which was not compared. Paste it above or drop its file there, and "
+        "check again."])
 
 
 def many(counts: Counts, page: Page, program: str, module: bytes) -> None:

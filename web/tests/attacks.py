@@ -225,13 +225,15 @@ def beside_a_record(counts: Counts, page: Page, record: str) -> None:
 
 
 def lookalikes_in_records(counts: Counts, page: Page, layout: Layout, record: str) -> None:
-    """No letter of a record can be replaced by one that looks like it."""
+    """No letter of a record can be replaced by one that looks like it. A byte order mark before the first one is
+    ignored."""
     others = [layout.line(name) for name in ("version", "module SHA-256") if name in layout.names]
     texts = {}
     for name, change in LOOKALIKES.items():
         for place, letter in enumerate(record):
             if letter != "\n" and change(letter) != letter and record[place + 1:place + 2] != "\n":
                 texts[name, place] = record[:place] + change(letter) + record[place + 1:]
+    del texts["a byte order mark", 0]
     wrong = {}
     for (name, place), (outcome, _) in zip(texts, checked(page, list(texts.values()))):
         right = outcome in ("no record", "differs")
@@ -300,7 +302,7 @@ def reasons(counts: Counts, page: Page, layout: Layout, record: str) -> None:
             (f"SHA-256: {sum_of_list}", f"SHA-256:\u202f{sum_of_list}", digest,
              missing + unseen.format("U+202F narrow no-break space")),
             ("public draw", "public\u00a0draw", 1, title + unseen.format("U+00A0 no-break space")),
-            ("nanorand", "\ufeffnanorand", 1, title + unseen.format("U+FEFF byte order mark"))):
+            ("nanorand", "\ufeff\ufeffnanorand", 1, title + unseen.format("U+FEFF byte order mark"))):
         shown = page.check(record.replace(before, after, 1))
         counts.same(f"{after!r} for {before!r}", (shown["outcome"], shown["findings"]),
                     ("no record", [f"Line {line}: {reason}{advice}"]))

@@ -75,7 +75,8 @@ def first_record(page: Page, seed: str = SEED, count: str = "3", text: str = LIS
 def agreements(counts: Counts, page: Page, layout: Layout, record: str) -> None:
     for name, text in (("as it is", record), ("no last line feed", record[:-1]),
                        ("Windows", record.replace("\n", "\r\n")),
-                       ("lines around", f"\n\n{record}\n \n"), ("spaces at ends", record.replace("\n", "  \n"))):
+                       ("lines around", f"\n\n{record}\n \n"), ("a mark", f"\ufeff{record}"),
+                       ("spaces at ends", record.replace("\n", "  \n"))):
         outcome(counts, page, f"agrees: {name}", text, "agrees")
     for name, text in (("an escape more", record.replace("Katherine", "\\x4batherine")),
                        ("an escaped seed", record.replace('"4 1', '"\\u0034 1'))):
@@ -185,7 +186,7 @@ def wrong_lines(counts: Counts, page: Page, layout: Layout, record: str) -> None
         no(counts, page, f"cut before line {number}", "\n".join(lines[:number - 1]), number)
         if number != module:
             no(counts, page, f"without line {number}", "\n".join(lines[:number - 1] + lines[number:]), number)
-        for space in (" ", "\t", "\u00a0", "\ufeff"):
+        for space in (" ", "\t", "\u00a0", *(["\ufeff"] if number > 1 else [])):
             no(counts, page, f"{space!r} before line {number}",
                with_line(record, number, space + lines[number - 1]), number)
         no(counts, page, f"line {number} twice", "\n".join(lines[:number] + lines[number - 1:]), number + 1)

@@ -204,8 +204,7 @@ def encodings(counts: Counts, page: Page) -> None:
     asked(counts, page, "a spreadsheet", b"PK\x03\x04\x14\0\x06\0\x08\0\xff\n\x01", [[no_text, [], choices[1:]]])
     page.open_file(b"PK\x03\x04\x14\0\x06\0\x08\0\xff\n\n\x01\x02")
     counts.same("a spreadsheet with an empty line", page.facts(keep=False)["list"], no_text)
-    for start in (b"%PDF-1.7\n", b"{\\rtf1 ", b"<!doctype html>", b"<?xml ?>", b"BEGIN:VCARD\n",
-                  b"nanorand public draw 1\n", b"nanorand public draw 2\n"):
+    for start in (b"%PDF-1.7\n", b"{\\rtf1 ", b"<!doctype html>", b"<?xml ?>", b"BEGIN:VCARD\n"):
         asked(counts, page, f"a document {start!r}", start + b"Ada\n", [[no_text, [], choices[1:]]])
     asked(counts, page, "UTF-8 with a byte 0", b"a\0b\nc\nd", [[no_text, [], choices[1:]]])
     for text in ("Иван", "Иван\n", "Иван\nОлег Попов\n", "عمر\nزينب\n", "राम\n", "山田\n花子 太郎\n", "Āda\nĒva\n",

@@ -26,7 +26,7 @@ result SHA-256: d44df65b613f78f8bb637295ecfbaf57109d9ec26487514c036dc826f6757939
 end of the record
 """
 BY_PROGRAM = "The record names no drawing program (module), as records of the program lots do not."
-NOT_COMPARED = "The record names an announcement, which was not compared."
+NOT_COMPARED = "Warning: The record names an announcement, which was not compared."
 READING = """
 return ["announcement-label", "reading-announcement"].map((id) => document.getElementById(id).innerText);
 """
@@ -104,7 +104,9 @@ def known(counts: Counts, page: Page, module: str) -> None:
         checks.outcome(counts, page, name, text, "agrees", *findings)
         counts.same(f"{name}: its announcement", page.browser.run(READING), ["Announcement", "none"])
         announced = checks.with_value(FORMAT2, text, "announcement SHA-256", "a1" * 32)
-        checks.outcome(counts, page, f"{name}, announced", announced, "agrees", *findings, NOT_COMPARED)
+        checks.outcome(counts, page, f"{name}, announced", announced, "agrees", *findings)
+        counts.same(f"{name}, announced: a warning",
+                    [one.startswith(NOT_COMPARED) for one in page.shown()["warned"]], [True])
         counts.same(f"{name}: its sum", page.browser.run(READING), ["SHA-256 of the announcement", "a1" * 32])
     other = without_module(checks.with_entrant(FORMAT2, record, 1, "Ada"))
     wrong = 'Line 1 of the result: the record says "Ada"'

@@ -101,7 +101,7 @@ return Array.from(document.querySelectorAll("p, ul, ol, pre, h1, h2, h3, label, 
 # Errors, warnings and the like that have no colour of their own, but should have one.
 COLOURED = """
 const colour = (element) => getComputedStyle(element).color;
-const wanted = ["[role=alert]", ".error", "#list-warnings", ".unseen",
+const wanted = ["[role=alert]", ".error", "#list-warnings", "#check-warnings", ".unseen",
   ...["agrees", "differs", "no record"].map((outcome) => `[data-outcome="${outcome}"]`)];
 return Array.from(document.querySelectorAll(wanted.join()))
   .filter((element) => element.checkVisibility() && colour(element) === colour(document.body))
@@ -197,7 +197,7 @@ def names(counts: Counts, page: Page) -> None:
     roles = page.browser.run("""return Object.fromEntries(Array.from(document.querySelectorAll("[id][role]"),
         (element) => [element.id, element.getAttribute("role")]));""")
     wanted = {f"{field}-error": "alert"
-              for field in ("page", "list", "seed", "count", "announce", "announcement")}
+              for field in ("page", "list", "file", "seed", "count", "announce", "announcement", "check-announcement")}
     wanted.update({"announced-status": "status", "announcement-status": "status", "announcement-text": "region",
                    "enough-status": "status", "seed-form-status": "status",
                    "question-error": "alert", "record-error": "alert",

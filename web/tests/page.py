@@ -42,7 +42,8 @@ return {
   warnings: items("list-warnings"), title: shown("result-title"), drawn: drawn(),
   more: shown("more"), escapes: shown("escapes"), record: shown("record"), read: shown("seed-read"),
   outcome: shown("outcome") && document.getElementById("outcome").dataset.outcome,
-  stale: shown("stale"), outcomeTitle: shown("outcome-title"), findings: items("findings"), hint: shown("publish-hint"),
+  stale: shown("stale"), outcomeTitle: shown("outcome-title"), findings: items("findings"),
+  warned: items("check-warnings"), hint: shown("publish-hint"),
 };
 """
 

@@ -5,8 +5,8 @@
 
 For example, web/tests/run.py crates/lots/out/lots chromium firefox. LOTS is the program with which the page is
 compared. Each BROWSER is chromium or firefox; all run side by side. The parts are answers, glue, pieces, draws, sizes,
-refusals, checks, formats, announcements, announcing, announced, shell, attacks, failures, said, heard, late, steps,
-lists, clerk, looks, files, copies, long and old. The last line is N passed, M failed.
+refusals, checks, formats, announcements, announcing, announced, shell, placed, attacks, failures, said, heard, late,
+steps, lists, clerk, looks, files, copies, long and old. The last line is N passed, M failed.
 """
 
 import argparse
@@ -33,6 +33,7 @@ import lists
 import looks
 import old
 import pieces
+import placed
 import refusals
 import said
 import shell
@@ -76,6 +77,7 @@ def in_browser(kind: type, program: str, pictures: Path, only: str) -> Counts:
             "announcing": lambda: announcing.run(counts, page, downloads),
             "announced": lambda: announced.run(counts, page, program, modules[64], downloads),
             "shell": lambda: shell.run(counts, page, program, modules[64]),
+            "placed": lambda: placed.run(counts, page, program, modules[64]),
             "attacks": lambda: attacks.run(counts, page, digests),
             "failures": lambda: failures.run(counts, page),
             "said": lambda: said.run(counts, page, module),

@@ -12,9 +12,10 @@ TOP = Path(__file__).resolve().parents[2]
 BYTES = r"In the record, \x and two digits stand for a byte that is no visible letter, and \x5c for a backslash."
 # The description of each field for screen readers, besides its name.
 DESCRIPTIONS = {
-    "open-file": ["list-hint", "list-error"], "list-text": ["list-hint", "list-error"],
+    "open-file": ["list-hint", "list-error", "file-error"], "list-text": ["list-hint", "list-error"],
     "seed": ["seed-hint", "seed-read", "seed-error"], "count": ["count-hint", "count-error"],
     "check-text": ["check-hint", "record-error"],
+    "check-announcement": ["check-hint", "check-announcement-error", "record-error"],
 }
 POLICY = [
     "default-src 'none'", "script-src 'sha256-' 'wasm-unsafe-eval'", "worker-src blob:", "style-src 'sha256-'",

@@ -1,0 +1,65 @@
+// Opens files that are chosen or dropped. The first line of each says whether it is the list, the record or the
+// announcement.
+
+import { openAnnouncement } from "./announced.js";
+import { readForField, showForCheck } from "./checking.js";
+import { kindOfFile, START } from "./kinds.js";
+import { openFile } from "./listing.js";
+import { Refusal } from "./refusal.js";
+import { refuse } from "./session.js";
+import { clearRefusals, part, tabShown } from "./view.js";
+
+/** Takes a file that is no list, as the tab says. @param {"record"|"announcement"} kind @param {Uint8Array} bytes */
+function takeOther(kind, bytes) {
+  if (tabShown() === "check") showForCheck(kind, bytes);
+  else if (kind === "announcement") openAnnouncement(bytes);
+  else refuse(new Refusal("file is a record"));
+}
+
+/** @param {File} file @param {import("./kinds.js").Kind} kind */
+async function openAs(file, kind) {
+  if (kind === "list") openFile(file, takeOther);
+  else takeOther(kind, new Uint8Array(await file.arrayBuffer()));
+}
+
+/** Throws a Refusal if two files are of one kind. @param {File[]} files @param {import("./kinds.js").Kind[]} kinds */
+function refuseTwo(files, kinds) {
+  const second = kinds.findIndex((kind, place) => kinds.indexOf(kind) < place);
+  if (second < 0) return;
+  const kind = kinds[second];
+  const names = [files[kinds.indexOf(kind)].name, files[second].name];
+  throw new Refusal(tabShown() === "check" ? "two files to check" : "two files", { kind, names });
+}
+
+/** Opens each file as what its first line says, or none of them if two are of one kind. @param {File[]} files */
+async function openTogether(files) {
+  try {
+    const starts = await Promise.all(files.map((file) => file.slice(0, START).arrayBuffer()));
+    const kinds = starts.map((start) => kindOfFile(new Uint8Array(start)));
+    refuseTwo(files, kinds);
+    await Promise.all(files.map((file, place) => openAs(file, kinds[place])));
+  } catch (error) {
+    const unread = new Refusal(tabShown() === "check" ? "record cannot be read" : "list cannot be read");
+    refuse(error instanceof Refusal ? error : unread);
+  }
+}
+
+/** Opens dropped files. One that is dropped alone on a field of the check is for this field. @param {DragEvent} event */
+export function filesDropped(event) {
+  const files = Array.from(event.dataTransfer.files);
+  if (files.length === 0) return;
+  event.preventDefault();
+  clearRefusals("file", "record", "check-announcement");
+  const { target } = event;
+  const isAlone = files.length === 1;
+  if (isAlone && ["check-text", "check-announcement"].includes(target.id)) readForField(files[0], target.id);
+  else if (isAlone && !part("check-step").contains(target)) openFile(files[0], takeOther);
+  else openTogether(files);
+}
+
+/** Opens the chosen file. The field forgets it, so that the same file can be opened again once it has changed. */
+export function fileChosen() {
+  clearRefusals("file");
+  openFile(part("list-file").files[0], takeOther);
+  part("list-file").value = "";
+}

@@ -1,0 +1,16 @@
+// Which of the three texts of a draw a file is. Its first line says so.
+
+import { isAnnouncement } from "./announcement.js";
+
+/** @typedef {"list"|"record"|"announcement"} Kind */
+
+/** How many of the first bytes of a file say what it is. */
+export const START = 100;
+
+const RECORD_START = /^(?:\xef\xbb\xbf)?[\s>]*nanorand public draw/i;
+
+/** The kind of a file. What has no title is a list. @param {Uint8Array} bytes its first ones, or all @returns {Kind} */
+export function kindOfFile(bytes) {
+  if (isAnnouncement(bytes)) return "announcement";
+  return RECORD_START.test(String.fromCharCode(...bytes.subarray(0, START))) ? "record" : "list";
+}
