@@ -131,7 +131,7 @@ function readOr(read, outcome, record) {
 export function check(module, maker, list, { text, announced = null }) {
   const { value: record, failed } = readOr(() => readRecord(text), "no record");
   if (failed) return failed;
-  if (list.length === 0 && record.entrants > 0) return checked("no list", [], record);
+  if (list.length === 0) return checked("no list", [], record);
   const { value: named, failed: unread } = readOr(() => announcedFrom(module, announced), "no announcement", record);
   if (unread) return unread;
   const answer = compared(module, maker, list, record, named);

@@ -21,6 +21,11 @@ function givenAnnouncement(text) {
   return dropped.announcement?.text === text ? { bytes: dropped.announcement.bytes } : { text };
 }
 
+/** The text of a record without the byte order mark at its beginning, which some editors add. @param {string} text */
+function withoutOrderMark(text) {
+  return text.replace(/^\ufeff/, "");
+}
+
 export async function checkNow() {
   clearRefusals("record", "check-announcement", "page");
   part("outcome").hidden = true;
@@ -31,7 +36,7 @@ export async function checkNow() {
   try {
     if (await listSent()) {
       const announced = givenAnnouncement(typed.announcement);
-      const outcome = await client.ask("check", { text: typed.text, announced });
+      const outcome = await client.ask("check", { text: withoutOrderMark(typed.text), announced });
       if (!isLate()) showOutcome(outcome);
     } else if (!isLate()) {
       fieldOf("list").focus();
@@ -74,6 +79,12 @@ export function showForCheck(kind, bytes) {
   if (kind === "announcement") dropped.announcement = { bytes, text: field.value };
   recordChanged();
   tell(`Opened as the ${kind}`);
+}
+
+/** Handles typing in the announcement's field: its text counts from then on, and not a file that was dropped before. */
+export function announcementTyped() {
+  dropped.announcement = null;
+  recordChanged();
 }
 
 /** Handles a change of one of the fields. */

@@ -4,7 +4,7 @@ import { compareList, compareSeed, openMade, takeAway } from "./announced.js";
 import {
   announceList, announceTyped, beginAnnouncing, bytesMade, presetChosen, printAnnouncement, saveAnnouncement,
 } from "./announcing.js";
-import { checkNow, recordChanged } from "./checking.js";
+import { announcementTyped, checkNow, recordChanged } from "./checking.js";
 import { showResult } from "./drawn.js";
 import { fileChosen, filesDropped } from "./files.js";
 import { keepTexts } from "./filling.js";
@@ -153,7 +153,7 @@ document.addEventListener("dragover", (event) => {
 });
 document.addEventListener("drop", filesDropped);
 on("check-text", "input", recordChanged);
-on("check-announcement", "input", recordChanged);
+on("check-announcement", "input", announcementTyped);
 for (const field of part("announce").querySelectorAll("input, textarea")) field.addEventListener("input", announceTyped);
 on("preset", "change", presetChosen);
 on("announce", "change", keepTexts);

@@ -60,11 +60,11 @@ function formatOf(line, index) {
 
 /**
  * Reads the record in a text. Throws RecordError, also if a second record begins in the text: a
- * reader could take one for the other. A byte order mark at the beginning of the text is ignored.
+ * reader could take one for the other.
  * @param {string} text @returns {Record}
  */
 export function readRecord(text) {
-  const lines = linesOfRecord(text.replace(/^\ufeff/, ""));
+  const lines = linesOfRecord(text);
   const first = titleIn(lines);
   const { record, end } = formatOf(lines[first], first).read(lines, first + 1);
   const misleading = misleadingLine(lines, first, end, VALUE_NAMES);

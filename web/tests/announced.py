@@ -271,8 +271,12 @@ def check_fields(counts: Counts, page: Page, program: str, module: bytes) -> Non
         dropped(page, "check-text", record.encode())
         dropped(page, "check-announcement", data)
         counts.same(f"dropped: {name}", page.check_again()["outcome"], wanted)
-    put(page, check_announcement=KNOWN)
-    counts.same("typed after a drop", [page.shown()["outcome"], page.check_again()["outcome"]], ["", "agrees"])
+    for name, data in (("no end", KNOWN[:-1].encode()), ("Windows", KNOWN.replace("\n", "\r\n").encode()),
+                       ("a mark", b"\xef\xbb\xbf" + KNOWN.encode())):
+        dropped(page, "check-announcement", data)
+        put(page, check_announcement=KNOWN)
+        counts.same(f"typed after a drop: {name}", [page.shown()["outcome"], page.check_again()["outcome"]],
+                    ["", "agrees"])
     put(page, check_announcement="")
     page.open_file(KNOWN.encode())
     page.browser.wait("return document.getElementById('check-announcement').value;")

@@ -278,10 +278,12 @@ def long_records(counts: Counts, page: Page, layout: Layout) -> None:
 
 
 def of_no_entrants(counts: Counts, page: Page, layout: Layout, module: str) -> None:
-    """An empty list has no entrants, and `lots` draws all of them, which a record can say."""
+    """`lots` makes a record of an empty list. For the page no list is open then, whatever the record says."""
     record = in_layout(layout, record_of("seed", b"", b"", module))
     page.paste("")
-    outcome(counts, page, "a record of no entrants", record, "agrees")
+    outcome(counts, page, "a record of no entrants", record, "no list")
+    page.open_file(b"")
+    outcome(counts, page, "it, with an empty file", record, "no list")
     page.paste(LIST)
     outcome(counts, page, "it, with a list", record, "differs", "Another list:")
 
